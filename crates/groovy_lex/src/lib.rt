@@ -1,0 +1,11 @@
+//! Reads one line of a script.
+//!
+//! A line is blanks alone, or one `echo` step with a text in single quotes. For example, [`read_line`] finds
+//! in the line `  echo 'hi'` the text `hi`, and in `echo hi` nothing.
+#![tactic(auto)]
+
+mod cut;
+mod line;
+mod parts;
+
+pub use line::{Line, read_line};

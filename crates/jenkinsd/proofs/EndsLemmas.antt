@@ -1,0 +1,82 @@
+-- How a call ends, put together.
+use Rattle.std.proofs.Common.{◌≡◌, ℕ, ◌+◌, ◌<◌, ◌≤◌, List, ◌++◌, length, Option, None, Some, inl, inr, refl, sym, ap, ◌∙◌, subst, arith}
+use Rattle.std.proofs.lemmas.Bool.{cases_lt}
+use Rattle.std.proofs.lemmas.List.{append-nil, length-append}
+use Rattle.std.specs.Io.KnownBytes.{Appends, Consumes, IsAtEnd}
+use Rattle.device_faults.specs.Faults.{Rose}
+use Rattle.jp_io.specs.Whole.{AppendsPart}
+use Rattle.pipeline_model.specs.declared.fault.ScriptFault.{ScriptFault}
+use Rattle.pipeline_model.specs.EchoScript.{IsScript, script_limit}
+use Rattle.pipeline_model.specs.FirstFault.{IsFirstFault}
+use Rattle.jenkinsd.specs.declared.ending.Ending.{Ending}
+use Rattle.jenkinsd.specs.declared.ending.Ending.TheVariants.{Usage, ReadFailed, TooLong, OutOfMemory, Faulty, Success}
+use Rattle.jenkinsd.specs.Ending.{ending_status, ending_text, Logs, Tells}
+use Rattle.jenkinsd.specs.Command.{IsRun}
+use Rattle.jenkinsd.specs.Ends.{Runs, success, faulty, too_long, no_memory, Decides, ran, Writes, whole, log_cut, text_cut, Ends}
+
+-- a text that was written whole
+pub written_whole : {old new : Option (List ℕ)} {before after : ℕ} (text told : List ℕ) (decided status : ℕ) → told ≡ text → status ≡ decided
+    → Appends old new told → after ≡ before → Writes old new before after text decided status
+written_whole {old} {new} {before} {after} text told decided status told-is status-is appends calm =
+    subst (λ s. Writes old new before after text decided s) (sym status-is) (whole (subst (Appends old new) told-is appends) calm)
+
+-- a log that was cut short
+pub written_log : {old new : Option (List ℕ)} {before after : ℕ} (text told : List ℕ) (decided status : ℕ) → told ≡ text → status ≡ decided → status ≡ 0
+    → AppendsPart old new told → Rose before after → Writes old new before after text decided 7
+written_log {old} {new} {before} {after} text told decided status told-is status-is zero part rose =
+    subst (λ s. Writes old new before after text s 7) (sym zero ∙ status-is) (log_cut (subst (AppendsPart old new) told-is part) rose)
+
+-- another text that was cut short
+pub written_part : {old new : Option (List ℕ)} {before after : ℕ} (text told : List ℕ) (decided status : ℕ) → told ≡ text → status ≡ decided → ¬ (status ≡ 0)
+    → AppendsPart old new told → Rose before after → Writes old new before after text decided status
+written_part {old} {new} {before} {after} text told decided status told-is status-is other part rose =
+    subst (λ s. Writes old new before after text s status) status-is (text_cut (subst (AppendsPart old new) told-is part) rose other)
+
+-- a longer script is too long as well, and want of memory can come at it too
+runs_longer : {script longer : List ℕ} {status : ℕ} {text : List ℕ} → script_limit < length script → script_limit < length longer → Runs script status text → Runs longer status text
+runs_longer long longer (success fits s) = absurd (omega (arith, long, fits))
+runs_longer long longer (faulty fits f) = absurd (omega (arith, long, fits))
+runs_longer long longer (too_long l) = too_long longer
+runs_longer long longer no_memory = no_memory
+
+-- a source that was read up to one byte more than the limit was read to its end, or what it had left is too long
+pub read_runs : {words : List (List ℕ)} {before after : ℕ} {status : ℕ} {text : List ℕ} (left rest : Option (List ℕ)) (bytes : List ℕ) → IsRun words → after ≡ before
+    → Consumes left rest bytes → (length bytes < script_limit + 1 → IsAtEnd rest) → length bytes ≤ script_limit + 1
+    → Runs bytes status text → Decides words left before after status text
+read_runs None rest bytes command calm read end within runs = ran {script = bytes} command calm tt runs
+read_runs (Some all) None bytes command calm read end within runs = absurd read
+read_runs {words} {before} {after} {status} {text} (Some all) (Some more) bytes command calm read end within runs =
+    let size : length all ≡ length bytes + length more = ap length read ∙ length-append bytes more in
+    elim (cases_lt (length bytes) (script_limit + 1)) as (λ _. Decides words (Some all) before after status text) [
+      | inl short ↦ ran {script = bytes} command calm (read ∙ ap (λ xs. bytes ++ xs) (end short) ∙ append-nil bytes) runs
+      | inr long ↦ ran {script = all} command calm refl (runs_longer (omega (arith, long)) (omega (arith, long, size)) runs)
+    ]
+
+-- a bound that is not passed
+pub not_past : (n m : ℕ) → (n < m → ⊥) → m ≤ n
+not_past n m within = elim (cases_lt n m) [ inl past ↦ absurd (within past) | inr le ↦ le ]
+
+-- the build of a script of the form
+pub runs_logged : {script : List ℕ} {texts : List (List ℕ)} (ending : Ending) → length script ≤ script_limit → IsScript script texts → Logs texts ending
+    → Runs script (ending_status ending) (ending_text ending)
+runs_logged {script} {texts} (Success log) fits s is = subst (Runs script 0) (sym is) (success fits s)
+runs_logged OutOfMemory fits s is = no_memory
+runs_logged Usage fits s is = absurd is
+runs_logged ReadFailed fits s is = absurd is
+runs_logged TooLong fits s is = absurd is
+runs_logged (Faulty text) fits s is = absurd is
+
+-- a script with a fault
+pub runs_faulty : {script : List ℕ} {fault : ScriptFault} (ending : Ending) → length script ≤ script_limit → IsFirstFault script fault → Tells fault ending
+    → Runs script (ending_status ending) (ending_text ending)
+runs_faulty {script} (Faulty text) fits f is = subst (Runs script 4) (sym is) (faulty fits f)
+runs_faulty OutOfMemory fits f is = no_memory
+runs_faulty Usage fits f is = absurd is
+runs_faulty ReadFailed fits f is = absurd is
+runs_faulty TooLong fits f is = absurd is
+runs_faulty (Success log) fits f is = absurd is
+
+-- what was decided, and what became of its text
+pub ends_by : {words : List (List ℕ)} {left old new : Option (List ℕ)} {a b c d decided status : ℕ} {text : List ℕ} → Decides words left a b decided text
+    → Writes old new c d text decided status → Ends words left old new a b c d status
+ends_by {decided = decided} {text = text} d w = record { decided_status = decided; text = text; decides = d; writes = w }

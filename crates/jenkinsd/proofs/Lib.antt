@@ -1,0 +1,4 @@
+mod CommandLemmas
+mod LogLemmas
+mod EndsLemmas
+mod CausesLemmas

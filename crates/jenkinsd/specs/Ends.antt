@@ -1,0 +1,56 @@
+-- How a call of the controller ends: its status and what it writes.
+use Rattle.std.specs.Prelude.{◌≡◌, ℕ, ◌<◌, ◌≤◌, List, [], length, Option, IfSome}
+use Rattle.std.specs.Io.KnownBytes.{Appends}
+use Rattle.device_faults.specs.Faults.{Rose}
+use Rattle.jp_io.specs.Whole.{AppendsPart}
+use Rattle.pipeline_model.specs.declared.event.Event.TheVariants.{Start as Begin}
+use Rattle.pipeline_model.specs.declared.fault.ScriptFault.{ScriptFault}
+use Rattle.pipeline_model.specs.declared.tree.Tree.{Tree}
+use Rattle.pipeline_model.specs.EchoScript.{IsScript, script_limit}
+use Rattle.pipeline_model.specs.FirstFault.{IsFirstFault}
+use Rattle.pipeline_model.specs.LogText.{log_text}
+use Rattle.pipeline_model.specs.World.{world}
+use Rattle.jenkinsd.specs.Command.{IsRun}
+use Rattle.jenkinsd.specs.Texts.{usage_text, read_failed_text, out_of_memory_text, too_long_text, fault_text}
+
+-- the log text of the world of a script with these texts, after the event that begins its build
+abbrev pub log_of : List ℕ → List (List ℕ) → List ℕ
+log_of script texts = let tree : Tree = record { texts = texts } in log_text (world tree (Begin script [])).log
+
+-- How a script that was read ends, by its bytes: the status, and the text that is to be written.
+pub data Runs (script : List ℕ) : ℕ → List ℕ → Type 0 where
+  -- its build ends with SUCCESS
+  success : {texts : List (List ℕ)} → length script ≤ script_limit → IsScript script texts → Runs script 0 (log_of script texts)
+  -- it has a fault, and this is its first
+  faulty : {fault : ScriptFault} → length script ≤ script_limit → IsFirstFault script fault → Runs script 4 (fault_text fault)
+  -- it is too long
+  too_long : script_limit < length script → Runs script 4 too_long_text
+  -- want of memory can come at any time
+  no_memory : Runs script 8 out_of_memory_text
+
+-- The table of endings. `left` are the bytes that the script source had left, where it tells them, and the two
+-- numbers are its counts of faults before the call and after it.
+pub data Decides (words : List (List ℕ)) (left : Option (List ℕ)) (before after : ℕ) : ℕ → List ℕ → Type 0 where
+  -- the words are no command
+  usage : ¬ (IsRun words) → Decides words left before after 2 usage_text
+  -- the script could not be read
+  unread : IsRun words → Rose before after → Decides words left before after 6 read_failed_text
+  -- there was no memory for the script
+  no_room : IsRun words → after ≡ before → Decides words left before after 8 out_of_memory_text
+  -- the script was read to its end, or until it was too long
+  ran : {script text : List ℕ} {status : ℕ} → IsRun words → after ≡ before → IfSome left (λ bytes. bytes ≡ script)
+      → Runs script status text → Decides words left before after status text
+
+-- The text was written whole, or the sink counted a fault and has the front of it. Then a log that is cut short
+-- makes the status 7, and any other text leaves it as it is.
+pub data Writes (old new : Option (List ℕ)) (before after : ℕ) (text : List ℕ) : ℕ → ℕ → Type 0 where
+  whole : {status : ℕ} → Appends old new text → after ≡ before → Writes old new before after text status status
+  log_cut : AppendsPart old new text → Rose before after → Writes old new before after text 0 7
+  text_cut : {status : ℕ} → AppendsPart old new text → Rose before after → ¬ (status ≡ 0) → Writes old new before after text status status
+
+-- how a call ends: what was decided, and what became of its text
+pub record Ends (words : List (List ℕ)) (left old new : Option (List ℕ)) (source_before source_after sink_before sink_after status : ℕ) : Type 0 where
+  pub decided_status : ℕ
+  pub text : List ℕ
+  pub decides : Decides words left source_before source_after decided_status text
+  pub writes : Writes old new sink_before sink_after text decided_status status

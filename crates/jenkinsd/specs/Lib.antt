@@ -1,0 +1,5 @@
+pub mod Command
+pub mod Texts
+pub mod Ends
+pub mod Ending
+pub mod Causes

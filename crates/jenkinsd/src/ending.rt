@@ -1,0 +1,70 @@
+//! How a call of the controller ends, and its text.
+ghost use Rattle.std.specs.Prelude.{◌≡◌};
+ghost use Rattle.jenkinsd.specs.Ending.{ending_status, ending_text};
+ghost use Rattle.jenkinsd.specs.Ends.{Writes};
+
+use jp_io::{Sink, write_all};
+
+/// How a call of the controller ends.
+#[derive(Debug, Drop)]
+pub enum Ending {
+    /// The words are no command.
+    Usage,
+    /// A source failed.
+    ReadFailed,
+    /// The script has more bytes than it may have.
+    TooLong,
+    /// The script has a fault, and this text tells its place and kind.
+    Faulty(String),
+    /// The build ended with SUCCESS, and this is its log.
+    Success(Vec<u8>),
+    /// There was no memory.
+    OutOfMemory,
+}
+
+impl Ending {
+    /// The exit status of the program.
+    pub fn status(&self) -> u8
+        ensures { result ≡ ending_status self.now }
+    {
+        match self {
+            Ending::Success(_) => 0,
+            Ending::Usage => 2,
+            Ending::Faulty(_) | Ending::TooLong => 4,
+            Ending::ReadFailed => 6,
+            Ending::OutOfMemory => 8,
+        }
+    }
+
+    /// What is written to standard output.
+    pub fn text(&self) -> &[u8]
+        ensures { result.now ≡ ending_text self.now }
+    {
+        match self {
+            Ending::Success(log) => log,
+            Ending::Usage => USAGE.as_bytes(),
+            Ending::Faulty(text) => text.as_bytes(),
+            Ending::TooLong => b"Jenkinsfile: longer than 1048576 bytes\n",
+            Ending::ReadFailed => b"controller: read failed\n",
+            Ending::OutOfMemory => b"controller: out of memory\n",
+        }
+    }
+}
+
+const USAGE: &str = "usage: controller run|resume|log|graph|check DIR\n       controller gen N\n";
+
+/// The status of a call whose log could not be written whole.
+const WRITE_FAILED: u8 = 7;
+
+/// Writes the text of an ending, and answers the exit status.
+///
+/// A log that is not written whole makes the status 7. Any other text leaves it as it is.
+pub fn tell<K: Sink>(out: &mut K, ending: &Ending) -> u8
+    ensures { Writes (K.written out.old) (K.written out.new) (K.faults out.old) (K.faults out.new) (ending_text ending.now) (ending_status ending.now) result }
+{
+    let status = ending.status();
+    match write_all(out, ending.text()) {
+        Err(_) if status == 0 => WRITE_FAILED,
+        _ => status,
+    }
+}
