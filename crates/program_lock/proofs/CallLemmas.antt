@@ -6,6 +6,7 @@ use Rattle.atomic_table.specs.Table.{Me, rest}
 use Rattle.program_lock.specs.declared.view.Known.{Known}
 use Rattle.program_lock.specs.declared.view.View.{View}
 use Rattle.program_lock.specs.History.{has, entries, numbered, under, GoesOnWithout, longer}
+use Rattle.program_lock.specs.Legal.{IsAnswer}
 use Rattle.program_lock.specs.Merge.{IsMergeOf}
 use Rattle.program_lock.specs.Views.{with_state, without_state, with_weight, both_views, fork_left, fork_right, IsIdle, IsResting}
 use Rattle.program_lock.specs.Plays.{HasTaken, Taken, WereTwo, past_of}
@@ -29,11 +30,11 @@ base_of v idle = base_in v.known.base idle.based
 pub under-more : {E : Type 0} (ns : List ℕ) (seen log : List (ℕ × E)) (n : ℕ) (es : List E) → has ns n ≡ true → GoesOnWithout ns seen log → under ns (log ++ numbered n es) ≡ under ns seen ++ numbered n es
 under-more ns seen log n es h s = under-append ns log (numbered n es) ∙ ap (λ l. l ++ under ns (numbered n es)) (under-goes_on ns ns seen log (among_itself ns) s) ∙ ap (λ l. under ns seen ++ l) (under-numbered ns n es h)
 
-module _ {S E B : Type 0} (history : S → List E) (base : S → B) where
-  pub taken_if : (m m' : Me (Option S) (View E B)) (n : ℕ) → n ≡ 0 → MatchBool (n == 0) (Taken history base m m') (m' ≡ m) → Taken history base m m'
-  taken_if m m' n is t = subst (λ k. MatchBool (k == 0) (Taken history base m m') (m' ≡ m)) is t
+module _ {S E B Ask Reply : Type 0} (history : S → List E) (base : S → B) (answers : B → List E → Ask → Reply → List E → Type 0) where
+  pub taken_if : (m m' : Me (Option S) (View E B)) (n : ℕ) → n ≡ 0 → MatchBool (n == 0) (Taken history base answers m m') (m' ≡ m) → Taken history base answers m m'
+  taken_if m m' n is t = subst (λ k. MatchBool (k == 0) (Taken history base answers m m') (m' ≡ m)) is t
 
-  pub slot_out : (m m' : Me (Option S) (View E B)) → Taken history base m m' → (x : Option S) × (m'.1 ≡ (0, x) ∷ rest m'.1)
+  pub slot_out : (m m' : Me (Option S) (View E B)) → Taken history base answers m m' → (x : Option S) × (m'.1 ≡ (0, x) ∷ rest m'.1)
   slot_out m m' t = (Some t.0, t.1 ∙ ap (λ l. (0, Some t.0) ∷ l) (sym (ap rest t.1)))
 
   -- the state was put into the slot
@@ -62,11 +63,11 @@ module _ {S E B : Type 0} (history : S → List E) (base : S → B) where
   the_one x s xs e f = some-injective x (Some s) (sym e ∙ f)
 
   -- what was read from the slot at the end is the state
-  pub the_end : (k : Known E B) (s : S) (r : Option S) (xs : List (Option S)) → r ≡ Some s → get_elem? xs 0 ≡ some r → (x : S) × (get_elem? xs 0 ≡ some (Some x)) × Ends history base k x → Ends history base k s
+  pub the_end : (k : Known E B) (s : S) (r : Option S) (xs : List (Option S)) → r ≡ Some s → get_elem? xs 0 ≡ some r → (x : S) × (get_elem? xs 0 ≡ some (Some x)) × Ends history base answers k x → Ends history base answers k s
   the_end k s r xs is at e =
       let q : Some s ≡ Some e.0 = sym is ∙ the_one r e.0 xs at e.1 in
       let same : s ≡ e.0 = cc in
-      subst (Ends history base k) (sym same) e.2
+      subst (Ends history base answers k) (sym same) e.2
 
   -- a resting pass that has taken the state knows its base and its history
   pub record KnowsState (w : View E B) (x : S) : Type 0 where
@@ -75,16 +76,16 @@ module _ {S E B : Type 0} (history : S → List E) (base : S → B) where
     pub start : w.known.base ≡ Some (base x)
     pub past : history x ≡ entries w.known.seen
 
-  base_is : (v w : View E B) (x : S) → IsIdle v → HasTaken history base v w x → v.known.base ≡ Some (base x)
+  base_is : (v w : View E B) (x : S) → IsIdle v → HasTaken history base answers v w x → v.known.base ≡ Some (base x)
   base_is v w x idle t = (base_of v idle).1 ∙ ap Some (t.mine.start (base_of v idle).0 (base_of v idle).1)
 
-  pub knows_state : (v w : View E B) (x : S) → IsIdle v → HasTaken history base v w x → KnowsState w x
+  pub knows_state : (v w : View E B) (x : S) → IsIdle v → HasTaken history base answers v w x → KnowsState w x
   knows_state v w x idle t =
       let P : View E B → Type 0 = λ z. KnowsState z x in
       subst P (sym t.now) (record { busy = refl; own = idle.own; start = base_is v w x idle t; past = t.past })
 
   -- the history has room for the new entries in word 0
-  pub still_room : (v w : View E B) (x y : S) (es : List E) (before after : ℕ) → HasTaken history base v w x → history y ≡ history x ++ es → before ≡ length (history x) → after ≡ length (history y) → after < 2 ^ 64
+  pub still_room : (v w : View E B) (x y : S) (es : List E) (before after : ℕ) → HasTaken history base answers v w x → history y ≡ history x ++ es → before ≡ length (history x) → after ≡ length (history y) → after < 2 ^ 64
       → length w.known.seen + (after - before) < 2 ^ 64
   still_room v w x y es before after t more b a small =
       let seen_is : length w.known.seen ≡ length t.log = ap (λ (z : View E B). length z.known.seen) t.now in
@@ -93,12 +94,22 @@ module _ {S E B : Type 0} (history : S → List E) (base : S → B) where
       let more_is : length (history y) ≡ length (history x) + length es = ap length more ∙ length-append (history x) es in
       omega arith
 
+  -- the state that answered can be put back: its history has grown by the entries of an answer
+  pub answered_state : (v w : View E B) (x y : S) (ask : Ask) (reply : Reply) (before after : ℕ) → IsIdle v → HasTaken history base answers v w x
+      → (new : (es : List E) × (history y ≡ history x ++ es) × answers (base x) (history x) ask reply es) → base y ≡ base x → before ≡ length (history x) → after ≡ length (history y)
+      → (es : List E) × (history y ≡ entries w.known.seen ++ es) × (length es ≡ after - before) × IsAnswer answers (base y) (entries w.known.seen) es
+  answered_state v w x y ask reply before after idle t new same b a =
+      let past = (knows_state v w x idle t).past in
+      let more_is : length (history y) ≡ length (history x) + length new.0 = ap length new.1 ∙ length-append (history x) new.0 in
+      let at_seen : answers (base x) (entries w.known.seen) ask reply new.0 = subst (λ h. answers (base x) h ask reply new.0) past new.2 in
+      (new.0, new.1 ∙ ap (λ l. l ++ new.0) past, omega arith, (ask, reply, subst (λ d. answers d (entries w.known.seen) ask reply new.0) (sym same) at_seen))
+
   -- one ask
-  pub one_step : {Ask Reply : Type 0} (answers : B → List E → Ask → Reply → List E → Type 0) (v w : View E B) (x : S) (ask : Ask) (reply : Reply) (es : List E) (m : Me (Option S) (View E B))
-      → IsIdle v → HasTaken history base v w x → answers (base x) (history x) ask reply es
+  pub one_step : (v w : View E B) (x : S) (ask : Ask) (reply : Reply) (es : List E) (m : Me (Option S) (View E B))
+      → IsIdle v → HasTaken history base answers v w x → answers (base x) (history x) ask reply es
       → m ≡ (without_state (with_state w (w.known.seen ++ numbered w.known.number es) w.next), [])
       → IsResting m × Steps answers v.known ask reply m.0.known
-  one_step answers v w x ask reply es m idle t ans now =
+  one_step v w x ask reply es m idle t ans now =
       let P : View E B → Type 0 = λ u. m ≡ (without_state (with_state u (u.known.seen ++ numbered u.known.number es) u.next), []) in
       let is = subst P t.now now in
       let Q : Me (Option S) (View E B) → Type 0 = λ n. IsResting n × Steps answers v.known ask reply n.0.known in
@@ -110,6 +121,7 @@ module _ {S E B : Type 0} (history : S → List E) (base : S → B) where
           new = es;
           base_is = base_is v w x idle t;
           begins = t.mine.saw;
+          legal = t.legal;
           answered = subst (λ h. answers (base x) h ask reply es) t.past ans;
           now = refl;
           own = under-more v.known.numbers v.known.seen t.log v.known.number es idle.own t.mine.saw;
@@ -117,19 +129,19 @@ module _ {S E B : Type 0} (history : S → List E) (base : S → B) where
       )
 
   -- the same, by what its parts ensure
-  pub whole_step : {Ask Reply : Type 0} (answers : B → List E → Ask → Reply → List E → Type 0) (v w : View E B) (x y : S) (ask : Ask) (reply : Reply) (m : Me (Option S) (View E B))
-      → IsIdle v → HasTaken history base v w x → (new : (es : List E) × (history y ≡ history x ++ es) × answers (base x) (history x) ask reply es)
+  pub whole_step : (v w : View E B) (x y : S) (ask : Ask) (reply : Reply) (m : Me (Option S) (View E B))
+      → IsIdle v → HasTaken history base answers v w x → (new : (es : List E) × (history y ≡ history x ++ es) × answers (base x) (history x) ask reply es)
       → ((es : List E) → history y ≡ entries w.known.seen ++ es → m ≡ (without_state (with_state w (w.known.seen ++ numbered w.known.number es) w.next), []))
       → IsResting m × Steps answers v.known ask reply m.0.known
-  whole_step answers v w x y ask reply m idle t new put =
+  whole_step v w x y ask reply m idle t new put =
       let past : history y ≡ entries w.known.seen ++ new.0 = new.1 ∙ ap (λ l. l ++ new.0) (knows_state v w x idle t).past in
-      one_step answers v w x ask reply new.0 m idle t new.2 (put new.0 past)
+      one_step v w x ask reply new.0 m idle t new.2 (put new.0 past)
 
   pub counted : (v u : View E B) (c : List (ℕ × Option S)) (m : Me (Option S) (View E B)) → m ≡ (u, c) → m.0 ≡ u
   counted v u c m is = ap (λ (z : Me (Option S) (View E B)). z.0) is
 
   -- a pass that was counted once more and has taken the state can be split
-  pub can_fork : (v u w : View E B) (x : S) → IsIdle v → u ≡ with_weight v (v.weight + 1) → HasTaken history base u w x → (w.busy ≡ true) × (1 < w.weight)
+  pub can_fork : (v u w : View E B) (x : S) → IsIdle v → u ≡ with_weight v (v.weight + 1) → HasTaken history base answers u w x → (w.busy ≡ true) × (1 < w.weight)
   can_fork v u w x idle is t =
       let l = idle.light in
       let a : w.weight ≡ u.weight = ap (λ (z : View E B). z.weight) t.now in
@@ -140,11 +152,11 @@ module _ {S E B : Type 0} (history : S → List E) (base : S → B) where
   forked_and_put w c m n is now = let P : Me (Option S) (View E B) → Type 0 = λ z. n ≡ (without_state z.0, []) in subst P is now
 
   -- a new pass
-  pub one_split : (v u w : View E B) (x : S) (m n : Me (Option S) (View E B)) → IsIdle v → u ≡ with_weight v (v.weight + 1) → HasTaken history base u w x
+  pub one_split : (v u w : View E B) (x : S) (m n : Me (Option S) (View E B)) → IsIdle v → u ≡ with_weight v (v.weight + 1) → HasTaken history base answers u w x
       → m ≡ (without_state (fork_left w), []) → n ≡ (fork_right w, []) → IsResting m × IsResting n × Splits v.known m.0.known n.0.known
   one_split v u w x m n idle is t now new =
-      let T : View E B → Type 0 = λ z. HasTaken history base z w x in
-      let t' : HasTaken history base (with_weight v (v.weight + 1)) w x = subst T is t in
+      let T : View E B → Type 0 = λ z. HasTaken history base answers z w x in
+      let t' : HasTaken history base answers (with_weight v (v.weight + 1)) w x = subst T is t in
       let two : View E B = with_state (with_weight v (v.weight + 1)) t'.log t'.next in
       let P : View E B → Type 0 = λ z. m ≡ (without_state (fork_left z), []) in
       let Q : View E B → Type 0 = λ z. n ≡ (fork_right z, []) in

@@ -4,9 +4,10 @@ use Rattle.std.proofs.Common.{◌≡◌, ℕ, true, false, List, [], ◌++◌, s
 use Rattle.program_lock.specs.declared.view.Known.{Known}
 use Rattle.program_lock.specs.History.{has, AreAmong, entries, numbered, under, entries_of, GoesOnWithout}
 use Rattle.program_lock.specs.Merge.{IsMergeOf}
-use Rattle.program_lock.specs.Calls.{Steps, Splits, Joins, Ends, Continues}
+use Rattle.program_lock.specs.Calls.{Steps, Splits, Joins, Ends}
 use Rattle.program_lock.proofs.HistoryLemmas.{entries-append, entries-numbered, under-append, under-none, under-numbered, under-goes_on, none_numbered}
 use Rattle.program_lock.proofs.MergeLemmas.{IsMergeOf-entries}
+use Rattle.program_lock.proofs.WorkerLemmas.{Continues}
 
 module _ {E : Type 0} where
   -- what stands under fewer numbers goes on standing there
@@ -68,7 +69,10 @@ module _ {E B : Type 0} (v w : Known E B) (c : Continues v w) where
   pub entries_of-continues : entries_of w.numbers w.seen ≡ entries_of v.numbers v.seen ++ c.new
   entries_of-continues = more_entries (under v.numbers v.seen) (under w.numbers w.seen) v.number c.new c.own
 
-module _ {S E B : Type 0} (history : S → List E) (base : S → B) (v : Known E B) (state : S) (e : Ends history base v state) where
+  pub parts-continues : w.parts ≡ v.parts
+  parts-continues = ap (λ (k : Known E B). k.parts) c.now
+
+module _ {S E B Ask Reply : Type 0} (history : S → List E) (base : S → B) (answers : B → List E → Ask → Reply → List E → Type 0) (v : Known E B) (state : S) (e : Ends history base answers v state) where
   -- at the end the history of the state is the entries of the pass that closed it
   pub entries_of-ends : entries_of v.numbers v.seen ≡ history state
   entries_of-ends = ap entries e.own ∙ sym e.past

@@ -1,6 +1,7 @@
 pub mod NumberLemmas
 pub mod HistoryLemmas
 pub mod MergeLemmas
+pub mod LegalLemmas
 pub mod TotalLemmas
 pub mod PartLemmas
 pub mod ViewLemmas

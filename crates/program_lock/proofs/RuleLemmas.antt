@@ -12,20 +12,22 @@ use Rattle.atomic_table.proofs.Lists.{at_set, set_here, set_else, set_again, at_
 use Rattle.program_lock.specs.declared.view.Known.{Known}
 use Rattle.program_lock.specs.declared.view.View.{View}
 use Rattle.program_lock.specs.History.{has, entries, numbered, under, AllBelow}
+use Rattle.program_lock.specs.Legal.{IsAnswer, IsLegal}
 use Rattle.program_lock.specs.Views.{all_parts, kept_back, handed_on, first_view, spent_view, both_views, fork_left, fork_right, with_state, without_state, with_weight, with_count}
 use Rattle.program_lock.specs.Rule.{total, weight_of, parts_of, IsTrueOf, Fits, IsHome, IsOut, IsKept}
 use Rattle.program_lock.specs.Plays.{Takes, Taken, Appends, Releases, CountsUp, CountsDown, Finds}
 use Rattle.program_lock.specs.Calls.{Ends}
 use Rattle.program_lock.proofs.NumberLemmas.{off, not_true, has_one, has_one-is}
-use Rattle.program_lock.proofs.HistoryLemmas.{below_append, below_numbered, below_behind, drop-entries, length-numbered, under-all, none_of_all}
+use Rattle.program_lock.proofs.HistoryLemmas.{below_append, below_numbered, below_behind, drop-entries, entries-append, entries-numbered, length-numbered, under-all, none_of_all}
+use Rattle.program_lock.proofs.LegalLemmas.{legal_more, legal_none}
 use Rattle.program_lock.proofs.PartLemmas.{AreShared, shared_out}
 use Rattle.program_lock.proofs.TotalLemmas.{at_length, at_end, at_one, total-set, total-append, total_alone, one_at, two_at}
 use Rattle.program_lock.proofs.ViewLemmas.{fits_more, fits_lost, fits_plain, together_set, together_same, together_made, together_both}
 use Rattle.program_lock.proofs.StateLemmas.{lock_set, has_it}
 
-module _ {S E B : Type 0} (history : S → List E) (base : S → B) where
+module _ {S E B Ask Reply : Type 0} (history : S → List E) (base : S → B) (answers : B → List E → Ask → Reply → List E → Type 0) where
   -- the table at the start
-  pub opens : (x : S) → history x ≡ [] → IsKept history base (base x) (opening (0 ∷ 0 ∷ 1 ∷ []) (Some x ∷ []) (first_view (base x)))
+  pub opens : (x : S) → history x ≡ [] → IsKept history base answers (base x) (opening (0 ∷ 0 ∷ 1 ∷ []) (Some x ∷ []) (first_view (base x)))
   opens x none_yet = record {
     log = [];
     next = 1;
@@ -40,6 +42,7 @@ module _ {S E B : Type 0} (history : S → List E) (base : S → B) where
       alone = λ i j v w ei ej t ne. absurd (ne (only_first j w ej ∙ sym (only_first i v ei)));
     };
     shared = refl;
+    legal = legal_none answers (base x);
     lock = inl (record {
       state = x;
       held_is = refl;
@@ -74,14 +77,14 @@ module _ {S E B : Type 0} (history : S → List E) (base : S → B) where
   true_of_whole : (log : List (ℕ × E)) (next : ℕ) (b : B) (k : Known E B) (seen : List (ℕ × E)) → seen ≡ log → (old : List (ℕ × E)) → IsTrueOf old next b k → IsTrueOf log next b (record k { seen = seen })
   true_of_whole log next b k seen whole old t = record { saw = ([], append-nil seen ∙ whole, tt); below = t.below; start = t.start }
 
-  found_free : (n : ℕ) (m m' : Me (Option S) (View E B)) → n ≡ 0 → Taken history base m m' → MatchBool (n == 0) (Taken history base m m') (m' ≡ m)
-  found_free n m m' is t = subst (λ n. MatchBool (n == 0) (Taken history base m m') (m' ≡ m)) (sym is) t
+  found_free : (n : ℕ) (m m' : Me (Option S) (View E B)) → n ≡ 0 → Taken history base answers m m' → MatchBool (n == 0) (Taken history base answers m m') (m' ≡ m)
+  found_free n m m' is t = subst (λ n. MatchBool (n == 0) (Taken history base answers m m') (m' ≡ m)) (sym is) t
 
-  found_held : (n : ℕ) (m : Me (Option S) (View E B)) → n ≡ 1 → MatchBool (n == 0) (Taken history base m m) (m ≡ m)
-  found_held n m is = subst (λ n. MatchBool (n == 0) (Taken history base m m) (m ≡ m)) (sym is) refl
+  found_held : (n : ℕ) (m : Me (Option S) (View E B)) → n ≡ 1 → MatchBool (n == 0) (Taken history base answers m m) (m ≡ m)
+  found_held n m is = subst (λ n. MatchBool (n == 0) (Taken history base answers m m) (m ≡ m)) (sym is) refl
 
   -- 1 is swapped into word 1
-  pub takes_it : (b : B) (slots id : ℕ) (v : View E B) (c : List (ℕ × Option S)) → 0 < v.weight → Allows (IsKept history base b) slots id (v, c) 1 (λ _. 1) (Takes history base (step slots 1 1 0 none) (v, c))
+  pub takes_it : (b : B) (slots id : ℕ) (v : View E B) (c : List (ℕ × Option S)) → 0 < v.weight → Allows (IsKept history base answers b) slots id (v, c) 1 (λ _. 1) (Takes history base answers (step slots 1 1 0 none) (v, c))
   takes_it b slots id v c heavy s k len at small =
       ⊎_elim
       (λ (h : IsHome history base b k.log k.held s.homes s.views).
@@ -102,6 +105,7 @@ module _ {S E B : Type 0} (history : S → List E) (base : S → B) where
               (fits_plain k.log k.next k.lost b w (true_of_whole k.log k.next b v.known k.log refl k.log f.mine) refl refl f.light (λ _. heavy) f.parted)
               refl (λ z. z) (λ t j u e ne. k.together.alone id j v u at e t ne);
           shared = same_parts s.views id v w k.lost at refl k.shared;
+          legal = k.legal;
           lock = inr (record {
             holder = id;
             keeper = w;
@@ -118,11 +122,11 @@ module _ {S E B : Type 0} (history : S → List E) (base : S → B) where
           });
         },
         found_free (slice_index s.words 1) (v, c) (w, (0, Some h.state) ∷ c) zero_is
-            (h.state, refl, record { log = k.log; next = k.next; now = refl; mine = subst P (sym h.start) f.mine; logged = k.together.logged; past = h.past }),
+            (h.state, refl, record { log = k.log; next = k.next; now = refl; mine = subst P (sym h.start) f.mine; logged = k.together.logged; past = h.past; legal = subst (λ d. IsLegal answers d (entries k.log)) (sym h.start) k.legal }),
       )))
       (λ (h : IsOut k.log k.next k.held s.homes s.views).
       (let one_is : slice_index s.words 1 ≡ 1 = ap (λ l. slice_index l 1) k.words ∙ h.held_is in
-      let K : List (View E B) → Type 0 = λ vs. IsKept history base b (record { words = slice_set s.words 1 1; homes = s.homes; views = vs }) in (
+      let K : List (View E B) → Type 0 = λ vs. IsKept history base answers b (record { words = slice_set s.words 1 1; homes = s.homes; views = vs }) in (
         v,
         keeps,
         tt,
@@ -135,6 +139,7 @@ module _ {S E B : Type 0} (history : S → List E) (base : S → B) where
               words = ap (λ l. slice_set l 1 1) k.words;
               together = k.together;
               shared = k.shared;
+              legal = k.legal;
               lock = inr (record { holder = h.holder; keeper = h.keeper; held_is = refl; gone = h.gone; there = h.there; busy = h.busy; whole = h.whole; next_is = h.next_is; only = h.only });
             }),
         found_held (slice_index s.words 1) (v, c) one_is,
@@ -144,8 +149,9 @@ module _ {S E B : Type 0} (history : S → List E) (base : S → B) where
   -- the new entries are counted in word 0
   pub appends : (b : B) (slots id : ℕ) (v : View E B) (x : S) (es : List E) (count : ℕ) → v.busy ≡ true → has v.known.numbers v.known.number ≡ true
       → history x ≡ entries v.known.seen ++ es → length es ≡ count → length v.known.seen + count < 2 ^ 64
-      → Allows (IsKept history base b) slots id (v, (0, Some x) ∷ []) 0 (λ n. (n + count) % 2 ^ 64) (Appends history (step slots 0 count 0 none) (v, (0, Some x) ∷ []))
-  appends b slots id v x es count busy own past many room s k len at small =
+      → v.known.base ≡ Some (base x) → IsAnswer answers (base x) (entries v.known.seen) es
+      → Allows (IsKept history base answers b) slots id (v, (0, Some x) ∷ []) 0 (λ n. (n + count) % 2 ^ 64) (Appends history (step slots 0 count 0 none) (v, (0, Some x) ∷ []))
+  appends b slots id v x es count busy own past many room start asked s k len at small =
       let f = k.together.fits id v at in
       let it = has_it history base b k.log k.next k.held s.homes s.views id v k.lock at busy in
       let new : List E = drop (length v.known.seen) (history x) in
@@ -160,6 +166,11 @@ module _ {S E B : Type 0} (history : S → List E) (base : S → B) where
       let first_is : slice_index s.words 0 ≡ length k.log = ap (λ l. slice_index l 0) k.words in
       let fits : length k.log + count < 2 ^ 64 = omega arith in
       let sum_is : (slice_index s.words 0 + count) % 2 ^ 64 ≡ length log = ap (λ n. (n + count) % 2 ^ 64) first_is ∙ mod-eq_of_lt fits ∙ sym total_log in
+      let L : List E → Type 0 = IsLegal answers b in
+      let start_is : base x ≡ b = f.mine.start (base x) start in
+      let A : B → Type 0 = λ d. answers d (entries v.known.seen) asked.0 asked.1 es in
+      let asked_at : answers b (entries k.log) asked.0 asked.1 es = subst (λ l. answers b (entries l) asked.0 asked.1 es) it.whole (subst A start_is asked.2) in
+      let still : entries k.log ++ es ≡ entries log = ap (λ l. entries k.log ++ l) (sym new_is ∙ sym (entries-numbered v.known.number new)) ∙ sym (entries-append k.log more) in
       let fw : Fits log k.next k.lost b w = fits_plain log k.next k.lost b w (true_of_whole log k.next b v.known (v.known.seen ++ more) whole k.log f.mine) refl refl f.light (λ _. f.heavy busy) f.parted in (
         w,
         keeps,
@@ -176,6 +187,7 @@ module _ {S E B : Type 0} (history : S → List E) (base : S → B) where
               (below_append k.next k.log more k.together.logged (below_numbered v.known.number k.next new (f.mine.below v.known.number own)))
               refl (λ z. z) (λ t j u e ne. k.together.alone id j v u at e t ne);
           shared = same_parts s.views id v w k.lost at refl k.shared;
+          legal = subst L still (legal_more answers b (entries k.log) asked.0 asked.1 es k.legal asked_at);
           lock = inr (record {
             holder = id;
             keeper = w;
@@ -196,7 +208,7 @@ module _ {S E B : Type 0} (history : S → List E) (base : S → B) where
 
   -- 0 is stored in word 1
   pub releases : (b : B) (slots id : ℕ) (v : View E B) (x : S) → v.busy ≡ true → history x ≡ entries v.known.seen → v.known.base ≡ Some (base x)
-      → Allows (IsKept history base b) slots id (v, (0, Some x) ∷ []) 1 (λ _. 0) (λ _. Releases (step slots 1 0 0 none) (v, (0, Some x) ∷ []) 0)
+      → Allows (IsKept history base answers b) slots id (v, (0, Some x) ∷ []) 1 (λ _. 0) (λ _. Releases (step slots 1 0 0 none) (v, (0, Some x) ∷ []) 0)
   releases b slots id v x busy past start s k len at small =
       let f = k.together.fits id v at in
       let it = has_it history base b k.log k.next k.held s.homes s.views id v k.lock at busy in
@@ -212,6 +224,7 @@ module _ {S E B : Type 0} (history : S → List E) (base : S → B) where
           words = ap (λ l. slice_set l 1 0) k.words ∙ ap (λ t. length k.log ∷ 0 ∷ t ∷ []) (sym (same_weight s.views id v w at refl));
           together = together_same k.log k.next k.lost b s.views id v w k.together at (fits_plain k.log k.next k.lost b w f.mine refl refl f.light (λ t. absurd (off t)) f.parted) refl (λ z. z) (λ t j u e ne. k.together.alone id j v u at e t ne);
           shared = same_parts s.views id v w k.lost at refl k.shared;
+          legal = k.legal;
           lock = inl (record {
             state = x;
             held_is = refl;
@@ -228,9 +241,9 @@ module _ {S E B : Type 0} (history : S → List E) (base : S → B) where
       )
 
   up_case : (b : B) (slots id : ℕ) (v : View E B) (c : List (ℕ × Option S)) (old : ℕ) → 0 < v.weight
-      → (s : State (Option S) (View E B)) → IsKept history base b s → get_elem? s.views id ≡ some v
+      → (s : State (Option S) (View E B)) → IsKept history base answers b s → get_elem? s.views id ≡ some v
       → (t : Bool) → (slice_index s.words 2 == old) ≡ t
-      → (w : View E B) × (a : Act (Option S)) × Valid s.homes c a × IsKept history base b (stepped s 2 (either t (old + 1) (slice_index s.words 2)) id c w a) × MatchBool t (let m : Me (Option S) (View E B) = (w, carried_after c a) in m ≡ (with_weight v (v.weight + 1), c)) (let m : Me (Option S) (View E B) = (w, carried_after c a) in m ≡ (v, c))
+      → (w : View E B) × (a : Act (Option S)) × Valid s.homes c a × IsKept history base answers b (stepped s 2 (either t (old + 1) (slice_index s.words 2)) id c w a) × MatchBool t (let m : Me (Option S) (View E B) = (w, carried_after c a) in m ≡ (with_weight v (v.weight + 1), c)) (let m : Me (Option S) (View E B) = (w, carried_after c a) in m ≡ (v, c))
   up_case b slots id v c old heavy s k at true is =
       let f = k.together.fits id v at in
       let w = with_weight v (v.weight + 1) in
@@ -249,13 +262,14 @@ module _ {S E B : Type 0} (history : S → List E) (base : S → B) where
           words = ap (λ l. slice_set l 2 (old + 1)) k.words ∙ ap (λ n. length k.log ∷ k.held ∷ n ∷ []) sum;
           together = together_same k.log k.next k.lost b s.views id v w k.together at (fits_plain k.log k.next k.lost b w f.mine refl refl (λ z. absurd (omega arith)) (λ _. omega arith) (λ _. f.parted heavy)) refl (λ z. absurd (omega arith)) (λ u j x e ne. k.together.alone id j v x at e u ne);
           shared = same_parts s.views id v w k.lost at refl k.shared;
+          legal = k.legal;
           lock = lock_set history base b k.log k.next k.held s.homes s.views id v w k.lock at refl (λ _. refl) (λ _. refl);
         },
         refl,
       )
   up_case b slots id v c old heavy s k at false is =
       let last_is : slice_index s.words 2 ≡ total weight_of s.views = ap (λ l. slice_index l 2) k.words in
-      let K : List (View E B) → Type 0 = λ vs. IsKept history base b (record { words = slice_set s.words 2 (slice_index s.words 2); homes = s.homes; views = vs }) in (
+      let K : List (View E B) → Type 0 = λ vs. IsKept history base answers b (record { words = slice_set s.words 2 (slice_index s.words 2); homes = s.homes; views = vs }) in (
         v,
         keeps,
         tt,
@@ -268,6 +282,7 @@ module _ {S E B : Type 0} (history : S → List E) (base : S → B) where
               words = ap (λ l. slice_set l 2 (slice_index s.words 2)) k.words ∙ ap (λ n. length k.log ∷ k.held ∷ n ∷ []) last_is;
               together = k.together;
               shared = k.shared;
+              legal = k.legal;
               lock = k.lock;
             }),
         refl,
@@ -275,7 +290,7 @@ module _ {S E B : Type 0} (history : S → List E) (base : S → B) where
 
   -- word 2 is compared and exchanged
   pub counts_up : (b : B) (slots id : ℕ) (v : View E B) (c : List (ℕ × Option S)) (old : ℕ) → 0 < v.weight
-      → Allows (IsKept history base b) slots id (v, c) 2 (λ n. either (n == old) (old + 1) n) (CountsUp (step slots 2 old (old + 1) none) (v, c))
+      → Allows (IsKept history base answers b) slots id (v, c) 2 (λ n. either (n == old) (old + 1) n) (CountsUp (step slots 2 old (old + 1) none) (v, c))
   counts_up b slots id v c old heavy s k len at small = up_case b slots id v c old heavy s k at (slice_index s.words 2 == old) refl
 
   less_one : (n : ℕ) → 0 < n → n < 18446744073709551616 → (n + 18446744073709551615) % 18446744073709551616 ≡ n - 1
@@ -283,7 +298,7 @@ module _ {S E B : Type 0} (history : S → List E) (base : S → B) where
 
   -- 1 is taken from word 2
   pub counts_down : (b : B) (slots id : ℕ) (v : View E B) (c : List (ℕ × Option S)) → 1 < v.weight
-      → Allows (IsKept history base b) slots id (v, c) 2 (λ n. (n + (2 ^ 64 - 1)) % 2 ^ 64) (CountsDown (step slots 2 1 0 none) (v, c))
+      → Allows (IsKept history base answers b) slots id (v, c) 2 (λ n. (n + (2 ^ 64 - 1)) % 2 ^ 64) (CountsDown (step slots 2 1 0 none) (v, c))
   counts_down b slots id v c heavy s k len at small =
       let f = k.together.fits id v at in
       let w = with_weight v (v.weight - 1) in
@@ -303,6 +318,7 @@ module _ {S E B : Type 0} (history : S → List E) (base : S → B) where
           words = ap (λ l. slice_set l 2 ((slice_index s.words 2 + 18446744073709551615) % 18446744073709551616)) k.words ∙ ap (λ n. length k.log ∷ k.held ∷ n ∷ []) sum;
           together = together_same k.log k.next k.lost b s.views id v w k.together at (fits_plain k.log k.next k.lost b w f.mine refl refl (λ z. absurd (omega arith)) (λ _. omega arith) (λ _. f.parted (omega arith))) refl (λ z. absurd (omega arith)) (λ u j x e ne. k.together.alone id j v x at e u ne);
           shared = same_parts s.views id v w k.lost at refl k.shared;
+          legal = k.legal;
           lock = lock_set history base b k.log k.next k.held s.homes s.views id v w k.lock at refl (λ _. refl) (λ _. refl);
         },
         (refl, record { log = k.log; next = k.next; start = b; mine = f.mine; one = f.one; two = f.two; apart = f.apart }),
@@ -310,7 +326,7 @@ module _ {S E B : Type 0} (history : S → List E) (base : S → B) where
 
   -- word 2 is loaded
   pub finds : (b : B) (slots id : ℕ) (v : View E B) (c : List (ℕ × Option S)) → v.weight ≡ 1
-      → Allows (IsKept history base b) slots id (v, c) 2 (λ n. n) (Finds (step slots 2 0 0 none) (v, c))
+      → Allows (IsKept history base answers b) slots id (v, c) 2 (λ n. n) (Finds (step slots 2 0 0 none) (v, c))
   finds b slots id v c light s k len at small =
       let f = k.together.fits id v at in
       let w = with_count v (slice_index s.words 2 == 1) in
@@ -331,6 +347,7 @@ module _ {S E B : Type 0} (history : S → List E) (base : S → B) where
               let both = two_at weight_of s.views id j v x at e ne in
               omega arith));
           shared = same_parts s.views id v w k.lost at refl k.shared;
+          legal = k.legal;
           lock = lock_set history base b k.log k.next k.held s.homes s.views id v w k.lock at refl (λ _. refl) (λ _. refl);
         },
         (
@@ -349,7 +366,7 @@ module _ {S E B : Type 0} (history : S → List E) (base : S → B) where
       no_parts x g z no_loss = ⊎_elim (λ (y : x.weight ≡ 0). y) (λ (y : 0 < x.weight). absurd (let p = g.parted y in omega arith)) (eq-zero-or-pos x.weight)
 
   -- a seat is split, whose pass has the state
-  pub forks : (b : B) (id : ℕ) (v : View E B) → v.busy ≡ true → 1 < v.weight → Splits (IsKept history base b) id v (fork_left v) (fork_right v)
+  pub forks : (b : B) (id : ℕ) (v : View E B) → v.busy ≡ true → 1 < v.weight → Splits (IsKept history base answers b) id v (fork_left v) (fork_right v)
   forks b id v busy heavy s k at =
       let f = k.together.fits id v at in
       let it = has_it history base b k.log k.next k.held s.homes s.views id v k.lock at busy in
@@ -380,6 +397,7 @@ module _ {S E B : Type 0} (history : S → List E) (base : S → B) where
             (λ (y : (j ≢ id) × (get_elem? s.views j ≡ some x)). (let zero_is = k.together.alone j id x v y.1 at z (λ h. y.0 (sym h)) in omega arith))
             (at_set s.views id j w x e));
         shared = (let q = total-set parts_of s.views id v w at in let r = total-append parts_of (set s.views id w) (new ∷ []) in let a = k.shared in let d = share.all in omega arith);
+        legal = k.legal;
         lock = inr (record {
           holder = id;
           keeper = w;
@@ -403,7 +421,7 @@ module _ {S E B : Type 0} (history : S → List E) (base : S → B) where
       still_parted share got some_got h = ⊎_elim (λ (z : v.known.parts ≡ 0). omega arith) (λ (z : 0 < v.known.parts). let p = some_got z in omega arith) (eq-zero-or-pos v.known.parts)
 
   -- two seats are joined
-  pub merges : (b : B) (id : ℕ) (v : View E B) (other : ℕ) (w : View E B) → v.busy ≡ false → w.busy ≡ false → 0 < v.weight → Joins (IsKept history base b) id v other w (both_views v w) spent_view
+  pub merges : (b : B) (id : ℕ) (v : View E B) (other : ℕ) (w : View E B) → v.busy ≡ false → w.busy ≡ false → 0 < v.weight → Joins (IsKept history base answers b) id v other w (both_views v w) spent_view
   merges b id v other w idle idle_too heavy s k at ne there =
       let m = both_views v w in
       let back : get_elem? s.views other ≡ some w = sym (set_else s.views id other m ne) ∙ there in
@@ -419,12 +437,13 @@ module _ {S E B : Type 0} (history : S → List E) (base : S → B) where
         words = k.words ∙ ap (λ n. length k.log ∷ k.held ∷ n ∷ []) sum;
         together = together_both k.log k.next k.lost b s.views id other v w k.together at back ne heavy;
         shared = (let q = total-set parts_of s.views id v m at in let r = total-set parts_of (set s.views id m) other w spent_view there in let a = k.shared in omega arith);
+        legal = k.legal;
         lock = lock_set history base b k.log k.next k.held s.homes (set s.views id m) other w spent_view first there (sym idle_too) (λ z. absurd (true≢false (sym z ∙ idle_too))) (λ z. absurd (true≢false (sym z ∙ idle_too)));
       }
 
   -- the state that comes out of the table at the end
   pub ends : (b c : B) (id : ℕ) (v : View E B) (ws : List ℕ) (xs : List (Option S)) → v.alone ≡ true → v.busy ≡ false → v.weight ≡ 1 → v.known.base ≡ Some c
-      → Final (Seen (IsKept history base b) id v) ws xs → (x : S) × (get_elem? xs 0 ≡ some (Some x)) × Ends history base v.known x
+      → Final (Seen (IsKept history base answers b) id v) ws xs → (x : S) × (get_elem? xs 0 ≡ some (Some x)) × Ends history base answers v.known x
   ends b c id v ws xs lone idle light based fin =
       let s = fin.0 in
       let k = fin.1.0 in
@@ -445,6 +464,7 @@ module _ {S E B : Type 0} (history : S → List E) (base : S → B) where
         record {
           past = h.past ∙ ap entries (sym seen_is);
           start = based ∙ ap Some (f.mine.start c based ∙ sym h.start);
+          legal = subst (IsLegal answers (base h.state)) (sym h.past) (subst (λ d. IsLegal answers d (entries k.log)) (sym h.start) k.legal);
           own = subst (λ l. under v.known.numbers l ≡ l) (sym seen_is) (under-all v.known.numbers k.next k.log all k.together.logged);
         },
       ))
@@ -457,19 +477,20 @@ module _ {S E B : Type 0} (history : S → List E) (base : S → B) where
   -- the same at a seat that is known
   pub appends_at : (b : B) (slots id : ℕ) (v : View E B) (x : S) (es : List E) (count : ℕ) (m : Me (Option S) (View E B)) → m ≡ (v, (0, Some x) ∷ []) → v.busy ≡ true → has v.known.numbers v.known.number ≡ true
       → history x ≡ entries v.known.seen ++ es → length es ≡ count → length v.known.seen + count < 2 ^ 64
-      → Allows (IsKept history base b) slots id m 0 (λ n. (n + count) % 2 ^ 64) (Appends history (step slots 0 count 0 none) m)
-  appends_at b slots id v x es count m is busy own past many room =
-      let P : Me (Option S) (View E B) → Type 0 = λ z. Allows (IsKept history base b) slots id z 0 (λ n. (n + count) % 2 ^ 64) (Appends history (step slots 0 count 0 none) z) in
-      subst P (sym is) (appends b slots id v x es count busy own past many room)
+      → v.known.base ≡ Some (base x) → IsAnswer answers (base x) (entries v.known.seen) es
+      → Allows (IsKept history base answers b) slots id m 0 (λ n. (n + count) % 2 ^ 64) (Appends history (step slots 0 count 0 none) m)
+  appends_at b slots id v x es count m is busy own past many room start asked =
+      let P : Me (Option S) (View E B) → Type 0 = λ z. Allows (IsKept history base answers b) slots id z 0 (λ n. (n + count) % 2 ^ 64) (Appends history (step slots 0 count 0 none) z) in
+      subst P (sym is) (appends b slots id v x es count busy own past many room start asked)
 
   pub releases_at : (b : B) (slots id : ℕ) (v : View E B) (x : S) (m : Me (Option S) (View E B)) → m ≡ (v, (0, Some x) ∷ []) → v.busy ≡ true → history x ≡ entries v.known.seen → v.known.base ≡ Some (base x)
-      → Allows (IsKept history base b) slots id m 1 (λ _. 0) (λ _. Releases (step slots 1 0 0 none) m 0)
+      → Allows (IsKept history base answers b) slots id m 1 (λ _. 0) (λ _. Releases (step slots 1 0 0 none) m 0)
   releases_at b slots id v x m is busy past start =
-      let P : Me (Option S) (View E B) → Type 0 = λ z. Allows (IsKept history base b) slots id z 1 (λ _. 0) (λ _. Releases (step slots 1 0 0 none) z 0) in
+      let P : Me (Option S) (View E B) → Type 0 = λ z. Allows (IsKept history base answers b) slots id z 1 (λ _. 0) (λ _. Releases (step slots 1 0 0 none) z 0) in
       subst P (sym is) (releases b slots id v x busy past start)
 
   pub counts_down_at : (b : B) (slots id : ℕ) (v : View E B) (c : List (ℕ × Option S)) (m : Me (Option S) (View E B)) → m ≡ (v, c) → 1 < v.weight
-      → Allows (IsKept history base b) slots id m 2 (λ n. (n + (2 ^ 64 - 1)) % 2 ^ 64) (CountsDown (step slots 2 1 0 none) m)
+      → Allows (IsKept history base answers b) slots id m 2 (λ n. (n + (2 ^ 64 - 1)) % 2 ^ 64) (CountsDown (step slots 2 1 0 none) m)
   counts_down_at b slots id v c m is heavy =
-      let P : Me (Option S) (View E B) → Type 0 = λ z. Allows (IsKept history base b) slots id z 2 (λ n. (n + (2 ^ 64 - 1)) % 2 ^ 64) (CountsDown (step slots 2 1 0 none) z) in
+      let P : Me (Option S) (View E B) → Type 0 = λ z. Allows (IsKept history base answers b) slots id z 2 (λ n. (n + (2 ^ 64 - 1)) % 2 ^ 64) (CountsDown (step slots 2 1 0 none) z) in
       subst P (sym is) (counts_down b slots id v c heavy)

@@ -3,6 +3,7 @@ use Rattle.std.specs.Prelude.{ℕ, ◌≡◌, ◌+◌, ◌-◌, ◌<◌, ◌==�
 use Rattle.atomic_table.specs.Table.{Me, Step, rest}
 use Rattle.program_lock.specs.declared.view.View.{View}
 use Rattle.program_lock.specs.History.{entries, numbered, AllBelow, AreApart}
+use Rattle.program_lock.specs.Legal.{IsLegal}
 use Rattle.program_lock.specs.Views.{all_parts, with_state, without_state, with_weight, with_count}
 use Rattle.program_lock.specs.Rule.{IsTrueOf}
 
@@ -26,20 +27,21 @@ pub record WereTwo {E B : Type 0} (v : View E B) : Type 0 where
   pub apart : AreApart v.one.numbers v.two.numbers
 
 module _ {S E B : Type 0} where
-  -- the state was taken: its history begins with what the pass had seen, and has no further entry of the pass
-  pub record HasTaken (history : S → List E) (base : S → B) (v w : View E B) (state : S) : Type 0 where
+  -- the state was taken: its history is legal, begins with what the pass had seen, and has no further entry of the pass
+  pub record HasTaken {Ask Reply : Type 0} (history : S → List E) (base : S → B) (answers : B → List E → Ask → Reply → List E → Type 0) (v w : View E B) (state : S) : Type 0 where
     pub log : List (ℕ × E)
     pub next : ℕ
     pub now : w ≡ with_state v log next
     pub mine : IsTrueOf log next (base state) v.known
     pub logged : AllBelow next log
     pub past : history state ≡ entries log
+    pub legal : IsLegal answers (base state) (entries log)
 
-  abbrev pub Taken : (S → List E) → (S → B) → Me (Option S) (View E B) → Me (Option S) (View E B) → Type 0
-  Taken history base m m' = (state : S) × (m'.1 ≡ (0, Some state) ∷ m.1) × HasTaken history base m.0 m'.0 state
+  abbrev pub Taken : {Ask Reply : Type 0} → (S → List E) → (S → B) → (B → List E → Ask → Reply → List E → Type 0) → Me (Option S) (View E B) → Me (Option S) (View E B) → Type 0
+  Taken history base answers m m' = (state : S) × (m'.1 ≡ (0, Some state) ∷ m.1) × HasTaken history base answers m.0 m'.0 state
 
-  abbrev pub Takes : (S → List E) → (S → B) → Step (Option S) → Me (Option S) (View E B) → ℕ → Me (Option S) (View E B) → Type 0
-  Takes history base st m found m' = MatchBool (found == 0) (Taken history base m m') (m' ≡ m)
+  abbrev pub Takes : {Ask Reply : Type 0} → (S → List E) → (S → B) → (B → List E → Ask → Reply → List E → Type 0) → Step (Option S) → Me (Option S) (View E B) → ℕ → Me (Option S) (View E B) → Type 0
+  Takes history base answers st m found m' = MatchBool (found == 0) (Taken history base answers m m') (m' ≡ m)
 
   abbrev pub Appends : (S → List E) → Step (Option S) → Me (Option S) (View E B) → ℕ → Me (Option S) (View E B) → Type 0
   Appends history st m found m' = m' ≡ (with_state m.0 (m.0.known.seen ++ numbered m.0.known.number (drop (length m.0.known.seen) (past_of history m.1))) m.0.next, m.1)

@@ -8,6 +8,7 @@ use Rattle.atomic_table.specs.Table.{State}
 use Rattle.program_lock.specs.declared.view.Known.{Known}
 use Rattle.program_lock.specs.declared.view.View.{View}
 use Rattle.program_lock.specs.History.{has, entries, AreAmong, AreApart, AllBelow, GoesOnWithout}
+use Rattle.program_lock.specs.Legal.{IsLegal}
 use Rattle.program_lock.specs.Views.{all_parts}
 
 -- added up over a list
@@ -74,7 +75,7 @@ module _ {S E B : Type 0} where
   IsHomeOrOut history base b log next held homes views = IsHome history base b log held homes views ⊎ IsOut log next held homes views
 
   -- the rule; the log is the history, with the numbers of the passes
-  pub record IsKept (history : S → List E) (base : S → B) (b : B) (s : State (Option S) (View E B)) : Type 0 where
+  pub record IsKept {Ask Reply : Type 0} (history : S → List E) (base : S → B) (answers : B → List E → Ask → Reply → List E → Type 0) (b : B) (s : State (Option S) (View E B)) : Type 0 where
     pub log : List (ℕ × E)
     pub next : ℕ
     pub held : ℕ
@@ -82,4 +83,5 @@ module _ {S E B : Type 0} where
     pub words : s.words ≡ length log ∷ held ∷ total weight_of s.views ∷ []
     pub together : AreTogether log next lost b s.views
     pub shared : total parts_of s.views + lost ≡ all_parts
+    pub legal : IsLegal answers b (entries log)
     pub lock : IsHomeOrOut history base b log next held s.homes s.views

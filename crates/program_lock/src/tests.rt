@@ -1,5 +1,6 @@
 ghost use Rattle.std.specs.Prelude.{◌≡◌, ◌<◌, All, IfOk};
-ghost use Rattle.program_lock.specs.Passes.{IsPassOf};
+ghost use Rattle.program_lock.specs.Passes.{known, IsPassOf};
+ghost use Rattle.program_lock.specs.Views.{all_parts};
 
 use super::*;
 use crate::counter::Counter;
@@ -10,7 +11,8 @@ use std::test::*;
 use std::thread::Threads;
 
 fn open_counter(alloc: Global, first: u64) -> Result<(Program<Counter>, Pass<Counter>), Fail>
-    ensures { IfOk result (λ r. IsPassOf r.0 r.1) }
+    ensures program { IfOk result (λ r. IsPassOf r.0 r.1) }
+    ensures all { IfOk result (λ r. (known r.1).parts ≡ all_parts) }
 {
     match Program::open(alloc, Counter::new(alloc, first)) {
         Ok(opened) => Ok(opened),
@@ -109,6 +111,36 @@ fn a_pass_that_was_split_off_is_split_again(rt: HostRuntime) -> Result<(), Fail>
         return Err("a pass is out".into());
     };
     assert_eq!(rt; counter.added(), [3, 1, 2].as_slice());
+    Ok(())
+}
+
+// A pass that took in every other closes the program: it is proved that none is out.
+fn close_after_two_splits<R: Wait>(
+    rt: &R,
+    program: Program<Counter>,
+    mut first: Pass<Counter>,
+) -> Result<Counter, Memory>
+    requires program { IsPassOf program first }
+    requires all { (known first).parts ≡ all_parts }
+{
+    let mut second = program.split(rt, &mut first)?;
+    let mut third = program.split(rt, &mut second)?;
+    program.step(rt, &mut third, 1);
+    program.join(rt, &mut second, third);
+    program.join(rt, &mut second, first);
+    match program.close(second) {
+        Ok(counter) => Ok(counter),
+        Err(_) => unreachable!(),
+    }
+}
+
+#[test]
+fn a_pass_that_took_in_every_other_closes_the_program(rt: HostRuntime) -> Result<(), Fail> {
+    let (program, first) = open_counter(rt.alloc(), 0)?;
+    match close_after_two_splits(&rt, program, first) {
+        Ok(counter) => assert_eq!(rt; counter.added(), [1].as_slice()),
+        Err(_memory) => return Err("no memory to split".into()),
+    }
     Ok(())
 }
 
