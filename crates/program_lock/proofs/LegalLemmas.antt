@@ -1,5 +1,5 @@
 -- A legal history stays legal when one more ask is answered.
-use Rattle.std.proofs.Common.{◌≡◌, List, [], ◌∷◌, ◌++◌, refl, sym, ap, ◌∙◌, subst}
+use Rattle.std.proofs.Common.{List, [], ◌∷◌, ◌++◌, refl, sym, ap, subst}
 use Rattle.program_lock.specs.Legal.{IsRun, IsLegal}
 
 module _ {E B Ask Reply : Type 0} (answers : B → List E → Ask → Reply → List E → Type 0) (base : B) where
