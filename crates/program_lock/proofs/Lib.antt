@@ -1,0 +1,12 @@
+pub mod NumberLemmas
+pub mod HistoryLemmas
+pub mod MergeLemmas
+pub mod LegalLemmas
+pub mod TotalLemmas
+pub mod PartLemmas
+pub mod ViewLemmas
+pub mod StateLemmas
+pub mod RuleLemmas
+pub mod CallLemmas
+pub mod WorkerLemmas
+pub mod EntryLemmas
