@@ -1,0 +1,12 @@
+-- When a device's count of faults has risen, and what a call that can fail says of it. This product's own rule.
+use Rattle.std.specs.Prelude.{◌<◌, ◌≡◌, ◌⊎◌, ℕ, ◌+◌, ◌^◌, ◌≤◌, Result, IsOk, IsErr}
+
+-- a count of faults rose, or stands at its last value, where it can rise no more
+abbrev pub Rose : ℕ → ℕ → Type 0
+Rose before now = (before < now) ⊎ (2 ^ 64 ≤ now + 1)
+
+-- a call fails only where its device counts a fault, and a call that is done counts none
+pub record HasCause {T E : Type 0} (before now : ℕ) (result : Result T E) : Type 0 where
+  pub never_falls : before ≤ now
+  pub calm : IsOk result → now ≡ before
+  pub failed : IsErr result → Rose before now

@@ -1,0 +1,139 @@
+//! The system's streams as a source and a sink. They tell their faults and not their bytes.
+ghost use Rattle.std.specs.Prelude.{◌≡◌, ◌≤◌, ◌<◌, ℕ, None, length, IfOk};
+
+use crate::{Sink, Source};
+use device_faults::{Failed, Faults};
+use std::io;
+use std::io::{ErrorKind, Read, Write};
+
+/// How often a call that a signal interrupted is tried again.
+const TRIES: u32 = 1_000_000;
+
+/// A source over a reader of the system, such as standard input or a file.
+///
+/// A read that a signal interrupted is tried again. Any other error of the reader is a fault.
+#[derive(Drop)]
+pub struct StdSource<R> {
+    reader: R,
+    faults: Faults,
+}
+
+impl<R: Read> StdSource<R> {
+    /// A source that reads from `reader`. No call has failed.
+    pub fn new(reader: R) -> Self
+        ensures { ⟦<StdSource<R> as Source>⟧.faults result ≡ 0 }
+    {
+        StdSource {
+            reader,
+            faults: Faults::new(),
+        }
+    }
+}
+
+impl<R: Read> Source for StdSource<R> {
+    ghost left = { λ _. None };
+
+    ghost faults = { λ source. source.faults };
+
+    fn read(&mut self, buf: &mut [u8]) -> Result<usize, Failed> {
+        match read_some(&mut self.reader, buf) {
+            Ok(count) => Ok(count),
+            Err(_) => Err(self.faults.rise()),
+        }
+    }
+}
+
+fn read_some<R: Read>(reader: &mut R, buf: &mut [u8]) -> io::Result<usize>
+    ensures { IfOk result (λ n. n ≤ length buf.new) }
+{
+    for _ in 0..TRIES {
+        match reader.read(buf) {
+            Err(error) if error.kind() == ErrorKind::Interrupted => {}
+            answer => return answer,
+        }
+    }
+    Err(io::Error::from(ErrorKind::Interrupted))
+}
+
+/// A sink over a writer of the system, such as standard output.
+///
+/// A write that a signal interrupted is tried again. Any other error of the writer is a fault, and so is
+/// a writer that takes no byte of a piece that has some.
+#[derive(Drop)]
+pub struct StdSink<W> {
+    writer: W,
+    faults: Faults,
+}
+
+impl<W: Write> StdSink<W> {
+    /// A sink that writes to `writer`. No call has failed.
+    pub fn new(writer: W) -> Self
+        ensures { ⟦<StdSink<W> as Sink>⟧.faults result ≡ 0 }
+    {
+        StdSink {
+            writer,
+            faults: Faults::new(),
+        }
+    }
+}
+
+impl<W: Write> Sink for StdSink<W> {
+    ghost written = { λ _. None };
+
+    ghost faults = { λ sink. sink.faults };
+
+    fn write(&mut self, bytes: &[u8]) -> Result<usize, Failed> {
+        match write_some(&mut self.writer, bytes) {
+            Ok(count) if count > 0 || bytes.is_empty() => Ok(count),
+            _ => Err(self.faults.rise()),
+        }
+    }
+}
+
+fn write_some<W: Write>(writer: &mut W, bytes: &[u8]) -> io::Result<usize>
+    ensures { IfOk result (λ n. n ≤ length bytes.now) }
+{
+    for _ in 0..TRIES {
+        match writer.write(bytes) {
+            Err(error) if error.kind() == ErrorKind::Interrupted => {}
+            answer => return answer,
+        }
+    }
+    Err(io::Error::from(ErrorKind::Interrupted))
+}
+
+#[cfg(test)]
+mod tests {
+    use super::*;
+    use crate::{LazyFile, ReadFault, read_up_to, write_all};
+    use std::alloc::Global;
+    use std::fs;
+    use std::io::Cursor;
+    use std::test::Fail;
+
+    #[test]
+    fn a_file_is_read_and_a_missing_one_fails_each_time(rt: HostRuntime) -> Result<(), Fail> {
+        let alloc = rt.alloc();
+        fs::write(&rt, "script", "echo")?;
+        let there = LazyFile::new(&rt, String::from_str(alloc, "script")?);
+        let bytes = read_up_to(alloc, &mut StdSource::new(there), 10)?;
+        assert_eq!(rt; bytes.as_slice(), b"echo".as_slice());
+        let missing = LazyFile::new(&rt, String::from_str(alloc, "no such file")?);
+        let mut source = StdSource::new(missing);
+        for time in [1, 2] {
+            let answer = read_up_to(alloc, &mut source, 10).err();
+            assert_eq!(rt; answer, Some(ReadFault::Failed), "time {time}");
+        }
+        Ok(())
+    }
+
+    #[test]
+    fn a_writer_that_takes_no_byte_is_a_fault(rt: HostRuntime) -> Result<(), Fail> {
+        let mut room = [0; 4];
+        let mut sink = StdSink::new(Cursor::new(&mut room[..]));
+        assert_eq!(rt; write_all(&mut sink, b"four"), Ok(()));
+        assert_eq!(rt; sink.write(b""), Ok(0));
+        assert_eq!(rt; sink.write(b"five"), Err(Failed));
+        Ok(())
+    }
+}

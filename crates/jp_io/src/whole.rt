@@ -1,0 +1,148 @@
+//! Reading a whole input that has a limit, and writing a whole text.
+ghost use Rattle.std.specs.Prelude.{◌≡◌, ◌≤◌, ◌<◌, ◌++◌, ℕ, List, length, IfOk, OnOk, OnErr, vec_len};
+ghost use Rattle.std.specs.Io.KnownBytes.{Appends, Consumes, IsAtEnd};
+ghost use Rattle.device_faults.specs.Faults.{Rose, HasCause};
+ghost use Rattle.jp_io.specs.Whole.{ReadCause, AppendsPart};
+
+use crate::{Sink, Source};
+use device_faults::Failed;
+use std::alloc::{AllocError, Global};
+
+/// Why an input could not be read.
+#[derive(Clone, Copy, Debug, PartialEq, Eq)]
+pub enum ReadFault {
+    /// There was no memory for the bytes.
+    Memory,
+    /// The source failed.
+    Failed,
+}
+
+/// How many bytes are read at once.
+const PIECE: usize = 4096;
+
+/// Reads a source to its end, but at most `limit` bytes, and asks it for no more than these.
+///
+/// Where fewer than `limit` bytes come back, the source is at its end.
+///
+/// # Errors
+///
+/// `Failed` where a read failed, and `Memory` where there was no memory for the bytes. What was read
+/// until then is lost.
+pub fn read_up_to<S: Source>(
+    alloc: Global,
+    source: &mut S,
+    limit: usize,
+) -> Result<Vec<u8>, ReadFault>
+    ensures bytes { IfOk result (λ v. Consumes (S.left source.old) (S.left source.new) v.items) }
+    ensures within { IfOk result (λ v. vec_len v ≤ limit) }
+    ensures whole { IfOk result (λ v. vec_len v < limit → IsAtEnd (S.left source.new)) }
+    ensures cause { ReadCause (S.faults source.old) (S.faults source.new) result }
+{
+    let mut bytes = Vec::new(alloc);
+    while bytes.len() < limit {
+        let room = limit - bytes.len();
+        if read_piece(source, &mut bytes, room)? == 0 {
+            return Ok(bytes);
+        }
+    }
+    Ok(bytes)
+}
+
+/// Reads at most `room` bytes behind those that are there, and answers how many.
+fn read_piece<S: Source>(
+    source: &mut S,
+    bytes: &mut Vec<u8>,
+    room: usize,
+) -> Result<usize, ReadFault>
+    requires { 0 < room }
+    ensures count { IfOk result (λ n. n ≤ room) }
+    ensures bytes { IfOk result (λ n. (piece : List ℕ) × (length piece ≡ n)
+        × (bytes.new.items ≡ bytes.old.items ++ piece)
+        × Consumes (S.left source.old) (S.left source.new) piece) }
+    ensures end { IfOk result (λ n. n ≡ 0 → IsAtEnd (S.left source.new)) }
+    ensures cause { ReadCause (S.faults source.old) (S.faults source.new) result }
+{
+    let mut piece = [0; PIECE];
+    let size = room.min(PIECE);
+    let Ok(count) = source.read(&mut piece[..size]) else {
+        return Err(ReadFault::Failed);
+    };
+    match bytes.extend_from_slice(&piece[..count]) {
+        Ok(()) => Ok(count),
+        Err(_) => Err(ReadFault::Memory),
+    }
+}
+
+/// Writes all of these bytes.
+///
+/// # Errors
+///
+/// `Failed` where a write failed. The sink has then taken a part of the bytes, from their beginning.
+pub fn write_all<K: Sink>(sink: &mut K, bytes: &[u8]) -> Result<(), Failed>
+    ensures all { OnOk result (Appends (K.written sink.old) (K.written sink.new) bytes.now) }
+    ensures part { OnErr result (AppendsPart (K.written sink.old) (K.written sink.new) bytes.now) }
+    ensures cause { HasCause (K.faults sink.old) (K.faults sink.new) result }
+{
+    let mut done = 0;
+    while done < bytes.len() {
+        done += sink.write(&bytes[done..])?;
+    }
+    Ok(())
+}
+
+#[cfg(test)]
+mod tests {
+    use super::*;
+    use crate::{CleanSink, CleanSource, MemorySink, MemorySource};
+    use std::test::Fail;
+
+    fn source(alloc: Global, bytes: &[u8], fail_at: &[u64]) -> Result<MemorySource, AllocError> {
+        Ok(MemorySource::new(
+            Vec::from_slice(alloc, bytes)?,
+            Vec::from_slice(alloc, fail_at)?,
+        ))
+    }
+
+    #[test]
+    fn a_source_is_read_to_its_end_or_the_limit(rt: HostRuntime) -> Result<(), Fail> {
+        let alloc = rt.alloc();
+        for (limit, want) in [(0, ""), (3, "abc"), (5, "abcde"), (6, "abcde")] {
+            let bytes = read_up_to(alloc, &mut source(alloc, b"abcde", &[])?, limit)?;
+            assert_eq!(rt; bytes.as_slice(), want.as_bytes(), "up to {limit}");
+        }
+        Ok(())
+    }
+
+    #[test]
+    fn an_input_of_many_pieces_is_read_whole(rt: HostRuntime) -> Result<(), Fail> {
+        let alloc = rt.alloc();
+        let long = vec![in alloc; 7; 10_000]?;
+        let mut clean = CleanSource::new(long);
+        let bytes = read_up_to(alloc, &mut clean, 1_000_000)?;
+        assert_eq!(rt; bytes.len(), 10_000);
+        Ok(())
+    }
+
+    #[test]
+    fn each_failing_read_is_answered_failed(rt: HostRuntime) -> Result<(), Fail> {
+        let alloc = rt.alloc();
+        for call in [1, 2] {
+            let mut failing = source(alloc, b"abc", &[call])?;
+            let answer = read_up_to(alloc, &mut failing, 10).err();
+            assert_eq!(rt; answer, Some(ReadFault::Failed), "call {call}");
+        }
+        Ok(())
+    }
+
+    #[test]
+    fn a_sink_keeps_what_was_written_until_it_fails(rt: HostRuntime) -> Result<(), Fail> {
+        let alloc = rt.alloc();
+        let mut sink = MemorySink::new(alloc, Vec::from_slice(alloc, &[3])?);
+        assert_eq!(rt; write_all(&mut sink, b"one "), Ok(()));
+        assert_eq!(rt; write_all(&mut sink, b"two"), Ok(()));
+        assert_eq!(rt; write_all(&mut sink, b"three"), Err(Failed));
+        assert_eq!(rt; sink.bytes(), b"one two".as_slice());
+        assert_eq!(rt; write_all(&mut CleanSink, b"any"), Ok(()));
+        Ok(())
+    }
+}
