@@ -1,0 +1,4 @@
+mod ImageLemmas
+mod MediumLemmas
+mod StepLemmas
+mod HistoryLemmas
