@@ -111,9 +111,10 @@ impl MemoryDisk {
     /// |---|---|---|
     /// | missing | length of the write, plus 1 | how many of its bytes do not land: 0 of a write that is kept, all of one that is lost |
     /// | side | 2 | whether these are at its end (0) or its front (1) |
-    /// | garbage | 257 | whether they stay as they were (0) or become the byte before this number |
+    /// | garbage | 4 | whether they stay as they were (0), or become 0 (1), 1 (2) or 255 (3) |
     ///
     /// What stays as it was is what earlier landings left, and else the byte of the last sync, or 0 past the old end.
+    /// Choices that differ by a multiple of the product of all bounds give one image.
     pub fn crash(self, choice: u64) -> MemoryDisk
         ensures image { MayLeave (medium self) result.first }
         ensures fresh { result ≡ begun result.first [] None }

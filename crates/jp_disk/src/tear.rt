@@ -78,7 +78,7 @@ fn land_write(image: &mut Vec<u8>, call: &Call, choice: u64) -> u64
     } else {
         0
     };
-    let garbage = garbage_of(rest / 2 % 257);
+    let garbage = garbage_of(rest / 2 % 4);
     let start = *at as usize;
     for (k, byte) in bytes.iter().enumerate() {
         let place = start.saturating_add(k);
@@ -90,16 +90,15 @@ fn land_write(image: &mut Vec<u8>, call: &Call, choice: u64) -> u64
             }
         }
     }
-    rest / 2 / 257
+    rest / 2 / 4
 }
 
-// None for 0, and else the byte before the number.
-fn garbage_of(number: u64) -> Option<u8>
-    requires { number < 257 }
-{
-    if number == 0 {
-        None
-    } else {
-        Some((number - 1) as u8)
+// What missing bytes become: an empty byte, an open gate of a journal, or a byte of erased flash.
+fn garbage_of(number: u64) -> Option<u8> {
+    match number {
+        0 => None,
+        1 => Some(0),
+        2 => Some(1),
+        _ => Some(255),
     }
 }

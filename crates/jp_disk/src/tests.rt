@@ -42,82 +42,30 @@ fn listed_calls_fail_and_all_from_the_stop_on(rt: HostRuntime) -> Result<(), Fai
     Ok(())
 }
 
-// What is missing of a write after a crash: how many bytes, from which side, and what they become.
-#[derive(Clone, Copy)]
-struct Missing(u64, u64, u64);
-
-const NOTHING: Missing = Missing(0, 0, 0);
-
-// A crash of `ab`, durable, then `xyz` written at 1 by a call that failed, and `q` at 2.
-fn crashed(
-    rt: &impl Abort,
-    alloc: Global,
-    lost: u64,
-    order: u64,
-    first: Missing,
-    second: Missing,
-) -> Result<MemoryDisk, Fail> {
-    let mut disk = disk(alloc, b"ab", &[1], None)?;
-    assert!(rt; write(rt, &mut disk, 1, b"xyz") == Err(Failed));
-    assert!(rt; write(rt, &mut disk, 2, b"q") == Ok(()));
-    let Missing(bytes, side, garbage) = second;
-    assert!(rt; bytes < 2 && side < 2 && garbage < 257);
-    let rest = bytes + 2 * (side + 2 * garbage);
-    let Missing(bytes, side, garbage) = first;
-    assert!(rt; bytes < 4 && side < 2 && garbage < 257);
-    let rest = bytes + 4 * (side + 2 * (garbage + 257 * rest));
-    assert!(rt; lost < 3 && order < 2);
-    Ok(disk.crash(lost + 3 * (order + 2 * rest)))
-}
-
+// `ab`, durable, then `xyz` written at 1 by a call that failed, and `q` at 2. A choice is 1 for each byte lost at the
+// end, of which there may be two, 3 for backwards, of `xyz` 6 for each byte missing, 24 for the front and 48 for each
+// kind of garbage, and of `q` 192, 384 and 768 for the same.
 #[test]
 fn each_digit_of_the_choice_picks_its_image(rt: HostRuntime) -> Result<(), Fail> {
-    let left = |lost, order, first, second| crashed(&rt, rt.alloc(), lost, order, first, second);
-    assert_eq!(rt;
-        left(0, 0, NOTHING, NOTHING)?.bytes(),
-        b"axqz".as_slice(),
-        "all kept"
-    );
-    assert_eq!(rt;
-        left(2, 0, NOTHING, NOTHING)?.bytes(),
-        b"ax".as_slice(),
-        "the end lost"
-    );
-    assert_eq!(rt;
-        left(0, 1, NOTHING, NOTHING)?.bytes(),
-        b"axyz".as_slice(),
-        "landed backwards"
-    );
-    assert_eq!(rt;
-        left(0, 0, Missing(3, 0, 0), NOTHING)?.bytes(),
-        b"abq\0".as_slice(),
-        "a write lost"
-    );
-    assert_eq!(rt;
-        left(0, 0, Missing(1, 0, 0), NOTHING)?.bytes(),
-        b"axq\0".as_slice(),
-        "its end lost"
-    );
-    assert_eq!(rt;
-        left(0, 0, Missing(1, 1, 0), NOTHING)?.bytes(),
-        b"abqz".as_slice(),
-        "its front lost"
-    );
-    assert_eq!(rt;
-        left(0, 0, Missing(1, 0, 66), NOTHING)?.bytes(),
-        b"axqA".as_slice(),
-        "garbage"
-    );
-    assert_eq!(rt;
-        left(0, 0, NOTHING, Missing(1, 0, 0))?.bytes(),
-        b"axyz".as_slice(),
-        "the last write lost"
-    );
-    assert_eq!(rt;
-        left(1, 0, Missing(3, 0, 0), Missing(1, 0, 0))?.bytes(),
-        b"ab\0".as_slice(),
-        "a hole"
-    );
+    let choices: [(u64, &[u8]); 11] = [
+        (0, b"axqz"),
+        (2, b"ax"),
+        (3, b"axyz"),
+        (18, b"abq\0"),
+        (6, b"axq\0"),
+        (30, b"abqz"),
+        (54, b"axq\0"),
+        (102, b"axq\x01"),
+        (150, b"axq\xff"),
+        (192, b"axyz"),
+        (211, b"ab\0"),
+    ];
+    for (choice, image) in choices {
+        let mut disk = disk(rt.alloc(), b"ab", &[1], None)?;
+        assert!(rt; write(&rt, &mut disk, 1, b"xyz") == Err(Failed));
+        assert!(rt; write(&rt, &mut disk, 2, b"q") == Ok(()));
+        assert_eq!(rt; disk.crash(choice).bytes(), image, "choice {choice}");
+    }
     Ok(())
 }
 
