@@ -5,7 +5,7 @@ use Rattle.std.proofs.lemmas.List.Splits.{length-slice_split}
 use Rattle.std.proofs.lemmas.List.Sums.{count_by-le-length}
 use Rattle.pipeline_model.specs.EchoLine.{IsLine}
 use Rattle.pipeline_model.specs.EchoScript.{IsLines, no_line, more_lines, lines_of}
-use Rattle.pipeline_model.specs.FirstFault.{FaultsAt, fault_here, fault_later}
+use Rattle.pipeline_model.specs.EchoFault.{FaultsAt, fault_here, fault_later}
 
 -- of all the lines, the first `done` were read, which log the texts, and the rest were not
 pub record IsRead (all : List (List ℕ)) (done : ℕ) (texts rest : List (List ℕ)) : Type 0 where

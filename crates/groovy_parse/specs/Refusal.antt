@@ -5,7 +5,7 @@ use Rattle.pipeline_model.specs.declared.fault.ScriptFault.{ScriptFault}
 use Rattle.pipeline_model.specs.declared.fault.ScriptRefusal.{ScriptRefusal}
 use Rattle.pipeline_model.specs.declared.fault.ScriptRefusal.TheVariants.{Memory, TooLong, Fault}
 use Rattle.pipeline_model.specs.EchoScript.{lines_of, script_limit}
-use Rattle.pipeline_model.specs.FirstFault.{IsFirstFault}
+use Rattle.pipeline_model.specs.EchoFault.{IsFirstFault}
 
 -- it is too long, or this is its first fault; want of memory says nothing of it
 abbrev pub IsRefused : List ℕ → ScriptRefusal → Type 0

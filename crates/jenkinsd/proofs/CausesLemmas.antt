@@ -2,7 +2,7 @@
 use Rattle.std.proofs.Common.{◌≡◌, ◌⊎◌, ℕ, ◌<◌, ◌≤◌, List, length, Option, None, Some, IfSome, inl, inr, refl, sym, ap, ◌∙◌, subst, arith}
 use Rattle.device_faults.specs.Faults.{Rose}
 use Rattle.pipeline_model.specs.EchoScript.{script_limit}
-use Rattle.pipeline_model.specs.FirstFault.{IsFirstFault}
+use Rattle.pipeline_model.specs.EchoFault.{IsFirstFault}
 use Rattle.pipeline_model.proofs.ScriptLemmas.{no_fault}
 use Rattle.jenkinsd.specs.Command.{IsRun}
 use Rattle.jenkinsd.specs.Causes.{IsFaulty, IsFine, Causes}

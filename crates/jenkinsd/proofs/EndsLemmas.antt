@@ -7,7 +7,7 @@ use Rattle.device_faults.specs.Faults.{Rose}
 use Rattle.jp_io.specs.Whole.{AppendsPart}
 use Rattle.pipeline_model.specs.declared.fault.ScriptFault.{ScriptFault}
 use Rattle.pipeline_model.specs.EchoScript.{IsScript, script_limit}
-use Rattle.pipeline_model.specs.FirstFault.{IsFirstFault}
+use Rattle.pipeline_model.specs.EchoFault.{IsFirstFault}
 use Rattle.jenkinsd.specs.declared.ending.Ending.{Ending}
 use Rattle.jenkinsd.specs.declared.ending.Ending.TheVariants.{Usage, ReadFailed, TooLong, OutOfMemory, Faulty, Success}
 use Rattle.jenkinsd.specs.Ending.{ending_status, ending_text, Logs, Tells}

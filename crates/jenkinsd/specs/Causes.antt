@@ -3,7 +3,7 @@ use Rattle.std.specs.Prelude.{◌≡◌, ◌⊎◌, ◌↔◌, ℕ, ◌<◌, ◌
 use Rattle.device_faults.specs.Faults.{Rose}
 use Rattle.pipeline_model.specs.declared.fault.ScriptFault.{ScriptFault}
 use Rattle.pipeline_model.specs.EchoScript.{IsScript, script_limit}
-use Rattle.pipeline_model.specs.FirstFault.{IsFirstFault}
+use Rattle.pipeline_model.specs.EchoFault.{IsFirstFault}
 use Rattle.jenkinsd.specs.Command.{IsRun}
 
 -- the script has a first fault, or is too long

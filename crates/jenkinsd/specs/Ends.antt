@@ -7,7 +7,7 @@ use Rattle.pipeline_model.specs.declared.event.Event.TheVariants.{Start as Begin
 use Rattle.pipeline_model.specs.declared.fault.ScriptFault.{ScriptFault}
 use Rattle.pipeline_model.specs.declared.tree.Tree.{Tree}
 use Rattle.pipeline_model.specs.EchoScript.{IsScript, script_limit}
-use Rattle.pipeline_model.specs.FirstFault.{IsFirstFault}
+use Rattle.pipeline_model.specs.EchoFault.{IsFirstFault}
 use Rattle.pipeline_model.specs.LogText.{log_text}
 use Rattle.pipeline_model.specs.World.{world}
 use Rattle.jenkinsd.specs.Command.{IsRun}

@@ -1,7 +1,7 @@
 -- A script has one list of texts or one first fault, and not both.
 use Rattle.std.proofs.Common.{◌≡◌, ℕ, ◌+◌, List, ◌++◌, refl, ap}
 use Rattle.pipeline_model.specs.EchoScript.{IsLines, no_line, more_lines, IsScript}
-use Rattle.pipeline_model.specs.FirstFault.{FaultsAt, fault_here, fault_later}
+use Rattle.pipeline_model.specs.EchoFault.{FaultsAt, fault_here, fault_later}
 use Rattle.pipeline_model.proofs.LineLemmas.{line_only}
 
 joined : {texts others more rest : List (List ℕ)} → texts ≡ others → more ≡ rest → texts ++ more ≡ others ++ rest

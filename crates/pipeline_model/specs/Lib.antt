@@ -1,6 +1,25 @@
 pub mod EchoLine
 pub mod EchoScript
-pub mod FirstFault
+pub mod EchoFault
 pub mod Result
 pub mod World
 pub mod LogText
+-- what a script of the whole language is
+pub use Rattle.model_syntax.specs.Source
+pub use Rattle.model_syntax.specs.Places
+pub use Rattle.model_syntax.specs.Spelling
+pub use Rattle.model_syntax.specs.TextForms
+pub use Rattle.model_syntax.specs.OpenBrackets
+pub use Rattle.model_syntax.specs.Reading
+pub use Rattle.model_syntax.specs.Newlines
+pub use Rattle.model_syntax.specs.Tokens
+pub use Rattle.model_syntax.specs.Stream
+pub use Rattle.model_syntax.specs.Lookahead
+pub use Rattle.model_syntax.specs.Operators
+pub use Rattle.model_syntax.specs.Grammar
+pub use Rattle.model_syntax.specs.Scripts
+pub use Rattle.model_syntax.specs.FaultTexts
+pub use Rattle.model_syntax.specs.Scopes
+pub use Rattle.model_syntax.specs.FirstFault
+pub use Rattle.model_syntax.specs.Nodes
+pub use Rattle.model_syntax.specs.TreeNodes

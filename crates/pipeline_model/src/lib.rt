@@ -2,8 +2,11 @@
 //! that their contracts cite.
 //!
 //! A reader who wants to know what the controller promises reads `specs/` and needs no proof for it:
-//! `EchoScript` says which bytes are a script, `FirstFault` where any others go wrong, `World` what one
+//! `EchoScript` says which bytes are a script today, `EchoFault` where any others go wrong, `World` what one
 //! run of a script is, and `LogText` how its lines are written.
+//!
+//! Beside these definitions, which serve the language that runs today, it hands on those of the whole language:
+//! [`text`] and [`syntax`], with the modules of `model_syntax/specs` under their own names.
 //!
 //! For example, the script `echo 'hi'` has the one text `hi`, and its world logs five lines of 93 bytes.
 //! `proofs/Examples` has that as a theorem.
@@ -18,5 +21,7 @@ mod tree;
 pub use event::Event;
 pub use fault::{FaultKind, ScriptFault, ScriptRefusal};
 pub use flow::{FlowNode, NodeKind};
+pub use model_syntax as syntax;
+pub use model_text as text;
 pub use result::BuildResult;
 pub use tree::Tree;

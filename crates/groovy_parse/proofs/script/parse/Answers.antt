@@ -1,7 +1,7 @@
 use Rattle.std.proofs.Common.{◌+◌, arith, sym, subst, ap}
 use Rattle.std.specs.Option.{option_copied}
 use Rattle.pipeline_model.specs.EchoScript.{lines_of}
-use Rattle.pipeline_model.specs.FirstFault.{FaultsAt}
+use Rattle.pipeline_model.specs.EchoFault.{FaultsAt}
 use Rattle.groovy_parse.specs.Refusal.{IsRefused, lines_behind}
 use Rattle.groovy_parse.proofs.LinesLemmas.{IsRead, line_read, all_read, line_refused, line_count, next_is}
 use Rattle.groovy_parse.proofs.script.parse.Goals as goal
