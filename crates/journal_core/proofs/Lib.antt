@@ -1,0 +1,5 @@
+mod RecordLemmas
+mod TornLemmas
+mod MomentLemmas
+mod StepLemmas
+mod FindingLemmas

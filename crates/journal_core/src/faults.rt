@@ -1,0 +1,119 @@
+// What the calls of a journal answer where they fail.
+use jp_disk::Failed;
+use std::alloc::{AllocError, AllocFailed};
+use thiserror::Error;
+
+#[derive(Clone, Copy, Debug, PartialEq, Eq, Error)]
+pub enum CreateFault {
+    /// A call of the disk failed.
+    #[error("the disk failed")]
+    Disk,
+    /// Byte 0 of the file is 1, and the file has six bytes or more.
+    #[error("the file has a record")]
+    HasRecord,
+}
+
+impl From<Failed> for CreateFault {
+    ghost use Rattle.std.specs.Prelude.{◌≡◌};
+    ghost use Rattle.journal_core.specs.declared.faults.CreateFault.TheVariants.{Disk};
+
+    ghost from_gives = { λ _ fault. fault ≡ Disk };
+
+    fn from(_: Failed) -> CreateFault {
+        CreateFault::Disk
+    }
+}
+
+#[derive(Clone, Copy, Debug, PartialEq, Eq, Error)]
+pub enum OpenFault {
+    #[error("out of memory")]
+    Memory,
+    /// A call of the disk failed.
+    #[error("the disk failed")]
+    Disk,
+    /// The file has no record.
+    #[error("the file has no record")]
+    Empty,
+    /// The record whose gate stands at this place does not end in the file.
+    #[error("the record at byte {at} is damaged")]
+    Damaged { at: u64 },
+}
+
+impl From<Failed> for OpenFault {
+    ghost use Rattle.std.specs.Prelude.{◌≡◌};
+    ghost use Rattle.journal_core.specs.declared.faults.OpenFault.TheVariants.{Disk};
+
+    ghost from_gives = { λ _ fault. fault ≡ Disk };
+
+    fn from(_: Failed) -> OpenFault {
+        OpenFault::Disk
+    }
+}
+
+impl<T: Drop> From<AllocFailed<T>> for OpenFault {
+    ghost use Rattle.std.specs.Prelude.{◌≡◌};
+    ghost use Rattle.journal_core.specs.declared.faults.OpenFault.TheVariants.{Memory};
+
+    ghost from_gives = { λ _ fault. fault ≡ Memory };
+
+    fn from(_: AllocFailed<T>) -> OpenFault {
+        OpenFault::Memory
+    }
+}
+
+#[derive(Clone, Copy, Debug, PartialEq, Eq, Error)]
+pub enum ReadFault {
+    #[error("out of memory")]
+    Memory,
+    /// A call of the disk failed.
+    #[error("the disk failed")]
+    Disk,
+}
+
+impl From<Failed> for ReadFault {
+    ghost use Rattle.std.specs.Prelude.{◌≡◌};
+    ghost use Rattle.journal_core.specs.declared.faults.ReadFault.TheVariants.{Disk};
+
+    ghost from_gives = { λ _ fault. fault ≡ Disk };
+
+    fn from(_: Failed) -> ReadFault {
+        ReadFault::Disk
+    }
+}
+
+impl From<AllocError> for ReadFault {
+    ghost use Rattle.std.specs.Prelude.{◌≡◌};
+    ghost use Rattle.journal_core.specs.declared.faults.ReadFault.TheVariants.{Memory};
+
+    ghost from_gives = { λ _ fault. fault ≡ Memory };
+
+    fn from(_: AllocError) -> ReadFault {
+        ReadFault::Memory
+    }
+}
+
+#[derive(Clone, Copy, Debug, PartialEq, Eq, Error)]
+pub enum AppendFault {
+    #[error("out of memory")]
+    Memory,
+    /// A call of the disk failed. A crash may leave the record or not, and the journal is stopped.
+    #[error("the disk failed")]
+    Disk,
+    /// The journal's length and what the record adds are more than 1,073,741,824 bytes together.
+    #[error("the journal is full: {len} bytes and {add} more")]
+    Full { len: u64, add: u64 },
+    /// An earlier append on this journal answered `Disk`.
+    #[error("the journal is stopped")]
+    Stopped,
+}
+
+impl From<AllocError> for AppendFault {
+    ghost use Rattle.std.specs.Prelude.{◌≡◌};
+    ghost use Rattle.journal_core.specs.declared.faults.AppendFault.TheVariants.{Memory};
+
+    ghost from_gives = { λ _ fault. fault ≡ Memory };
+
+    fn from(_: AllocError) -> AppendFault {
+        AppendFault::Memory
+    }
+}

@@ -1,0 +1,51 @@
+// Makes a file ready for a first record.
+ghost use Rattle.std.specs.Prelude.{◌≡◌, ◌⊎◌, ◌≤◌, ◌<◌, ◌+◌, List, [], ℕ, length, OnOk, Some, IsErrOf};
+ghost use Rattle.jp_disk.specs.Images.{IsOnlyImage};
+ghost use Rattle.jp_disk.specs.Moments.{AtEachMoment};
+ghost use Rattle.jp_disk.specs.Faults.{Rose};
+ghost use Rattle.journal_core.specs.Records.{records, Has};
+ghost use Rattle.journal_core.specs.State.{Stores};
+ghost use Rattle.journal_core.specs.Moments.{SinceSync};
+ghost use Rattle.journal_core.specs.Finding.{PrepareLeaves};
+
+use crate::CreateFault;
+use crate::durable::{settle, write_durably};
+use crate::head::read_exact;
+use jp_disk::Disk;
+
+/// Closes the first gate of a file that has no room for a record.
+fn close_first<D: Disk>(disk: &mut D) -> Result<(), CreateFault>
+    ensures stored { (file : List ℕ) → D.reads disk.old ≡ Some file → OnOk result (Stores D.reads D.may_leave disk.new 1 []) }
+    ensures any_moment { (file : List ℕ) → IsOnlyImage file (D.may_leave disk.old) → length file < 6 → AtEachMoment D.clock D.may_have_left_since disk.old disk.new (Has []) }
+    ensures within { OnOk result (0 < D.end disk.new) }
+    ensures only_disk { IsErrOf result CreateFault.HasRecord → ⊥ }
+    ensures never_falls { D.faults disk.old ≤ D.faults disk.new }
+    ensures cause { IsErrOf result CreateFault.Disk → Rose (D.faults disk.old) (D.faults disk.new) }
+{
+    write_durably(disk, 0, &[0])?;
+    Ok(())
+}
+
+/// Makes sure that the file has no record and begins with a closed gate, all of it durable.
+pub fn prepare<D: Disk>(disk: &mut D) -> Result<(), CreateFault>
+    ensures left { (file : List ℕ) → D.reads disk.old ≡ Some file → PrepareLeaves D.reads D.may_leave file disk.new result }
+    ensures any_moment { (file : List ℕ) → D.reads disk.old ≡ Some file
+        → SinceSync D.clock D.may_have_left_since D.may_leave file disk.old disk.new (λ image. records image ≡ records file)
+        ⊎ (IsErrOf result CreateFault.Disk × AtEachMoment D.clock D.may_have_left_since disk.old disk.new (D.may_leave disk.old)) }
+    ensures within { OnOk result (0 < D.end disk.new) }
+    ensures cause { IsErrOf result CreateFault.Disk → Rose (D.faults disk.old) (D.faults disk.new) }
+{
+    let end = settle(disk)?;
+    if end == 0 {
+        return close_first(disk);
+    }
+    let mut gate = [0; 1];
+    read_exact(disk, 0, &mut gate)?;
+    if gate[0] != 1 {
+        return Ok(());
+    }
+    if end >= 6 {
+        return Err(CreateFault::HasRecord);
+    }
+    close_first(disk)
+}
