@@ -3,7 +3,7 @@ use Rattle.std.specs.Prelude.{◌+◌, true, [], Some, None, pos, codes, refl, �
 use Rattle.model_values.specs.Limits.{limit_line}
 use Rattle.model_values.specs.Cells.{cell_bytes, heap_bytes, Gives, Meets, new_text, new_list, new_map, new_list_of, throw, list_push, map_put}
 use Rattle.model_values.proofs.Sample.{sample, ab, gives_new, throws, small}
-use Rattle.model_values.specs.Types.{Null, Truth, InCell, IntKey, TextKey, Variable, TextCell, ListCell, MapCell, ClosureCell, ThrownCell, Abort, Error, TextLength, CollectionSize, Cells, HeapBytes}
+use Rattle.model_values.specs.Types.{Null, Truth, InCell, IntKey, TextKey, Variable, TextCell, ListCell, MapCell, ClosureCell, ThrownCell, Abort, Error, NodesEvaluated, CallDepth, FlowNodes, LogSize, GreenThreads, TextLength, CollectionSize, ValueDepth, Cells, HeapBytes}
 
 -- heap bytes of a cell of each kind
 pub bytes_of_a_variable : cell_bytes (Variable ab) ≡ 16
@@ -96,5 +96,32 @@ pub put_over_meets_no_limit : map_put (small 0 0 0 0 0 0) (MapCell ((IntKey (pos
 put_over_meets_no_limit = refl
 
 -- what the log calls a limit
-pub the_line_of_a_limit : limit_line TextLength ≡ codes "Limit reached: text length"
-the_line_of_a_limit = refl
+pub line_of_NodesEvaluated : limit_line NodesEvaluated ≡ codes "Limit reached: nodes evaluated"
+line_of_NodesEvaluated = refl
+
+pub line_of_CallDepth : limit_line CallDepth ≡ codes "Limit reached: call depth"
+line_of_CallDepth = refl
+
+pub line_of_TextLength : limit_line TextLength ≡ codes "Limit reached: text length"
+line_of_TextLength = refl
+
+pub line_of_CollectionSize : limit_line CollectionSize ≡ codes "Limit reached: collection size"
+line_of_CollectionSize = refl
+
+pub line_of_ValueDepth : limit_line ValueDepth ≡ codes "Limit reached: value depth"
+line_of_ValueDepth = refl
+
+pub line_of_Cells : limit_line Cells ≡ codes "Limit reached: cells"
+line_of_Cells = refl
+
+pub line_of_HeapBytes : limit_line HeapBytes ≡ codes "Limit reached: heap bytes"
+line_of_HeapBytes = refl
+
+pub line_of_FlowNodes : limit_line FlowNodes ≡ codes "Limit reached: flow nodes"
+line_of_FlowNodes = refl
+
+pub line_of_LogSize : limit_line LogSize ≡ codes "Limit reached: log size"
+line_of_LogSize = refl
+
+pub line_of_GreenThreads : limit_line GreenThreads ≡ codes "Limit reached: green threads"
+line_of_GreenThreads = refl

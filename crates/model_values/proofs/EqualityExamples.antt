@@ -2,7 +2,7 @@
 use Rattle.std.specs.Prelude.{true, false, [], None, pos, negsuc, codes, refl, ◌≡◌, ◌∷◌}
 use Rattle.model_values.specs.Equality.{equal, Is, Stops, equal_within}
 use Rattle.model_values.specs.Limits.{product_limits}
-use Rattle.model_values.proofs.Sample.{sample, empty_text, ab, empty_list, list, empty_map, pairs_map, closure_cell, thrown_cell, wide, nested, small}
+use Rattle.model_values.proofs.Sample.{sample, chain, empty_text, ab, empty_list, list, empty_map, pairs_map, closure_cell, thrown_cell, wide, nested, small}
 use Rattle.model_values.specs.Types.{Null, Truth, Whole, InCell, IntKey, TextKey, TextCell, ListCell, MapCell, ClosureCell, ThrownCell, Error, NodesEvaluated, ValueDepth}
 
 -- null is accepted on either side; two kinds are unequal; each pair that is compared counts once
@@ -130,6 +130,14 @@ depth_past_the_limit = refl
 pub depth_past_the_limit_of_a_list_in_itself : equal (small 99 9 9 3 99 9999) (ListCell (InCell 0 ∷ []) ∷ []) (InCell 0) (InCell 0) 0 ≡ Stops ValueDepth 4
 unfolding equal_within
 depth_past_the_limit_of_a_list_in_itself = refl
+
+pub depth_of_64 : equal product_limits (chain 63) (InCell 63) (InCell 63) 0 ≡ Is true 64
+unfolding equal_within
+depth_of_64 = refl
+
+pub depth_of_65 : equal product_limits (chain 64) (InCell 64) (InCell 64) 0 ≡ Stops ValueDepth 65
+unfolding equal_within
+depth_of_65 = refl
 
 pub sizes_before_the_depth : equal (small 99 9 9 0 99 9999) sample list empty_list 0 ≡ Is false 1
 unfolding equal_within

@@ -3,6 +3,7 @@ mod EqualityExamples
 mod IndexExamples
 mod ListMethodExamples
 mod MethodExamples
+mod MethodNameExamples
 mod OperatorExamples
 mod Sample
 mod TextExamples

@@ -1,5 +1,5 @@
 -- The cells of the worked examples, the limits of those at and past a limit, and what most examples give.
-use Rattle.std.specs.Prelude.{ℕ, List, [], ◌∷◌, ◌++◌, Some, None, pos, codes}
+use Rattle.std.specs.Prelude.{ℕ, zero, suc, List, [], ◌∷◌, ◌++◌, Some, None, pos, codes}
 use Rattle.model_values.specs.Cells.{Answer, Gives, Throws}
 use Rattle.model_values.specs.Limits.{Limits}
 use Rattle.model_values.specs.Types.{Value, Null, Whole, InCell, IntKey, TextKey, Cell, Variable, TextCell, ListCell, MapCell, ClosureCell, ThrownCell, Class, Abort, Error}
@@ -57,6 +57,11 @@ gives_new c = Gives (sample ++ c ∷ []) (InCell 12)
 -- a new throwable with this message
 abbrev pub throws : Class → List ℕ → Answer
 throws class m = Throws (sample ++ ThrownCell class (Some m) ∷ []) 12
+
+-- n lists and one more, each but the first with the one before it inside: as many inside each other
+abbrev pub chain : ℕ → List Cell
+chain zero = ListCell [] ∷ []
+chain (suc n) = chain n ++ ListCell (InCell n ∷ []) ∷ []
 
 -- limits: nodes, bytes of a text, entries, depth, cells, heap bytes
 abbrev pub small : ℕ → ℕ → ℕ → ℕ → ℕ → ℕ → Limits

@@ -1,10 +1,10 @@
 -- The text of a value, and its limits.
-use Rattle.std.specs.Prelude.{true, false, [], pos, negsuc, codes, refl, ◌≡◌, ◌∷◌}
+use Rattle.std.specs.Prelude.{true, false, [], pos, negsuc, codes, refl, replicate, ◌≡◌, ◌∷◌, ◌++◌}
 use Rattle.std.specs.Fmt.{digits}
 use Rattle.model_values.specs.TextOf.{text_of, text_within, texts_behind, written, Wrote, Stops}
 use Rattle.model_values.specs.Limits.{product_limits}
 use Rattle.model_values.specs.Cells.{Meets}
-use Rattle.model_values.proofs.Sample.{sample, ab, empty_list, list, empty_map, pairs_map, closure_cell, thrown_cell, error_cell, nested, gives_new, small}
+use Rattle.model_values.proofs.Sample.{sample, chain, ab, empty_list, list, empty_map, pairs_map, closure_cell, thrown_cell, error_cell, nested, gives_new, small}
 use Rattle.model_values.specs.Types.{Null, Truth, Whole, InCell, IntKey, TextKey, TextCell, ListCell, MapCell, TextLength, ValueDepth, Cells}
 
 -- the text of a value of each kind
@@ -85,6 +85,14 @@ depth_at_the_limit = refl
 pub depth_past_the_limit : text_of (small 9 99 9 1 99 9999) sample nested ≡ Stops ValueDepth
 unfolding text_within digits
 depth_past_the_limit = refl
+
+pub depth_of_64 : text_of product_limits (chain 63) (InCell 63) ≡ Wrote (replicate 64 91 ++ replicate 64 93)
+unfolding text_within digits
+depth_of_64 = refl
+
+pub depth_of_65 : text_of product_limits (chain 64) (InCell 64) ≡ Stops ValueDepth
+unfolding text_within digits
+depth_of_65 = refl
 
 pub an_empty_list_too_deep : text_of (small 9 99 9 1 99 9999) (ListCell [] ∷ ListCell (InCell 0 ∷ []) ∷ []) (InCell 1) ≡ Stops ValueDepth
 unfolding text_within digits
