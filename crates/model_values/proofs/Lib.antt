@@ -1,0 +1,13 @@
+mod CellExamples
+mod EqualityExamples
+mod IndexExamples
+mod ListMethodExamples
+mod MethodExamples
+mod MethodNameExamples
+mod OperatorExamples
+mod Sample
+mod TextExamples
+mod TextMethodExamples
+mod ThrowableExamples
+mod TruthExamples
+mod WalkExamples
