@@ -1,5 +1,5 @@
 use crate::sparse::SparseDisk;
-use crate::{AppendFault, CreateFault, Journal, OpenFault, Record};
+use crate::{AppendFault, CreateFault, Journal, OpenFault, ReadFault, Record};
 use jp_disk::{Bytes, Disk, MemoryDisk, Numbers};
 use std::alloc::Global;
 use std::process::Abort;
@@ -212,6 +212,53 @@ fn each_call_fails_in_turn(rt: HostRuntime) -> Result<(), Fail> {
         assert_eq!(rt; disk.faults(), 1);
         assert_eq!(rt; acknowledged as u64, ((call - 1) / 4).saturating_sub(1));
         check_records(&rt, alloc, disk.crash(0), acknowledged);
+    }
+    Ok(())
+}
+
+// Opening three records is six calls of the disk: sync, length, and a read for each gate.
+#[test]
+fn each_call_of_an_opening_fails_in_turn(rt: HostRuntime) -> Result<(), Fail> {
+    let alloc = rt.alloc();
+    let (whole, _) = three_appends(&rt, alloc, disk(alloc, b"", &[], None)?);
+    for call in 1..7 {
+        match Journal::open(alloc, disk(alloc, whole.bytes(), &[call], None)?) {
+            Ok(_) => panic!(rt; "call {call} did not fail"),
+            Err((fault, disk)) => {
+                assert_eq!(rt; fault, OpenFault::Disk);
+                assert_eq!(rt; disk.bytes(), whole.bytes());
+                check_records(&rt, alloc, disk, 3);
+            }
+        }
+    }
+    Ok(())
+}
+
+// Behind the six calls of the opening each payload that has bytes is one call: that of the first record, and that of
+// the third.
+#[test]
+fn each_call_of_a_read_fails_in_turn(rt: HostRuntime) -> Result<(), Fail> {
+    let alloc = rt.alloc();
+    let (whole, _) = three_appends(&rt, alloc, disk(alloc, b"", &[], None)?);
+    for (call, unread) in [(7, 0), (8, 2)] {
+        match Journal::open(alloc, disk(alloc, whole.bytes(), &[call], None)?) {
+            Ok((mut journal, entries)) => {
+                assert_eq!(rt; entries.len(), PAYLOADS.len());
+                for k in 0..entries.len() {
+                    match journal.read(alloc, entries[k]) {
+                        Ok(payload) => assert_eq!(rt; payload.as_slice(), PAYLOADS[k]),
+                        Err(fault) => {
+                            assert_eq!(rt; fault, ReadFault::Disk);
+                            assert_eq!(rt; k, unread);
+                        }
+                    }
+                }
+                let disk = journal.close();
+                assert_eq!(rt; disk.faults(), 1);
+                check_records(&rt, alloc, disk, 3);
+            }
+            Err((fault, _)) => panic!(rt; "{fault}"),
+        }
     }
     Ok(())
 }
