@@ -234,31 +234,35 @@ fn each_call_of_an_opening_fails_in_turn(rt: HostRuntime) -> Result<(), Fail> {
     Ok(())
 }
 
+// Reads the payloads in turn up to the first that fails: which one that is.
+fn first_unread(rt: &impl Abort, alloc: Global, disk: MemoryDisk) -> Option<usize> {
+    match Journal::open(alloc, disk) {
+        Ok((mut journal, entries)) => {
+            assert!(rt; entries.len() <= PAYLOADS.len());
+            for k in 0..entries.len() {
+                match journal.read(alloc, entries[k]) {
+                    Ok(payload) => assert_eq!(rt; payload.as_slice(), PAYLOADS[k]),
+                    Err(fault) => {
+                        assert_eq!(rt; fault, ReadFault::Disk);
+                        return Some(k);
+                    }
+                }
+            }
+            None
+        }
+        Err((fault, _)) => panic!(rt; "{fault}"),
+    }
+}
+
 // Behind the six calls of the opening each payload that has bytes is one call: that of the first record, and that of
 // the third.
 #[test]
 fn each_call_of_a_read_fails_in_turn(rt: HostRuntime) -> Result<(), Fail> {
     let alloc = rt.alloc();
     let (whole, _) = three_appends(&rt, alloc, disk(alloc, b"", &[], None)?);
-    for (call, unread) in [(7, 0), (8, 2)] {
-        match Journal::open(alloc, disk(alloc, whole.bytes(), &[call], None)?) {
-            Ok((mut journal, entries)) => {
-                assert_eq!(rt; entries.len(), PAYLOADS.len());
-                for k in 0..entries.len() {
-                    match journal.read(alloc, entries[k]) {
-                        Ok(payload) => assert_eq!(rt; payload.as_slice(), PAYLOADS[k]),
-                        Err(fault) => {
-                            assert_eq!(rt; fault, ReadFault::Disk);
-                            assert_eq!(rt; k, unread);
-                        }
-                    }
-                }
-                let disk = journal.close();
-                assert_eq!(rt; disk.faults(), 1);
-                check_records(&rt, alloc, disk, 3);
-            }
-            Err((fault, _)) => panic!(rt; "{fault}"),
-        }
+    for (call, unread) in [(7, Some(0)), (8, Some(2)), (9, None)] {
+        let disk = disk(alloc, whole.bytes(), &[call], None)?;
+        assert_eq!(rt; first_unread(&rt, alloc, disk), unread);
     }
     Ok(())
 }
