@@ -1,0 +1,25 @@
+//! The real file and the real host: adapters of the system for the traits of devices.
+//!
+//! [`FileDisk`] is a disk over one file, and [`FolderHost`] is a host whose tasks are processes of this machine, each
+//! with a control folder. Both meet their traits, and tell contracts nothing but how often they failed: what a real
+//! file, folder or process does no contract can say, so that is tested and not proved.
+//!
+//! ```text
+//! let mut host = FolderHost::new(&rt);
+//! host.make_dir(&order);   // makes WORKSPACE@tmp/durable-00000002 and its script.sh
+//! host.start(&order);      // starts `sh`, and does not wait
+//! host.look(&order);       // Look::Running, and at last Look::Exited(code)
+//! ```
+#![tactic(auto)]
+
+mod control;
+mod file_disk;
+mod folder_host;
+mod launch;
+mod sync;
+
+pub use file_disk::FileDisk;
+pub use folder_host::FolderHost;
+
+#[cfg(test)]
+mod tests;
