@@ -84,7 +84,7 @@ expr_step (Expr-F.Or es) = node form.Or (nodes es)
 expr_step (Expr-F.Chosen cs e) = node form.Chosen (nodes (cs ++ e ∷ []))
 
 abbrev pub part_step : Part-F Node Node Node Node Node Node Node (List Node) Node Node Node → Node
-part_step (Part-F.Plain t) = node (form.Literal t) (nodes [])
+part_step (Part-F.Plain t) = node (form.PlainPart t) (nodes [])
 part_step (Part-F.Inner e) = e
 
 abbrev pub stmt_step : Stmt-F Node Node Node Node Node Node Node (List Node) Node Node Node → Node

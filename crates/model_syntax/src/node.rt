@@ -53,8 +53,10 @@ pub enum NodeForm {
     Throw,
     Number(i32),
     Literal(Text),
-    /// Literals and expressions ..
+    /// Plain parts and expressions ..
     GString,
+    /// The plain text between the expressions of a text.
+    PlainPart(Text),
     True,
     False,
     Null,
