@@ -1,0 +1,4 @@
+pub mod RunTypes
+pub mod LogText
+pub mod GraphText
+pub mod Results
