@@ -5,3 +5,6 @@ pub mod GraphText
 pub mod Results
 pub mod Terms
 pub mod State
+pub mod Around
+pub mod Names
+pub mod Callables
