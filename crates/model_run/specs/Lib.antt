@@ -8,3 +8,5 @@ pub mod State
 pub mod Around
 pub mod Names
 pub mod Callables
+pub mod Statements
+pub mod Assignments
