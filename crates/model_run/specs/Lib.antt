@@ -10,3 +10,5 @@ pub mod Names
 pub mod Callables
 pub mod Statements
 pub mod Assignments
+pub mod Gathering
+pub mod Expressions
