@@ -1,1 +1,2 @@
 mod LogExamples
+mod LabelExamples

@@ -2,3 +2,5 @@ pub mod RunTypes
 pub mod LogText
 pub mod GraphText
 pub mod Results
+pub mod LabelTokens
+pub mod Labels
