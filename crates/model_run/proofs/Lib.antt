@@ -1,2 +1,3 @@
 mod LogExamples
 mod LabelExamples
+mod RunExamples

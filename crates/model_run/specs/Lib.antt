@@ -4,3 +4,5 @@ pub mod GraphText
 pub mod Results
 pub mod LabelTokens
 pub mod Labels
+pub mod Grants
+pub mod Taking
