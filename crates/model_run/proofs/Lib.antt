@@ -1,3 +1,4 @@
 mod LogExamples
 mod LabelExamples
 mod RunExamples
+mod AgentsExamples

@@ -4,5 +4,9 @@ pub mod GraphText
 pub mod Results
 pub mod LabelTokens
 pub mod Labels
+pub mod AgentsTexts
+pub mod AgentsMembers
+pub mod AgentsFaults
+pub mod AgentsFile
 pub mod Grants
 pub mod Taking
