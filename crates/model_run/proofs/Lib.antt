@@ -1,1 +1,4 @@
 mod LogExamples
+mod LabelExamples
+mod RunExamples
+mod AgentsExamples

@@ -12,3 +12,11 @@ pub mod Statements
 pub mod Assignments
 pub mod Gathering
 pub mod Expressions
+pub mod LabelTokens
+pub mod Labels
+pub mod AgentsTexts
+pub mod AgentsMembers
+pub mod AgentsFaults
+pub mod AgentsFile
+pub mod Grants
+pub mod Taking

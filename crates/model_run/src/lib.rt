@@ -5,6 +5,7 @@
 //! module a notion, as definitions that compute.
 #![tactic(auto)]
 
+mod agents;
 mod context;
 mod event;
 mod flow;
@@ -16,6 +17,7 @@ mod site;
 mod taken;
 mod wait;
 
+pub use agents::AgentsKind;
 pub use context::Context;
 pub use event::{Event, Stream, Why};
 pub use flow::{FlowNode, FlowNodes, NodeKind};
