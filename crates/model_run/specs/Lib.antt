@@ -20,3 +20,5 @@ pub mod AgentsFaults
 pub mod AgentsFile
 pub mod Grants
 pub mod Taking
+pub mod StepTable
+pub mod FlowNodes
