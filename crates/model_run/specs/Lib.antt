@@ -22,3 +22,6 @@ pub mod Grants
 pub mod Taking
 pub mod StepTable
 pub mod FlowNodes
+pub mod Steps
+pub mod Calls
+pub mod Forms

@@ -158,6 +158,16 @@ on_value go Continued s = Ended Continued s
 on_value go (Declared b) s = Ended (Declared b) s
 on_value go (Answered a) s = Ended (Answered a) s
 
+-- goes one way with a throwable, and another with any other ending
+abbrev pub on_throw : (ℕ → State → Result) → (Ending → State → Result) → Ending → State → Result
+on_throw go other (Normal v) = other (Normal v)
+on_throw go other (Thrown c) = go c
+on_throw go other (Returned v) = other (Returned v)
+on_throw go other Broke = other Broke
+on_throw go other Continued = other Continued
+on_throw go other (Declared b) = other (Declared b)
+on_throw go other (Answered a) = other (Answered a)
+
 -- goes on with what a thread waited for
 abbrev pub on_answer : (Reply_answer → State → Result) → Ending → State → Result
 on_answer go (Normal v) s = Ended (Normal v) s

@@ -10,7 +10,7 @@ use Rattle.model_values.specs.Walks.{Turn as Element, Turns, Past, Stops, loop_t
 use Rattle.model_run.specs.ValueTypes.{Binding, Value, Null, InCell, Cell, ThrownCell, Class}
 use Rattle.model_run.specs.RunTypes.{FrameKind}
 use Rattle.model_run.specs.declared.frame.FrameKind.TheVariants as kind
-use Rattle.model_run.specs.State.{World, State, Env, Ending, Normal, Thrown, Returned, Broke, Continued, Declared, Answered, Frame, Result, Ended, Limited, changed, seeing, put_cells, operating, tick, on_value}
+use Rattle.model_run.specs.State.{World, State, Env, Ending, Normal, Thrown, Returned, Broke, Continued, Declared, Answered, Frame, Result, Ended, Limited, changed, seeing, put_cells, operating, tick, on_value, on_throw}
 use Rattle.model_run.specs.Around.{Around, Shape, Entry, First, Inside, form_at, arity, frame, under, ended, cells, limits, deciding, value_at, cell_number, position, whole}
 use Rattle.model_run.specs.Names.{new_variable, bind, declare}
 
@@ -157,13 +157,8 @@ catching a k sh env c (Some p) =
     new_variable (InCell c) (λ n. under a (frame kind.TryCatch k 0 env []) (after_catch a k sh env) (Inside 0) p.0 (bind p.1 n env))
 
 abbrev pub after_try : Around → ℕ → Shape → Env → Ending → State → Result
-after_try a k sh env (Thrown c) = seeing (λ w. catching a k sh env c (catch_for sh (slice_get (cells w) c)))
-after_try a k sh env (Normal v) = after_catch a k sh env (Normal v)
-after_try a k sh env (Returned v) = after_catch a k sh env (Returned v)
-after_try a k sh env Broke = after_catch a k sh env Broke
-after_try a k sh env Continued = after_catch a k sh env Continued
-after_try a k sh env (Declared b) = after_catch a k sh env (Declared b)
-after_try a k sh env (Answered x) = after_catch a k sh env (Answered x)
+after_try a k sh env =
+    on_throw (λ c. seeing (λ w. catching a k sh env c (catch_for sh (slice_get (cells w) c)))) (after_catch a k sh env)
 
 -- `def x`, `def x = e`
 abbrev pub declaration : Around → ℕ → ℕ → List ℕ → Env → State → Result
