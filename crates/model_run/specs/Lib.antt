@@ -25,3 +25,6 @@ pub mod FlowNodes
 pub mod Steps
 pub mod Calls
 pub mod Forms
+pub mod Meaning
+pub mod Threads
+pub mod World
