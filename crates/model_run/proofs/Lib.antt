@@ -2,3 +2,4 @@ mod LogExamples
 mod LabelExamples
 mod RunExamples
 mod AgentsExamples
+mod WorldTrial

@@ -1,5 +1,5 @@
 -- Assignments, and `++` and `--` as statements (Groovy). What a target is of and its index come first, then the value.
-use Rattle.std.specs.Prelude.{ℕ, Bool, List, [], ◌∷◌, Option, Some, None}
+use Rattle.std.specs.Prelude.{ℕ, List, [], ◌∷◌, ◌++◌, Option, Some, None}
 use Rattle.model_syntax.specs.declared.node.NodeForm.{NodeForm}
 use Rattle.model_syntax.specs.declared.node.NodeForm.TheVariants as form
 use Rattle.model_syntax.specs.declared.tree.AssignSign.{AssignSign}
@@ -50,17 +50,20 @@ assign_by None target kept env v = write_counted target kept env v
 assign_by (Some op) target kept env v =
     tick (operating (λ w. apply (limits w) (cells w) op (value_at (place_size target) kept) v) (write_target target kept env))
 
-abbrev pub assign_value : Around → ℕ → Env → List Value → Option Op → NodeForm → State → Result
-assign_value a k env kept op target = under a (frame kind.AssignValue k 0 env kept) (on_value (assign_by op target kept env)) First 1 env
+abbrev pub operator_in : NodeForm → Option Op
+operator_in (form.Assign sign) = sign_operator sign
+operator_in f = None
+
+abbrev pub after_assigned : Shape → List Value → Env → Ending → State → Result
+after_assigned sh kept env = on_value (assign_by (operator_in sh.form) (form_at sh.parts 0) kept env)
+
+abbrev pub assign_value : Around → ℕ → Shape → Env → List Value → State → Result
+assign_value a k sh env kept = under a (frame kind.AssignValue k 0 env kept) (after_assigned sh kept env) First 1 env
 
 -- `x = e`, and `x += e` with its kin, which reads its target before its value is evaluated
-abbrev pub append : List Value → Value → List Value
-append [] v = v ∷ []
-append (u ∷ us) v = u ∷ append us v
-
-abbrev pub assign_at : Around → ℕ → NodeForm → Env → Option Op → List Value → State → Result
-assign_at a k target env None place = assign_value a k env place None target
-assign_at a k target env (Some op) place = read_target target place env (λ old. assign_value a k env (append place old) (Some op) target)
+abbrev pub assign_at : Around → ℕ → Shape → Env → List Value → Option Op → State → Result
+assign_at a k sh env place None = assign_value a k sh env place
+assign_at a k sh env place (Some op) = read_target (form_at sh.parts 0) place env (λ old. assign_value a k sh env (place ++ old ∷ []))
 
 -- `x++` and `x--`
 abbrev pub step_by : (World → Value → Answer) → NodeForm → Env → List Value → State → Result
@@ -68,7 +71,7 @@ step_by f target env place = read_target target place env (λ old. tick (operati
 
 -- what is done with a target once what it is of is known
 abbrev pub at_target : Around → ℕ → Shape → Env → List Value → NodeForm → State → Result
-at_target a k sh env place (form.Assign sign) = assign_at a k (form_at sh.parts 0) env (sign_operator sign) place
+at_target a k sh env place (form.Assign sign) = assign_at a k sh env place (sign_operator sign)
 at_target a k sh env place form.Increment = step_by (λ w v. incremented (limits w) (cells w) v) (form_at sh.parts 0) env place
 at_target a k sh env place f = step_by (λ w v. decremented (limits w) (cells w) v) (form_at sh.parts 0) env place
 
@@ -81,4 +84,4 @@ after_receiver a k sh env f = on_value (λ of. at_target a k sh env (of ∷ []) 
 
 abbrev pub receiver : Around → ℕ → Shape → Env → NodeForm → State → Result
 receiver a k sh env (form.ToName x) = at_target a k sh env [] sh.form
-receiver a k sh env f = under a (frame kind.TargetReceiver k 0 env []) (after_receiver a k sh env f) (Inside 0) 0 env
+receiver a k sh env f = under a (frame kind.TargetReceiver k 0 env []) (after_receiver a k sh env (form_at sh.parts 0)) (Inside 0) 0 env

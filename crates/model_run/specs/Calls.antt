@@ -1,6 +1,6 @@
 -- Calls: of a name, of a method, and the methods that walk over a value with a closure (Groovy; the order in which a name
 -- is looked for is this product's own). A call counts directly before what it does with its arguments.
-use Rattle.std.specs.Prelude.{ℕ, suc, ◌+◌, nat_eq, Bool, List, [], ◌∷◌, ◌++◌, length, take, drop, Option, Some, None, option_and_then, slice_get, codes, unwrap_or}
+use Rattle.std.specs.Prelude.{ℕ, suc, ◌+◌, nat_eq, Bool, true, false, List, [], ◌∷◌, ◌++◌, length, take, drop, Option, Some, None, option_and_then, slice_get, codes, unwrap_or}
 use Rattle.model_syntax.specs.declared.node.NodeForm.{NodeForm}
 use Rattle.model_syntax.specs.declared.node.NodeForm.TheVariants as form
 use Rattle.model_syntax.specs.declared.tree.Access.{Access}
@@ -82,28 +82,32 @@ abbrev pub walk : Around → ℕ → Env → Method → ℕ → Value → Value 
 walk a k env m i on f kept =
     seeing (λ w. calling (closure_of w f) (ended Null) (λ c. walk_turn a k env m i on f kept c (turn (limits w) (cells w) on (takes_two w c) i)))
 
--- What a method call comes to.
-abbrev pub called : Around → ℕ → Env → World → Value → List Value → Called → State → Result
-called a k env w on args (Done answer n) = tick (changed (raised n) (answered answer ended))
-called a k env w on args (Walks m c) = tick (walk a k env m 0 on (InCell c) [])
-called a k env w on args (CallsClosure c) = calling (closure_of w (InCell c)) (ended Null) (enter a args)
-
-abbrev pub call_method : Around → ℕ → Env → List ℕ → Value → List Value → World → State → Result
-call_method a k env f on args w = called a k env w on args (method_call (limits w) (cells w) on f args (suc w.shared.count))
-
--- `e.f(..)`, and `e?.f(..)`, which gives null on null
-abbrev pub call_on : Around → ℕ → Env → Access → List ℕ → Value → List Value → World → Kind → State → Result
-call_on a k env NullSafe f on args w null = tick (ended Null)
-call_on a k env access f on args w on_kind = call_method a k env f on args w
-
-abbrev pub method_step : Around → ℕ → Env → Access → List ℕ → List Value → State → Result
-method_step a k env access f [] = ended Null
-method_step a k env access f (on ∷ args) = seeing (λ w. call_on a k env access f on args w (kind (cells w) on))
-
 -- the method of a walk
 abbrev pub walk_method : NodeForm → Method
 walk_method (form.Method access f) = unwrap_or (method_named f) Each
 walk_method form = Each
+
+-- What a method call comes to.
+abbrev pub called : Around → ℕ → Shape → Env → World → Value → List Value → Called → State → Result
+called a k sh env w on args (Done answer n) = tick (changed (raised n) (answered answer ended))
+called a k sh env w on args (Walks m c) = tick (walk a k env (walk_method sh.form) 0 on (InCell c) [])
+called a k sh env w on args (CallsClosure c) = calling (closure_of w (InCell c)) (ended Null) (enter a args)
+
+abbrev pub call_method : Around → ℕ → Shape → Env → List ℕ → Value → List Value → World → State → Result
+call_method a k sh env f on args w = called a k sh env w on args (method_call (limits w) (cells w) on f args (suc w.shared.count))
+
+-- `e.f(..)`, and `e?.f(..)`, which gives null on null
+abbrev pub is_null : Access → Kind → Bool
+is_null NullSafe null = true
+is_null access k = false
+
+abbrev pub call_on : Around → ℕ → Shape → Env → List ℕ → Value → List Value → World → Bool → State → Result
+call_on a k sh env f on args w true = tick (ended Null)
+call_on a k sh env f on args w false = call_method a k sh env f on args w
+
+abbrev pub method_step : Around → ℕ → Shape → Env → Access → List ℕ → List Value → State → Result
+method_step a k sh env access f [] = ended Null
+method_step a k sh env access f (on ∷ args) = seeing (λ w. call_on a k sh env f on args w (is_null access (kind (cells w) on)))
 
 -- What a name that is called means: a declared variable, whose value is called; a function; a binding variable that holds
 -- a closure; a step.
@@ -132,12 +136,12 @@ abbrev pub meant_variable : List ℕ → World → Option ℕ → Meant
 meant_variable f w (Some c) = Variable_value (variable w c)
 meant_variable f w None = meant_function f w (function_named f w)
 
-abbrev pub call_meant : Around → ℕ → Env → List ℕ → List Value → World → Meant → State → Result
-call_meant a k env f args w (Variable_value v) = call_method a k env (codes "call") v args w
-call_meant a k env f args w (Callee_of c) = enter a args c
-call_meant a k env f args w (Step_of s) = tick (begin_step a k env s args)
-call_meant a k env f args w Nothing = tick (operating (λ u. unknown_step (limits u) (cells u) f) ended)
+abbrev pub call_meant : Around → ℕ → Shape → Env → List ℕ → List Value → World → Meant → State → Result
+call_meant a k sh env f args w (Variable_value v) = call_method a k sh env (codes "call") v args w
+call_meant a k sh env f args w (Callee_of c) = enter a args c
+call_meant a k sh env f args w (Step_of s) = tick (begin_step a k env s args)
+call_meant a k sh env f args w Nothing = tick (operating (λ u. unknown_step (limits u) (cells u) f) ended)
 
 -- `f(..)` behind its arguments
-abbrev pub call_named : Around → ℕ → Env → List ℕ → List Value → State → Result
-call_named a k env f args = seeing (λ w. call_meant a k env f args w (meant_variable f w (look f env)))
+abbrev pub call_named : Around → ℕ → Shape → Env → List ℕ → List Value → State → Result
+call_named a k sh env f args = seeing (λ w. call_meant a k sh env f args w (meant_variable f w (look f env)))

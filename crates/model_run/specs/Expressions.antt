@@ -29,12 +29,13 @@ abbrev pub after_choice : Around → Shape → ℕ → Env → (State → Result
 after_choice a sh m env others form.IfTrue = on_value (λ v. tick (deciding v (a.part (Inside 1) (arity sh - suc m) env) others))
 after_choice a sh m env others f = on_value (λ v. tick (deciding v (ended v) others))
 
-abbrev pub choice_test : Around → ℕ → Shape → ℕ → Env → (State → Result) → NodeForm → State → Result
-choice_test a k sh m env others f = under a (frame kind.ChosenTest k m env []) (after_choice a sh m env others f) (Inside 0) (arity sh - suc m) env
+abbrev pub choice_test : Around → ℕ → Shape → ℕ → Env → (State → Result) → State → Result
+choice_test a k sh m env others =
+    under a (frame kind.ChosenTest k m env []) (after_choice a sh m env others (form_at sh.parts (arity sh - suc m))) (Inside 0) (arity sh - suc m) env
 
 abbrev pub choice : Around → ℕ → Shape → ℕ → Env → (State → Result) → NodeForm → State → Result
-choice a k sh m env others form.IfTrue = choice_test a k sh m env others form.IfTrue
-choice a k sh m env others form.IfSet = choice_test a k sh m env others form.IfSet
+choice a k sh m env others form.IfTrue = choice_test a k sh m env others
+choice a k sh m env others form.IfSet = choice_test a k sh m env others
 choice a k sh m env others f = a.part First (arity sh - suc m) env
 
 -- the last m parts

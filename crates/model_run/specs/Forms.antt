@@ -1,9 +1,9 @@
 -- What each form of node does: as it begins, in a further turn, and behind each of its frames.
-use Rattle.std.specs.Prelude.{ℕ, suc, ◌-◌, true, false, List, [], ◌∷◌, drop, reverse, codes, Option, None}
+use Rattle.std.specs.Prelude.{ℕ, suc, ◌-◌, true, false, List, [], ◌∷◌, drop, reverse, codes}
 use Rattle.model_syntax.specs.declared.node.NodeForm.{NodeForm}
 use Rattle.model_syntax.specs.declared.node.NodeForm.TheVariants as form
 use Rattle.model_values.specs.Cells.{new_cell, new_text}
-use Rattle.model_run.specs.ValueTypes.{Op, Value, Null, Truth, Whole, ClosureCell}
+use Rattle.model_run.specs.ValueTypes.{Value, Null, Truth, Whole, ClosureCell}
 use Rattle.model_run.specs.RunTypes.{FrameKind}
 use Rattle.model_run.specs.declared.frame.FrameKind.TheVariants as kind
 use Rattle.model_run.specs.State.{State, Env, Ending, Normal, Thrown, Returned, Broke, Continued, Frame, Result, Ended, through, operating, tick, on_value}
@@ -11,7 +11,7 @@ use Rattle.model_run.specs.Around.{Entry, First, Inside, On, Turn, Body, Branche
 use Rattle.model_run.specs.Names.{read_name, declare}
 use Rattle.model_run.specs.Callables.{body, after_call}
 use Rattle.model_run.specs.Statements.{on_statement, statements, after_if_test, arms, on_turn, after_test, while_test, while_turn, after_steps_first, steps_next, steps_turn, steps_test, each_from, each_turn, after_try, after_catch, after_finally, declaration, return_from, returns, throws}
-use Rattle.model_run.specs.Assignments.{receiver, after_receiver, after_index, assign_by, sign_operator}
+use Rattle.model_run.specs.Assignments.{receiver, after_receiver, after_index, after_assigned}
 use Rattle.model_run.specs.Gathering.{gather, after_gathered, after_key, list_of, map_of, text_from, throwable_of}
 use Rattle.model_run.specs.Expressions.{group, choices, after_choice, operands, after_operand, joined, joined_all, after_joined, prefixed, prefixed_by, prefixes_of, suffixed, suffixed_all, property, index, indexed}
 use Rattle.model_run.specs.Calls.{method_step, walk, walk_method, after_walk_turn, call_named}
@@ -23,8 +23,8 @@ value v = tick (ended v)
 
 -- behind all values of a node that gathers them
 abbrev pub gathered : Around → ℕ → Env → Shape → NodeForm → List Value → State → Result
-gathered a k env sh (form.Call f) vs = call_named a k env f vs
-gathered a k env sh (form.Method access f) vs = method_step a k env access f vs
+gathered a k env sh (form.Call f) vs = call_named a k sh env f vs
+gathered a k env sh (form.Method access f) vs = method_step a k sh env access f vs
 gathered a k env sh form.Map vs = map_of sh vs
 gathered a k env sh form.GString vs = text_from sh vs
 gathered a k env sh (form.New c) vs = throwable_of c vs
@@ -99,11 +99,6 @@ enter (Turn i kept) a k sh env = turn a k sh env i kept sh.form
 enter (Body args) a k sh env = body a sh k env args
 enter (Branched start) a k sh env = branched a k sh env start
 
--- the operator of an assignment that reads its target too
-abbrev pub operator_of : NodeForm → Option Op
-operator_of (form.Assign sign) = sign_operator sign
-operator_of f = None
-
 -- the name in a form
 abbrev pub name_of : NodeForm → List ℕ
 name_of (form.Declare x) = x
@@ -131,7 +126,7 @@ after_kind a k sh left env vs kind.FinallyAfterContinue = after_finally Continue
 after_kind a k sh left env vs kind.DeclareValue = on_value (declare (name_of sh.form))
 after_kind a k sh left env vs kind.TargetReceiver = after_receiver a k sh env (form_at sh.parts 0)
 after_kind a k sh left env vs kind.TargetIndex = after_index a k sh env (value_at 0 vs)
-after_kind a k sh left env vs kind.AssignValue = on_value (assign_by (operator_of sh.form) (form_at sh.parts 0) vs env)
+after_kind a k sh left env vs kind.AssignValue = after_assigned sh vs env
 after_kind a k sh left env vs kind.ReturnValue = on_value returns
 after_kind a k sh left env vs kind.ThrowValue = on_value throws
 after_kind a k sh left env vs kind.Gathered = after_gathered sh left vs (gather_all a k sh env left)
