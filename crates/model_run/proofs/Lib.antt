@@ -2,4 +2,8 @@ mod LogExamples
 mod LabelExamples
 mod RunExamples
 mod AgentsExamples
+mod Relation
+mod Room
+mod Under
+mod StatementLaws
 mod WorldTrial
