@@ -6,4 +6,8 @@ mod Relation
 mod Room
 mod Under
 mod StatementLaws
+mod ExpressionLaws
+mod StepLaws
+mod CallLaws
+mod FormLaws
 mod WorldTrial

@@ -117,7 +117,7 @@ module _ (rel : Relation) where
   answer_law go go' h (Declared b) s s' q = rel.ends (Declared b) s s' q
   answer_law go go' h (Answered a) s s' q = h a s s' q
 
-  answered_law : (x : Answer) (go go' : Value → State → Result) → ((v : Value) → Goes rel (go v) (go' v)) → Goes rel (answered x go) (answered x go')
+  pub answered_law : (x : Answer) (go go' : Value → State → Result) → ((v : Value) → Goes rel (go v) (go' v)) → Goes rel (answered x go) (answered x go')
   answered_law (Gives h v) go go' k = change_law (put_cells h) (λ w. omega arith) (go v) (go' v) (k v)
   answered_law (Throws h c) go go' k = change_law (put_cells h) (λ w. omega arith) (Ended (Thrown c)) (Ended (Thrown c)) (rel.ends (Thrown c))
   answered_law (Meets m) go go' k = rel.limits m
