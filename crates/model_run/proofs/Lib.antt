@@ -10,4 +10,7 @@ mod ExpressionLaws
 mod StepLaws
 mod CallLaws
 mod FormLaws
+mod BelowLaws
+mod Walk
+mod Monotone
 mod WorldTrial

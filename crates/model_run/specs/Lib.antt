@@ -26,5 +26,6 @@ pub mod Steps
 pub mod Calls
 pub mod Forms
 pub mod Meaning
+pub mod Below
 pub mod Threads
 pub mod World
