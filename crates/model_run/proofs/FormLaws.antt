@@ -13,7 +13,7 @@ use Rattle.model_run.specs.Names.{read_name, declare}
 use Rattle.model_run.specs.Statements.{after_try, each_from, throws, after_steps_first, declaration}
 use Rattle.model_run.specs.Expressions.{prefixes_of}
 use Rattle.model_run.specs.Calls.{walk_method}
-use Rattle.model_run.specs.Forms.{value, gathered, gather_all, start, suffix_on, turn, branched, enter, name_of, after_kind, after}
+use Rattle.model_run.specs.Forms.{value, gathered, gather_all, start, suffix_on, turn, body_of, branched, enter, name_of, after_kind, after}
 use Rattle.model_run.proofs.Relation.{Relation, Goes, GoesOn, Agree, value_law, operate_law}
 use Rattle.model_run.proofs.Under.{end_law, tick_law, into}
 use Rattle.model_run.proofs.StatementLaws.{statement_law, turn_end_law, declare_law, return_law, throws_law, finally_end_law, statements_law, if_test_law, arms_law, test_law, while_test_law, while_turn_law, steps_first_law, steps_next_law, steps_turn_law, each_from_law, each_turn_law, catch_law, try_law, return_from_law}
@@ -46,8 +46,14 @@ module _ (rel : Relation) (sh : Shape) (k : ℕ) (a a' : Around) (h : Agree rel 
   turn_law env i kept (form.Method access f) = walk_law rel sh k a a' h env i (value_at 0 kept) (value_at 1 kept) (drop 2 kept)
   turn_law env i kept f = end_law rel Null
 
-  branched_law : (env : Env) (start : ℕ) → Goes rel (branched a k sh env start) (branched a' k sh env start)
-  branched_law env start s s' q = rel.throughs (frame kind.BranchBody k 0 env (whole start ∷ [])) _ _ (h.fits _ refl) (branch_end_law rel start) _ _ (body_law rel sh k a a' h env [] s s' q)
+  body_of_law : (env : Env) (args : List Value) (f : NodeForm) → Goes rel (body_of a k sh env args f) (body_of a' k sh env args f)
+  body_of_law env args (form.Closure heads) = body_law rel sh k a a' h env args
+  body_of_law env args (form.Function f names) = body_law rel sh k a a' h env args
+  body_of_law env args f = end_law rel Null
+
+  branched_law : (env : Env) (start : ℕ) (f : NodeForm) → Goes rel (branched a k sh env start f) (branched a' k sh env start f)
+  branched_law env start (form.Closure heads) = λ s s' q. rel.throughs (frame kind.BranchBody k 0 env (whole start ∷ [])) _ _ (h.fits _ refl) (branch_end_law rel start) _ _ (body_law rel sh k a a' h env [] s s' q)
+  branched_law env start f = end_law rel Null
 
 module _ (rel : Relation) (k : ℕ) (a a' : Around) (ps : List NodeForm) where
   abbrev shaped : NodeForm → Shape
@@ -101,8 +107,8 @@ module _ (rel : Relation) (k : ℕ) (a a' : Around) (ps : List NodeForm) where
   enter_law (Inside i) f env h = h.parts First i env
   enter_law (On v) f env h = suffix_law rel (shaped f) k a a' h env v f
   enter_law (Turn i kept) f env h = turn_law rel (shaped f) k a a' h env i kept f
-  enter_law (Body args) f env h = body_law rel (shaped f) k a a' h env args
-  enter_law (Branched start) f env h = branched_law rel (shaped f) k a a' h env start
+  enter_law (Body args) f env h = body_of_law rel (shaped f) k a a' h env args f
+  enter_law (Branched start) f env h = branched_law rel (shaped f) k a a' h env start f
 
 -- behind each frame, where a further turn may be begun from each state
 module _ (rel : Relation) (free : (s s' : State) → rel.States s s' → rel.Less s s') (sh : Shape) (k : ℕ) (a a' : Around) (h : Agree rel sh k a a') where

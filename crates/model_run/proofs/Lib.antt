@@ -13,4 +13,7 @@ mod FormLaws
 mod BelowLaws
 mod Walk
 mod Monotone
+mod Found
+mod Replay
+mod Enough
 mod WorldTrial

@@ -87,17 +87,24 @@ turn a k sh env i kept (form.ForEach x) = each_turn a k x env i kept
 turn a k sh env i kept (form.Method access f) = walk a k env (walk_method sh.form) i (value_at 0 kept) (value_at 1 kept) (drop 2 kept)
 turn a k sh env i kept f = ended Null
 
+-- the body of a closure or a function
+abbrev pub body_of : Around → ℕ → Shape → Env → List Value → NodeForm → State → Result
+body_of a k sh env args (form.Closure heads) = body a sh k env args
+body_of a k sh env args (form.Function f names) = body a sh k env args
+body_of a k sh env args f = ended Null
+
 -- a branch's closure
-abbrev pub branched : Around → ℕ → Shape → Env → ℕ → State → Result
-branched a k sh env start s = through (frame kind.BranchBody k 0 env (whole start ∷ [])) (after_branch start) (body a sh k env [] s)
+abbrev pub branched : Around → ℕ → Shape → Env → ℕ → NodeForm → State → Result
+branched a k sh env start (form.Closure heads) = λ s. through (frame kind.BranchBody k 0 env (whole start ∷ [])) (after_branch start) (body a sh k env [] s)
+branched a k sh env start f = ended Null
 
 abbrev pub enter : Entry → Around → ℕ → Shape → Env → State → Result
 enter First a k sh env = start a k sh env sh.form
 enter (Inside i) a k sh env = a.part First i env
 enter (On v) a k sh env = suffix_on a k sh env v sh.form
 enter (Turn i kept) a k sh env = turn a k sh env i kept sh.form
-enter (Body args) a k sh env = body a sh k env args
-enter (Branched start) a k sh env = branched a k sh env start
+enter (Body args) a k sh env = body_of a k sh env args sh.form
+enter (Branched start) a k sh env = branched a k sh env start sh.form
 
 -- the name in a form
 abbrev pub name_of : NodeForm → List ℕ
