@@ -62,6 +62,14 @@ kept_within b g keeps s h = let l : left s ≤ b = h.0 in (omega (arith, keeps s
 spent_within : (b : ℕ) (limit : World → Option LimitKind) (g : World → World) → Spends limit g → (s : State) → limit s.world ≡ None → Within b s → (suc (left (with_world (g s.world) s)) ≤ b) × Small s.world.setting
 spent_within b limit g spends s e h = let l : left s ≤ b = h.0 in (omega (arith, spends s.world e), h.1)
 
+fine_behind : (b : ℕ) (f : Frame) (go : Ending → State → Result) → ((e : Ending) (s : State) → (suc (left s) ≤ b) × Small s.world.setting → Fine b (go e s)) → (r : Result) → 1 ≤ b → Fine (b - 1) r → Fine b (through f go r)
+fine_behind b f go h r one q = fine_through b (b - 1) f go (λ e s w. let l : left s ≤ b - 1 = w.0 in h e s (omega arith, w.1)) r q
+
+fine_through_unless : (b : ℕ) (limit : Option LimitKind) (f : Frame) (go : Ending → State → Result) (body : State → Result) (s : State) → (limit ≡ None → Fine b (through f go (body s))) → Fine b (through f go (unless_limit limit body s))
+unfolding through
+fine_through_unless b (Some k) f go body s h = tt
+fine_through_unless b None f go body s h = h refl
+
 -- one evaluation, where at most b is left to count
 abbrev fine_relation : ℕ → Relation
 fine_relation b = record {
@@ -81,4 +89,39 @@ fine_relation b = record {
   awaits = λ asked s s' q. fine_reply b asked s s.replies q.0 q.1;
   throughs = λ f go go' fits h r r' q. fine_through b b f go (λ e s. h e s s) r q;
   descends_through = λ f go go' fits h limit g spends body body' k s s' q.
-    through_guard (limit s.world) refl f go body g s' (λ e s w. h e s s w) (λ t. (spent_within b limit g spends s t q)) s k }
+    fine_through_unless b (limit s.world) f go (changed g body) s (λ t.
+      let less : (suc (left (with_world (g s.world) s)) ≤ b) × Small s.world.setting = spent_within b limit g spends s t q in
+      let l : suc (left (with_world (g s.world) s)) ≤ b = less.0 in
+      fine_behind b f go (λ e u w. h e u s' w) _ (omega arith) (k _ s' less)) }
+
+pub enough : (root : Term) (n b : ℕ) → b < n → (e : Entry) (t : Term) (env : Env) (s : State) → Within b s → Fine b (ev root n e t env s)
+unfolding ev
+enough root zero b lt e t env s h = absurd (omega arith)
+enough root (suc n) b lt e t env s h =
+    eval_law (fine_relation b) everywhere (again_with root n) (again_with root n) (call_with root n) (call_with root n)
+      (record {
+        agains = λ t i kept env good s s' q. let l : suc (left s) ≤ b = q.0 in enough root n (b - 1) (omega arith) (Turn i kept) t env s (omega arith, q.1);
+        calls = λ c args env s s' q. let l : suc (left s) ≤ b = q.0 in enough root n (b - 1) (omega arith) (Body args) (term_at root c) env s (omega arith, q.1);
+        fits = λ k f ps good x at. tt }) e t tt env s s h
+
+allowance_of : (rs : List Reply) → allowance rs ≡ full * length rs
+allowance_of [] = refl
+allowance_of (r ∷ rs) = omega (arith, allowance_of rs)
+
+abbrev pub IsFinished : Result → Type 0
+IsFinished (Ended e s) = Unit {0}
+IsFinished (Waits asked path s) = Unit {0}
+IsFinished (Limited k s) = Unit {0}
+IsFinished Unfinished = ⊥
+
+finished_if_fine : (b : ℕ) (r : Result) → Fine b r → IsFinished r
+finished_if_fine b (Ended e s) h = tt
+finished_if_fine b (Waits asked path s) h = tt
+finished_if_fine b (Limited k s) h = tt
+finished_if_fine b Unfinished h = h
+
+-- the stated fuel is enough for the answers that are still to come
+pub fuel_suffices : (root : Term) (e : Entry) (t : Term) (env : Env) (s : State) → Small s.world.setting → IsFinished (ev root (fuel (length s.replies)) e t env s)
+fuel_suffices root e t env s small =
+    let a : allowance s.replies ≡ full * length s.replies = allowance_of s.replies in
+    finished_if_fine (full * length s.replies + full) _ (enough root (fuel (length s.replies)) (full * length s.replies + full) (omega arith) e t env s (omega arith, small))
