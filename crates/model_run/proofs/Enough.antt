@@ -5,17 +5,10 @@ use Rattle.model_run.specs.Terms.{Term, term_at}
 use Rattle.model_run.specs.State.{Setting, World, Reply, State, Env, Ending, Frame, Asked, Result, Ended, Waits, Limited, Unfinished, Meaning, with_world, through, changed, seeing, unless_limit, guarded, reply_to, awaiting, room}
 use Rattle.model_run.specs.Around.{Entry, Turn, Body}
 use Rattle.model_run.specs.Meaning.{ev, fuel}
+use Rattle.model_run.specs.Below.{IsFinished, full, Small}
 use Rattle.model_run.proofs.Relation.{Relation, Keeps, Spends}
 use Rattle.model_run.proofs.Walk.{eval_law}
 use Rattle.model_run.proofs.Monotone.{everywhere, again_with, call_with}
-
--- what one event may count, with this product's limits
-abbrev pub full : ℕ
-full = 1065536
-
--- limits that are no larger than this product's
-abbrev pub Small : Setting → Type 0
-Small setting = setting.limits.values.nodes + setting.limits.flow_nodes ≤ full
 
 abbrev pub allowance : List Reply → ℕ
 allowance [] = 0
@@ -107,12 +100,6 @@ enough root (suc n) b lt e t env s h =
 allowance_of : (rs : List Reply) → allowance rs ≡ full * length rs
 allowance_of [] = refl
 allowance_of (r ∷ rs) = omega (arith, allowance_of rs)
-
-abbrev pub IsFinished : Result → Type 0
-IsFinished (Ended e s) = Unit {0}
-IsFinished (Waits asked path s) = Unit {0}
-IsFinished (Limited k s) = Unit {0}
-IsFinished Unfinished = ⊥
 
 finished_if_fine : (b : ℕ) (r : Result) → Fine b r → IsFinished r
 finished_if_fine b (Ended e s) h = tt

@@ -16,4 +16,5 @@ mod Monotone
 mod Found
 mod Replay
 mod Enough
+mod Structure
 mod WorldTrial

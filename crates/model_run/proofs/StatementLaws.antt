@@ -126,7 +126,7 @@ module _ (rel : Relation) (sh : Shape) (k : ℕ) (a a' : Around) (h : Agree rel 
 
   catching_law : (env : Env) (c : ℕ) (p : Option (ℕ × List ℕ)) → Goes rel (catching a k sh env c p) (catching a' k sh env c p)
   catching_law env c None = catch_law env (Thrown c)
-  catching_law env c (Some p) = new_variable_law rel (InCell c) _ _ (λ n. into rel sh k a a' h (frame kind.TryCatch k 0 env []) (Inside 0) p.0 (bind p.1 n env) refl (catch_law env))
+  catching_law env c (Some p) = new_variable_law rel (InCell c) _ _ (λ n. into rel sh k a a' h (frame kind.TryCatch k (arity sh - suc p.0) env []) (Inside 0) p.0 (bind p.1 n env) refl (catch_law env))
 
   pub try_law : (env : Env) → GoesOn rel (after_try a k sh env) (after_try a' k sh env)
   try_law env = throw_law rel _ _ _ _ (λ c. rel.looks _ _ (λ w. catching_law env c (catch_for sh (slice_get (cells w) c)))) (catch_law env)

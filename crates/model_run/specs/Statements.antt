@@ -154,7 +154,7 @@ after_catch a k sh env e = finally_behind a k sh env (has_finally sh) e
 abbrev pub catching : Around → ℕ → Shape → Env → ℕ → Option (ℕ × List ℕ) → State → Result
 catching a k sh env c None = after_catch a k sh env (Thrown c)
 catching a k sh env c (Some p) =
-    new_variable (InCell c) (λ n. under a (frame kind.TryCatch k 0 env []) (after_catch a k sh env) (Inside 0) p.0 (bind p.1 n env))
+    new_variable (InCell c) (λ n. under a (frame kind.TryCatch k (arity sh - suc p.0) env []) (after_catch a k sh env) (Inside 0) p.0 (bind p.1 n env))
 
 abbrev pub after_try : Around → ℕ → Shape → Env → Ending → State → Result
 after_try a k sh env =
