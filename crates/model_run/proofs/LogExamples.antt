@@ -1,8 +1,8 @@
 -- Logs, graphs and results, computed by the checker.
-use Rattle.std.specs.Prelude.{[], ◌∷◌, ◌++◌, Some, None, codes, refl, ◌≡◌}
+use Rattle.std.specs.Prelude.{[], ◌∷◌, ◌++◌, Some, codes, refl, ◌≡◌}
 use Rattle.std.specs.Fmt.{digits}
 use Rattle.model_values.specs.declared.throwable.Class.TheVariants.{Abort, FlowInterrupted, Arithmetic}
-use Rattle.model_run.specs.RunTypes.{FlowNode, NodeKind, StartNode, AtomNode, BlockNode, BodyNode, EndBodyNode, EndBlockNode, EndNode, Success, Unstable, Failure, NotBuilt, Aborted}
+use Rattle.model_run.specs.RunTypes.{StartNode, AtomNode, BlockNode, BodyNode, EndBodyNode, EndBlockNode, EndNode, Success, Unstable, Failure, NotBuilt, Aborted}
 use Rattle.model_run.specs.LogText.{log_text, Line, Raw, line}
 use Rattle.model_run.specs.GraphText.{graph_text}
 use Rattle.model_run.specs.Results.{worse, uncaught_lines, failure_line, begun_log, ended_log}
@@ -44,16 +44,16 @@ result_gets_no_better = refl
 
 -- `parallel a: { error 'x' }, b: { echo 'y' }`
 pub graph_of_two_branches : graph_text (
-        record { id = 2; kind = StartNode; name = []; start = 0; parents = [] }
-        ∷ record { id = 3; kind = BlockNode; name = codes "parallel"; start = 0; parents = 2 ∷ [] }
-        ∷ record { id = 4; kind = BodyNode; name = codes "Branch: a"; start = 0; parents = 3 ∷ [] }
-        ∷ record { id = 5; kind = BodyNode; name = codes "Branch: b"; start = 0; parents = 3 ∷ [] }
-        ∷ record { id = 6; kind = AtomNode; name = codes "error"; start = 0; parents = 4 ∷ [] }
-        ∷ record { id = 7; kind = EndBodyNode; name = []; start = 4; parents = 6 ∷ [] }
-        ∷ record { id = 8; kind = AtomNode; name = codes "echo"; start = 0; parents = 5 ∷ [] }
-        ∷ record { id = 9; kind = EndBodyNode; name = []; start = 5; parents = 8 ∷ [] }
-        ∷ record { id = 10; kind = EndBlockNode; name = []; start = 3; parents = 7 ∷ 9 ∷ [] }
-        ∷ record { id = 11; kind = EndNode; name = []; start = 0; parents = 10 ∷ [] } ∷ [])
+    record { id = 2; kind = StartNode; name = []; start = 0; parents = [] }
+    ∷ record { id = 3; kind = BlockNode; name = codes "parallel"; start = 0; parents = 2 ∷ [] }
+    ∷ record { id = 4; kind = BodyNode; name = codes "Branch: a"; start = 0; parents = 3 ∷ [] }
+    ∷ record { id = 5; kind = BodyNode; name = codes "Branch: b"; start = 0; parents = 3 ∷ [] }
+    ∷ record { id = 6; kind = AtomNode; name = codes "error"; start = 0; parents = 4 ∷ [] }
+    ∷ record { id = 7; kind = EndBodyNode; name = []; start = 4; parents = 6 ∷ [] }
+    ∷ record { id = 8; kind = AtomNode; name = codes "echo"; start = 0; parents = 5 ∷ [] }
+    ∷ record { id = 9; kind = EndBodyNode; name = []; start = 5; parents = 8 ∷ [] }
+    ∷ record { id = 10; kind = EndBlockNode; name = []; start = 3; parents = 7 ∷ 9 ∷ [] }
+    ∷ record { id = 11; kind = EndNode; name = []; start = 0; parents = 10 ∷ [] } ∷ [])
     ≡ codes "2 start\n3 block parallel <- 2\n4 body Branch: a <- 3\n5 body Branch: b <- 3\n6 atom error <- 4\n" ++ codes "7 end-body of 4 <- 6\n8 atom echo <- 5\n9 end-body of 5 <- 8\n10 end-block of 3 <- 7 9\n11 end <- 10\n"
 unfolding digits
 graph_of_two_branches = refl

@@ -1,14 +1,14 @@
 -- What is wrong with an agents file: every fault, in the order in which they are told. The form is this product's own.
 -- JSON is as `serde_json` reads it: of two members with one key the last counts, and members stand in the order of the
 -- bytes of their keys.
-use Rattle.std.specs.Prelude.{ℕ, zero, suc, ◌+◌, nat_eq, nat_le, nat_lt, Bool, true, false, not, ◌&&◌, ◌||◌, if◌then◌else◌, List, [], ◌∷◌, ◌++◌, length, codes, decimal, Option, Some, None}
+use Rattle.std.specs.Prelude.{ℕ, suc, ◌+◌, nat_eq, nat_le, nat_lt, Bool, false, not, ◌&&◌, ◌||◌, if◌then◌else◌, List, [], ◌∷◌, ◌++◌, length, codes, decimal, Option, Some, None}
 use Rattle.std.specs.List.{list_all, list_any, last_or}
 use Rattle.std.specs.Cmp.Lexicographic.{pointwise}
 use Rattle.serde_json.specs.Data.{Data, number, unsigned, negative, string, array, object, Items, no_items, item, Members, no_members, member}
 use Rattle.serde_json.specs.Find.{get_member}
 use Rattle.model_run.specs.AgentsMembers.{items_of, text_at, number_at}
 use Rattle.model_run.specs.declared.agents.AgentsKind.{AgentsKind}
-use Rattle.model_run.specs.declared.agents.AgentsKind.TheVariants.{TooLong, NotJson, Missing, WrongType, WrongValue, UnknownKey, DuplicateName, TooManyExecutors}
+use Rattle.model_run.specs.declared.agents.AgentsKind.TheVariants.{Missing, WrongType, WrongValue, UnknownKey, DuplicateName, TooManyExecutors}
 
 -- a fault has the path of the member that is wrong, as `agents[0].labels[1]`; the path of the whole file is `.`
 pub data Fault : Type 0 where
