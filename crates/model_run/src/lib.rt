@@ -11,7 +11,8 @@
 //! - `Grants`: which executor a `node` step gets, in which workspace, and the environment of its tasks.
 //! - `Taking`: what a build says to an event.
 //!
-//! `proofs/LogExamples`, `LabelExamples`, `AgentsExamples` and `RunExamples` work small cases of them out.
+//! `proofs/LogExamples`, `LabelExamples`, `AgentsExamples` and `RunExamples` work small cases of them out; `GrantLaws`
+//! proves that a workspace number is unused and the lowest such, and which request a grant is of.
 //!
 //! ```
 //! assert!(BuildResult::Unstable.worse(BuildResult::Failure) == BuildResult::Failure);
