@@ -1,3 +1,4 @@
+pub mod GrantLaws
 mod LogExamples
 mod LabelExamples
 mod RunExamples

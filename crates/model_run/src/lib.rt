@@ -1,8 +1,23 @@
 //! What a build is and does: its flow nodes, events, requests, executors and results, and the rules by which it
-//! answers an event.
+//! answers events.
 //!
-//! The types are plain data for the interpreter, the stores and the workers. What they mean stands in `specs/`, one
-//! module a notion, as definitions that compute.
+//! The types are plain data for interpreter, store and workers. What they mean stands in `specs/`, as definitions that
+//! compute, one module a notion:
+//!
+//! - `RunTypes`: the names by which the definitions call the types.
+//! - `LogText`, `GraphText`, `Results`: the bytes of the log and of the flow graph, and the result with the last lines.
+//! - `LabelTokens`, `Labels`: what the label of a `node` step says of an executor, and where it has a fault.
+//! - `AgentsMembers`, `AgentsFaults`, `AgentsFile`, `AgentsTexts`: the agents file, its first fault, and its site.
+//! - `Grants`: which executor a `node` step gets, in which workspace, and the environment of its tasks.
+//! - `Taking`: what a build says to an event.
+//!
+//! `proofs/LogExamples`, `LabelExamples`, `AgentsExamples` and `RunExamples` work small cases of them out; `GrantLaws`
+//! proves that a workspace number is unused and the lowest such, and which request a grant is of.
+//!
+//! ```
+//! assert!(BuildResult::Unstable.worse(BuildResult::Failure) == BuildResult::Failure);
+//! assert!(BuildResult::NotBuilt.name() == "NOT_BUILT");
+//! ```
 #![tactic(auto)]
 
 mod agents;
@@ -15,6 +30,8 @@ mod request;
 mod result;
 mod site;
 mod taken;
+#[cfg(test)]
+mod tests;
 mod wait;
 
 pub use agents::AgentsKind;
