@@ -3,7 +3,7 @@ mod LogExamples
 mod LabelExamples
 mod RunExamples
 mod AgentsExamples
-mod Relation
+pub mod Relation
 mod Room
 mod Under
 mod StatementLaws
@@ -12,10 +12,10 @@ mod StepLaws
 mod CallLaws
 mod FormLaws
 mod BelowLaws
-mod Walk
-mod Monotone
-mod Found
-mod Replay
-mod Enough
-mod Structure
+pub mod Walk
+pub mod Monotone
+pub mod Found
+pub mod Replay
+pub mod Enough
+pub mod Structure
 mod WorldTrial

@@ -16,7 +16,7 @@ use Rattle.model_run.proofs.Monotone.{again_with, call_with, grows_to}
 use Rattle.model_run.proofs.Found.{term_found}
 
 -- part i, as evaluation meets it
-part_is : (root : Term) (again : Again) (call : Call) (ps : Terms) (i : ℕ) (e : Entry) → evals again call ps i e ≡ eval again call e (nth_part root ps i)
+pub part_is : (root : Term) (again : Again) (call : Call) (ps : Terms) (i : ℕ) (e : Entry) → evals again call ps i e ≡ eval again call e (nth_part root ps i)
 unfolding eval
 part_is root again call no_terms i First = refl
 part_is root again call no_terms i (Inside j) = refl

@@ -1,0 +1,3 @@
+pub mod EchoStatement
+pub mod EchoSteps
+pub mod EchoWorld

@@ -1,0 +1,2 @@
+//! Builds of scripts that are `echo` steps alone.
+#![tactic(auto)]
