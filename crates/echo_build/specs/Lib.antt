@@ -1,1 +1,2 @@
 pub mod EchoBuild
+pub mod Run

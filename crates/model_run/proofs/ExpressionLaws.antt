@@ -16,19 +16,18 @@ use Rattle.model_values.specs.Operators.{apply, incremented, decremented}
 use Rattle.model_values.specs.TextOf.{written}
 use Rattle.model_values.specs.Throws.{new_throwable}
 use Rattle.model_values.specs.Equality.{Equality, Is, Stops, equal}
-use Rattle.model_run.specs.ValueTypes.{Value, Null, Variable, Op}
+use Rattle.model_run.specs.ValueTypes.{Value, Null, Op}
 use Rattle.model_run.specs.declared.frame.FrameKind.TheVariants as kind
-use Rattle.model_run.specs.State.{World, State, Env, Ending, Result, tick, changed, put_cells, raised}
-use Rattle.model_run.specs.Around.{Entry, First, Inside, On, Around, Shape, form_at, arity, frame, under, ended, cells, limits, value_at}
+use Rattle.model_run.specs.State.{World, State, Env, Result, raised}
+use Rattle.model_run.specs.Around.{Entry, First, Inside, On, Around, Shape, form_at, arity, frame, cells, limits, value_at}
 use Rattle.model_run.specs.Names.{write_name, write_cell, meant, set_variable, bound}
-use Rattle.model_run.specs.Statements.{declaration}
 use Rattle.model_run.specs.Assignments.{read_target, write_target, write_counted, assign_by, after_assigned, assign_value, assign_at, step_by, at_target, after_index, after_receiver, receiver, sign_operator, operator_in, place_size}
-use Rattle.model_run.specs.Gathering.{close_named, keep_by, keep, closes_named, after_gathered, gather_value, after_key, gather_part, gather, list_of, map_of, text_from, throwable_of, map_from, entries_of, text_parts, new_class}
-use Rattle.model_run.specs.Expressions.{group, after_choice, choice, choices, truth_value, stops_or, after_operand, operands, is_and, compared, comparing, computing, applying, operator_of, after_joined, joined, joined_all, prefixing, prefixed_by, prefixes_of, prefixed, suffixed, suffixed_all, safely, property, index, indexed}
-use Rattle.model_run.specs.Forms.{after, value, gathered}
+use Rattle.model_run.specs.Gathering.{keep_by, closes_named, after_gathered, gather_value, after_key, gather_part, gather, list_of, map_of, text_from, throwable_of, map_from, entries_of, text_parts, new_class}
+use Rattle.model_run.specs.Expressions.{group, after_choice, choice, choices, truth_value, stops_or, after_operand, operands, is_and, compared, comparing, applying, after_joined, joined, joined_all, prefixing, prefixed_by, prefixes_of, prefixed, suffixed, suffixed_all, safely, property, index, indexed}
+use Rattle.model_run.specs.Forms.{value, gathered}
 use Rattle.model_run.proofs.Relation.{Relation, Keeps, Goes, GoesOn, Agree, change_law, value_law, operate_law}
 use Rattle.model_run.proofs.Under.{end_law, tick_law, decide_law, into}
-use Rattle.model_run.proofs.StatementLaws.{new_variable_law, declare_law}
+use Rattle.model_run.proofs.StatementLaws.{new_variable_law}
 
 raised_more : (c n nodes limit flow : ℕ) (b : Bool) → nat_lt c n ≡ b → (limit - (if b then n else c)) + (flow - nodes) ≤ (limit - c) + (flow - nodes)
 raised_more c n nodes limit flow true e = let lt : c < n = ltb-true c n e in omega arith

@@ -1,10 +1,8 @@
 -- Each node of a script is found by its number.
-use Rattle.std.proofs.Common.{◌≡◌, ℕ, zero, suc, ◌+◌, ◌<◌, ◌≤◌, ◌⊎◌, inl, inr, List, [], ◌∷◌, ◌++◌, refl, sym, ap, subst, ◌∙◌, length, length-append, append_assoc, get_or, arith}
+use Rattle.std.proofs.Common.{◌≡◌, ℕ, zero, suc, ◌+◌, ◌<◌, inl, inr, List, [], ◌∷◌, ◌++◌, refl, sym, ap, subst, ◌∙◌, length, length-append, append_assoc, get_or, arith}
 use Rattle.std.proofs.lemmas.Bool.{cases_lt}
 use Rattle.std.proofs.lemmas.List.{append-nil, get_or_past}
 use Rattle.std.proofs.Math.Seq.{get_or-append_seam}
-use Rattle.model_syntax.specs.declared.node.NodeForm.{NodeForm}
-use Rattle.model_syntax.specs.declared.node.NodeForm.TheVariants as form
 use Rattle.model_syntax.specs.Nodes.{Node, Nodes, node, none, more, size, sizes}
 use Rattle.model_run.specs.Terms.{Term, Terms, Numbered, no_terms, and_then, term, terms, nodes_of, nodes_of_all, empty_block, nth_part, part_of, term_at, Found, FoundAll}
 
@@ -23,11 +21,11 @@ mutual
   found_from : (root : Term) (pre post : List Term) (t : Term) → nodes_of root ≡ pre ++ (nodes_of t ++ post) → From (length pre) t → Found root t
   found_from root pre post (Numbered j f ps) at h =
       let here : term_at root j ≡ Numbered j f ps =
-        ap (λ i. get_or (nodes_of root) i (empty_block i)) h.0
-        ∙ ap (λ xs. get_or xs (length pre) (empty_block (length pre))) at
-        ∙ get_or-append_seam pre (Numbered j f ps) (nodes_of_all ps ++ post) (empty_block (length pre)) in
+      ap (λ i. get_or (nodes_of root) i (empty_block i)) h.0
+      ∙ ap (λ xs. get_or xs (length pre) (empty_block (length pre))) at
+      ∙ get_or-append_seam pre (Numbered j f ps) (nodes_of_all ps ++ post) (empty_block (length pre)) in
       let at' : nodes_of root ≡ (pre ++ Numbered j f ps ∷ []) ++ (nodes_of_all ps ++ post) =
-        at ∙ sym (append_assoc pre (Numbered j f ps ∷ []) (nodes_of_all ps ++ post)) in
+      at ∙ sym (append_assoc pre (Numbered j f ps ∷ []) (nodes_of_all ps ++ post)) in
       let len : suc (length pre) ≡ length (pre ++ Numbered j f ps ∷ []) = omega (arith, length-append pre (Numbered j f ps ∷ [])) in
       (here, found_all_from root (pre ++ Numbered j f ps ∷ []) post ps at' (subst (λ n. FromAll n ps) len h.1))
 
@@ -45,6 +43,7 @@ found_root root h = found_from root [] [] root (sym (append-nil (nodes_of root))
 -- a node has as many nodes as its size says
 mutual
   unfolding size
+
   size_of : (k : ℕ) (p : Node) → length (nodes_of (term k p)) ≡ size p
   size_of k (node f ps) = omega (arith, size_of_all (suc k) ps)
 

@@ -1,17 +1,17 @@
 -- Evaluation with one answer more is evaluation that goes on from the path.
-use Rattle.std.proofs.Common.{append_assoc, ◌≡◌, ℕ, zero, suc, ◌+◌, ◌≤◌, List, [], ◌∷◌, ◌++◌, inl, inr, refl, sym, ap, subst, ◌∙◌, arith, length, Option, Some, None}
+use Rattle.std.proofs.Common.{◌≡◌, ℕ, zero, suc, ◌≤◌, List, [], ◌∷◌, ◌++◌, refl, sym, ap, subst, arith, Option, Some, None}
 use Rattle.model_syntax.specs.declared.node.NodeForm.{NodeForm}
-use Rattle.model_run.specs.ValueTypes.{Value, LimitKind}
-use Rattle.model_run.specs.Terms.{Term, Terms, Numbered, no_terms, and_then, forms_of, nth_part, part_of, term_at, Found, FoundAll}
-use Rattle.model_run.specs.State.{World, Reply, State, Env, Ending, Answered, Frame, Asked, Result, Ended, Waits, Limited, Unfinished, Meaning, with_world, through, changed, seeing, unless_limit, guarded, reply_to, awaiting}
-use Rattle.model_run.specs.Around.{Entry, First, Inside, On, Turn, Body, Branched, Around, Shape}
+use Rattle.model_run.specs.ValueTypes.{LimitKind}
+use Rattle.model_run.specs.Terms.{Term, Terms, Numbered, no_terms, and_then, nth_part, term_at, Found, FoundAll}
+use Rattle.model_run.specs.State.{World, Reply, State, Env, Ending, Frame, Asked, Result, Ended, Waits, Limited, Unfinished, with_world, through, changed, unless_limit, guarded, reply_to, awaiting}
+use Rattle.model_run.specs.Around.{Entry, First, Inside, On, Turn, Body, Branched}
 use Rattle.model_run.specs.Forms.{after}
 use Rattle.model_run.specs.Meaning.{shape_of, eval, evals, ev, around, continue, unwind}
 use Rattle.model_run.specs.Below.{Below, with_reply, with_answer}
 use Rattle.model_run.proofs.Relation.{Relation, Agree}
 use Rattle.model_run.proofs.BelowLaws.{same, under, below_trans, below_through, below_relation}
 use Rattle.model_run.proofs.FormLaws.{after_law}
-use Rattle.model_run.proofs.Walk.{Places, Again, Call, Lessons, from, shaped, eval_law}
+use Rattle.model_run.proofs.Walk.{Places, Again, Call, from, shaped, eval_law}
 use Rattle.model_run.proofs.Monotone.{again_with, call_with, grows_to}
 use Rattle.model_run.proofs.Found.{term_found}
 
@@ -65,7 +65,8 @@ module _ (root : Term) (m : ℕ) (p : Reply) where
     awaits = λ asked s s' q. subst (λ u. Below (awaiting asked u) (with_answer root m p (awaiting asked s'))) (sym q) (later_reply asked s' s'.replies);
     throughs = later_through;
     descends_through = λ f go go' fits h limit g spends body body' k s s' q.
-      later_through f go go' fits h _ _ (subst (λ u. Below (guarded limit g body u) (with_answer root m p (guarded limit g body' s'))) (sym q) (later_guard limit g body body' k s')) }
+        later_through f go go' fits h _ _ (subst (λ u. Below (guarded limit g body u) (with_answer root m p (guarded limit g body' s'))) (sym q) (later_guard limit g body body' k s'));
+  }
 
 -- the terms whose nodes are found
 abbrev placed : Term → Places
@@ -76,19 +77,20 @@ more_around : (root : Term) (n m k : ℕ) (f : NodeForm) (ps : Terms) → n ≤ 
 unfolding ev
 more_around root n m k f ps le = record {
   parts = λ e i env s s' q.
-    let step : evals (again_with root n) (call_with root n) ps i e env s ≡ ev root (suc n) e (nth_part root ps i) env s = ap (λ x. x env s) (part_is root (again_with root n) (call_with root n) ps i e) in
-    let le' : suc n ≤ suc m = omega arith in
-    below_trans _ _ _ (same _ _ step) (subst (λ u. Below (ev root (suc n) e (nth_part root ps i) env s) (ev root (suc m) e (nth_part root ps i) env u)) q (grows_to root (suc n) (suc m) le' e (nth_part root ps i) env s));
+      let step : evals (again_with root n) (call_with root n) ps i e env s ≡ ev root (suc n) e (nth_part root ps i) env s = ap (λ x. x env s) (part_is root (again_with root n) (call_with root n) ps i e) in
+      let le' : suc n ≤ suc m = omega arith in
+      below_trans _ _ _ (same _ _ step) (subst (λ u. Below (ev root (suc n) e (nth_part root ps i) env s) (ev root (suc m) e (nth_part root ps i) env u)) q (grows_to root (suc n) (suc m) le' e (nth_part root ps i) env s));
   agains = λ i kept env s s' q. subst (λ u. Below (ev root n (Turn i kept) (Numbered k f ps) env s) (ev root m (Turn i kept) (Numbered k f ps) env u)) q (grows_to root n m le (Turn i kept) (Numbered k f ps) env s);
   calls = λ c args env s s' q. subst (λ u. Below (ev root n (Body args) (term_at root c) env s) (ev root m (Body args) (term_at root c) env u)) q (grows_to root n m le (Body args) (term_at root c) env s);
-  fits = λ x at. tt }
+  fits = λ x at. tt;
+}
 
 -- a frame of a node goes on as its path entry says
 fits_at : (root : Term) (n m : ℕ) (f : NodeForm) (ps : Terms) (x : Frame) → n ≤ m → term_at root x.node ≡ Numbered x.node f ps → (e : Ending) (s : State) → Below (after x (shaped f ps) (from (again_with root n) (call_with root n) x.node f ps) e s) (continue root m x e s)
 unfolding continue
 fits_at root n m f ps x le at e s =
     subst (λ t. Below (after x (shaped f ps) (from (again_with root n) (call_with root n) x.node f ps) e s) (after x (shape_of t) (around root m t) e s)) (sym at)
-      (after_law below_relation (λ s s' q. q) (shaped f ps) _ _ x (more_around root n m x.node f ps le) e s s refl)
+    (after_law below_relation (λ s s' q. q) (shaped f ps) _ _ x (more_around root n m x.node f ps le) e s s refl)
 
 fits_in : (root : Term) (n m k : ℕ) (f : NodeForm) (ps : Terms) (x : Frame) → n ≤ m → x.node ≡ k → term_at root k ≡ Numbered k f ps → (e : Ending) (s : State) → Below (after x (shaped f ps) (from (again_with root n) (call_with root n) k f ps) e s) (continue root m x e s)
 fits_in root n m k f ps x le at found =
@@ -101,10 +103,11 @@ unfolding ev
 replays root m p found zero le x t ft env = λ s s' q. under _
 replays root m p found (suc n) le x t ft env =
     eval_law (later_relation root m p) (placed root) (again_with root n) (again_with root n) (call_with root n) (call_with root n)
-      (record {
-        agains = λ t i kept env good. replays root m p found n (omega arith) (Turn i kept) t good env;
-        calls = λ c args. replays root m p found n (omega arith) (Body args) (term_at root c) (term_found root found c);
-        fits = λ k f ps good x at. fits_in root n m k f ps x (omega arith) at good.0 }) x t ft env
+    (record {
+      agains = λ t i kept env good. replays root m p found n (omega arith) (Turn i kept) t good env;
+      calls = λ c args. replays root m p found n (omega arith) (Body args) (term_at root c) (term_found root found c);
+      fits = λ k f ps good x at. fits_in root n m k f ps x (omega arith) at good.0;
+    }) x t ft env
 
 -- evaluation with one answer more equals going on from the path: a result of it that is not out of fuel is the same
 pub resumes : (root : Term) (n m : ℕ) (p : Reply) → Found root root → n ≤ m → (e : Entry) (t : Term) → Found root t → (env : Env) (s : State) → Below (ev root n e t env (with_reply p s)) (with_answer root m p (ev root n e t env s))

@@ -1,16 +1,15 @@
 -- trial
-use Rattle.std.specs.Prelude.{◌≡◌, refl, ℕ, List, [], ◌∷◌, Some, None, codes, pos}
+use Rattle.std.specs.Prelude.{◌≡◌, refl, ℕ, List, [], ◌∷◌, codes}
 use Rattle.model_syntax.specs.declared.node.NodeForm.{NodeForm}
 use Rattle.model_syntax.specs.declared.node.NodeForm.TheVariants as form
 use Rattle.model_syntax.specs.Nodes.{Node, node, nodes}
-use Rattle.model_run.specs.RunTypes.{Site, Event, StartEvent, Success}
+use Rattle.model_run.specs.RunTypes.{Site, StartEvent}
 use Rattle.model_run.specs.Terms.{Term, term}
-use Rattle.model_run.specs.World.{world, settle, Build}
-use Rattle.model_run.specs.Meaning.{eval, ev, continue, unwind}
+use Rattle.model_run.specs.World.{world, settle}
+use Rattle.model_run.specs.Meaning.{eval, ev}
 use Rattle.model_run.specs.State.{through}
 use Rattle.model_run.specs.Terms.{term_at}
 use Rattle.model_values.specs.TextOf.{text_within}
-use Rattle.model_run.specs.GraphText.{graph_text}
 
 abbrev pub leaf : NodeForm → Node
 leaf f = node f (nodes [])

@@ -1,13 +1,12 @@
 -- What a node is evaluated from, and small words for the forms.
-use Rattle.std.specs.Prelude.{ℕ, zero, suc, ◌-◌, List, [], ◌∷◌, Option, Some, None, length, ℤ, pos, slice_index_or}
+use Rattle.std.specs.Prelude.{ℕ, List, length, ℤ, pos, slice_index_or}
 use Rattle.model_syntax.specs.declared.node.NodeForm.{NodeForm}
 use Rattle.model_syntax.specs.declared.node.NodeForm.TheVariants as form
-use Rattle.model_values.specs.Cells.{Answer}
 use Rattle.model_values.specs.Limits.{Limits}
 use Rattle.model_values.specs.Truth.{truth}
 use Rattle.model_run.specs.ValueTypes.{Value, Null, Whole, InCell, Cell}
 use Rattle.model_run.specs.RunTypes.{FrameKind}
-use Rattle.model_run.specs.State.{World, State, Env, Ending, Normal, Frame, Result, Ended, Meaning, through, seeing, choose, operating}
+use Rattle.model_run.specs.State.{World, State, Env, Ending, Normal, Frame, Result, Ended, Meaning, through, seeing, choose}
 
 -- How a node is entered.
 pub data Entry : Type 0 where

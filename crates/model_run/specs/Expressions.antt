@@ -1,6 +1,6 @@
 -- What each expression does, but for calls (Groovy; the counts are this product's own). A primary with parts counts when
 -- its parts have been evaluated, an operator and a suffix when it is applied.
-use Rattle.std.specs.Prelude.{ℕ, zero, suc, ◌-◌, ◌+◌, Bool, true, false, not, if◌then◌else◌, List, [], ◌∷◌, reverse, length, Option, Some, None}
+use Rattle.std.specs.Prelude.{ℕ, zero, suc, ◌-◌, Bool, true, false, not, if◌then◌else◌, List, [], ◌∷◌, reverse}
 use Rattle.model_syntax.specs.declared.node.NodeForm.{NodeForm}
 use Rattle.model_syntax.specs.declared.node.NodeForm.TheVariants as form
 use Rattle.model_syntax.specs.declared.tree.Access.{Access}
@@ -9,7 +9,7 @@ use Rattle.model_syntax.specs.declared.tree.Operator.{Operator}
 use Rattle.model_syntax.specs.declared.tree.Operator.TheVariants as operator
 use Rattle.model_syntax.specs.declared.tree.Prefix.{Prefix}
 use Rattle.model_syntax.specs.declared.tree.Prefix.TheVariants as prefix
-use Rattle.model_values.specs.Cells.{Answer, Gives, new_cell}
+use Rattle.model_values.specs.Cells.{Answer}
 use Rattle.model_values.specs.Equality.{Equality, Is, Stops, equal}
 use Rattle.model_values.specs.Index.{get_at, get_property, unless_null}
 use Rattle.model_values.specs.Kinds.{kind}
@@ -18,7 +18,7 @@ use Rattle.model_values.specs.Truth.{truth}
 use Rattle.model_run.specs.ValueTypes.{Value, Null, Truth, Op, Plus, Minus, Times, Mod, Less, LessEqual, Greater, GreaterEqual, Range, Negative, Positive}
 use Rattle.model_run.specs.declared.frame.FrameKind.TheVariants as kind
 use Rattle.model_run.specs.State.{World, State, Env, Ending, Result, Limited, changed, seeing, operating, tick, raised, on_value}
-use Rattle.model_run.specs.Around.{Around, Shape, Entry, First, Inside, On, form_at, arity, frame, under, ended, cells, limits, deciding}
+use Rattle.model_run.specs.Around.{Around, Shape, First, Inside, On, form_at, arity, frame, under, ended, cells, limits, deciding}
 
 -- `(e)`
 abbrev pub group : Around → ℕ → Env → State → Result

@@ -1,5 +1,5 @@
 -- What an evaluation reads and changes, how it ends, and the few combinators of which every form is made.
-use Rattle.std.specs.Prelude.{ℕ, suc, ◌+◌, ◌-◌, Bool, true, false, List, [], ◌∷◌, Option, Some, None, length, nat_lt, if◌then◌else◌}
+use Rattle.std.specs.Prelude.{ℕ, ◌+◌, ◌-◌, Bool, true, false, List, [], ◌∷◌, Option, Some, None, length, nat_lt, if◌then◌else◌}
 use Rattle.model_values.specs.Cells.{Answer, Gives, Throws, Meets}
 use Rattle.model_values.specs.Limits.{Limits}
 use Rattle.model_run.specs.ValueTypes.{Binding, Value, Cell, LimitKind, NodesEvaluated}

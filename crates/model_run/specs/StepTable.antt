@@ -1,10 +1,10 @@
 -- The steps, their parameters, and how a call's arguments are bound to them (Jenkins User Handbook, Pipeline Steps; the
 -- order of the faults and their texts are this product's own).
-use Rattle.std.specs.Prelude.{ℕ, zero, suc, nat_eq, Bool, true, false, not, ◌&&◌, ◌||◌, if◌then◌else◌, List, [], ◌∷◌, ◌++◌, map, length, Option, Some, None, option_map, is_some, codes, ℤ, pos, int_lt}
+use Rattle.std.specs.Prelude.{ℕ, nat_eq, Bool, true, false, not, ◌&&◌, ◌||◌, if◌then◌else◌, List, [], ◌∷◌, ◌++◌, map, length, Option, Some, None, option_map, is_some, codes, pos, int_lt}
 use Rattle.std.specs.List.{list_all, list_any}
 use Rattle.std.specs.Map.{lookup}
-use Rattle.std.specs.Fmt.{signed_decimal, decimal}
-use Rattle.model_values.specs.Kinds.{Kind, null, flag, number, text, items, pairs, closure, thrown, kind}
+use Rattle.std.specs.Fmt.{decimal}
+use Rattle.model_values.specs.Kinds.{Kind, flag, number, text, items, pairs, closure, kind}
 use Rattle.model_values.specs.TextOf.{Writing, Wrote, Stops, text_of, key_text}
 use Rattle.model_run.specs.ValueTypes.{Value, Key, Cell, LimitKind}
 use Rattle.model_run.specs.RunTypes.{BuildResult, Success, Unstable, Failure, NotBuilt, Aborted}

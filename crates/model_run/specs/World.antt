@@ -1,17 +1,15 @@
 -- The world of a list of events: what one build is that took these events in this order, and was never stopped.
-use Rattle.std.specs.Prelude.{ℕ, zero, suc, ◌+◌, nat_eq, nat_lt, Bool, true, false, not, ◌||◌, if◌then◌else◌, List, [], ◌∷◌, ◌++◌, length, map, filter, find, fold, Option, Some, None, is_some, option_map, slice_get, ℤ, pos, negsuc, codes}
-use Rattle.std.specs.Ordering.{nat_cmp}
+use Rattle.std.specs.Prelude.{ℕ, zero, suc, ◌+◌, nat_eq, nat_lt, Bool, true, false, not, if◌then◌else◌, List, [], ◌∷◌, ◌++◌, length, map, filter, fold, Option, Some, None, is_some, option_map, slice_get, ℤ, negsuc}
 use Rattle.model_values.specs.Limits.{limit_line, product_limits}
-use Rattle.model_run.specs.ValueTypes.{Value, Null, Cell, ThrownCell, Class, FlowInterrupted, LimitKind, TextLength, LogSize, GreenThreads}
-use Rattle.model_run.specs.RunTypes.{FlowNode, NodeKind, StartNode, EndNode, BuildResult, Success, Failure, Event, StartEvent, GrantedEvent, OutputEvent, ExitedEvent, LostEvent, DecidedEvent, Stream, LogStream, OutStream, Why, NotStarted, Gone, Request, NodeRequest, TaskRequest, InputRequest, OpenRequest, Held, Site, Executor, Taken, Accepted, NotOpen, WrongPlace, Finished, Answer, Begin, GrantedAnswer, Done, DecidedAnswer, Joined, Wait, Ready, RequestWait, BranchesWait, Join, JoinEnd, BranchEnd, Outcome, ValueOutcome, ThrownOutcome, Context}
+use Rattle.model_run.specs.ValueTypes.{Null, Cell, ThrownCell, LimitKind, TextLength, LogSize, GreenThreads}
+use Rattle.model_run.specs.RunTypes.{FlowNode, StartNode, EndNode, BuildResult, Success, Failure, Event, StartEvent, GrantedEvent, OutputEvent, ExitedEvent, LostEvent, DecidedEvent, Stream, LogStream, OutStream, Why, NotStarted, Gone, Request, TaskRequest, OpenRequest, Site, Executor, Taken, Accepted, NotOpen, WrongPlace, Finished, Answer, Begin, GrantedAnswer, Done, DecidedAnswer, Joined, Wait, Ready, RequestWait, BranchesWait, Join, JoinEnd, BranchEnd, Outcome, ValueOutcome, ThrownOutcome, Context}
 use Rattle.model_run.specs.Grants.{executor_of, workspace_number, with_held, grant}
 use Rattle.model_run.specs.Taking.{Standing, taken, request_of}
 use Rattle.model_run.specs.LogText.{raw}
 use Rattle.model_run.specs.Results.{begun_log, ended_log, uncaught_lines, thrown_result, worse}
 use Rattle.model_run.specs.Terms.{Term}
-use Rattle.model_run.specs.State.{RunLimits, Setting, Common, Own, World, Reply, State, Ending, Normal, Thrown, Returned, Broke, Continued, Declared, Answered, Branch, Asked, For_request, For_branches, Result, Ended, Waits, Limited, Unfinished}
-use Rattle.model_run.specs.Callables.{plain}
-use Rattle.model_run.specs.Threads.{Runs, Script, Closure, Thread, stands}
+use Rattle.model_run.specs.State.{RunLimits, Setting, Common, Own, World, Ending, Normal, Thrown, Returned, Broke, Continued, Declared, Answered, Branch, Asked, For_request, For_branches, Result, Ended, Waits, Limited, Unfinished}
+use Rattle.model_run.specs.Threads.{Script, Closure, Thread, stands}
 
 -- this product's numbers
 abbrev pub run_limits : RunLimits
@@ -39,7 +37,12 @@ end_node u heads = record { id = length u.nodes + 2; kind = EndNode; name = []; 
 
 abbrev pub finished : List ℕ → List (List ℕ) → BuildResult → Common → Common
 finished heads causes result u = record u {
-    nodes = u.nodes ++ end_node u heads ∷ []; log = ended_log causes result u.log; result = result; requests = []; held = [] }
+  nodes = u.nodes ++ end_node u heads ∷ [];
+  log = ended_log causes result u.log;
+  result = result;
+  requests = [];
+  held = [];
+}
 
 abbrev pub finish : List ℕ → List (List ℕ) → BuildResult → Common → Build → Build
 finish heads causes result u b = record b { shared = finished heads causes result u; threads = []; ended = true }
@@ -84,9 +87,13 @@ ready n x b = record b { threads = with_thread (waits_as (Ready x)) n b.threads 
 -- The branches of a `parallel` get the next numbers, and begin in the context of the thread that waits for them.
 abbrev pub branch_thread : ℕ → Own → ℕ → Branch → Thread
 branch_thread parent own n b = record {
-    runs = Closure b.closure b.env b.head; parent = Some parent;
-    own = record { number = n; head = b.head; context = own.context; calls = 0 };
-    history = []; head = b.head; wait = Ready Begin }
+  runs = Closure b.closure b.env b.head;
+  parent = Some parent;
+  own = record { number = n; head = b.head; context = own.context; calls = 0 };
+  history = [];
+  head = b.head;
+  wait = Ready Begin;
+}
 
 abbrev pub branch_threads : ℕ → Own → ℕ → List Branch → List Thread
 branch_threads parent own n [] = []
@@ -98,8 +105,9 @@ joins_of n (b ∷ bs) = record { name = b.name; thread = n; ended = None } ∷ j
 
 abbrev pub forked : ℕ → Own → List Branch → Build → Build
 forked n own bs b = record b {
-    threads = with_thread (waits_as (BranchesWait (joins_of b.next_thread bs))) n b.threads ++ branch_threads n own b.next_thread bs;
-    next_thread = b.next_thread + length bs }
+  threads = with_thread (waits_as (BranchesWait (joins_of b.next_thread bs))) n b.threads ++ branch_threads n own b.next_thread bs;
+  next_thread = b.next_thread + length bs;
+}
 
 -- this product's own: at most so many threads live at once
 abbrev pub forks : RunLimits → ℕ → Own → List Branch → Build → Build
@@ -227,8 +235,12 @@ first_thread = record { runs = Script; parent = None; own = first_own; history =
 
 abbrev pub begun : Build
 begun = record {
-    shared = record no_state { nodes = start_node ∷ []; log = begun_log };
-    threads = first_thread ∷ []; next_thread = 1; started = true; ended = false }
+  shared = record no_state { nodes = start_node ∷ []; log = begun_log };
+  threads = first_thread ∷ [];
+  next_thread = 1;
+  started = true;
+  ended = false;
+}
 
 abbrev pub without_request : ℕ → Common → Common
 without_request n u = record u { requests = filter (λ r. not (nat_eq r.number n)) u.requests }
