@@ -16,4 +16,3 @@ mod Monotone
 mod Found
 mod Replay
 mod Enough
-mod WorldTrial

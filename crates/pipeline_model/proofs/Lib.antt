@@ -1,3 +1,5 @@
 pub mod LineLemmas
 pub mod ScriptLemmas
 mod Examples
+mod ScriptWords
+mod FirstExamples
