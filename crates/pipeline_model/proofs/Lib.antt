@@ -3,3 +3,8 @@ pub mod ScriptLemmas
 mod Examples
 mod ScriptWords
 mod FirstExamples
+mod InputExamples
+mod StepExamples
+mod ThrowExamples
+mod ParallelExamples
+mod NodeExamples

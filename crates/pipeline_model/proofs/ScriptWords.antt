@@ -1,5 +1,6 @@
 -- Words for the scripts of the worked examples, each for one rule of the grammar, and for the builds that run them.
-use Rattle.std.specs.Prelude.{ℕ, ℤ, pos, List, [], ◌∷◌, ◌++◌, map, codes, Option, Some, None}
+use Prim.Native.String.{String}
+use Rattle.std.specs.Prelude.{ℕ, pos, true, false, List, [], ◌∷◌, map, codes, Option, Some, None}
 use Rattle.model_syntax.specs.declared.node.NodeForm.{NodeForm}
 use Rattle.model_syntax.specs.declared.node.NodeForm.TheVariants as form
 use Rattle.model_syntax.specs.declared.tree.Access.TheVariants.{Direct, NullSafe}
@@ -12,19 +13,22 @@ use Rattle.model_syntax.specs.declared.tree.Operator.TheVariants as operator
 use Rattle.model_syntax.specs.declared.tree.Prefix.{Prefix}
 use Rattle.model_syntax.specs.Nodes.{Node, node, nodes}
 use Rattle.model_run.specs.declared.event.Event.{Event}
-use Rattle.model_run.specs.declared.event.Event.TheVariants.{Start as StartEvent}
+use Rattle.model_run.specs.declared.event.Event.TheVariants.{Start as StartEvent, Granted as GrantedEvent, Output as OutputEvent, Exited as ExitedEvent, Decided as DecidedEvent}
+use Rattle.model_run.specs.declared.event.Stream.TheVariants.{Log as LogStream, Out as OutStream}
 use Rattle.model_run.specs.declared.site.Executor.{Executor}
 use Rattle.model_run.specs.declared.site.Site.{Site}
+use Rattle.model_run.specs.declared.taken.Taken.{Taken}
+use Rattle.model_run.specs.GraphText.{graph_text}
 use Rattle.model_run.specs.State.{RunLimits}
 use Rattle.model_run.specs.Terms.{Term, term}
-use Rattle.model_run.specs.World.{Build, world, world_in, setting_of}
+use Rattle.model_run.specs.World.{Build, world, world_in, setting_of, run_limits, next_grant, answer_to}
 
 abbrev pub leaf : NodeForm → Node
 leaf f = node f (nodes [])
 
 -- Expressions.
-abbrev pub text : List ℕ → Node
-text t = leaf (form.Literal t)
+abbrev pub text : String → Node
+text t = leaf (form.Literal (codes t))
 
 abbrev pub number : ℕ → Node
 number n = leaf (form.Number (pos n))
@@ -38,22 +42,22 @@ falsehood = leaf form.False
 abbrev pub nothing : Node
 nothing = leaf form.Null
 
-abbrev pub variable : List ℕ → Node
-variable x = leaf (form.Variable x)
+abbrev pub variable : String → Node
+variable x = leaf (form.Variable (codes x))
 
 -- `"a${e}"`, with its plain parts
 abbrev pub written : List Node → Node
 written parts = node form.GString (nodes parts)
 
-abbrev pub plain : List ℕ → Node
-plain t = leaf (form.PlainPart t)
+abbrev pub plain : String → Node
+plain t = leaf (form.PlainPart (codes t))
 
-abbrev pub call : List ℕ → List Node → Node
-call f args = node (form.Call f) (nodes args)
+abbrev pub call : String → List Node → Node
+call f args = node (form.Call (codes f)) (nodes args)
 
 -- `name: e`, in a map or among arguments
-abbrev pub entry : List ℕ → Node → Node
-entry key e = node (form.NamedEntry key) (nodes (e ∷ []))
+abbrev pub entry : String → Node → Node
+entry key e = node (form.NamedEntry (codes key)) (nodes (e ∷ []))
 
 abbrev pub computed_entry : Node → Node → Node
 computed_entry key e = node form.ComputedEntry (nodes (key ∷ e ∷ []))
@@ -77,23 +81,23 @@ block ss = node form.Block (nodes ss)
 abbrev pub closure : List Node → Node
 closure ss = node (form.Closure None) (nodes (block ss ∷ []))
 
-abbrev pub closure_with : List (List ℕ) → List Node → Node
-closure_with names ss = node (form.Closure (Some names)) (nodes (block ss ∷ []))
+abbrev pub closure_with : List String → List Node → Node
+closure_with names ss = node (form.Closure (Some (map codes names))) (nodes (block ss ∷ []))
 
 abbrev pub suffixed : Node → List Node → Node
 suffixed e suffixes = node form.Suffixed (nodes (e ∷ suffixes))
 
-abbrev pub property : List ℕ → Node
-property p = leaf (form.Property Direct p)
+abbrev pub property : String → Node
+property p = leaf (form.Property Direct (codes p))
 
-abbrev pub safe_property : List ℕ → Node
-safe_property p = leaf (form.Property NullSafe p)
+abbrev pub safe_property : String → Node
+safe_property p = leaf (form.Property NullSafe (codes p))
 
-abbrev pub method : List ℕ → List Node → Node
-method f args = node (form.Method Direct f) (nodes args)
+abbrev pub method : String → List Node → Node
+method f args = node (form.Method Direct (codes f)) (nodes args)
 
-abbrev pub safe_method : List ℕ → List Node → Node
-safe_method f args = node (form.Method NullSafe f) (nodes args)
+abbrev pub safe_method : String → List Node → Node
+safe_method f args = node (form.Method NullSafe (codes f)) (nodes args)
 
 abbrev pub index : Node → Node
 index i = node form.Index (nodes (i ∷ []))
@@ -107,11 +111,27 @@ operand o e = node (form.Operand o) (nodes (e ∷ []))
 abbrev pub plus : Node → Node → Node
 plus a b = joined a (operand operator.Plus b ∷ [])
 
+abbrev pub minus : Node → Node → Node
+minus a b = joined a (operand operator.Minus b ∷ [])
+
 abbrev pub less : Node → Node → Node
 less a b = joined a (operand operator.Less b ∷ [])
 
 abbrev pub equals : Node → Node → Node
 equals a b = joined a (operand operator.Equal b ∷ [])
+
+abbrev pub all_of : List Node → Node
+all_of es = node form.And (nodes es)
+
+abbrev pub any_of : List Node → Node
+any_of es = node form.Or (nodes es)
+
+-- `test ? a : b`, and `a ?: b`
+abbrev pub choose : Node → Node → Node → Node
+choose test a b = node form.Chosen (nodes (node form.IfTrue (nodes (test ∷ a ∷ [])) ∷ b ∷ []))
+
+abbrev pub or_else : Node → Node → Node
+or_else a b = node form.Chosen (nodes (node form.IfSet (nodes (a ∷ [])) ∷ b ∷ []))
 
 abbrev pub prefixed : Prefix → Node → Node
 prefixed p e = node form.Prefixed (nodes (leaf (form.Prefix p) ∷ e ∷ []))
@@ -120,23 +140,23 @@ prefixed p e = node form.Prefixed (nodes (leaf (form.Prefix p) ∷ e ∷ []))
 abbrev pub statement : Node → Node
 statement e = node form.Evaluate (nodes (e ∷ []))
 
-abbrev pub step : List ℕ → List Node → Node
+abbrev pub step : String → List Node → Node
 step f args = statement (call f args)
 
 abbrev pub echo : Node → Node
-echo message = step (codes "echo") (message ∷ [])
+echo message = step "echo" (message ∷ [])
 
-abbrev pub declare : List ℕ → Node → Node
-declare x e = node (form.Declare x) (nodes (e ∷ []))
+abbrev pub declare : String → Node → Node
+declare x e = node (form.Declare (codes x)) (nodes (e ∷ []))
 
-abbrev pub declare_empty : List ℕ → Node
-declare_empty x = leaf (form.Declare x)
+abbrev pub declare_empty : String → Node
+declare_empty x = leaf (form.Declare (codes x))
 
-abbrev pub to_name : List ℕ → Node
-to_name x = leaf (form.ToName x)
+abbrev pub to_name : String → Node
+to_name x = leaf (form.ToName (codes x))
 
-abbrev pub to_property : Node → List ℕ → Node
-to_property e p = node (form.ToProperty p) (nodes (e ∷ []))
+abbrev pub to_property : Node → String → Node
+to_property e p = node (form.ToProperty (codes p)) (nodes (e ∷ []))
 
 abbrev pub to_index : Node → Node → Node
 to_index e i = node form.ToIndex (nodes (e ∷ i ∷ []))
@@ -165,8 +185,8 @@ if_else test ss others = node form.If (nodes (arm test ss ∷ block others ∷ [
 abbrev pub while_loop : Node → List Node → Node
 while_loop test ss = node form.While (nodes (test ∷ block ss ∷ []))
 
-abbrev pub for_each : List ℕ → Node → List Node → Node
-for_each x e ss = node (form.ForEach x) (nodes (e ∷ block ss ∷ []))
+abbrev pub for_each : String → Node → List Node → Node
+for_each x e ss = node (form.ForEach (codes x)) (nodes (e ∷ block ss ∷ []))
 
 abbrev pub for_steps : Node → Node → Node → List Node → Node
 for_steps first test next ss = node form.ForSteps (nodes (first ∷ test ∷ next ∷ block ss ∷ []))
@@ -174,11 +194,11 @@ for_steps first test next ss = node form.ForSteps (nodes (first ∷ test ∷ nex
 abbrev pub try_block : List Node → List Node → Node
 try_block ss handlers = node form.Try (nodes (block ss ∷ handlers))
 
-abbrev pub catch_exceptions : List ℕ → List Node → Node
-catch_exceptions x ss = node (form.Catch Exceptions x) (nodes (block ss ∷ []))
+abbrev pub catch_exceptions : String → List Node → Node
+catch_exceptions x ss = node (form.Catch Exceptions (codes x)) (nodes (block ss ∷ []))
 
-abbrev pub catch_throwables : List ℕ → List Node → Node
-catch_throwables x ss = node (form.Catch Throwables x) (nodes (block ss ∷ []))
+abbrev pub catch_throwables : String → List Node → Node
+catch_throwables x ss = node (form.Catch Throwables (codes x)) (nodes (block ss ∷ []))
 
 abbrev pub finally_block : List Node → Node
 finally_block ss = node form.Finally (nodes (block ss ∷ []))
@@ -192,21 +212,21 @@ give_nothing = leaf form.Return
 abbrev pub throw_of : Node → Node
 throw_of e = node form.Throw (nodes (e ∷ []))
 
-abbrev pub function : List ℕ → List (List ℕ) → List Node → Node
-function f names ss = node (form.Function f names) (nodes (block ss ∷ []))
+abbrev pub function : String → List String → List Node → Node
+function f names ss = node (form.Function (codes f) (map codes names)) (nodes (block ss ∷ []))
 
 abbrev pub script : List Node → Term
 script ss = term 0 (node form.Script (nodes ss))
 
 -- Builds. The site has an agent `m` with root `/w`, no labels and one executor.
-abbrev pub executor : ℕ → List ℕ → List ℕ → List (List ℕ) → ℕ → Executor
-executor number agent root labels slot = record { number = number; agent = agent; root = root; labels = labels; slot = slot }
+abbrev pub executor : ℕ → String → String → List String → ℕ → Executor
+executor number agent root labels slot = record { number = number; agent = codes agent; root = codes root; labels = map codes labels; slot = slot }
 
 abbrev pub site_of : List Executor → Site
 site_of executors = record { job = codes "demo"; looks = 100000; executors = executors }
 
 abbrev pub site : Site
-site = site_of (executor 0 (codes "m") (codes "/w") [] 0 ∷ [])
+site = site_of (executor 0 "m" "/w" [] 0 ∷ [])
 
 abbrev pub start : Event
 start = StartEvent [] []
@@ -217,3 +237,47 @@ build ss events = world (script ss) site (start ∷ events)
 
 abbrev pub log_of : List Node → List Event → List ℕ
 log_of ss events = (build ss events).shared.log
+
+abbrev pub granted : ℕ → ℕ → Event
+granted request executor = GrantedEvent request executor
+
+-- output of a task for the log, and output that is kept
+abbrev pub logged : ℕ → ℕ → String → Event
+logged task from bytes = OutputEvent task LogStream from (codes bytes)
+
+abbrev pub kept : ℕ → ℕ → String → Event
+kept task from bytes = OutputEvent task OutStream from (codes bytes)
+
+abbrev pub exited : ℕ → ℕ → Event
+exited task code = ExitedEvent task (pos code)
+
+abbrev pub proceeds : ℕ → String → Event
+proceeds request name = DecidedEvent request true (codes name)
+
+abbrev pub aborts : ℕ → String → Event
+aborts request name = DecidedEvent request false (codes name)
+
+abbrev pub graph_of : Build → List ℕ
+graph_of b = graph_text b.shared.nodes
+
+-- the same on another site
+abbrev pub build_on : Site → List Node → List Event → Build
+build_on site ss events = world (script ss) site (start ∷ events)
+
+abbrev pub log_on : Site → List Node → List Event → List ℕ
+log_on site ss events = (build_on site ss events).shared.log
+
+-- the grant that is made next
+abbrev pub next_grant_of : Site → List Node → List Event → Option (ℕ × ℕ)
+next_grant_of site ss events = next_grant (setting_of run_limits (script ss) site) (build_on site ss events)
+
+-- the answer to one event more
+abbrev pub answer_of : List Node → List Event → Event → Taken
+answer_of ss events e = answer_to (setting_of run_limits (script ss) site) (build ss events) e
+
+-- the same with other limits
+abbrev pub build_in : RunLimits → List Node → List Event → Build
+build_in limits ss events = world_in (setting_of limits (script ss) site) (start ∷ events)
+
+abbrev pub log_in : RunLimits → List Node → List Event → List ℕ
+log_in limits ss events = (build_in limits ss events).shared.log
