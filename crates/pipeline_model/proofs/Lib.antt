@@ -8,3 +8,6 @@ mod StepExamples
 mod ThrowExamples
 mod ParallelExamples
 mod NodeExamples
+mod JenkinsfileExample
+mod AnswerExamples
+mod LimitExamples
