@@ -1,5 +1,5 @@
 -- What builds say to events.
-use Rattle.std.specs.Prelude.{◌≡◌, refl, [], ◌∷◌, ◌++◌, codes, List, true}
+use Rattle.std.specs.Prelude.{◌≡◌, refl, [], ◌∷◌, ◌++◌, codes, List}
 use Rattle.std.specs.Fmt.{digits}
 use Rattle.std.specs.Int.{int_wrap}
 use Rattle.model_syntax.specs.Nodes.{Node, size}
@@ -14,7 +14,7 @@ use Rattle.model_run.specs.Meaning.{eval, ev}
 use Rattle.model_run.specs.State.{through}
 use Rattle.model_run.specs.Terms.{term_at}
 use Rattle.model_run.specs.World.{settle}
-use Rattle.pipeline_model.proofs.ScriptWords.{text, truth, nothing, entry, closure, step, script, executor, site, start, build, log_of, granted, logged, kept, exited, proceeds, aborts, answer_of}
+use Rattle.pipeline_model.proofs.ScriptWords.{text, truth, entry, closure, step, script, site, start, log_of, granted, logged, kept, exited, proceeds, aborts, answer_of}
 
 -- `node { sh 'x'; input 'go?' }`
 abbrev task_script : List Node

@@ -1,5 +1,5 @@
 -- The usual Jenkinsfile: a stage that reads a version, two tests in branches on two agents, and a stage that ships.
-use Rattle.std.specs.Prelude.{◌≡◌, refl, [], ◌∷◌, ◌++◌, codes, length, List, true}
+use Rattle.std.specs.Prelude.{◌≡◌, refl, [], ◌∷◌, ◌++◌, codes, length, List}
 use Rattle.std.specs.Fmt.{digits}
 use Rattle.std.specs.Int.{int_wrap}
 use Rattle.model_syntax.specs.Nodes.{Node, size}
@@ -13,7 +13,7 @@ use Rattle.model_run.specs.Meaning.{eval, ev}
 use Rattle.model_run.specs.State.{through}
 use Rattle.model_run.specs.Terms.{term_at}
 use Rattle.model_run.specs.World.{settle}
-use Rattle.pipeline_model.proofs.ScriptWords.{text, truth, variable, written, plain, call, entry, list, map_of, closure, suffixed, method, step, echo, declare, declare_empty, to_name, to_index, assign, for_each, script, executor, site_of, start, granted, logged, kept, exited, build_on, log_on, graph_of}
+use Rattle.pipeline_model.proofs.ScriptWords.{text, truth, variable, written, plain, call, entry, list, map_of, closure, suffixed, method, step, echo, declare, declare_empty, to_name, to_index, assign, for_each, executor, site_of, granted, logged, kept, exited, build_on, log_on, graph_of}
 
 -- #!/usr/bin/env groovy
 -- def version

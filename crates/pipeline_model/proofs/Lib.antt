@@ -11,3 +11,9 @@ mod NodeExamples
 mod JenkinsfileExample
 mod AnswerExamples
 mod LimitExamples
+mod WalkExamples
+mod LoopExamples
+mod NameExamples
+mod ExpressionExamples
+mod ThrowableExamples
+mod StepFaultExamples

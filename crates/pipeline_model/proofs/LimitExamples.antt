@@ -1,5 +1,5 @@
 -- Limits that end a build. They are met with small numbers here; this product's own numbers are another such setting.
-use Rattle.std.specs.Prelude.{◌≡◌, refl, [], ◌∷◌, ◌++◌, codes, List, true}
+use Rattle.std.specs.Prelude.{◌≡◌, refl, [], ◌∷◌, ◌++◌, codes, List}
 use Rattle.std.specs.Fmt.{digits}
 use Rattle.std.specs.Int.{int_wrap}
 use Rattle.model_syntax.specs.Nodes.{Node, size}
@@ -14,7 +14,7 @@ use Rattle.model_run.specs.Meaning.{eval, ev}
 use Rattle.model_run.specs.State.{through}
 use Rattle.model_run.specs.Terms.{term_at}
 use Rattle.model_run.specs.World.{settle}
-use Rattle.pipeline_model.proofs.ScriptWords.{text, number, truth, variable, written, call, entry, list, closure, equals, statement, step, echo, declare, if_then, while_loop, try_block, catch_throwables, finally_block, give, function, script, build, granted, logged, kept, exited, build_in, log_in, graph_of, minus}
+use Rattle.pipeline_model.proofs.ScriptWords.{text, number, truth, variable, written, call, entry, list, closure, equals, statement, step, echo, declare, if_then, while_loop, try_block, catch_throwables, finally_block, give, function, granted, logged, kept, exited, build_in, log_in, graph_of, minus}
 
 -- `while (true) { }`
 abbrev endless : List Node

@@ -117,6 +117,12 @@ minus a b = joined a (operand operator.Minus b ∷ [])
 abbrev pub less : Node → Node → Node
 less a b = joined a (operand operator.Less b ∷ [])
 
+abbrev pub greater : Node → Node → Node
+greater a b = joined a (operand operator.Greater b ∷ [])
+
+abbrev pub range : Node → Node → Node
+range a b = joined a (operand operator.Range b ∷ [])
+
 abbrev pub equals : Node → Node → Node
 equals a b = joined a (operand operator.Equal b ∷ [])
 
