@@ -17,3 +17,7 @@ mod NameExamples
 mod ExpressionExamples
 mod ThrowableExamples
 mod StepFaultExamples
+mod ContextExamples
+mod FailureExamples
+mod CountExamples
+mod CellExamples
