@@ -1,5 +1,5 @@
 -- The usual Jenkinsfile: a stage that reads a version, two tests in branches on two agents, and a stage that ships.
-use Rattle.std.specs.Prelude.{◌≡◌, refl, [], ◌∷◌, ◌++◌, codes, length, List}
+use Rattle.std.specs.Prelude.{◌≡◌, refl, [], ◌∷◌, ◌++◌, codes, length, Option, List, Some, None, ℕ}
 use Rattle.std.specs.Fmt.{digits}
 use Rattle.std.specs.Int.{int_wrap}
 use Rattle.model_syntax.specs.Nodes.{Node, size}
@@ -7,13 +7,17 @@ use Rattle.model_run.specs.declared.site.Site.{Site}
 use Rattle.std.specs.Str.{is_utf8, chars}
 use Rattle.std.specs.Str.Lossy.{utf8_lossy, utf8_valid_len}
 use Rattle.model_run.specs.declared.event.Event.{Event}
+use Rattle.model_run.specs.State.{Setting}
+use Rattle.model_run.specs.declared.taken.Taken.{Taken}
+use Rattle.model_run.specs.declared.taken.Taken.TheVariants.{Accepted}
+use Rattle.model_run.specs.World.{Build, unbegun, after_one, next_grant, answer_to, setting_of, run_limits}
 use Rattle.model_values.specs.TextOf.{text_within}
 use Rattle.model_values.specs.Equality.{equal_within}
 use Rattle.model_run.specs.Meaning.{eval, ev}
 use Rattle.model_run.specs.State.{through}
 use Rattle.model_run.specs.Terms.{term_at}
 use Rattle.model_run.specs.World.{settle}
-use Rattle.pipeline_model.proofs.ScriptWords.{text, truth, variable, written, plain, call, entry, list, map_of, closure, suffixed, method, step, echo, declare, declare_empty, to_name, to_index, assign, for_each, executor, site_of, granted, logged, kept, exited, build_on, log_on, graph_of}
+use Rattle.pipeline_model.proofs.ScriptWords.{text, truth, variable, written, plain, call, entry, list, map_of, closure, suffixed, method, step, echo, declare, declare_empty, to_name, to_index, assign, for_each, script, executor, site_of, start, granted, logged, kept, exited, build_on, log_on, graph_of}
 
 -- #!/usr/bin/env groovy
 -- def version
@@ -26,9 +30,9 @@ use Rattle.pipeline_model.proofs.ScriptWords.{text, truth, variable, written, pl
 abbrev prepare : Node
 prepare =
     step "node" (text "linux" ∷ closure (step "stage" (text "Prepare" ∷ closure (
-    assign (to_name "version") (suffixed (call "sh" (entry "script" (text "cat VERSION") ∷ entry "returnStdout" truth ∷ [])) (method "trim" [] ∷ []))
-    ∷ echo (written (plain "version " ∷ variable "version" ∷ []))
-    ∷ []) ∷ []) ∷ []) ∷ [])
+      assign (to_name "version") (suffixed (call "sh" (entry "script" (text "cat VERSION") ∷ entry "returnStdout" truth ∷ [])) (method "trim" [] ∷ []))
+      ∷ echo (written (plain "version " ∷ variable "version" ∷ []))
+      ∷ []) ∷ []) ∷ []) ∷ [])
 
 -- stage('Test') {
 --     def runs = [:]
@@ -46,10 +50,10 @@ run_of_n = closure (step "node" (text "linux" ∷ closure (step "sh" (written (p
 abbrev tests : Node
 tests =
     step "stage" (text "Test" ∷ closure (
-    declare "runs" (map_of [])
-    ∷ for_each "name" (list (text "unit" ∷ text "web" ∷ [])) (declare "n" (variable "name") ∷ assign (to_index (variable "runs") (variable "n")) run_of_n ∷ [])
-    ∷ step "parallel" (variable "runs" ∷ [])
-    ∷ []) ∷ [])
+      declare "runs" (map_of [])
+      ∷ for_each "name" (list (text "unit" ∷ text "web" ∷ [])) (declare "n" (variable "name") ∷ assign (to_index (variable "runs") (variable "n")) run_of_n ∷ [])
+      ∷ step "parallel" (variable "runs" ∷ [])
+      ∷ []) ∷ [])
 
 -- stage('Ship') {
 --     node('linux-1') { withEnv(['MODE=prod']) { sh 'make ship' } }
@@ -57,8 +61,8 @@ tests =
 abbrev ship : Node
 ship =
     step "stage" (text "Ship" ∷ closure (step "node" (text "linux-1" ∷ closure (
-    step "withEnv" (list (text "MODE=prod" ∷ []) ∷ closure (step "sh" (text "make ship" ∷ []) ∷ []) ∷ [])
-    ∷ []) ∷ []) ∷ []) ∷ [])
+      step "withEnv" (list (text "MODE=prod" ∷ []) ∷ closure (step "sh" (text "make ship" ∷ []) ∷ []) ∷ [])
+      ∷ []) ∷ []) ∷ []) ∷ [])
 
 abbrev jenkinsfile : List Node
 jenkinsfile = declare_empty "version" ∷ prepare ∷ tests ∷ ship ∷ []
@@ -112,3 +116,25 @@ pub jenkinsfile_size : length (build_on agents jenkinsfile happens).shared.nodes
     ≡ 45
 unfolding settle eval ev through term_at text_within size digits int_wrap equal_within utf8_lossy utf8_valid_len is_utf8 chars lib.Utf8.encode
 jenkinsfile_size = refl
+
+-- the grant that is made next behind each of these events
+abbrev grants_behind : Setting → Build → List Event → List (Option (ℕ × ℕ))
+grants_behind setting b [] = []
+grants_behind setting b (e ∷ es) = next_grant setting (after_one setting b e) ∷ grants_behind setting (after_one setting b e) es
+
+-- behind each of the 14 events; where a grant is to be made, the next event is that grant
+pub jenkinsfile_grants : grants_behind (setting_of run_limits (script jenkinsfile) agents) unbegun (start ∷ happens)
+    ≡ Some (1, 0) ∷ None ∷ None ∷ None ∷ Some (3, 0) ∷ Some (4, 1) ∷ None ∷ None ∷ None ∷ None ∷ Some (7, 0) ∷ None ∷ None ∷ None ∷ []
+unfolding settle eval ev through term_at text_within size digits int_wrap equal_within utf8_lossy utf8_valid_len is_utf8 chars lib.Utf8.encode
+jenkinsfile_grants = refl
+
+-- what the build says to each of these events
+abbrev answers_to : Setting → Build → List Event → List Taken
+answers_to setting b [] = []
+answers_to setting b (e ∷ es) = answer_to setting b e ∷ answers_to setting (after_one setting b e) es
+
+-- all 14 events are taken
+pub jenkinsfile_answers : answers_to (setting_of run_limits (script jenkinsfile) agents) unbegun (start ∷ happens)
+    ≡ Accepted ∷ Accepted ∷ Accepted ∷ Accepted ∷ Accepted ∷ Accepted ∷ Accepted ∷ Accepted ∷ Accepted ∷ Accepted ∷ Accepted ∷ Accepted ∷ Accepted ∷ Accepted ∷ []
+unfolding settle eval ev through term_at text_within size digits int_wrap equal_within utf8_lossy utf8_valid_len is_utf8 chars lib.Utf8.encode
+jenkinsfile_answers = refl
