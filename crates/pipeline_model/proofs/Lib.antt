@@ -2,6 +2,7 @@ pub mod LineLemmas
 pub mod ScriptLemmas
 mod Examples
 mod ScriptWords
+mod WordLaws
 mod FirstExamples
 mod InputExamples
 mod StepExamples
