@@ -9,7 +9,7 @@ use Rattle.model_run.specs.declared.request.Request.{Request}
 use Rattle.model_run.specs.declared.request.Request.TheVariants.{Task as TaskRequest}
 use Rattle.model_run.specs.declared.event.Event.TheVariants.{Output as OutputEvent}
 use Rattle.model_run.specs.declared.event.Stream.TheVariants.{Out as OutStream}
-use Rattle.model_run.specs.Grants.{pair, task_environment}
+use Rattle.model_run.specs.Grants.{pair}
 use Rattle.std.specs.Str.{is_utf8, chars}
 use Rattle.std.specs.Str.Lossy.{utf8_lossy, utf8_valid_len, utf8_error_len}
 use Rattle.model_values.specs.TextOf.{text_within}

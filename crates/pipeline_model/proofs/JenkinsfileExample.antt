@@ -30,9 +30,9 @@ use Rattle.pipeline_model.proofs.ScriptWords.{text, truth, variable, written, pl
 abbrev prepare : Node
 prepare =
     step "node" (text "linux" ∷ closure (step "stage" (text "Prepare" ∷ closure (
-      assign (to_name "version") (suffixed (call "sh" (entry "script" (text "cat VERSION") ∷ entry "returnStdout" truth ∷ [])) (method "trim" [] ∷ []))
-      ∷ echo (written (plain "version " ∷ variable "version" ∷ []))
-      ∷ []) ∷ []) ∷ []) ∷ [])
+    assign (to_name "version") (suffixed (call "sh" (entry "script" (text "cat VERSION") ∷ entry "returnStdout" truth ∷ [])) (method "trim" [] ∷ []))
+    ∷ echo (written (plain "version " ∷ variable "version" ∷ []))
+    ∷ []) ∷ []) ∷ []) ∷ [])
 
 -- stage('Test') {
 --     def runs = [:]
@@ -50,10 +50,10 @@ run_of_n = closure (step "node" (text "linux" ∷ closure (step "sh" (written (p
 abbrev tests : Node
 tests =
     step "stage" (text "Test" ∷ closure (
-      declare "runs" (map_of [])
-      ∷ for_each "name" (list (text "unit" ∷ text "web" ∷ [])) (declare "n" (variable "name") ∷ assign (to_index (variable "runs") (variable "n")) run_of_n ∷ [])
-      ∷ step "parallel" (variable "runs" ∷ [])
-      ∷ []) ∷ [])
+    declare "runs" (map_of [])
+    ∷ for_each "name" (list (text "unit" ∷ text "web" ∷ [])) (declare "n" (variable "name") ∷ assign (to_index (variable "runs") (variable "n")) run_of_n ∷ [])
+    ∷ step "parallel" (variable "runs" ∷ [])
+    ∷ []) ∷ [])
 
 -- stage('Ship') {
 --     node('linux-1') { withEnv(['MODE=prod']) { sh 'make ship' } }
@@ -61,8 +61,8 @@ tests =
 abbrev ship : Node
 ship =
     step "stage" (text "Ship" ∷ closure (step "node" (text "linux-1" ∷ closure (
-      step "withEnv" (list (text "MODE=prod" ∷ []) ∷ closure (step "sh" (text "make ship" ∷ []) ∷ []) ∷ [])
-      ∷ []) ∷ []) ∷ []) ∷ [])
+    step "withEnv" (list (text "MODE=prod" ∷ []) ∷ closure (step "sh" (text "make ship" ∷ []) ∷ []) ∷ [])
+    ∷ []) ∷ []) ∷ []) ∷ [])
 
 abbrev jenkinsfile : List Node
 jenkinsfile = declare_empty "version" ∷ prepare ∷ tests ∷ ship ∷ []

@@ -3,8 +3,7 @@ use Rattle.std.specs.Prelude.{◌≡◌, refl, [], ◌∷◌, ◌++◌, codes, L
 use Rattle.std.specs.Fmt.{digits}
 use Rattle.std.specs.Int.{int_wrap}
 use Rattle.model_syntax.specs.Nodes.{Node, size}
-use Rattle.model_values.specs.Limits.{Limits, product_limits}
-use Rattle.model_run.specs.State.{RunLimits}
+use Rattle.model_values.specs.Limits.{product_limits}
 use Rattle.model_run.specs.World.{run_limits}
 use Rattle.std.specs.Str.{is_utf8, chars}
 use Rattle.std.specs.Str.Lossy.{utf8_lossy, utf8_valid_len}

@@ -1,19 +1,16 @@
 -- The words of the worked examples are the nodes of a script's tree.
 use Prim.Native.String.{String}
 use Rattle.std.proofs.Common.{ap}
-use Rattle.std.specs.Prelude.{◌≡◌, refl, ℕ, pos, List, [], ◌∷◌, ◌++◌, map, codes, Option, Some, None}
+use Rattle.std.specs.Prelude.{◌≡◌, refl, ℕ, pos, List, [], ◌∷◌, ◌++◌, map, codes, Some, None}
 use Rattle.model_syntax.specs.declared.node.NodeForm.TheVariants as form
 use Rattle.model_syntax.specs.declared.place.Declared.{Declared}
 use Rattle.model_syntax.specs.declared.tree.Access.TheVariants.{Direct, NullSafe}
-use Rattle.model_syntax.specs.declared.tree.Arm.{Arm-F}
 use Rattle.model_syntax.specs.declared.tree.AssignSign.{AssignSign}
-use Rattle.model_syntax.specs.declared.tree.Catch.{Catch-F}
 use Rattle.model_syntax.specs.declared.tree.Caught.TheVariants.{Exceptions, Throwables}
 use Rattle.model_syntax.specs.declared.tree.Choice.{Choice-F}
 use Rattle.model_syntax.specs.declared.tree.Entry.{Entry-F}
 use Rattle.model_syntax.specs.declared.tree.Expr.{Expr-F}
 use Rattle.model_syntax.specs.declared.tree.NewClass.{NewClass}
-use Rattle.model_syntax.specs.declared.tree.Operand.{Operand-F}
 use Rattle.model_syntax.specs.declared.tree.Operator.{Operator}
 use Rattle.model_syntax.specs.declared.tree.Part.{Part-F}
 use Rattle.model_syntax.specs.declared.tree.Prefix.{Prefix}
