@@ -22,3 +22,4 @@ mod ContextExamples
 mod FailureExamples
 mod CountExamples
 mod CellExamples
+mod OrderExamples
