@@ -23,3 +23,4 @@ mod FailureExamples
 mod CountExamples
 mod CellExamples
 mod OrderExamples
+mod StateExamples
