@@ -18,4 +18,3 @@ pub mod Found
 pub mod Replay
 pub mod Enough
 pub mod Structure
-mod WorldTrial

@@ -23,3 +23,56 @@ pub use Rattle.model_syntax.specs.Scopes
 pub use Rattle.model_syntax.specs.FirstFault
 pub use Rattle.model_syntax.specs.Nodes
 pub use Rattle.model_syntax.specs.TreeNodes
+-- what values are and do; its operators stand beside those of the grammar
+pub use Rattle.model_values.specs.Cells
+pub use Rattle.model_values.specs.Characters
+pub use Rattle.model_values.specs.Equality
+pub use Rattle.model_values.specs.Index
+pub use Rattle.model_values.specs.KeyLaws
+pub use Rattle.model_values.specs.Keys
+pub use Rattle.model_values.specs.Kinds
+pub use Rattle.model_values.specs.Limits
+pub use Rattle.model_values.specs.ListMethods
+pub use Rattle.model_values.specs.MethodNames
+pub use Rattle.model_values.specs.Methods
+pub use Rattle.model_values.specs.Operators as ValueOperators
+pub use Rattle.model_values.specs.Searching
+pub use Rattle.model_values.specs.TextMethods
+pub use Rattle.model_values.specs.TextOf
+pub use Rattle.model_values.specs.Throwables
+pub use Rattle.model_values.specs.Throws
+pub use Rattle.model_values.specs.Truth
+pub use Rattle.model_values.specs.Types
+pub use Rattle.model_values.specs.Walks
+-- what a build is and does; `Builds` and `BuildLogText` are its world and its log beside those of one step
+pub use Rattle.model_run.specs.RunTypes
+pub use Rattle.model_run.specs.ValueTypes
+pub use Rattle.model_run.specs.GraphText
+pub use Rattle.model_run.specs.Results
+pub use Rattle.model_run.specs.Terms
+pub use Rattle.model_run.specs.State
+pub use Rattle.model_run.specs.Around
+pub use Rattle.model_run.specs.Names
+pub use Rattle.model_run.specs.Callables
+pub use Rattle.model_run.specs.Statements
+pub use Rattle.model_run.specs.Assignments
+pub use Rattle.model_run.specs.Gathering
+pub use Rattle.model_run.specs.Expressions
+pub use Rattle.model_run.specs.LabelTokens
+pub use Rattle.model_run.specs.Labels
+pub use Rattle.model_run.specs.AgentsTexts
+pub use Rattle.model_run.specs.AgentsMembers
+pub use Rattle.model_run.specs.AgentsFaults
+pub use Rattle.model_run.specs.AgentsFile
+pub use Rattle.model_run.specs.Grants
+pub use Rattle.model_run.specs.Taking
+pub use Rattle.model_run.specs.StepTable
+pub use Rattle.model_run.specs.FlowNodes
+pub use Rattle.model_run.specs.Steps
+pub use Rattle.model_run.specs.Calls
+pub use Rattle.model_run.specs.Forms
+pub use Rattle.model_run.specs.Meaning
+pub use Rattle.model_run.specs.Below
+pub use Rattle.model_run.specs.Threads
+pub use Rattle.model_run.specs.LogText as BuildLogText
+pub use Rattle.model_run.specs.World as Builds

@@ -6,10 +6,13 @@
 //! run of a script is, and `LogText` how its lines are written.
 //!
 //! Beside these definitions, which serve the language that runs today, it hands on those of the whole language:
-//! [`text`] and [`syntax`], with the modules of `model_syntax/specs` under their own names.
+//! [`text`], [`syntax`], [`values`] and [`run`], with the modules of their `specs/` under their own names. Three names
+//! are taken: the operators of values are `ValueOperators`, the world of a list of events is `Builds`, and its log is
+//! `BuildLogText`.
 //!
 //! For example, the script `echo 'hi'` has the one text `hi`, and its world logs five lines of 93 bytes.
-//! `proofs/Examples` has that as a theorem.
+//! `proofs/Examples` has that as a theorem. The other modules of `proofs/` work builds of the whole language out, each
+//! by its script, its events, and its whole log or graph: `ScriptWords` has the words for their scripts.
 #![tactic(auto)]
 
 mod event;
@@ -21,7 +24,9 @@ mod tree;
 pub use event::Event;
 pub use fault::{FaultKind, ScriptFault, ScriptRefusal};
 pub use flow::{FlowNode, NodeKind};
+pub use model_run as run;
 pub use model_syntax as syntax;
 pub use model_text as text;
+pub use model_values as values;
 pub use result::BuildResult;
 pub use tree::Tree;

@@ -1,3 +1,0 @@
-pub mod EchoStatement
-pub mod EchoSteps
-pub mod EchoWorld

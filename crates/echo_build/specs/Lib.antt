@@ -1,2 +1,0 @@
-pub mod EchoBuild
-pub mod Run
