@@ -1,10 +1,15 @@
 -- Which statement a statement is.
 use Rattle.std.specs.Prelude.{◌≡◌, Option, List}
 use Rattle.model_syntax.specs.declared.place.Declared.{Declared}
+use Rattle.model_syntax.specs.declared.tree.Arm.{Arm}
 use Rattle.model_syntax.specs.declared.tree.Catch.{Catch}
 use Rattle.model_syntax.specs.declared.tree.Expr.{Expr}
 use Rattle.model_syntax.specs.declared.tree.Stmt.{Stmt}
-use Rattle.model_syntax.specs.declared.tree.Stmt.TheVariants.{ForEach, ForSteps, Try}
+use Rattle.model_syntax.specs.declared.tree.Stmt.TheVariants.{If, ForEach, ForSteps, Try}
+
+-- `if`
+abbrev pub IsIf : Stmt → Type 0
+IsIf s = (ts : List Arm) × (o : Option (List Stmt)) × (s ≡ If ts o)
 
 -- `for (x in e)`
 abbrev pub IsForEach : Stmt → Type 0

@@ -2,7 +2,10 @@
 //! `continue` outside of the loops of its function or closure.
 #![tactic(auto)]
 
+mod first_fault;
 mod names;
 mod scopes;
 mod stack;
 mod walk;
+
+pub use first_fault::check;

@@ -2,13 +2,14 @@ ghost use Rattle.std.specs.Prelude.{◌≡◌, [], ◌∷◌, ◌++◌, map, OnO
 ghost use Rattle.std.specs.Option.{option_map};
 ghost use Rattle.model_syntax.specs.Scopes.{Marks, all, block, loop, callable, if_any, block_if_any, heads_of, declares, arm_marks, catch_marks, choice_marks, entry_marks, expr_marks, operand_marks, part_marks, stmt_marks, suffix_marks, target_marks, arguments_marks, top_marks, function_marks};
 ghost use Rattle.scope_check.specs.Walk.{walked};
-ghost use Rattle.scope_check.specs.Kinds.{IsForEach, IsForSteps, IsTry};
+ghost use Rattle.scope_check.specs.Kinds.{IsIf, IsForEach, IsForSteps, IsTry};
 
 use crate::scopes::Scopes;
 use model_syntax::{
     Arguments, Arm, Catch, Choice, Declared, Entry, Expr, FaultKind, Function, Operand, Part, Stmt,
     Suffix, Target, Top,
 };
+use sqlite_items::Boxed;
 use std::alloc::AllocError;
 
 #[tactic(auto, using(crate::proofs::WalkLaws::walking))]
@@ -95,11 +96,7 @@ impl Scopes {
         ensures { OnOk result (self.new ≡ walked (stmt_marks statement.now) self.old) }
     {
         match statement {
-            Stmt::If(arms, None) => self.arms(arms.as_slice()),
-            Stmt::If(arms, Some(last)) => {
-                self.arms(arms.as_slice())?;
-                self.block(last.as_slice())
-            }
+            Stmt::If(_, _) => self.if_block(statement),
             Stmt::While(test, body) => {
                 self.expression(test)?;
                 self.loop_body(body.as_slice())
@@ -126,6 +123,22 @@ impl Scopes {
                 self.need_loop(FaultKind::ContinueOutsideLoop, *place);
                 Ok(())
             }
+        }
+    }
+
+    /// `if`, its tests with their blocks in order, and the last `else`.
+    #[cycle(walk)]
+    fn if_block(&mut self, statement: &Stmt) -> Result<(), AllocError>
+        requires { IsIf statement.now }
+        ensures { OnOk result (self.new ≡ walked (stmt_marks statement.now) self.old) }
+    {
+        let Stmt::If(arms, last) = statement else {
+            unreachable!();
+        };
+        self.arms(arms.as_slice())?;
+        match last {
+            Some(last) => self.block(last.as_slice()),
+            None => Ok(()),
         }
     }
 
@@ -253,7 +266,7 @@ impl Scopes {
                 self.callable(parameters.as_slice(), body.as_slice())
             }
             Expr::Closure(None, body) => self.callable(&[], body.as_slice()),
-            Expr::New(_, Some(message)) => self.expression(message.get()),
+            Expr::New(_, message) => self.message(message),
             Expr::Suffixed(primary, suffixes) => {
                 self.expression(primary.get())?;
                 self.suffixes(suffixes.as_slice())
@@ -268,13 +281,23 @@ impl Scopes {
                 self.choices(choices.as_slice())?;
                 self.expression(last.get())
             }
-            Expr::New(_, None)
-            | Expr::Number(_)
+            Expr::Number(_)
             | Expr::Literal(_)
             | Expr::True
             | Expr::False
             | Expr::Null
             | Expr::Variable(_) => Ok(()),
+        }
+    }
+
+    /// The message of a new throwable, where it has one.
+    #[cycle(walk)]
+    fn message(&mut self, message: &Option<Boxed<Expr>>) -> Result<(), AllocError>
+        ensures { OnOk result (self.new ≡ walked (if_any (option_map expr_marks message.now)) self.old) }
+    {
+        match message {
+            Some(message) => self.expression(message.get()),
+            None => Ok(()),
         }
     }
 
