@@ -5,7 +5,7 @@ use Rattle.scope_check.proofs.WalkLaws.{walked-none, walked-one, walked-then, wa
 use Rattle.scope_check.proofs.scopes.Scopes.+walk.Goals as goal
 
 pub arms-loop-arm-preserved : goal.arms-loop-arm-preserved
-arms-loop-arm-preserved t c = 
+arms-loop-arm-preserved t c =
     walked-step arm_marks c.args.arms.now _ _ _ c.arm-item.is c.loop-arm-test.true
     (rw (marks-Arm, ← c.as_slice.ensures) (walked-then _ _ _ c.in_ok-expression.ensures c.in_ok-block.ensures))
     c.loop-arm.invariant
@@ -14,7 +14,7 @@ pub arms-returns : goal.arms-returns
 arms-returns t c = walked-done arm_marks c.args.arms.now _ _ c.loop-arm-test.false c.loop-arm.invariant
 
 pub catches-loop-catch-preserved : goal.catches-loop-catch-preserved
-catches-loop-catch-preserved t c = 
+catches-loop-catch-preserved t c =
     walked-step catch_marks c.args.catches.now _ _ _ c.catch-item.is c.loop-catch-test.true
     (rw (marks-Catch, ← c.as_slice.ensures)
     (walked-catch c.catch-item.result.name (map stmt_marks c.as_slice.result.now) _ c.in_ok-open.ensures c.in_ok-declare.ensures c.in_ok-statements.ensures c.close.ensures))
