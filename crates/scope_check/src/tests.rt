@@ -6,7 +6,6 @@ use model_syntax::{
 use model_text::Text;
 use sqlite_items::{Boxed, Items};
 use std::alloc::{AllocError, Global};
-use std::test::Fail;
 
 const NOWHERE: Place = Place { line: 1, column: 1 };
 
@@ -17,36 +16,33 @@ fn named(alloc: Global, name: &str, line: u32, column: u32) -> Result<Declared, 
     })
 }
 
+fn names(alloc: Global, of: &[(&str, u32, u32)]) -> Result<Items<Declared>, AllocError> {
+    let mut names = Items::new(alloc);
+    for (name, line, column) in of {
+        names.push(named(alloc, name, *line, *column)?)?;
+    }
+    Ok(names)
+}
+
 /// `def NAME`, the name at this place.
 fn def(alloc: Global, name: &str, line: u32, column: u32) -> Result<Stmt, AllocError> {
     Ok(Stmt::Declare(named(alloc, name, line, column)?, None))
 }
 
-fn break_at(line: u32, column: u32) -> Stmt {
-    Stmt::Break(Place { line, column })
-}
-
-fn continue_at(line: u32, column: u32) -> Stmt {
-    Stmt::Continue(Place { line, column })
-}
-
+/// These statements.
 fn one(alloc: Global, statement: Stmt) -> Result<Items<Stmt>, AllocError> {
     let mut statements = Items::new(alloc);
     statements.push(statement)?;
     Ok(statements)
 }
 
-fn two(alloc: Global, first: Stmt, second: Stmt) -> Result<Items<Stmt>, AllocError> {
-    let mut statements = one(alloc, first)?;
-    statements.push(second)?;
+/// `def NAME` for each of these.
+fn defs(alloc: Global, of: &[(&str, u32, u32)]) -> Result<Items<Stmt>, AllocError> {
+    let mut statements = Items::new(alloc);
+    for (name, line, column) in of {
+        statements.push(def(alloc, name, *line, *column)?)?;
+    }
     Ok(statements)
-}
-
-fn pair(alloc: Global, first: Declared, second: Declared) -> Result<Items<Declared>, AllocError> {
-    let mut names = Items::new(alloc);
-    names.push(first)?;
-    names.push(second)?;
-    Ok(names)
 }
 
 /// `while (true) { .. }`
@@ -67,22 +63,14 @@ fn call(
     Ok(Stmt::Evaluate(Expr::Call(name, Arguments { named, ordered })))
 }
 
-/// `def NAME(..) { .. }`
-fn function(name: Declared, parameters: Items<Declared>, body: Items<Stmt>) -> Top {
-    Top::Function(Function {
-        place: NOWHERE,
-        name,
-        parameters,
-        body,
-    })
-}
-
 /// A script of these statements.
 fn script(alloc: Global, statements: Items<Stmt>) -> Result<Tree, AllocError> {
     let mut statements = statements;
     let mut tops = Vec::new(alloc);
-    while let Some(statement) = statements.pop() {
-        tops.push(Top::Statement(NOWHERE, statement))?;
+    for _ in 0..statements.len() {
+        if let Some(statement) = statements.pop() {
+            tops.push(Top::Statement(NOWHERE, statement))?;
+        }
     }
     tops.reverse();
     Ok(Tree {
@@ -94,147 +82,216 @@ fn fault(line: u32, column: u32, kind: FaultKind) -> Result<(), ScriptRefusal> {
     Err(ScriptRefusal::Fault(ScriptFault { line, column, kind }))
 }
 
+/// What is told of a script of these statements.
+fn answer(alloc: Global, statements: Items<Stmt>) -> Result<(), ScriptRefusal> {
+    let tree = script(alloc, statements)?;
+    check(alloc, &tree)
+}
+
+/// `def NAME` for each of these, and behind them this statement.
+fn answer_behind(
+    alloc: Global,
+    before: &[(&str, u32, u32)],
+    last: Stmt,
+) -> Result<(), ScriptRefusal> {
+    let mut statements = defs(alloc, before)?;
+    statements.push(last)?;
+    answer(alloc, statements)
+}
+
+fn answer_to_defs(alloc: Global, of: &[(&str, u32, u32)]) -> Result<(), ScriptRefusal> {
+    answer(alloc, defs(alloc, of)?)
+}
+
 #[test]
-fn a_name_is_declared_once_in_a_scope(rt: HostRuntime) -> Result<(), Fail> {
+fn a_name_is_declared_once_in_a_scope(rt: HostRuntime) {
     let alloc = rt.alloc();
     let twice = fault(2, 5, FaultKind::NameAlreadyDeclared);
-    // def x (newline) def x
-    let statements = two(alloc, def(alloc, "x", 1, 5)?, def(alloc, "x", 2, 5)?)?;
-    assert_eq!(rt; check(alloc, &script(alloc, statements)?), twice);
-    // def x (newline) def y
-    let statements = two(alloc, def(alloc, "x", 1, 5)?, def(alloc, "y", 2, 5)?)?;
-    assert_eq!(rt; check(alloc, &script(alloc, statements)?), Ok(()));
-    // def x (newline) while (true) { def x }
-    let inner = endless(one(alloc, def(alloc, "x", 2, 20)?)?);
-    let statements = two(alloc, def(alloc, "x", 1, 5)?, inner)?;
-    assert_eq!(rt; check(alloc, &script(alloc, statements)?), Ok(()));
-    Ok(())
+    assert_eq!(rt; answer_to_defs(alloc, &[("x", 1, 5), ("x", 2, 5)]), twice);
+    assert_eq!(rt; answer_to_defs(alloc, &[("x", 1, 5), ("y", 2, 5)]), Ok(()));
+}
+
+/// `def x`, and in the second line `while (true) { def x }`
+fn declared_anew_in_a_block(alloc: Global) -> Result<(), ScriptRefusal> {
+    let inner = defs(alloc, &[("x", 2, 20)])?;
+    answer_behind(alloc, &[("x", 1, 5)], endless(inner))
+}
+
+/// `def i`, and in the second line `for (i in null) { def i }`
+fn declared_anew_in_a_head_and_its_body(alloc: Global) -> Result<(), ScriptRefusal> {
+    let body = defs(alloc, &[("i", 2, 23)])?;
+    let name = named(alloc, "i", 2, 6)?;
+    answer_behind(alloc, &[("i", 1, 5)], Stmt::ForEach(name, Expr::Null, body))
+}
+
+/// `def a`, and in the second line `f { a -> def c }`
+fn declared_anew_by_a_closure(alloc: Global) -> Result<(), ScriptRefusal> {
+    let parameters = names(alloc, &[("a", 2, 5)])?;
+    let body = defs(alloc, &[("c", 2, 14)])?;
+    answer_behind(alloc, &[("a", 1, 5)], call(alloc, Some(parameters), body)?)
 }
 
 #[test]
-fn parameters_and_statements_are_one_scope(rt: HostRuntime) -> Result<(), Fail> {
+fn an_inner_scope_may_declare_a_name_anew(rt: HostRuntime) {
     let alloc = rt.alloc();
-    // def f(a, a) {}
-    let parameters = pair(alloc, named(alloc, "a", 1, 7)?, named(alloc, "a", 1, 10)?)?;
-    let name = named(alloc, "f", 1, 5)?;
-    let tops = Items::from_vec(vec![in alloc; function(name, parameters, Items::new(alloc))]?);
-    let twice = fault(1, 10, FaultKind::NameAlreadyDeclared);
-    assert_eq!(rt; check(alloc, &Tree { tops }), twice);
-    // f { a, b -> def b }
-    let parameters = pair(alloc, named(alloc, "a", 1, 5)?, named(alloc, "b", 1, 8)?)?;
-    let body = one(alloc, def(alloc, "b", 1, 17)?)?;
-    let statements = one(alloc, call(alloc, Some(parameters), body)?)?;
-    let twice = fault(1, 17, FaultKind::NameAlreadyDeclared);
-    assert_eq!(rt; check(alloc, &script(alloc, statements)?), twice);
-    // def a (newline) f { a, b -> def c }
-    let parameters = pair(alloc, named(alloc, "a", 2, 5)?, named(alloc, "b", 2, 8)?)?;
-    let body = one(alloc, def(alloc, "c", 2, 17)?)?;
-    let shadow = call(alloc, Some(parameters), body)?;
-    let statements = two(alloc, def(alloc, "a", 1, 5)?, shadow)?;
-    assert_eq!(rt; check(alloc, &script(alloc, statements)?), Ok(()));
-    Ok(())
+    assert_eq!(rt; declared_anew_in_a_block(alloc), Ok(()));
+    assert_eq!(rt; declared_anew_in_a_head_and_its_body(alloc), Ok(()));
+    assert_eq!(rt; declared_anew_by_a_closure(alloc), Ok(()));
 }
 
-#[test]
-fn a_for_head_is_a_scope_and_so_is_its_body(rt: HostRuntime) -> Result<(), Fail> {
-    let alloc = rt.alloc();
-    // for (i in null) { def i }, twice
-    let body = one(alloc, def(alloc, "i", 1, 23)?)?;
-    let first = Stmt::ForEach(named(alloc, "i", 1, 6)?, Expr::Null, body);
-    let body = one(alloc, def(alloc, "i", 2, 23)?)?;
-    let second = Stmt::ForEach(named(alloc, "i", 2, 6)?, Expr::Null, body);
-    let statements = two(alloc, first, second)?;
-    assert_eq!(rt; check(alloc, &script(alloc, statements)?), Ok(()));
-    // def i (newline) for (def i; true; def i) {}
-    let start = Boxed::new(alloc, def(alloc, "i", 2, 10)?)?;
-    let step = Boxed::new(alloc, def(alloc, "i", 2, 25)?)?;
-    let steps = Stmt::ForSteps(start, Expr::True, step, Items::new(alloc));
-    let statements = two(alloc, def(alloc, "i", 1, 5)?, steps)?;
-    let twice = fault(2, 25, FaultKind::NameAlreadyDeclared);
-    assert_eq!(rt; check(alloc, &script(alloc, statements)?), twice);
-    Ok(())
+/// `f { a, b -> def b }`
+fn parameter_declared_again(alloc: Global) -> Result<(), ScriptRefusal> {
+    let parameters = names(alloc, &[("a", 1, 5), ("b", 1, 8)])?;
+    let body = defs(alloc, &[("b", 1, 17)])?;
+    answer(alloc, one(alloc, call(alloc, Some(parameters), body)?)?)
 }
 
-#[test]
-fn a_catch_has_its_name_in_the_scope_of_its_block(rt: HostRuntime) -> Result<(), Fail> {
-    let alloc = rt.alloc();
-    // def e (newline) try {} catch (e) { def e }
-    let clause = Catch {
+/// `for (def i; true; def i) {}`
+fn head_with_a_name_twice(alloc: Global) -> Result<(), ScriptRefusal> {
+    let first = Boxed::new(alloc, def(alloc, "i", 1, 10)?)?;
+    let step = Boxed::new(alloc, def(alloc, "i", 1, 23)?)?;
+    let body = Items::new(alloc);
+    answer(
+        alloc,
+        one(alloc, Stmt::ForSteps(first, Expr::True, step, body))?,
+    )
+}
+
+/// `try {} catch (e) { def e }`
+fn caught_name_declared_again(alloc: Global) -> Result<(), ScriptRefusal> {
+    let mut catches = Items::new(alloc);
+    catches.push(Catch {
         caught: Caught::Exceptions,
-        name: named(alloc, "e", 2, 15)?,
-        body: one(alloc, def(alloc, "e", 2, 24)?)?,
-    };
-    let catches = Items::from_vec(vec![in alloc; clause]?);
-    let attempt = Stmt::Try(Items::new(alloc), catches, None);
-    let statements = two(alloc, def(alloc, "e", 1, 5)?, attempt)?;
-    let twice = fault(2, 24, FaultKind::NameAlreadyDeclared);
-    assert_eq!(rt; check(alloc, &script(alloc, statements)?), twice);
-    Ok(())
+        name: named(alloc, "e", 1, 15)?,
+        body: defs(alloc, &[("e", 1, 24)])?,
+    })?;
+    answer(
+        alloc,
+        one(alloc, Stmt::Try(Items::new(alloc), catches, None))?,
+    )
 }
 
 #[test]
-fn a_function_is_declared_once(rt: HostRuntime) -> Result<(), Fail> {
+fn what_stands_in_one_scope_with_its_statements(rt: HostRuntime) {
     let alloc = rt.alloc();
-    // def f() {} (newline) def f(a, b) {}
+    let again = FaultKind::NameAlreadyDeclared;
+    assert_eq!(rt; parameter_declared_again(alloc), fault(1, 17, again));
+    assert_eq!(rt; head_with_a_name_twice(alloc), fault(1, 23, again));
+    assert_eq!(rt; caught_name_declared_again(alloc), fault(1, 24, again));
+}
+
+/// `def NAME(PARAMETERS) {}`
+fn function(
+    alloc: Global,
+    name: Declared,
+    parameters: &[(&str, u32, u32)],
+) -> Result<Top, AllocError> {
+    Ok(Top::Function(Function {
+        place: NOWHERE,
+        name,
+        parameters: names(alloc, parameters)?,
+        body: Items::new(alloc),
+    }))
+}
+
+/// `def f(a, a) {}`
+fn parameter_twice(alloc: Global) -> Result<(), ScriptRefusal> {
+    let mut tops = Items::new(alloc);
     let name = named(alloc, "f", 1, 5)?;
-    let first = function(name, Items::new(alloc), Items::new(alloc));
-    let parameters = pair(alloc, named(alloc, "a", 2, 7)?, named(alloc, "b", 2, 10)?)?;
-    let second = function(named(alloc, "f", 2, 5)?, parameters, Items::new(alloc));
-    let tops = Items::from_vec(vec![in alloc; first, second]?);
-    let twice = fault(2, 5, FaultKind::FunctionAlreadyDeclared);
-    assert_eq!(rt; check(alloc, &Tree { tops }), twice);
-    Ok(())
+    tops.push(function(alloc, name, &[("a", 1, 7), ("a", 1, 10)])?)?;
+    check(alloc, &Tree { tops })
+}
+
+/// `def f(a) {}`, and in the second line `def f(b) {}`
+fn function_twice(alloc: Global) -> Result<(), ScriptRefusal> {
+    let mut tops = Items::new(alloc);
+    let name = named(alloc, "f", 1, 5)?;
+    tops.push(function(alloc, name, &[("a", 1, 7)])?)?;
+    let name = named(alloc, "f", 2, 5)?;
+    tops.push(function(alloc, name, &[("b", 2, 7)])?)?;
+    check(alloc, &Tree { tops })
 }
 
 #[test]
-fn break_and_continue_stand_in_a_loop_of_their_closure(rt: HostRuntime) -> Result<(), Fail> {
+fn functions_and_parameters_are_declared_once(rt: HostRuntime) {
     let alloc = rt.alloc();
-    // continue
-    let outside = fault(1, 1, FaultKind::ContinueOutsideLoop);
-    let statements = one(alloc, continue_at(1, 1))?;
-    assert_eq!(rt; check(alloc, &script(alloc, statements)?), outside);
-    // while (true) { break; continue }
-    let body = two(alloc, break_at(1, 16), continue_at(1, 23))?;
-    let statements = one(alloc, endless(body))?;
-    assert_eq!(rt; check(alloc, &script(alloc, statements)?), Ok(()));
-    // while (true) { if (true) { break } }
+    assert_eq!(rt;
+        parameter_twice(alloc),
+        fault(1, 10, FaultKind::NameAlreadyDeclared)
+    );
+    assert_eq!(rt;
+        function_twice(alloc),
+        fault(2, 5, FaultKind::FunctionAlreadyDeclared)
+    );
+}
+
+fn break_at(column: u32) -> Stmt {
+    Stmt::Break(Place { line: 1, column })
+}
+
+/// `continue`
+fn continue_alone(alloc: Global) -> Result<(), ScriptRefusal> {
+    answer(alloc, one(alloc, Stmt::Continue(NOWHERE))?)
+}
+
+/// `while (true) { if (true) { break } }`
+fn break_in_a_block_in_a_loop(alloc: Global) -> Result<(), ScriptRefusal> {
     let test = Expr::True;
-    let body = one(alloc, break_at(1, 28))?;
-    let arms = Items::from_vec(vec![in alloc; Arm { test, body }]?);
-    let body = one(alloc, Stmt::If(arms, None))?;
-    let statements = one(alloc, endless(body))?;
-    assert_eq!(rt; check(alloc, &script(alloc, statements)?), Ok(()));
-    // while (true) { f { break } }
-    let body = one(alloc, call(alloc, None, one(alloc, break_at(1, 20))?)?)?;
+    let body = one(alloc, break_at(28))?;
+    let mut arms = Items::new(alloc);
+    arms.push(Arm { test, body })?;
+    answer(
+        alloc,
+        one(alloc, endless(one(alloc, Stmt::If(arms, None))?))?,
+    )
+}
+
+/// `while (true) { f { break } }`
+fn break_in_a_closure_in_a_loop(alloc: Global) -> Result<(), ScriptRefusal> {
+    let inner = call(alloc, None, one(alloc, break_at(20))?)?;
+    answer(alloc, one(alloc, endless(one(alloc, inner)?))?)
+}
+
+#[test]
+fn break_and_continue_stand_in_a_loop_of_their_closure(rt: HostRuntime) {
+    let alloc = rt.alloc();
+    assert_eq!(rt;
+        continue_alone(alloc),
+        fault(1, 1, FaultKind::ContinueOutsideLoop)
+    );
+    assert_eq!(rt; break_in_a_block_in_a_loop(alloc), Ok(()));
     let outside = fault(1, 20, FaultKind::BreakOutsideLoop);
-    let statements = one(alloc, endless(body))?;
-    assert_eq!(rt; check(alloc, &script(alloc, statements)?), outside);
-    Ok(())
+    assert_eq!(rt; break_in_a_closure_in_a_loop(alloc), outside);
+}
+
+/// `def x; break; def x`
+fn two_faults(alloc: Global) -> Result<(), ScriptRefusal> {
+    let mut statements = defs(alloc, &[("x", 1, 5)])?;
+    statements.push(break_at(8))?;
+    statements.push(def(alloc, "x", 1, 19)?)?;
+    answer(alloc, statements)
 }
 
 #[test]
-fn the_first_of_two_faults_is_told(rt: HostRuntime) -> Result<(), Fail> {
-    let alloc = rt.alloc();
-    // def x (newline) break (newline) def x
-    let mut statements = two(alloc, def(alloc, "x", 1, 5)?, break_at(2, 1))?;
-    statements.push(def(alloc, "x", 3, 5)?)?;
-    let first = fault(2, 1, FaultKind::BreakOutsideLoop);
-    assert_eq!(rt; check(alloc, &script(alloc, statements)?), first);
-    Ok(())
+fn the_first_of_two_faults_is_told(rt: HostRuntime) {
+    let first = fault(1, 8, FaultKind::BreakOutsideLoop);
+    assert_eq!(rt; two_faults(rt.alloc()), first);
 }
 
-/// 100,000 names in one scope, of which the last is the first once more: an algorithm that compares each name with each
-/// would need more than the time that a test has.
-#[test]
-fn many_names_in_one_scope_take_little_time(rt: HostRuntime) -> Result<(), Fail> {
-    let alloc = rt.alloc();
+/// `def name1` to `def name100000`, a line each, and `def name1` once more.
+fn many_names(alloc: Global) -> Result<(), ScriptRefusal> {
     let mut statements = Items::new(alloc);
     for line in 1..=100_000 {
         let name = format!(in alloc; "name{line}")?;
         statements.push(def(alloc, name.as_str(), line, 5)?)?;
     }
     statements.push(def(alloc, "name1", 100_001, 5)?)?;
+    answer(alloc, statements)
+}
+
+/// A check that compares each name with each would need more time than a test has.
+#[test]
+fn many_names_in_one_scope_take_little_time(rt: HostRuntime) {
     let twice = fault(100_001, 5, FaultKind::NameAlreadyDeclared);
-    assert_eq!(rt; check(alloc, &script(alloc, statements)?), twice);
-    Ok(())
+    assert_eq!(rt; many_names(rt.alloc()), twice);
 }

@@ -12,6 +12,8 @@ use model_syntax::{
 use sqlite_items::Boxed;
 use std::alloc::AllocError;
 
+/// The walk: each of these goes once through its part of a tree, in the order of the script, and tells the scopes what it
+/// meets. It goes on behind a fault, since the scopes keep the first. `AllocError` comes where the memory was refused.
 #[tactic(auto, using(crate::proofs::WalkLaws::walking))]
 impl Scopes {
     /// The functions and statements of a script.
@@ -40,7 +42,7 @@ impl Scopes {
         self.callable(function.parameters.as_slice(), function.body.as_slice())
     }
 
-    /// The parameters of a function or a closure, and its statements behind them.
+    /// The parameters of a function or a closure and its statements behind them: a scope in no loop.
     #[cycle(walk)]
     fn callable(&mut self, parameters: &[Declared], body: &[Stmt]) -> Result<(), AllocError>
         ensures { OnOk result (self.new ≡ walked (callable parameters.now (all (map stmt_marks body.now))) self.old) }
@@ -71,6 +73,7 @@ impl Scopes {
         Ok(())
     }
 
+    /// A block: a scope in a loop where the one around it is.
     #[cycle(walk)]
     fn block(&mut self, statements: &[Stmt]) -> Result<(), AllocError>
         ensures { OnOk result (self.new ≡ walked (block (map stmt_marks statements.now)) self.old) }
@@ -81,6 +84,7 @@ impl Scopes {
         Ok(())
     }
 
+    /// The body of a loop: a scope in a loop.
     #[cycle(walk)]
     fn loop_body(&mut self, statements: &[Stmt]) -> Result<(), AllocError>
         ensures { OnOk result (self.new ≡ walked (loop (map stmt_marks statements.now)) self.old) }
@@ -194,6 +198,7 @@ impl Scopes {
         }
     }
 
+    /// The tests of an `if` with their blocks.
     #[cycle(walk)]
     fn arms(&mut self, arms: &[Arm]) -> Result<(), AllocError>
         ensures { OnOk result (self.new ≡ walked (all (map arm_marks arms.now)) self.old) }
@@ -205,6 +210,7 @@ impl Scopes {
         Ok(())
     }
 
+    /// Catches: the name of each stands in the scope of its block.
     #[cycle(walk)]
     fn catches(&mut self, catches: &[Catch]) -> Result<(), AllocError>
         ensures { OnOk result (self.new ≡ walked (all (map catch_marks catches.now)) self.old) }
@@ -232,6 +238,7 @@ impl Scopes {
         }
     }
 
+    /// A value that may be absent.
     #[cycle(walk)]
     fn value(&mut self, value: &Option<Expr>) -> Result<(), AllocError>
         ensures { OnOk result (self.new ≡ walked (if_any (option_map expr_marks value.now)) self.old) }
@@ -311,6 +318,7 @@ impl Scopes {
         Ok(())
     }
 
+    /// Plain text, or an expression, in a text with expressions.
     #[cycle(walk)]
     fn part(&mut self, part: &Part) -> Result<(), AllocError>
         ensures { OnOk result (self.new ≡ walked (part_marks part.now) self.old) }
@@ -373,6 +381,7 @@ impl Scopes {
         }
     }
 
+    /// The operands behind operators.
     #[cycle(walk)]
     fn operands(&mut self, operands: &[Operand]) -> Result<(), AllocError>
         ensures { OnOk result (self.new ≡ walked (all (map operand_marks operands.now)) self.old) }
