@@ -4,7 +4,7 @@ use Rattle.std.specs.List.{list_any}
 use Rattle.std.specs.Ordering.{eq_by_cmp, is_eq, nat_cmp, ordering_reverse}
 use Rattle.std.specs.declared.cmp.Ordering.TheVariants.{Less, Equal, Greater}
 use Rattle.std.specs.Cmp.Lexicographic.{slice_cmp, nat_list_cmp_total}
-use Rattle.std.specs.FinSet.{FinSet, contains, insert, from_list, contains-from_list, contains-insert, same_set, nat_cmp-IsAntisymmetric, slice_cmp-IsAntisymmetric}
+use Rattle.std.specs.FinSet.{insert, from_list, contains-from_list, contains-insert, same_set, nat_cmp-IsAntisymmetric, slice_cmp-IsAntisymmetric}
 
 turned : (r : Ordering) → is_eq (ordering_reverse r) ≡ is_eq r
 turned Less = refl

@@ -1,5 +1,5 @@
 -- What rows of marks change, one behind the other.
-use Rattle.std.proofs.Common.{◌≡◌, Result, OnOk, subst, ℕ, ◌+◌, ◌<◌, ◌≤◌, suc, Bool, true, false, List, [], ◌∷◌, ◌++◌, map, length, get_or, drop, refl, sym, ap, ◌∙◌, add-one, drop-cons}
+use Rattle.std.proofs.Common.{◌≡◌, Result, OnOk, subst, ℕ, ◌+◌, ◌<◌, ◌≤◌, suc, true, false, List, [], ◌∷◌, ◌++◌, map, length, get_or, drop, refl, sym, ap, ◌∙◌, add-one, drop-cons}
 use Rattle.std.proofs.lemmas.List.{drop_all}
 use Rattle.model_syntax.specs.declared.place.Declared.{Declared}
 use Rattle.model_syntax.specs.declared.tree.Arguments.{Arguments}

@@ -1,6 +1,6 @@
-use Rattle.std.proofs.Common.{◌≡◌, map, sym, ap, ◌∙◌, arith}
-use Rattle.model_syntax.specs.Scopes.{breaks, continues, declares, loop, arm_marks, catch_marks, choice_marks, entry_marks, expr_marks, operand_marks, part_marks, stmt_marks, suffix_marks}
-use Rattle.model_syntax.proofs.ScopeLaws.{choice-IfTrue, entry-Computed, expr-Number, expr-Literal, expr-True, expr-False, expr-Null, expr-Variable, expr-New, expr-Suffixed, expr-Joined, expr-Chosen, part-Plain, suffix-Property, target-ToName, target-ToIndex, stmt-If, stmt-While, stmt-ForEach, stmt-ForSteps, stmt-Try, stmt-Declare, stmt-Assign, stmt-Break, stmt-Continue}
+use Rattle.std.proofs.Common.{map, sym, ◌∙◌, arith}
+use Rattle.model_syntax.specs.Scopes.{breaks, continues, declares, arm_marks, catch_marks, choice_marks, entry_marks, expr_marks, operand_marks, part_marks, stmt_marks, suffix_marks}
+use Rattle.model_syntax.proofs.ScopeLaws.{choice-IfTrue, entry-Computed, expr-Number, expr-Literal, expr-True, expr-False, expr-Null, expr-Variable, expr-Suffixed, expr-Joined, expr-Chosen, part-Plain, suffix-Property, target-ToName, target-ToIndex, stmt-If, stmt-While, stmt-ForEach, stmt-ForSteps, stmt-Try, stmt-Declare, stmt-Assign, stmt-Break, stmt-Continue}
 use Rattle.scope_check.proofs.WalkLaws.{walked-none, walked-one, walked-then, walked-last, walked-behind, walked-catch, walked-for_each, walked-for_steps, walked-step, walked-done, marks-Arm, marks-Catch, marks-Operand, marks-Arguments}
 use Rattle.scope_check.proofs.scopes.Scopes.+walk.Goals as goal
 
