@@ -1,0 +1,3 @@
+pub mod FirstWrong
+pub mod NameLemmas
+pub mod WalkLaws
