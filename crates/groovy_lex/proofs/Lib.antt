@@ -1,2 +1,11 @@
 mod CutLemmas
 mod PartsLemmas
+mod PlaceLemmas
+mod OpenLemmas
+mod SpelledLemmas
+mod CharacterLemmas
+mod WordLemmas
+mod SignLemmas
+mod NameLemmas
+mod NumberLemmas
+mod ContentLemmas

@@ -1,3 +1,13 @@
+pub mod OpenStack
+pub mod Steps
+pub mod Names
+pub mod Words
+pub mod Numbers
+pub mod Signs
+pub mod Contents
+pub mod Stops
+pub mod Turns
+pub mod Paths
 pub mod Cut
 pub mod Parts
 pub mod Line
