@@ -16,7 +16,7 @@ use Rattle.model_syntax.specs.OpenBrackets.{Open}
 use Rattle.model_syntax.specs.Reading.{begins_braces, begins_path, TextFails, fails_at_end, fails_at_newline, fails_at_backslash, fails_at_dollar, fails_too_deep, fails_not_utf8}
 use Rattle.model_syntax.proofs.TokenExistence.{AtStop, at_closing, at_expression, at_fault, at_stop}
 use Rattle.groovy_lex.specs.Contents.{four, NoItem, TakesTo, Takes, IsContent}
-use Rattle.groovy_lex.proofs.SpelledLemmas.{slice, front_spelled, spelled_inside, byte_inside}
+use Rattle.groovy_lex.proofs.SpelledLemmas.{AreBytes, slice, front_spelled, spelled_inside, byte_inside}
 use Rattle.groovy_lex.proofs.CharacterLemmas.{encode_bytes}
 
 two_on : (B : Source) (a : ℕ) → B (a + 1 + 1) ≡ B (a + 2)
@@ -153,3 +153,17 @@ only_not_utf8 B s f o p g q d u b = by (at_stop B s f o p g)
     by (at_expression w (begins_braces r l)) = absurd (d (r.0, w))
     by (at_expression w (begins_path e l)) = absurd (d (e, w))
     by (at_fault k z r) = fault r
+
+pub content_taken : {B : Source} {f : Form} {t u : List ℕ} {a b n e : ℕ} → Content B f t a b → (Spelled B (quotes f) b → ⊥) → TakesTo B f b n t u e → Content B f u a e
+content_taken {B = B} {f = f} {t = t} {u = u} {a = a} {b = b} {e = e} c q k =
+    subst (λ z. Content B f z a e) (sym k.longer) (subst (λ z. Content B f (t ++ k.meaning) a z) (sym k.ends) (content_behind c q k.item k.stands))
+
+quotes_bytes : (f : Form) → AreBytes (quotes f)
+quotes_bytes single = (omega arith, tt)
+quotes_bytes triple_single = (omega arith, (omega arith, (omega arith, tt)))
+quotes_bytes double = (omega arith, tt)
+quotes_bytes triple_double = (omega arith, (omega arith, (omega arith, tt)))
+
+-- Quotes that stand end within the script.
+pub quotes_past : (bytes : List ℕ) (f : Form) (a : ℕ) → a ≤ length bytes → Spelled (byte_at bytes) (quotes f) a → a + length (quotes f) ≤ length bytes
+quotes_past bytes f a h s = spelled_inside bytes (quotes f) a h (quotes_bytes f) s

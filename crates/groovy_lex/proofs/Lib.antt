@@ -9,3 +9,5 @@ mod SignLemmas
 mod NameLemmas
 mod NumberLemmas
 mod ContentLemmas
+mod CodeLemmas
+mod InsideLemmas

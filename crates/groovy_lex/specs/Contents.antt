@@ -22,9 +22,9 @@ pub record TakesTo (B : Source) (f : Form) (a n : ℕ) (old new : List ℕ) (e :
   pub forward : a < e
   pub inside : e ≤ n
 
--- A character was taken, or none stands there.
+-- A character was taken, or none stands there and the text is as before.
 abbrev pub Takes : Source → Form → ℕ → ℕ → List ℕ → List ℕ → Option ℕ → Type 0
-Takes B f a n old new None = NoItem B f a
+Takes B f a n old new None = NoItem B f a × (new ≡ old)
 Takes B f a n old new (Some e) = TakesTo B f a n old new e
 
 -- These are the characters of a text from one place up to another, where none goes on.

@@ -7,10 +7,10 @@ ghost use Rattle.model_syntax.specs.Places.{place_at};
 ghost use Rattle.model_syntax.specs.Spelling.{is_letter};
 ghost use Rattle.model_syntax.specs.TextForms.{quotes, Opens};
 ghost use Rattle.model_syntax.specs.OpenBrackets.{Open, depth, after_sign, is_opening, closed, text, IsCode};
-ghost use Rattle.model_syntax.specs.Reading.{is_blank, BeginsLine, Begins, Nothing, token};
+ghost use Rattle.model_syntax.specs.Reading.{is_blank, BeginsLine, Begins, Nothing, token, fails};
 ghost use Rattle.groovy_lex.specs.OpenStack.{form_of, open_of, IsBracket};
 ghost use Rattle.groovy_lex.specs.Signs.{IsSignAt};
-ghost use Rattle.groovy_lex.specs.Steps.{outcome, Does};
+ghost use Rattle.groovy_lex.specs.Steps.{Does};
 ghost use Rattle.groovy_lex.specs.Turns.{Turns, IsOther};
 
 use crate::characters::character_end;
@@ -235,15 +235,15 @@ fn text_step(alloc: Global, src: &[u8], stack: &mut OpenStack, at: usize, place:
     }
 }
 
-/// Nothing of the language: a character of no token, or a byte of no character.
-fn nothing_step(src: &[u8], at: usize) -> Step
+/// What is wrong where nothing of the language stands: a character of no token, or a byte of no character.
+fn nothing_kind(src: &[u8], at: usize) -> FaultKind
     requires inside { at < length src.now }
     requires nothing { Begins (byte_at src.now) at → ⊥ }
-    ensures { (s : List Open) → Nothing (byte_at src.now) s at (outcome [] s result) }
+    ensures { (s : List Open) → Nothing (byte_at src.now) s at (fails result at) }
 {
     match character_end(src, at) {
-        Some(_) => Step::Fails(FaultKind::UnexpectedCharacter, at),
-        None => Step::Fails(FaultKind::NotUtf8, at),
+        Some(_) => FaultKind::UnexpectedCharacter,
+        None => FaultKind::NotUtf8,
     }
 }
 
@@ -263,7 +263,7 @@ fn other_step(src: &[u8], stack: &mut OpenStack, at: usize, place: Place, tokens
     }
     match sign_at(src, at) {
         Some((sign, end)) => sign_step(src, stack, at, place, tokens, sign, end),
-        None => Ok(nothing_step(src, at)),
+        None => Ok(Step::Fails(nothing_kind(src, at), at)),
     }
 }
 
