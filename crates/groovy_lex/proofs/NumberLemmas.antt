@@ -114,6 +114,8 @@ number_taken bytes a b v d e l z m f = record {
   text = t;
   fits = subst (λ x. Fits B t (kind.Int x) a) (sym e) d.fits;
   ends = sym d.size;
+  value = e;
+  small = l;
   good = subst (λ x. IsBadNumber B t x → ⊥) (sym d.size) (good_number B t b l (no_zero B t a d.stands (λ p q. z (p, omega (arith, q, d.size)))) m (λ p. no_digit (B (b + 1)) (λ q. f (p, q))));
 }
   where

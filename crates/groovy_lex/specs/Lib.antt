@@ -8,6 +8,9 @@ pub mod Contents
 pub mod Stops
 pub mod Turns
 pub mod Paths
+pub mod Layout
+pub mod Raws
+pub mod Refusals
 pub mod Cut
 pub mod Parts
 pub mod Line
