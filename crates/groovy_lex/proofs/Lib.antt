@@ -11,3 +11,5 @@ mod NumberLemmas
 mod ContentLemmas
 mod CodeLemmas
 mod InsideLemmas
+mod LayoutLemmas
+mod RawLemmas

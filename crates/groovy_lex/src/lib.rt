@@ -32,6 +32,9 @@ mod open;
 mod place;
 mod source;
 
+#[cfg(test)]
+mod tests;
+
 mod cut;
 mod line;
 mod parts;

@@ -1,9 +1,8 @@
 //! Which newlines are tokens (Groovy).
-ghost use Rattle.std.specs.Prelude.{◌≡◌, ◌∷◌, ◌++◌, [], List, reverse, filter, false, IfOk};
-ghost use Rattle.model_syntax.specs.declared.token.Token.{Token};
-ghost use Rattle.model_syntax.specs.Newlines.{sign_goes_on, goes_on_after, goes_on_with, is_newline, next_goes_on, kept};
+ghost use Rattle.std.specs.Prelude.{◌≡◌, ◌&&◌, not, filter, false, IfOk};
+ghost use Rattle.model_syntax.specs.Newlines.{sign_goes_on, goes_on_after, goes_on_with, is_newline, kept};
 ghost use Rattle.model_syntax.specs.Tokens.{begins_before};
-ghost use Rattle.groovy_lex.specs.Layout.{may_end, Lays};
+ghost use Rattle.groovy_lex.specs.Layout.{may_end, Lays, LaysBefore};
 
 use model_syntax::{Sign, Token, TokenKind, Tokens, Word};
 use std::alloc::{AllocError, Global};
@@ -57,6 +56,13 @@ fn is_newline(kind: &TokenKind) -> bool
     }
 }
 
+/// Whether a part of a script may end behind this token.
+fn ends_part(token: &Token) -> bool
+    ensures { result ≡ (not (is_newline token.now.kind) && not (goes_on_after token.now.kind)) }
+{
+    !is_newline(&token.kind) && !goes_on_after(&token.kind)
+}
+
 /// Whether the last of these tokens ends a part of a script.
 fn may_end(tokens: &[Token]) -> bool
     ensures { result ≡ may_end tokens.now }
@@ -64,8 +70,14 @@ fn may_end(tokens: &[Token]) -> bool
     if tokens.is_empty() {
         return false;
     }
-    let last = &tokens[tokens.len() - 1].kind;
-    !is_newline(last) && !goes_on_after(last)
+    ends_part(&tokens[tokens.len() - 1])
+}
+
+/// Whether a newline is a token, by the tokens before it and whether a statement goes on with what follows.
+fn newline_stands(before: &Tokens, goes_on: bool) -> bool
+    ensures { result ≡ (may_end before.now && not goes_on) }
+{
+    may_end(before.as_slice()) && !goes_on
 }
 
 /// Puts a token behind those that follow it in the script, unless it is a newline that is none. Gives whether a statement
@@ -78,9 +90,10 @@ fn lay(before: &Tokens, token: Token, goes_on: bool, laid: &mut Vec<Token>) -> R
         laid.push(token)?;
         return Ok(goes_on_here);
     }
-    if may_end(before.as_slice()) && !goes_on {
-        laid.push(token)?;
+    if !newline_stands(before, goes_on) {
+        return Ok(goes_on);
     }
+    laid.push(token)?;
     Ok(goes_on)
 }
 
@@ -98,6 +111,17 @@ pub(crate) fn kept_tokens(alloc: Global, tokens: Tokens) -> Result<Tokens, Alloc
     Ok(Tokens::from_vec(laid))
 }
 
+/// Puts a token behind those that follow it in the script, if it begins before a place.
+fn lay_before(token: Token, at: usize, before: &mut Vec<Token>) -> Result<(), AllocError>
+    ensures { IfOk result (λ _. LaysBefore token at before.old.items before.new.items) }
+{
+    if token.start >= at {
+        return Ok(());
+    }
+    before.push(token)?;
+    Ok(())
+}
+
 /// The tokens that begin before a place.
 pub(crate) fn tokens_before(alloc: Global, tokens: Tokens, at: usize) -> Result<Tokens, AllocError>
     ensures { IfOk result (λ before. before ≡ filter (begins_before at) tokens) }
@@ -105,9 +129,7 @@ pub(crate) fn tokens_before(alloc: Global, tokens: Tokens, at: usize) -> Result<
     let mut rest = tokens;
     let mut before = Vec::new(alloc);
     'tokens: while let Some(token) = rest.pop() {
-        if token.start < at {
-            before.push(token)?;
-        }
+        lay_before(token, at, &mut before)?;
     }
     before.reverse();
     Ok(Tokens::from_vec(before))
