@@ -1,14 +1,14 @@
 -- A character of a script, and its bytes as UTF-8.
-use Rattle.std.proofs.Common.{◌≡◌, ℕ, zero, suc, ◌+◌, ◌-◌, ◌<◌, ◌≤◌, ◌⊎◌, inl, inr, List, [], ◌∷◌, ◌++◌, length, take, drop, get_or, refl, sym, ap, subst, ◌∙◌, arith, ⊎_elim, Bool, true, false, ◌&&◌, cond, ltb, ◌/◌, append-nil, length-drop, length-append}
+use Rattle.std.proofs.Common.{◌≡◌, ℕ, ◌+◌, ◌<◌, ◌≤◌, List, [], ◌∷◌, length, take, drop, refl, sym, ap, subst, ◌∙◌, arith, ⊎_elim, Bool, true, false, cond, ltb, ◌/◌, append-nil, length-drop, length-append}
 use Rattle.std.specs.Char.{IsScalar, encode_utf8}
 use Rattle.std.specs.Str.{IsUtf8}
-use Rattle.std.proofs.Math.Utf8.{scalars, encodes, low_scalar, next}
+use Rattle.std.proofs.Math.Utf8.{scalars, encodes, next}
 use Rattle.std.proofs.Math.Seq.{take-append_seam}
 use Rattle.std.proofs.lemmas.List.{take-take, length-take-le}
-use Rattle.std.proofs.lemmas.Bool.{cases_lt, ltb-true, true≢false, cases_order}
+use Rattle.std.proofs.lemmas.Bool.{cases_lt, ltb-true}
 use Rattle.std.proofs.lemmas.Str.{length-encode, len_utf8_bounds, encode_ascii}
 use Rattle.model_syntax.specs.Source.{Source, byte_at, Spelled, Character, character, NoCharacter, Passed, passed_none, passed_more}
-use Rattle.model_syntax.proofs.SourceLemmas.{scalar_low, ascii_character, same_code}
+use Rattle.model_syntax.proofs.SourceLemmas.{scalar_low, ascii_character}
 use Rattle.std.proofs.lemmas.Bool.Decides.{nat_tests}
 use Rattle.model_syntax.proofs.SpellingLemmas.{both}
 use Rattle.groovy_lex.proofs.SpelledLemmas.{AreBytes, spelled_front, front_spelled, spelled_inside}

@@ -1,22 +1,20 @@
 -- What the lexer found at a place, as what stands there.
-use Rattle.std.proofs.Common.{◌≡◌, ◌≢◌, ℕ, ◌+◌, ◌<◌, ◌≤◌, ◌⊎◌, inl, inr, ⊎_elim, List, [], ◌∷◌, ◌++◌, length, refl, sym, ap, subst, ◌∙◌, arith, Bool, true, false, append-nil, ℤ, ◌==◌}
+use Rattle.std.proofs.Common.{◌≡◌, ℕ, ◌+◌, ◌<◌, ◌≤◌, ⊎_elim, List, [], ◌∷◌, ◌++◌, length, refl, sym, ap, subst, ◌∙◌, arith, Bool, true, append-nil, ℤ}
 use Rattle.std.specs.Prelude.{codes}
-use Rattle.std.specs.Char.{is_ascii_digit}
 use Rattle.std.proofs.lemmas.Bool.{true≢false}
 use Rattle.model_syntax.specs.declared.fault.FaultKind.{FaultKind}
 use Rattle.model_syntax.specs.declared.fault.FaultKind.TheVariants.{BadNumber, NestingOver128}
 use Rattle.model_syntax.specs.declared.place.Place.{Place}
 use Rattle.model_syntax.specs.declared.sign.Sign.{Sign}
-use Rattle.model_syntax.specs.declared.word.Word.{Word}
 use Rattle.model_syntax.specs.declared.token.TokenKind.{TokenKind}
 use Rattle.model_syntax.specs.declared.token.TokenKind.TheVariants as kind
 use Rattle.model_syntax.specs.declared.token.Token.{Token}
-use Rattle.model_syntax.specs.Source.{Source, Spelled, byte_at}
+use Rattle.model_syntax.specs.Source.{Source, Spelled}
 use Rattle.model_syntax.specs.Places.{place_at}
-use Rattle.model_syntax.specs.Spelling.{sign_text, word_text, is_letter, Spells, spells_sign, spells_word, spells_name, spells_number, Fits}
-use Rattle.model_syntax.specs.TextForms.{Form, quotes, is_double, Opens, GoesOn, Content}
+use Rattle.model_syntax.specs.Spelling.{sign_text, Spells, spells_sign, spells_word, spells_name, spells_number}
+use Rattle.model_syntax.specs.TextForms.{Form, quotes, is_double, Opens}
 use Rattle.model_syntax.specs.OpenBrackets.{Open, text, depth, is_opening, after_sign, IsCode}
-use Rattle.model_syntax.specs.Reading.{goes, fails, token, BeginsLine, Blank, AfterFits, name_stands, word_stands, sign_stands, number_stands, sign_too_deep, number_bad, lexeme, BeginsExpression, TextFails, text_whole, text_opens, text_fails, text_begins, Begins, begins_blank, begins_newline, begins_line, begins_comment, begins_lexeme, begins_text, Nothing, InCode, code_blank, code_lexeme, code_text, code_nothing, Reads, reads_code, is_blank}
+use Rattle.model_syntax.specs.Reading.{goes, fails, token, BeginsLine, Blank, AfterFits, name_stands, word_stands, sign_stands, number_stands, sign_too_deep, number_bad, lexeme, BeginsExpression, TextFails, text_whole, text_opens, text_fails, text_begins, Begins, begins_blank, begins_newline, begins_line, begins_comment, begins_lexeme, begins_text, code_blank, code_lexeme, code_text, Reads, reads_code}
 use Rattle.model_syntax.proofs.SpellingLemmas.{FirstIs, first_is, word_first, name_first, number_first}
 use Rattle.model_syntax.proofs.ScriptExistence.{quotes_some}
 use Rattle.model_syntax.proofs.TextLemmas.{quote_first, quote_cases}

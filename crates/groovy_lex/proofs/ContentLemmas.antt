@@ -1,21 +1,21 @@
 -- The characters of a text at a place.
-use Rattle.std.proofs.Common.{◌≡◌, ◌≢◌, ℕ, zero, suc, ◌+◌, ◌-◌, ◌<◌, ◌≤◌, ◌⊎◌, inl, inr, ⊎_elim, List, [], ◌∷◌, ◌++◌, length, take, drop, refl, sym, ap, subst, ◌∙◌, arith, Bool, true, false, Option, Some, None, ◌&&◌, ◌||◌, ◌==◌, not, append_assoc, append-nil, cond, ltb, ◌/◌}
+use Rattle.std.proofs.Common.{◌≡◌, ◌≢◌, ℕ, ◌+◌, ◌-◌, ◌<◌, ◌≤◌, ◌⊎◌, inl, inr, ⊎_elim, List, [], ◌∷◌, ◌++◌, length, take, drop, refl, sym, ap, subst, ◌∙◌, arith, Bool, true, false, Some, None, ◌==◌, append_assoc, append-nil, cond, ltb, ◌/◌}
 use Rattle.std.specs.Char.{IsScalar, encode_utf8, digit_value}
 use Rattle.std.specs.Str.Parse.{AllDigits, digits_value}
 use Rattle.std.proofs.Math.Utf8.{next}
 use Rattle.std.proofs.lemmas.Bool.{true≢false, ne_eqb, cases_lt, ltb-true}
 use Rattle.std.proofs.lemmas.Bool.Decides.{nat_tests}
-use Rattle.std.proofs.lemmas.Str.{encode_ascii, length-encode, len_utf8_bounds}
+use Rattle.std.proofs.lemmas.Str.{encode_ascii}
 use Rattle.model_syntax.specs.Source.{Source, byte_at, Spelled, Character, character, NoCharacter}
 use Rattle.model_syntax.specs.TextForms.{Form, single, triple_single, double, triple_double, quotes, quote, is_triple, is_double, escape, is_plain, Item, item_plain, item_escape, item_unicode, item_joined_lines, GoesOn, goes_on, Content, content_none, content_more}
-use Rattle.model_syntax.proofs.SourceLemmas.{same_code, spelled_same}
+use Rattle.model_syntax.proofs.SourceLemmas.{spelled_same}
 use Rattle.model_syntax.proofs.TextLemmas.{plain_backslash}
 use Rattle.model_syntax.specs.declared.fault.FaultKind.{FaultKind}
 use Rattle.model_syntax.specs.declared.fault.FaultKind.TheVariants.{NotUtf8}
 use Rattle.model_syntax.specs.OpenBrackets.{Open}
 use Rattle.model_syntax.specs.Reading.{begins_braces, begins_path, TextFails, fails_at_end, fails_at_newline, fails_at_backslash, fails_at_dollar, fails_too_deep, fails_not_utf8}
 use Rattle.model_syntax.proofs.TokenExistence.{AtStop, at_closing, at_expression, at_fault, at_stop}
-use Rattle.groovy_lex.specs.Contents.{four, NoItem, TakesTo, Takes, IsContent}
+use Rattle.groovy_lex.specs.Contents.{four, NoItem, TakesTo}
 use Rattle.groovy_lex.proofs.SpelledLemmas.{AreBytes, slice, front_spelled, spelled_inside, byte_inside}
 use Rattle.groovy_lex.proofs.CharacterLemmas.{encode_bytes}
 

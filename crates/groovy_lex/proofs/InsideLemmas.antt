@@ -1,5 +1,5 @@
 -- What the lexer found in a text with expressions, as what stands there.
-use Rattle.std.proofs.Common.{◌≡◌, ℕ, ◌+◌, ◌<◌, ◌≤◌, List, [], ◌∷◌, ◌++◌, length, refl, sym, ap, subst, ◌∙◌, arith, true, append_assoc}
+use Rattle.std.proofs.Common.{◌≡◌, ℕ, ◌+◌, ◌<◌, ◌≤◌, List, [], ◌∷◌, ◌++◌, length, sym, ap, subst, ◌∙◌, arith, true, append_assoc}
 use Rattle.std.specs.Prelude.{codes}
 use Rattle.model_syntax.specs.declared.fault.FaultKind.{FaultKind}
 use Rattle.model_syntax.specs.declared.sign.Sign.TheVariants.{Dot}
@@ -8,11 +8,9 @@ use Rattle.model_syntax.specs.declared.token.TokenKind.TheVariants as kind
 use Rattle.model_syntax.specs.declared.token.Token.{Token}
 use Rattle.model_syntax.specs.Source.{Source, Spelled}
 use Rattle.model_syntax.specs.Spelling.{is_letter}
-use Rattle.model_syntax.specs.TextForms.{Form, quotes, is_double, GoesOn}
+use Rattle.model_syntax.specs.TextForms.{Form, quotes, is_double}
 use Rattle.model_syntax.specs.OpenBrackets.{Open, expression, text, depth, closed}
 use Rattle.model_syntax.specs.Reading.{Outcome, goes, fails, token, part, TextFails, fails_at_end, fails_at_newline, fails_at_backslash, fails_at_dollar, fails_too_deep, fails_not_utf8, Path, path_ends, path_more, InText, in_part, in_closing, in_braces, in_path, in_fault, Reads, reads_text}
-use Rattle.model_syntax.specs.declared.place.Place.{Place}
-use Rattle.model_syntax.specs.Places.{place_at}
 use Rattle.std.proofs.lemmas.Bool.{eqb-true}
 use Rattle.model_syntax.proofs.SpellingLemmas.{either, in_range}
 use Rattle.groovy_lex.specs.Names.{IsNameAt}

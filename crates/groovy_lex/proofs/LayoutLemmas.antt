@@ -1,5 +1,5 @@
 -- The newlines of a script, from the last to the first.
-use Rattle.std.proofs.Common.{◌≡◌, ℕ, ◌+◌, ◌<◌, ◌≤◌, List, [], ◌∷◌, ◌++◌, length, take, get_or, reverse, filter, refl, sym, ap, subst, ◌∙◌, arith, Bool, true, false, ◌&&◌, not, append_assoc, append-nil, ltb, ◌==◌}
+use Rattle.std.proofs.Common.{◌≡◌, ℕ, ◌+◌, List, [], ◌∷◌, ◌++◌, length, take, get_or, reverse, filter, refl, sym, ap, ◌∙◌, arith, Bool, true, false, ◌&&◌, not, append_assoc, append-nil, ltb, ◌==◌}
 use Rattle.std.proofs.lemmas.Bool.{eqb-true}
 use Rattle.std.proofs.lemmas.List.{reverse-append, take_more, take_all}
 use Rattle.model_syntax.specs.declared.token.Token.{Token}

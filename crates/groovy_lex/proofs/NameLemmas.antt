@@ -1,14 +1,13 @@
 -- Names and words that stand at a place.
-use Rattle.std.proofs.Common.{◌≡◌, ℕ, zero, suc, ◌+◌, ◌-◌, ◌<◌, ◌≤◌, List, [], ◌∷◌, length, refl, sym, ap, subst, ◌∙◌, arith, Bool, true, false}
+use Rattle.std.proofs.Common.{◌≡◌, ℕ, suc, ◌+◌, ◌<◌, ◌≤◌, List, [], ◌∷◌, length, sym, ap, subst, ◌∙◌, arith, Bool, true}
 use Rattle.std.specs.Prelude.{All}
-use Rattle.model_syntax.specs.declared.word.Word.{Word}
 use Rattle.model_syntax.specs.declared.token.TokenKind.{TokenKind}
 use Rattle.model_syntax.specs.declared.token.TokenKind.TheVariants as kind
 use Rattle.model_syntax.specs.Source.{Source, byte_at, Spelled}
-use Rattle.model_syntax.specs.Spelling.{is_letter, is_name_byte, IsName, word_text, Spells, spells_word, spells_name, Fits}
-use Rattle.model_syntax.proofs.SpellingLemmas.{FirstIs, name_first}
+use Rattle.model_syntax.specs.Spelling.{is_letter, is_name_byte, IsName, Spells, spells_word, spells_name}
+use Rattle.model_syntax.proofs.SpellingLemmas.{name_first}
 use Rattle.model_syntax.proofs.StepLemmas.{longest_name}
-use Rattle.std.proofs.lemmas.Bool.{or_left, true≢false, cases_order}
+use Rattle.std.proofs.lemmas.Bool.{or_left, true≢false}
 use Rattle.groovy_lex.specs.Names.{Run, IsNameKind, IsNameAt}
 use Rattle.groovy_lex.proofs.SpelledLemmas.{slice, slice_length, slice_stands, run_all}
 

@@ -1,14 +1,14 @@
 -- Numbers that stand at a place.
-use Rattle.std.proofs.Common.{◌≡◌, ℕ, zero, suc, ◌+◌, ◌-◌, ◌*◌, ◌<◌, ◌≤◌, List, [], ◌∷◌, ◌++◌, length, take, drop, get_or, refl, sym, ap, subst, ◌∙◌, arith, Bool, true, false, pos, ℤ, ⊎_elim}
+use Rattle.std.proofs.Common.{◌≡◌, ℕ, suc, ◌+◌, ◌-◌, ◌*◌, ◌<◌, ◌≤◌, List, [], ◌∷◌, ◌++◌, length, take, drop, get_or, refl, sym, ap, subst, ◌∙◌, arith, true, false, pos, ℤ, ⊎_elim}
 use Rattle.std.specs.Prelude.{All}
 use Rattle.std.specs.Char.{digit_value, is_ascii_digit}
 use Rattle.std.specs.Str.Parse.{IsNumeral, AllDigits, digits_value, digits_value_after}
 use Rattle.std.proofs.lemmas.List.{take_more, take-append-drop}
-use Rattle.std.proofs.lemmas.Bool.{true≢false, cases_lt, ne_eqb}
+use Rattle.std.proofs.lemmas.Bool.{cases_lt, ne_eqb}
 use Rattle.std.proofs.lemmas.Bool.Decides.{nat_tests}
 use Rattle.model_syntax.specs.declared.token.TokenKind.TheVariants as kind
 use Rattle.model_syntax.specs.Source.{Source, byte_at, Spelled}
-use Rattle.model_syntax.specs.Spelling.{is_letter, Spells, spells_number, Fits, IsBadNumber, bad_large, bad_zero, bad_letter, bad_fraction}
+use Rattle.model_syntax.specs.Spelling.{is_letter, spells_number, Fits, IsBadNumber, bad_large, bad_zero, bad_letter, bad_fraction}
 use Rattle.model_syntax.proofs.StepLemmas.{longest_number, leads_zero, good_number}
 use Rattle.model_syntax.proofs.SpellingLemmas.{in_range, digit-value}
 use Rattle.groovy_lex.specs.Names.{Run}

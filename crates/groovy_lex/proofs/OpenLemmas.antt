@@ -1,7 +1,6 @@
 -- The lexer's items, the innermost last, and the list of what is open, the innermost first.
-use Rattle.std.proofs.Common.{◌≡◌, ℕ, ◌+◌, ◌<◌, List, [], ◌∷◌, ◌++◌, length, take, map, reverse, refl, sym, ap, ◌∙◌, Option, Some, None, get_or, arith}
+use Rattle.std.proofs.Common.{◌≡◌, ℕ, ◌+◌, List, [], ◌∷◌, ◌++◌, length, take, map, reverse, sym, ap, ◌∙◌, get_or, arith}
 use Rattle.std.proofs.lemmas.List.{map-append, reverse-append, take_more, take_all}
-use Rattle.model_syntax.specs.OpenBrackets.{Open, depth, innermost_text}
 use Rattle.groovy_lex.specs.declared.open.Opened.{Opened}
 use Rattle.groovy_lex.specs.OpenStack.{open_of, opens}
 

@@ -1,5 +1,5 @@
 -- The place of the next byte.
-use Rattle.std.proofs.Common.{◌≡◌, ℕ, suc, ◌+◌, refl, ap, ◌∙◌, arith, add-one, true, false, min, ◌==◌, eq-eqb}
+use Rattle.std.proofs.Common.{◌≡◌, ℕ, suc, ◌+◌, refl, ap, ◌∙◌, arith, add-one, true, false, min, ◌==◌}
 use Rattle.model_syntax.specs.declared.place.Place.{Place}
 use Rattle.model_syntax.specs.Source.{Source}
 use Rattle.model_syntax.specs.Places.{line_at, column_at, place_at, is_inner}

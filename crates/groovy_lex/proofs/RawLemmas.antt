@@ -1,9 +1,8 @@
 -- What reading gives, as tokens or a fault of the script.
-use Rattle.std.proofs.Common.{◌≡◌, ℕ, List, [], ◌∷◌, refl, sym, ap, subst, ◌∙◌, Option, Some, None, MatchOption, filter, false}
-use Rattle.model_syntax.specs.declared.fault.FaultKind.{FaultKind}
+use Rattle.std.proofs.Common.{◌≡◌, ℕ, List, [], ◌∷◌, sym, ap, subst, ◌∙◌, Option, Some, None, MatchOption, filter, false}
 use Rattle.model_syntax.specs.declared.fault.FaultKind.TheVariants.{UnendedText}
 use Rattle.model_syntax.specs.declared.token.Token.{Token}
-use Rattle.model_syntax.specs.Source.{Source, byte_at}
+use Rattle.model_syntax.specs.Source.{Source}
 use Rattle.model_syntax.specs.TextForms.{Form}
 use Rattle.model_syntax.specs.OpenBrackets.{Open, paren, bracket, brace, expression, text, innermost_text}
 use Rattle.model_syntax.specs.Reading.{Reads, reads_code, reads_text, code_nothing, nothing_ends, in_fault, fails, fails_at_end}

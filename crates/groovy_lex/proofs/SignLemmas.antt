@@ -1,12 +1,11 @@
 -- Which sign stands at a place.
-use Rattle.std.proofs.Common.{◌≡◌, ℕ, ◌+◌, ◌<◌, ◌≤◌, ◌⊎◌, inl, inr, ⊎_elim, List, [], ◌∷◌, length, refl, sym, ap, subst, ◌∙◌, arith, Bool, true, false, Option, Some, None, ◌==◌, ◌&&◌, cond}
-use Rattle.std.specs.Prelude.{codes, if◌then◌else◌}
-use Rattle.std.proofs.lemmas.Bool.{true≢false, eqb-true}
+use Rattle.std.proofs.Common.{◌≡◌, ℕ, ◌+◌, ◌≤◌, ◌⊎◌, inl, inr, ⊎_elim, List, [], ◌∷◌, length, refl, sym, ap, subst, ◌∙◌, arith, Bool, true, false, Option, Some, None, ◌==◌, ◌&&◌}
+use Rattle.std.specs.Prelude.{if◌then◌else◌}
+use Rattle.std.proofs.lemmas.Bool.{eqb-true}
 use Rattle.model_syntax.specs.declared.sign.Sign.{Sign}
 use Rattle.model_syntax.specs.declared.sign.Sign.TheVariants as sign
-use Rattle.model_syntax.specs.declared.token.TokenKind.TheVariants as kind
 use Rattle.model_syntax.specs.Source.{Source, byte_at, Spelled}
-use Rattle.model_syntax.specs.Spelling.{sign_text, Spells, spells_sign, Fits}
+use Rattle.model_syntax.specs.Spelling.{sign_text, spells_sign}
 use Rattle.std.proofs.lemmas.Bool.Decides.{nat_tests}
 use Rattle.model_syntax.proofs.SpellingLemmas.{both}
 use Rattle.model_syntax.proofs.StepLemmas.{is_pair, longest_sign}

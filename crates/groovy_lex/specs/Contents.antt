@@ -1,7 +1,7 @@
 -- The characters of a text, as the lexer takes them one by one.
 use Rattle.std.specs.Prelude.{◌≡◌, ℕ, ◌+◌, ◌<◌, ◌≤◌, Option, Some, None, List, [], ◌∷◌, ◌++◌, length}
 use Rattle.model_syntax.specs.Source.{Source, Spelled}
-use Rattle.model_syntax.specs.TextForms.{Form, quotes, Item, GoesOn, Content}
+use Rattle.model_syntax.specs.TextForms.{Form, Item, GoesOn, Content}
 
 -- Four bytes from a place on.
 abbrev pub four : Source → ℕ → List ℕ

@@ -1,5 +1,5 @@
 -- What the lexer keeps of what is open: its items, the innermost last, are the list of what is open, the innermost first.
-use Rattle.std.specs.Prelude.{◌≡◌, ℕ, false, Option, Some, None, List, [], ◌∷◌, map, reverse}
+use Rattle.std.specs.Prelude.{◌≡◌, ℕ, false, Option, Some, None, List, map, reverse}
 use Rattle.model_syntax.specs.TextForms.{Form, single, triple_single, double, triple_double, is_triple}
 use Rattle.model_syntax.specs.OpenBrackets.{Open, paren, bracket, brace, expression, text, innermost_text}
 use Rattle.groovy_lex.specs.declared.open.TextForm.{TextForm}

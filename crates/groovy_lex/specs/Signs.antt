@@ -1,8 +1,7 @@
 -- The signs by their bytes, as the lexer tries them: the signs of two bytes before those of one.
-use Rattle.std.specs.Prelude.{◌≡◌, ℕ, ◌+◌, ◌≤◌, ◌==◌, ◌&&◌, Option, Some, None, List, length, if◌then◌else◌}
+use Rattle.std.specs.Prelude.{◌≡◌, ℕ, ◌+◌, ◌==◌, ◌&&◌, Option, Some, None, length, if◌then◌else◌}
 use Rattle.model_syntax.specs.declared.sign.Sign.{Sign}
 use Rattle.model_syntax.specs.declared.sign.Sign.TheVariants as sign
-use Rattle.model_syntax.specs.declared.token.TokenKind.{TokenKind}
 use Rattle.model_syntax.specs.declared.token.TokenKind.TheVariants as kind
 use Rattle.model_syntax.specs.Source.{Source}
 use Rattle.model_syntax.specs.Spelling.{sign_text, Fits}

@@ -42,7 +42,13 @@ fn begins_line(src: &[u8], at: usize) -> bool
 }
 
 /// A newline: a token where it may end a statement, and a fault in a text that holds none.
-fn newline_step(src: &[u8], stack: &OpenStack, at: usize, place: Place, tokens: &mut Tokens) -> Result<Step, AllocError>
+fn newline_step(
+    src: &[u8],
+    stack: &OpenStack,
+    at: usize,
+    place: Place,
+    tokens: &mut Tokens,
+) -> Result<Step, AllocError>
     requires inside { at < length src.now }
     requires place { place ≡ place_at (byte_at src.now) at }
     requires code { IsCode stack.now }
@@ -65,7 +71,14 @@ fn newline_step(src: &[u8], stack: &OpenStack, at: usize, place: Place, tokens: 
 }
 
 /// A name or a word.
-fn name_step(alloc: Global, src: &[u8], stack: &OpenStack, at: usize, place: Place, tokens: &mut Tokens) -> Result<Step, AllocError>
+fn name_step(
+    alloc: Global,
+    src: &[u8],
+    stack: &OpenStack,
+    at: usize,
+    place: Place,
+    tokens: &mut Tokens,
+) -> Result<Step, AllocError>
     requires inside { at < length src.now }
     requires place { place ≡ place_at (byte_at src.now) at }
     requires code { IsCode stack.now }
@@ -83,7 +96,13 @@ fn name_step(alloc: Global, src: &[u8], stack: &OpenStack, at: usize, place: Pla
 }
 
 /// A number.
-fn number_step(src: &[u8], stack: &OpenStack, at: usize, place: Place, tokens: &mut Tokens) -> Result<Step, AllocError>
+fn number_step(
+    src: &[u8],
+    stack: &OpenStack,
+    at: usize,
+    place: Place,
+    tokens: &mut Tokens,
+) -> Result<Step, AllocError>
     requires inside { at < length src.now }
     requires place { place ≡ place_at (byte_at src.now) at }
     requires code { IsCode stack.now }
@@ -145,7 +164,15 @@ fn turn(stack: &mut OpenStack, sign: Sign) -> Result<bool, AllocError>
 }
 
 /// A sign.
-fn sign_step(src: &[u8], stack: &mut OpenStack, at: usize, place: Place, tokens: &mut Tokens, sign: Sign, end: usize) -> Result<Step, AllocError>
+fn sign_step(
+    src: &[u8],
+    stack: &mut OpenStack,
+    at: usize,
+    place: Place,
+    tokens: &mut Tokens,
+    sign: Sign,
+    end: usize,
+) -> Result<Step, AllocError>
     requires place { place ≡ place_at (byte_at src.now) at }
     requires code { IsCode stack.old }
     requires sign { IsSignAt (byte_at src.now) at end sign }
@@ -185,7 +212,14 @@ fn form_at(src: &[u8], at: usize) -> TextForm
 }
 
 /// The opening of a text with expressions.
-fn opening_step(src: &[u8], stack: &mut OpenStack, form: TextForm, at: usize, place: Place, tokens: &mut Tokens) -> Result<(), AllocError>
+fn opening_step(
+    src: &[u8],
+    stack: &mut OpenStack,
+    form: TextForm,
+    at: usize,
+    place: Place,
+    tokens: &mut Tokens,
+) -> Result<(), AllocError>
     requires place { place ≡ place_at (byte_at src.now) at }
     requires inside { at + length (quotes (form_of form)) ≤ length src.now }
     ensures pushed { IfOk result (λ _. tokens.new ≡ tokens.old ++ token (byte_at src.now) GStringOpen at (at + length (quotes (form_of form))) ∷ []) }
@@ -202,7 +236,14 @@ fn opening_step(src: &[u8], stack: &mut OpenStack, form: TextForm, at: usize, pl
 }
 
 /// A text. One without expressions is one token; of one with expressions it is the opening.
-fn text_step(alloc: Global, src: &[u8], stack: &mut OpenStack, at: usize, place: Place, tokens: &mut Tokens) -> Result<Step, AllocError>
+fn text_step(
+    alloc: Global,
+    src: &[u8],
+    stack: &mut OpenStack,
+    at: usize,
+    place: Place,
+    tokens: &mut Tokens,
+) -> Result<Step, AllocError>
     requires inside { at < length src.now }
     requires place { place ≡ place_at (byte_at src.now) at }
     requires code { IsCode stack.old }
@@ -248,7 +289,13 @@ fn nothing_kind(src: &[u8], at: usize) -> FaultKind
 }
 
 /// A comment, a sign, or nothing of the language.
-fn other_step(src: &[u8], stack: &mut OpenStack, at: usize, place: Place, tokens: &mut Tokens) -> Result<Step, AllocError>
+fn other_step(
+    src: &[u8],
+    stack: &mut OpenStack,
+    at: usize,
+    place: Place,
+    tokens: &mut Tokens,
+) -> Result<Step, AllocError>
     requires inside { at < length src.now }
     requires place { place ≡ place_at (byte_at src.now) at }
     requires code { IsCode stack.old }
@@ -269,7 +316,14 @@ fn other_step(src: &[u8], stack: &mut OpenStack, at: usize, place: Place, tokens
 
 /// What stands outside of texts: a blank or a comment, a newline, a name, word, number or sign, a text, or nothing of
 /// these. `AllocError` only for want of memory.
-pub(crate) fn code_step(alloc: Global, src: &[u8], stack: &mut OpenStack, at: usize, place: Place, tokens: &mut Tokens) -> Result<Step, AllocError>
+pub(crate) fn code_step(
+    alloc: Global,
+    src: &[u8],
+    stack: &mut OpenStack,
+    at: usize,
+    place: Place,
+    tokens: &mut Tokens,
+) -> Result<Step, AllocError>
     requires inside { at < length src.now }
     requires place { place ≡ place_at (byte_at src.now) at }
     requires code { IsCode stack.old }

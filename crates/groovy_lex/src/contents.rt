@@ -16,7 +16,12 @@ use std::alloc::{AllocError, Global};
 
 /// The characters of a text from a place on up to where none goes on, and that place. `AllocError` only for want of
 /// memory.
-pub(crate) fn content(alloc: Global, src: &[u8], form: TextForm, from: usize) -> Result<(Text, usize), AllocError>
+pub(crate) fn content(
+    alloc: Global,
+    src: &[u8],
+    form: TextForm,
+    from: usize,
+) -> Result<(Text, usize), AllocError>
     requires { from ≤ length src.now }
     ensures { IfOk result (λ content. IsContent (byte_at src.now) (form_of form) from (length src.now) content.0 content.1) }
 {
@@ -82,7 +87,13 @@ fn dollar_stop(src: &[u8], stack: &OpenStack, form: TextForm, opening: usize, at
 }
 
 /// What stands in a text where no character goes on. `opening` is where the text began.
-pub(crate) fn stop_at(src: &[u8], stack: &OpenStack, form: TextForm, opening: usize, at: usize) -> Stop
+pub(crate) fn stop_at(
+    src: &[u8],
+    stack: &OpenStack,
+    form: TextForm,
+    opening: usize,
+    at: usize,
+) -> Stop
     requires inside { at ≤ length src.now }
     requires stops { GoesOn (byte_at src.now) (form_of form) at → ⊥ }
     ensures { IsStop (byte_at src.now) stack.now (form_of form) opening at result }

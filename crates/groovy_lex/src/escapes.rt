@@ -114,7 +114,12 @@ fn append_character(text: &mut Text, character: char) -> Result<(), AllocError>
 }
 
 /// Puts behind a text what the escape at a place stands for. Gives the place behind it, and `None` where it is none.
-fn take_escape(src: &[u8], form: TextForm, at: usize, text: &mut Text) -> Result<Option<usize>, AllocError>
+fn take_escape(
+    src: &[u8],
+    form: TextForm,
+    at: usize,
+    text: &mut Text,
+) -> Result<Option<usize>, AllocError>
     requires inside { at < length src.now }
     requires backslash { byte_at src.now at ≡ 92 }
     ensures takes { IfOk result (λ end. Takes (byte_at src.now) (form_of form) at (length src.now) text.old text.new end) }
@@ -141,7 +146,12 @@ fn take_escape(src: &[u8], form: TextForm, at: usize, text: &mut Text) -> Result
 
 /// Puts behind a text the character that stands at a place. Gives the place behind it, and `None` where none stands for
 /// itself there.
-fn take_plain(src: &[u8], form: TextForm, at: usize, text: &mut Text) -> Result<Option<usize>, AllocError>
+fn take_plain(
+    src: &[u8],
+    form: TextForm,
+    at: usize,
+    text: &mut Text,
+) -> Result<Option<usize>, AllocError>
     requires inside { at < length src.now }
     requires plain { byte_at src.now at ≢ 92 }
     ensures takes { IfOk result (λ end. Takes (byte_at src.now) (form_of form) at (length src.now) text.old text.new end) }
@@ -160,7 +170,12 @@ fn take_plain(src: &[u8], form: TextForm, at: usize, text: &mut Text) -> Result<
 
 /// Puts behind a text what its next character stands for. Gives the place behind that character, and `None` where no
 /// character of such a text stands. `AllocError` only for want of memory.
-pub(crate) fn take_character(src: &[u8], form: TextForm, at: usize, text: &mut Text) -> Result<Option<usize>, AllocError>
+pub(crate) fn take_character(
+    src: &[u8],
+    form: TextForm,
+    at: usize,
+    text: &mut Text,
+) -> Result<Option<usize>, AllocError>
     requires { at < length src.now }
     ensures takes { IfOk result (λ end. Takes (byte_at src.now) (form_of form) at (length src.now) text.old text.new end) }
 {

@@ -30,7 +30,13 @@ fn goes_on(src: &[u8], at: usize) -> bool
 }
 
 /// The names behind `$`, with dots between them, up to where none goes on. Gives the place behind them.
-fn path_step(alloc: Global, src: &[u8], from: usize, place: Place, tokens: &mut Tokens) -> Result<usize, AllocError>
+fn path_step(
+    alloc: Global,
+    src: &[u8],
+    from: usize,
+    place: Place,
+    tokens: &mut Tokens,
+) -> Result<usize, AllocError>
     requires inside { from < length src.now }
     requires letter { is_letter (byte_at src.now from) ≡ true }
     requires place { place ≡ place_at (byte_at src.now) from }
@@ -62,7 +68,13 @@ fn path_step(alloc: Global, src: &[u8], from: usize, place: Place, tokens: &mut 
 }
 
 /// A part of plain text, which is no token where it stands for nothing.
-fn part_step(tokens: &mut Tokens, plain: Text, start: usize, end: usize, place: Place) -> Result<(), AllocError>
+fn part_step(
+    tokens: &mut Tokens,
+    plain: Text,
+    start: usize,
+    end: usize,
+    place: Place,
+) -> Result<(), AllocError>
     ensures { (B : Source) → place ≡ place_at B start → IfOk result (λ _. tokens.new ≡ tokens.old ++ part B plain start end) }
 {
     if plain.is_empty() {
@@ -78,7 +90,13 @@ fn part_step(tokens: &mut Tokens, plain: Text, start: usize, end: usize, place: 
 }
 
 /// A `$` and the names behind it.
-fn dollar_step(alloc: Global, src: &[u8], at: usize, place: Place, tokens: &mut Tokens) -> Result<usize, AllocError>
+fn dollar_step(
+    alloc: Global,
+    src: &[u8],
+    at: usize,
+    place: Place,
+    tokens: &mut Tokens,
+) -> Result<usize, AllocError>
     requires inside { at < length src.now }
     requires dollar { byte_at src.now at ≡ 36 }
     requires letter { is_letter (byte_at src.now (at + 1)) ≡ true }
@@ -96,7 +114,13 @@ fn dollar_step(alloc: Global, src: &[u8], at: usize, place: Place, tokens: &mut 
 }
 
 /// `${`, behind which an expression follows.
-fn braces_step(src: &[u8], stack: &mut OpenStack, at: usize, place: Place, tokens: &mut Tokens) -> Result<(), AllocError>
+fn braces_step(
+    src: &[u8],
+    stack: &mut OpenStack,
+    at: usize,
+    place: Place,
+    tokens: &mut Tokens,
+) -> Result<(), AllocError>
     requires place { place ≡ place_at (byte_at src.now) at }
     requires inside { at + 2 ≤ length src.now }
     requires below { depth stack.old < 128 }
@@ -114,7 +138,14 @@ fn braces_step(src: &[u8], stack: &mut OpenStack, at: usize, place: Place, token
 }
 
 /// The closing of a text.
-fn closing_step(src: &[u8], stack: &mut OpenStack, form: TextForm, at: usize, place: Place, tokens: &mut Tokens) -> Result<(), AllocError>
+fn closing_step(
+    src: &[u8],
+    stack: &mut OpenStack,
+    form: TextForm,
+    at: usize,
+    place: Place,
+    tokens: &mut Tokens,
+) -> Result<(), AllocError>
     requires place { place ≡ place_at (byte_at src.now) at }
     requires inside { at + length (quotes (form_of form)) ≤ length src.now }
     ensures pushed { IfOk result (λ _. tokens.new ≡ tokens.old ++ token (byte_at src.now) GStringClose at (at + length (quotes (form_of form))) ∷ []) }
@@ -131,7 +162,16 @@ fn closing_step(src: &[u8], stack: &mut OpenStack, form: TextForm, at: usize, pl
 }
 
 /// What stands where no character of the text goes on: its closing, an expression, or a fault.
-fn stop_step(alloc: Global, src: &[u8], stack: &mut OpenStack, form: TextForm, opening: usize, at: usize, place: Place, tokens: &mut Tokens) -> Result<Step, AllocError>
+fn stop_step(
+    alloc: Global,
+    src: &[u8],
+    stack: &mut OpenStack,
+    form: TextForm,
+    opening: usize,
+    at: usize,
+    place: Place,
+    tokens: &mut Tokens,
+) -> Result<Step, AllocError>
     requires inside { at < length src.now }
     requires place { place ≡ place_at (byte_at src.now) at }
     requires top { stack.old ≡ text (form_of form) opening ∷ closed stack.old }
@@ -157,7 +197,16 @@ fn stop_step(alloc: Global, src: &[u8], stack: &mut OpenStack, form: TextForm, o
 
 /// What stands in a text with expressions, outside of these: a part, the closing, an expression, or a fault. `AllocError`
 /// only for want of memory.
-pub(crate) fn inside_step(alloc: Global, src: &[u8], stack: &mut OpenStack, form: TextForm, opening: usize, at: usize, place: Place, tokens: &mut Tokens) -> Result<Step, AllocError>
+pub(crate) fn inside_step(
+    alloc: Global,
+    src: &[u8],
+    stack: &mut OpenStack,
+    form: TextForm,
+    opening: usize,
+    at: usize,
+    place: Place,
+    tokens: &mut Tokens,
+) -> Result<Step, AllocError>
     requires inside { at < length src.now }
     requires place { place ≡ place_at (byte_at src.now) at }
     requires top { stack.old ≡ text (form_of form) opening ∷ closed stack.old }

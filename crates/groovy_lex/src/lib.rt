@@ -12,32 +12,28 @@
 //! `line`, `cut` and `parts` are an earlier stage's reader of `echo` lines, which other crates still use.
 #![tactic(auto)]
 
-mod lexer;
-mod newlines;
-mod raw;
-mod step;
-
+mod characters;
 mod code;
 mod comments;
 mod contents;
+mod cut;
 mod escapes;
 mod inside;
+mod lexer;
+mod line;
 mod names;
+mod newlines;
 mod numbers;
-mod signs;
-mod words;
-
-mod characters;
 mod open;
+mod parts;
 mod place;
+mod raw;
+mod signs;
 mod source;
-
+mod step;
 #[cfg(test)]
 mod tests;
-
-mod cut;
-mod line;
-mod parts;
+mod words;
 
 pub use lexer::{LexRefusal, lex};
 pub use line::{Line, read_line};

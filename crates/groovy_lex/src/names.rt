@@ -77,7 +77,11 @@ fn name_kind(alloc: Global, text: &[u8]) -> Result<TokenKind, AllocError>
 }
 
 /// The name or the word that stands at a place, and the place behind it. Refuses only for want of memory.
-pub(crate) fn name_at(alloc: Global, src: &[u8], at: usize) -> Result<(TokenKind, usize), AllocError>
+pub(crate) fn name_at(
+    alloc: Global,
+    src: &[u8],
+    at: usize,
+) -> Result<(TokenKind, usize), AllocError>
     requires letter { is_letter (byte_at src.now at) ≡ true }
     requires inside { at < length src.now }
     ensures fits { IfOk result (λ name. IsNameAt (byte_at src.now) at name.1 name.0) }

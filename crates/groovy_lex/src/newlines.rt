@@ -82,7 +82,12 @@ fn newline_stands(before: &Tokens, goes_on: bool) -> bool
 
 /// Puts a token behind those that follow it in the script, unless it is a newline that is none. Gives whether a statement
 /// goes on with what follows from there on.
-fn lay(before: &Tokens, token: Token, goes_on: bool, laid: &mut Vec<Token>) -> Result<bool, AllocError>
+fn lay(
+    before: &Tokens,
+    token: Token,
+    goes_on: bool,
+    laid: &mut Vec<Token>,
+) -> Result<bool, AllocError>
     ensures { IfOk result (λ goes_on_here. Lays before.now token goes_on laid.old.items laid.new.items goes_on_here) }
 {
     if !is_newline(&token.kind) {

@@ -19,7 +19,14 @@ pub(crate) enum Step {
 
 /// Reads what stands at a place, by what is innermost: its tokens go behind the others, and what is open is what is open
 /// behind it. `AllocError` only for want of memory.
-pub(crate) fn next_step(alloc: Global, src: &[u8], stack: &mut OpenStack, at: usize, place: Place, tokens: &mut Tokens) -> Result<Step, AllocError>
+pub(crate) fn next_step(
+    alloc: Global,
+    src: &[u8],
+    stack: &mut OpenStack,
+    at: usize,
+    place: Place,
+    tokens: &mut Tokens,
+) -> Result<Step, AllocError>
     requires inside { at < length src.now }
     requires place { place ≡ place_at (byte_at src.now) at }
     ensures does { IfOk result (λ step. Does (byte_at src.now) (length src.now) stack.old stack.new at tokens.old tokens.new step) }

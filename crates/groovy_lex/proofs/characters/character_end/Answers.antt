@@ -1,4 +1,4 @@
-use Rattle.std.proofs.Common.{ℕ, ◌+◌, ◌<◌, ◌≤◌, length, take, drop, arith, ◌⊎◌, ⊎_elim, inl, inr, subst, sym, ◌≡◌}
+use Rattle.std.proofs.Common.{ℕ, take, drop, arith, ⊎_elim, subst, ◌≡◌}
 use Rattle.std.specs.Str.{IsUtf8}
 use Rattle.std.proofs.lemmas.Bool.{cases_lt}
 use Rattle.model_syntax.specs.Source.{byte_at}

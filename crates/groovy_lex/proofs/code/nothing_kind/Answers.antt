@@ -1,5 +1,4 @@
-use Rattle.std.proofs.Common.{◌∙◌, sym, arith}
-use Rattle.model_syntax.specs.Source.{byte_at}
+use Rattle.std.proofs.Common.{arith}
 use Rattle.model_syntax.specs.Reading.{nothing_begins, nothing_in_utf8}
 use Rattle.groovy_lex.proofs.SpelledLemmas.{no_byte_behind}
 use Rattle.groovy_lex.proofs.code.nothing_kind.Goals as goal

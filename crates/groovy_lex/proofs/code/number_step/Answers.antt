@@ -15,5 +15,7 @@ returns c =
     let k = h.value in
     let l = h.small in
     let v : to_z w32 (of_z w32 c.in-Some.value) ≡ c.in-Some.value = grind (arith, ints, to_z-of_z) in
-    record { does = one_token (byte_at c.args.src.now) (length c.args.src.now) c.args.stack.now c.args.stack.now (Int (to_z w32 (of_z w32 c.in-Some.value))) c.args.at c.in-Some.end c.args.place c.args.tokens.now c.push.new.self
-        (number_reads (byte_at c.args.src.now) c.args.stack.now c.args.at c.in-Some.end (to_z w32 (of_z w32 c.in-Some.value)) c.requires.code (subst (λ (z : ℤ). IsNumberAt (byte_at c.args.src.now) c.args.at c.in-Some.end z) (sym v) h)) c.requires.place c.in_ok-push.ensures.pushed c.in-Some.ensures.past.0 c.in-Some.ensures.past.1 }
+    record {
+      does = one_token (byte_at c.args.src.now) (length c.args.src.now) c.args.stack.now c.args.stack.now (Int (to_z w32 (of_z w32 c.in-Some.value))) c.args.at c.in-Some.end c.args.place c.args.tokens.now c.push.new.self
+          (number_reads (byte_at c.args.src.now) c.args.stack.now c.args.at c.in-Some.end (to_z w32 (of_z w32 c.in-Some.value)) c.requires.code (subst (λ (z : ℤ). IsNumberAt (byte_at c.args.src.now) c.args.at c.in-Some.end z) (sym v) h)) c.requires.place c.in_ok-push.ensures.pushed c.in-Some.ensures.past.0 c.in-Some.ensures.past.1;
+    }

@@ -15,6 +15,8 @@ returns-then-not-branch c =
 pub returns : goal.returns
 returns c =
     let t : Turns c.args.sign c.args.stack.now c.turn.new.stack true = subst (λ (b : Bool). Turns c.args.sign c.args.stack.now c.turn.new.stack b) c.if-not-branch.false c.in_ok-turn.ensures in
-    record { does = subst (λ (u : List Open). DoesTo (byte_at c.args.src.now) (length c.args.src.now) c.args.stack.now u c.args.at c.args.tokens.now c.push.new.self c.args.end) (sym t.0)
-        (one_token (byte_at c.args.src.now) (length c.args.src.now) c.args.stack.now (after_sign c.args.sign c.args.stack.now) (Sign c.args.sign) c.args.at c.args.end c.args.place c.args.tokens.now c.push.new.self
-        (sign_reads (byte_at c.args.src.now) c.args.stack.now c.args.at c.args.end c.args.sign c.requires.code c.requires.sign t.1) c.requires.place c.in_ok-push.ensures.pushed c.requires.forward c.requires.inside) }
+    record {
+      does = subst (λ (u : List Open). DoesTo (byte_at c.args.src.now) (length c.args.src.now) c.args.stack.now u c.args.at c.args.tokens.now c.push.new.self c.args.end) (sym t.0)
+          (one_token (byte_at c.args.src.now) (length c.args.src.now) c.args.stack.now (after_sign c.args.sign c.args.stack.now) (Sign c.args.sign) c.args.at c.args.end c.args.place c.args.tokens.now c.push.new.self
+          (sign_reads (byte_at c.args.src.now) c.args.stack.now c.args.at c.args.end c.args.sign c.requires.code c.requires.sign t.1) c.requires.place c.in_ok-push.ensures.pushed c.requires.forward c.requires.inside);
+    }

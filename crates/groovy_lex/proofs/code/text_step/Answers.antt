@@ -1,4 +1,4 @@
-use Rattle.std.proofs.Common.{◌≡◌, ◌+◌, ℕ, length, refl, sym, ap, subst, arith, [], ◌∷◌}
+use Rattle.std.proofs.Common.{◌+◌, ℕ, length, refl, sym, ap, subst, arith, [], ◌∷◌}
 use Rattle.model_syntax.specs.declared.token.TokenKind.TheVariants.{Text}
 use Rattle.model_syntax.specs.Source.{byte_at}
 use Rattle.model_syntax.specs.TextForms.{quotes}
@@ -20,10 +20,12 @@ pub returns-in_ok-push-in-Closes : goal.returns-in_ok-push-in-Closes
 returns-in_ok-push-in-Closes c =
     let f = form_of c.form_at-form.result in
     let i : IsContent (byte_at c.args.src.now) f (c.args.at + length (quotes f)) (length c.args.src.now) c.in_ok-text.text c.in_ok-text.stop = subst (λ (z : ℕ). IsContent (byte_at c.args.src.now) f (c.args.at + z) (length c.args.src.now) c.in_ok-text.text c.in_ok-text.stop) c.quotes_len.ensures c.in_ok-text.ensures in
-    record { does = one_token (byte_at c.args.src.now) (length c.args.src.now) c.args.stack.now c.args.stack.now (Text c.in_ok-text.text) c.args.at (c.in_ok-text.stop + c.quotes_len-in-Closes.result) c.args.place c.args.tokens.now c.push.new.self
-        (subst (λ (z : ℕ). Reads (byte_at c.args.src.now) c.args.stack.now c.args.at (goes (token (byte_at c.args.src.now) (Text c.in_ok-text.text) c.args.at (c.in_ok-text.stop + z) ∷ []) c.args.stack.now (c.in_ok-text.stop + z))) (sym c.quotes_len-in-Closes.ensures)
-        (text_reads (byte_at c.args.src.now) c.args.stack.now f c.in_ok-text.text c.args.at (length c.args.src.now) c.in_ok-text.stop c.requires.code c.form_at-form.ensures.opens i c.in-Closes.ensures))
-        c.requires.place c.in_ok-push-in-Closes.ensures.pushed (omega (arith, i.forward, quotes_some f)) (omega (arith, c.quotes_len-in-Closes.ensures, quotes_past c.args.src.now f c.in_ok-text.stop i.inside c.in-Closes.ensures)) }
+    record {
+      does = one_token (byte_at c.args.src.now) (length c.args.src.now) c.args.stack.now c.args.stack.now (Text c.in_ok-text.text) c.args.at (c.in_ok-text.stop + c.quotes_len-in-Closes.result) c.args.place c.args.tokens.now c.push.new.self
+          (subst (λ (z : ℕ). Reads (byte_at c.args.src.now) c.args.stack.now c.args.at (goes (token (byte_at c.args.src.now) (Text c.in_ok-text.text) c.args.at (c.in_ok-text.stop + z) ∷ []) c.args.stack.now (c.in_ok-text.stop + z))) (sym c.quotes_len-in-Closes.ensures)
+          (text_reads (byte_at c.args.src.now) c.args.stack.now f c.in_ok-text.text c.args.at (length c.args.src.now) c.in_ok-text.stop c.requires.code c.form_at-form.ensures.opens i c.in-Closes.ensures))
+          c.requires.place c.in_ok-push-in-Closes.ensures.pushed (omega (arith, i.forward, quotes_some f)) (omega (arith, c.quotes_len-in-Closes.ensures, quotes_past c.args.src.now f c.in_ok-text.stop i.inside c.in-Closes.ensures));
+    }
 
 pub returns-in_ok-opening_step-in-Braces : goal.returns-in_ok-opening_step-in-Braces
 returns-in_ok-opening_step-in-Braces c =

@@ -1,6 +1,5 @@
-use Rattle.std.proofs.Common.{◌≡◌, ◌∙◌, sym, ap, arith, ⊎_elim, length}
+use Rattle.std.proofs.Common.{arith, ⊎_elim}
 use Rattle.std.proofs.lemmas.List.{get_or_past}
-use Rattle.model_syntax.specs.Source.{byte_at}
 use Rattle.model_syntax.specs.Reading.{comment, comment_ends, comment_unended, comment_not_utf8}
 use Rattle.groovy_lex.proofs.SpelledLemmas.{no_byte_behind}
 use Rattle.groovy_lex.proofs.comments.block_comment.Goals as goal

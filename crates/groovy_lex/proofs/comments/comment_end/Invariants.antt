@@ -1,4 +1,4 @@
-use Rattle.std.proofs.Common.{◌≡◌, ◌-◌, ◌≤◌, length}
+use Rattle.std.proofs.Common.{◌-◌, ◌≤◌, length}
 use Rattle.std.specs.Prelude.{codes}
 use Rattle.model_syntax.specs.Source.{byte_at, Spelled, Passed}
 use Rattle.groovy_lex.proofs.comments.comment_end.Given as goal

@@ -1,6 +1,5 @@
 use Rattle.std.proofs.Common.{◌≡◌, ◌-◌, ◌≤◌, length}
-use Rattle.std.specs.Prelude.{codes}
-use Rattle.model_syntax.specs.Source.{byte_at, Spelled, Passed}
+use Rattle.model_syntax.specs.Source.{byte_at, Passed}
 use Rattle.groovy_lex.proofs.comments.line_end.Given as goal
 
 abbrev pub invariant-characters : goal.invariant-characters

@@ -1,4 +1,4 @@
-use Rattle.std.proofs.Common.{◌≡◌, ◌⊎◌, ◌∙◌, sym, ⊎_elim, inl, inr, false}
+use Rattle.std.proofs.Common.{◌∙◌, sym, ⊎_elim, inl, inr}
 use Rattle.model_syntax.specs.Source.{byte_at}
 use Rattle.model_syntax.specs.Reading.{fails_at_end, fails_at_newline, fails_at_backslash}
 use Rattle.groovy_lex.specs.OpenStack.{form_of}

@@ -1,4 +1,4 @@
-use Rattle.std.proofs.Common.{◌≡◌, ◌<◌, ℕ, length, subst, arith}
+use Rattle.std.proofs.Common.{◌<◌, ℕ, length, subst, arith}
 use Rattle.model_syntax.specs.Source.{byte_at}
 use Rattle.model_syntax.specs.TextForms.{GoesOn}
 use Rattle.groovy_lex.specs.OpenStack.{form_of}

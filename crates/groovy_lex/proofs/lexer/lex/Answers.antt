@@ -1,4 +1,4 @@
-use Rattle.std.proofs.Common.{Option, Some, None, subst}
+use Rattle.std.proofs.Common.{Option, subst}
 use Rattle.groovy_lex.specs.declared.raw.LexicalFault.{LexicalFault}
 use Rattle.groovy_lex.specs.Raws.{IsRead}
 use Rattle.groovy_lex.proofs.RawLemmas.{only_by, order_by, fault_by}

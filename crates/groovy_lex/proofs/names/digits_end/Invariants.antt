@@ -1,7 +1,6 @@
 use Rattle.std.proofs.Common.{◌≡◌, ℕ, ◌-◌, ◌<◌, ◌≤◌, length, true}
 use Rattle.std.specs.Char.{is_ascii_digit}
 use Rattle.model_syntax.specs.Source.{byte_at}
-use Rattle.model_syntax.specs.Spelling.{is_name_byte}
 use Rattle.groovy_lex.proofs.names.digits_end.Given as goal
 
 abbrev pub invariant-bytes : goal.invariant-bytes

@@ -1,5 +1,4 @@
-use Rattle.groovy_lex.proofs.NameLemmas.{name_fits, run_some}
-use Rattle.std.proofs.lemmas.Bool.{or_left}
+use Rattle.groovy_lex.proofs.NameLemmas.{name_fits}
 use Rattle.groovy_lex.proofs.names.name_at.Goals as goal
 
 pub returns-clause-fits : goal.returns-clause-fits

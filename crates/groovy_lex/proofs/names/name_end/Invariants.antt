@@ -1,5 +1,4 @@
 use Rattle.std.proofs.Common.{◌≡◌, ℕ, ◌-◌, ◌<◌, ◌≤◌, length, true}
-use Rattle.std.specs.Char.{is_ascii_digit}
 use Rattle.model_syntax.specs.Source.{byte_at}
 use Rattle.model_syntax.specs.Spelling.{is_name_byte}
 use Rattle.groovy_lex.proofs.names.name_end.Given as goal

@@ -1,4 +1,4 @@
-use Rattle.std.proofs.Common.{◌≡◌, List, reverse, sym, ◌∙◌, ap, subst, false, []}
+use Rattle.std.proofs.Common.{List, sym, ◌∙◌, subst, false}
 use Rattle.model_syntax.specs.declared.token.Token.{Token}
 use Rattle.groovy_lex.proofs.LayoutLemmas.{Kept, kept_begins, kept_more, kept_all}
 use Rattle.groovy_lex.proofs.newlines.kept_tokens.Goals as goal

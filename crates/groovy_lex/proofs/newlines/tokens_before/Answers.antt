@@ -1,4 +1,4 @@
-use Rattle.std.proofs.Common.{◌≡◌, List, sym, ◌∙◌, subst}
+use Rattle.std.proofs.Common.{List, sym, ◌∙◌, subst}
 use Rattle.model_syntax.specs.declared.token.Token.{Token}
 use Rattle.groovy_lex.proofs.LayoutLemmas.{Before, before_begins, before_more, before_all}
 use Rattle.groovy_lex.proofs.newlines.tokens_before.Goals as goal

@@ -1,7 +1,6 @@
 use Rattle.std.proofs.Common.{◌≡◌, ◌∙◌, arith, to_z, of_z, w32}
 use Rattle.std.proofs.lemmas.Int.{ints, to_z-of_z}
-use Rattle.model_syntax.specs.Source.{Source, byte_at}
-use Rattle.groovy_lex.proofs.NumberLemmas.{Digits, digits_at, number_zero, number_letter, number_fraction, number_large, number_taken}
+use Rattle.groovy_lex.proofs.NumberLemmas.{digits_at, number_zero, number_letter, number_fraction, number_large, number_taken}
 use Rattle.groovy_lex.proofs.numbers.number_at.Goals as goal
 
 pub returns-then-leads_zero-clause-fits : goal.returns-then-leads_zero-clause-fits

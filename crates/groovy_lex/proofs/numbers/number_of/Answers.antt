@@ -1,5 +1,4 @@
-use Rattle.std.proofs.Common.{◌+◌, ◌≡◌, take, arith}
-use Rattle.std.specs.Str.Parse.{digits_value}
+use Rattle.std.proofs.Common.{◌+◌, arith}
 use Rattle.groovy_lex.proofs.NumberLemmas.{digits_more, digits_front}
 use Rattle.groovy_lex.proofs.numbers.number_of.Goals as goal
 

@@ -1,4 +1,4 @@
-use Rattle.std.proofs.Common.{◌≡◌, ◌++◌, ℕ, List, [], length, sym, subst, arith}
+use Rattle.std.proofs.Common.{List, [], length, sym, subst}
 use Rattle.std.proofs.lemmas.List.{get_or_past}
 use Rattle.model_syntax.specs.declared.token.Token.{Token}
 use Rattle.model_syntax.specs.Source.{byte_at}

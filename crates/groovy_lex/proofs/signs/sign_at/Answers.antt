@@ -1,7 +1,7 @@
-use Rattle.std.proofs.Common.{◌≡◌, ℕ, ◌+◌, sym, ◌∙◌, ap, inl, inr, arith, Option, Some, None}
+use Rattle.std.proofs.Common.{◌≡◌, ℕ, ◌+◌, sym, ◌∙◌, ap, inl, inr, arith, Option}
 use Rattle.model_syntax.specs.declared.sign.Sign.{Sign}
-use Rattle.model_syntax.specs.Source.{Source, byte_at}
-use Rattle.groovy_lex.specs.Signs.{assign_sign, pair_sign, bracket_sign, single_sign, IsSignAt}
+use Rattle.model_syntax.specs.Source.{byte_at}
+use Rattle.groovy_lex.specs.Signs.{assign_sign, pair_sign, bracket_sign, single_sign}
 use Rattle.groovy_lex.proofs.SignLemmas.{pair_at, single_at, no_sign, sign_past}
 use Rattle.groovy_lex.proofs.signs.sign_at.Goals as goal
 
