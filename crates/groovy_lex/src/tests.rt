@@ -330,12 +330,14 @@ fn tokens_have_their_spans_and_places(rt: HostRuntime) -> Result<(), Fail> {
     Ok(())
 }
 
-/// How many tokens this many opening parentheses have, and the fault behind them.
-fn opened(alloc: Global, count: usize) -> Result<String, Fail> {
+/// How many tokens a script of this many opening parentheses and what stands behind them has, or those before its fault
+/// and the fault.
+fn opened(alloc: Global, count: usize, behind: &[u8]) -> Result<String, Fail> {
     let mut script = Vec::new(alloc);
     for _ in 0..count {
         script.push(b'(')?;
     }
+    script.extend_from_slice(behind)?;
     match lex(alloc, script.as_slice()) {
         Ok(tokens) => Ok(format!(in alloc; "{}", tokens.len())?),
         Err(LexRefusal::Memory) => Ok(format!(in alloc; "no memory")?),
@@ -347,10 +349,21 @@ fn opened(alloc: Global, count: usize) -> Result<String, Fail> {
 
 #[test]
 fn at_most_128_brackets_are_open(rt: HostRuntime) -> Result<(), Fail> {
-    assert_eq!(rt; opened(rt.alloc(), 128)?.as_str(), "128");
+    let alloc = rt.alloc();
+    assert_eq!(rt; opened(alloc, 128, b"")?.as_str(), "128");
     assert_eq!(rt;
-        opened(rt.alloc(), 129)?.as_str(),
+        opened(alloc, 129, b"")?.as_str(),
         "128 | nesting over 128 at 128"
     );
+    assert_eq!(rt; opened(alloc, 127, b"\"${a}\"")?.as_str(), "132");
+    assert_eq!(rt;
+        opened(alloc, 127, b"\"${[a]}\"")?.as_str(),
+        "129 | nesting over 128 at 130"
+    );
+    assert_eq!(rt;
+        opened(alloc, 128, b"\"b${a}\"")?.as_str(),
+        "128 | nesting over 128 at 130"
+    );
+    assert_eq!(rt; opened(alloc, 128, b"'a' ) (")?.as_str(), "131");
     Ok(())
 }
