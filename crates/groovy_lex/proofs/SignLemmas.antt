@@ -10,7 +10,7 @@ use Rattle.std.proofs.lemmas.Bool.Decides.{nat_tests}
 use Rattle.model_syntax.proofs.SpellingLemmas.{both}
 use Rattle.model_syntax.proofs.StepLemmas.{is_pair, longest_sign}
 use Rattle.groovy_lex.proofs.SpelledLemmas.{AreBytes, spelled_inside}
-use Rattle.groovy_lex.specs.Signs.{assign_sign, pair_sign, bracket_sign, single_sign, IsSignAt}
+use Rattle.groovy_lex.specs.Signs.{assign_sign, pair_sign, punctuation_sign, single_sign, IsSignAt}
 
 -- What a table of signs gives is what its rows give.
 Two : ℕ → ℕ → Option Sign → Type 0
@@ -51,29 +51,29 @@ pair_sign-two : (b c : ℕ) → Two b c (pair_sign b c)
 unfolding pair_sign
 pair_sign-two b c = two_row b c 63 58 sign.Elvis _ refl (two_row b c 63 46 sign.SafeDot _ refl (two_row b c 46 46 sign.Range _ refl (two_row b c 45 62 sign.Arrow _ refl (two_row b c 43 43 sign.Increment _ refl (two_row b c 45 45 sign.Decrement _ refl (two_row b c 124 124 sign.Or _ refl (two_row b c 38 38 sign.And _ refl (two_none b c))))))))
 
-bracket_sign-one : (b : ℕ) → One b (bracket_sign b)
-unfolding bracket_sign
-bracket_sign-one b = one_row b 40 sign.ParenOpen _ refl (one_row b 41 sign.ParenClose _ refl (one_row b 91 sign.BracketOpen _ refl (one_row b 93 sign.BracketClose _ refl (one_row b 123 sign.BraceOpen _ refl (one_row b 125 sign.BraceClose _ refl (one_none b))))))
+punctuation_sign-one : (b : ℕ) → One b (punctuation_sign b)
+unfolding punctuation_sign
+punctuation_sign-one b = one_row b 40 sign.ParenOpen _ refl (one_row b 41 sign.ParenClose _ refl (one_row b 91 sign.BracketOpen _ refl (one_row b 93 sign.BracketClose _ refl (one_row b 123 sign.BraceOpen _ refl (one_row b 125 sign.BraceClose _ refl (one_row b 44 sign.Comma _ refl (one_row b 59 sign.Semicolon _ refl (one_row b 58 sign.Colon _ refl (one_none b)))))))))
 
 single_sign-one : (b : ℕ) → One b (single_sign b)
 unfolding single_sign
-single_sign-one b = one_row b 44 sign.Comma _ refl (one_row b 59 sign.Semicolon _ refl (one_row b 58 sign.Colon _ refl (one_row b 63 sign.Question _ refl (one_row b 46 sign.Dot _ refl (one_row b 61 sign.Assign _ refl (one_row b 60 sign.Less _ refl (one_row b 62 sign.Greater _ refl (one_row b 43 sign.Plus _ refl (one_row b 45 sign.Minus _ refl (one_row b 42 sign.Times _ refl (one_row b 37 sign.Mod _ refl (one_row b 33 sign.Not _ refl (one_none b)))))))))))))
+single_sign-one b = one_row b 63 sign.Question _ refl (one_row b 46 sign.Dot _ refl (one_row b 61 sign.Assign _ refl (one_row b 60 sign.Less _ refl (one_row b 62 sign.Greater _ refl (one_row b 43 sign.Plus _ refl (one_row b 45 sign.Minus _ refl (one_row b 42 sign.Times _ refl (one_row b 37 sign.Mod _ refl (one_row b 33 sign.Not _ refl (one_none b))))))))))
 
 -- Where no table has a sign none stands.
 missed : {x : Sign} (o p : Option Sign) → o ≡ None → o ≡ p → p ≡ Some x → ⊥
 missed {x = x} o p n e s = let k : None ≡ Some x = sym n ∙ e ∙ s in cc
 
-pub no_sign : (B : Source) (a : ℕ) → assign_sign (B a) (B (a + 1)) ≡ None → pair_sign (B a) (B (a + 1)) ≡ None → bracket_sign (B a) ≡ None → single_sign (B a) ≡ None → (x : Sign) → Spelled B (sign_text x) a → ⊥
-unfolding assign_sign pair_sign bracket_sign single_sign
-no_sign B a i p q s sign.ParenOpen r = missed _ (bracket_sign 40) q (ap bracket_sign r.0) refl
-no_sign B a i p q s sign.ParenClose r = missed _ (bracket_sign 41) q (ap bracket_sign r.0) refl
-no_sign B a i p q s sign.BracketOpen r = missed _ (bracket_sign 91) q (ap bracket_sign r.0) refl
-no_sign B a i p q s sign.BracketClose r = missed _ (bracket_sign 93) q (ap bracket_sign r.0) refl
-no_sign B a i p q s sign.BraceOpen r = missed _ (bracket_sign 123) q (ap bracket_sign r.0) refl
-no_sign B a i p q s sign.BraceClose r = missed _ (bracket_sign 125) q (ap bracket_sign r.0) refl
-no_sign B a i p q s sign.Comma r = missed _ (single_sign 44) s (ap single_sign r.0) refl
-no_sign B a i p q s sign.Semicolon r = missed _ (single_sign 59) s (ap single_sign r.0) refl
-no_sign B a i p q s sign.Colon r = missed _ (single_sign 58) s (ap single_sign r.0) refl
+pub no_sign : (B : Source) (a : ℕ) → assign_sign (B a) (B (a + 1)) ≡ None → pair_sign (B a) (B (a + 1)) ≡ None → punctuation_sign (B a) ≡ None → single_sign (B a) ≡ None → (x : Sign) → Spelled B (sign_text x) a → ⊥
+unfolding assign_sign pair_sign punctuation_sign single_sign
+no_sign B a i p q s sign.ParenOpen r = missed _ (punctuation_sign 40) q (ap punctuation_sign r.0) refl
+no_sign B a i p q s sign.ParenClose r = missed _ (punctuation_sign 41) q (ap punctuation_sign r.0) refl
+no_sign B a i p q s sign.BracketOpen r = missed _ (punctuation_sign 91) q (ap punctuation_sign r.0) refl
+no_sign B a i p q s sign.BracketClose r = missed _ (punctuation_sign 93) q (ap punctuation_sign r.0) refl
+no_sign B a i p q s sign.BraceOpen r = missed _ (punctuation_sign 123) q (ap punctuation_sign r.0) refl
+no_sign B a i p q s sign.BraceClose r = missed _ (punctuation_sign 125) q (ap punctuation_sign r.0) refl
+no_sign B a i p q s sign.Comma r = missed _ (punctuation_sign 44) q (ap punctuation_sign r.0) refl
+no_sign B a i p q s sign.Semicolon r = missed _ (punctuation_sign 59) q (ap punctuation_sign r.0) refl
+no_sign B a i p q s sign.Colon r = missed _ (punctuation_sign 58) q (ap punctuation_sign r.0) refl
 no_sign B a i p q s sign.Question r = missed _ (single_sign 63) s (ap single_sign r.0) refl
 no_sign B a i p q s sign.Elvis r = missed _ (pair_sign 63 58) p (ap (λ z. pair_sign z (B (a + 1))) r.0 ∙ ap (pair_sign 63) r.1.0) refl
 no_sign B a i p q s sign.Dot r = missed _ (single_sign 46) s (ap single_sign r.0) refl
@@ -120,9 +120,9 @@ pair_at B a x e = by (⊎_elim (λ k. assign_sign-two (B a) (B (a + 1)) x k) (λ
         let s : Spelled B (sign_text x) a = subst (λ z. Spelled B z a) (sym t) (refl, (refl, tt)) in
         record { fits = record { spells = spells_sign x; stands = s; longest = longest_sign B x a s (inl n) }; ends = omega (arith, n) }
 
-pub single_at : (B : Source) (a : ℕ) (x : Sign) → assign_sign (B a) (B (a + 1)) ≡ None → pair_sign (B a) (B (a + 1)) ≡ None → (bracket_sign (B a) ≡ Some x) ⊎ (single_sign (B a) ≡ Some x) → IsSignAt B a (a + 1) x
+pub single_at : (B : Source) (a : ℕ) (x : Sign) → assign_sign (B a) (B (a + 1)) ≡ None → pair_sign (B a) (B (a + 1)) ≡ None → (punctuation_sign (B a) ≡ Some x) ⊎ (single_sign (B a) ≡ Some x) → IsSignAt B a (a + 1) x
 unfolding One
-single_at B a x i p e = by (⊎_elim (λ k. bracket_sign-one (B a) x k) (λ k. single_sign-one (B a) x k) e)
+single_at B a x i p e = by (⊎_elim (λ k. punctuation_sign-one (B a) x k) (λ k. single_sign-one (B a) x k) e)
   where
     by : sign_text x ≡ B a ∷ [] → IsSignAt B a (a + 1) x
     by t =

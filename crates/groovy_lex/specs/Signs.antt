@@ -30,22 +30,22 @@ pair_sign b c =
     if (b == 124) && (c == 124) then Some sign.Or else (
     if (b == 38) && (c == 38) then Some sign.And else (None))))))))
 
--- The brackets.
-unfoldable pub bracket_sign : ℕ → Option Sign
-bracket_sign b =
+-- The brackets, and the signs between parts.
+unfoldable pub punctuation_sign : ℕ → Option Sign
+punctuation_sign b =
     if b == 40 then Some sign.ParenOpen else (
     if b == 41 then Some sign.ParenClose else (
     if b == 91 then Some sign.BracketOpen else (
     if b == 93 then Some sign.BracketClose else (
     if b == 123 then Some sign.BraceOpen else (
-    if b == 125 then Some sign.BraceClose else (None))))))
+    if b == 125 then Some sign.BraceClose else (
+    if b == 44 then Some sign.Comma else (
+    if b == 59 then Some sign.Semicolon else (
+    if b == 58 then Some sign.Colon else (None)))))))))
 
 -- The other signs of one byte.
 unfoldable pub single_sign : ℕ → Option Sign
 single_sign b =
-    if b == 44 then Some sign.Comma else (
-    if b == 59 then Some sign.Semicolon else (
-    if b == 58 then Some sign.Colon else (
     if b == 63 then Some sign.Question else (
     if b == 46 then Some sign.Dot else (
     if b == 61 then Some sign.Assign else (
@@ -55,7 +55,7 @@ single_sign b =
     if b == 45 then Some sign.Minus else (
     if b == 42 then Some sign.Times else (
     if b == 37 then Some sign.Mod else (
-    if b == 33 then Some sign.Not else (None)))))))))))))
+    if b == 33 then Some sign.Not else (None))))))))))
 
 -- From one place up to another stands this sign, and no longer one.
 pub record IsSignAt (B : Source) (a b : ℕ) (x : Sign) : Type 0 where

@@ -3,7 +3,7 @@ ghost use Rattle.std.specs.Prelude.{◌≡◌, ℕ, ◌+◌, ◌<◌, ◌≤◌,
 ghost use Rattle.model_syntax.specs.declared.sign.Sign.{Sign};
 ghost use Rattle.model_syntax.specs.Source.{byte_at, Spelled};
 ghost use Rattle.model_syntax.specs.Spelling.{sign_text};
-ghost use Rattle.groovy_lex.specs.Signs.{assign_sign, pair_sign, bracket_sign, single_sign, IsSignAt};
+ghost use Rattle.groovy_lex.specs.Signs.{assign_sign, pair_sign, punctuation_sign, single_sign, IsSignAt};
 
 use crate::source::byte;
 use model_syntax::Sign;
@@ -72,10 +72,10 @@ fn pair_sign(byte: u16, next: u16) -> Option<Sign>
     None
 }
 
-/// The brackets.
-#[tactic(auto, unfolding(crate::specs::Signs::bracket_sign))]
-fn bracket_sign(byte: u16) -> Option<Sign>
-    ensures { result ≡ bracket_sign byte }
+/// The brackets, and the signs between parts.
+#[tactic(auto, unfolding(crate::specs::Signs::punctuation_sign))]
+fn punctuation_sign(byte: u16) -> Option<Sign>
+    ensures { result ≡ punctuation_sign byte }
 {
     if byte == 40 {
         return Some(Sign::ParenOpen);
@@ -95,14 +95,6 @@ fn bracket_sign(byte: u16) -> Option<Sign>
     if byte == 125 {
         return Some(Sign::BraceClose);
     }
-    None
-}
-
-/// The other signs of one byte.
-#[tactic(auto, unfolding(crate::specs::Signs::single_sign))]
-fn single_sign(byte: u16) -> Option<Sign>
-    ensures { result ≡ single_sign byte }
-{
     if byte == 44 {
         return Some(Sign::Comma);
     }
@@ -112,6 +104,14 @@ fn single_sign(byte: u16) -> Option<Sign>
     if byte == 58 {
         return Some(Sign::Colon);
     }
+    None
+}
+
+/// The other signs of one byte.
+#[tactic(auto, unfolding(crate::specs::Signs::single_sign))]
+fn single_sign(byte: u16) -> Option<Sign>
+    ensures { result ≡ single_sign byte }
+{
     if byte == 63 {
         return Some(Sign::Question);
     }
@@ -159,7 +159,7 @@ pub(crate) fn sign_at(src: &[u8], at: usize) -> Option<(Sign, usize)>
     if let Some(sign) = pair_sign(first, next) {
         return Some((sign, at + 2));
     }
-    if let Some(sign) = bracket_sign(first) {
+    if let Some(sign) = punctuation_sign(first) {
         return Some((sign, at + 1));
     }
     match single_sign(first) {

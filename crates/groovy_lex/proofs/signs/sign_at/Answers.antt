@@ -1,7 +1,7 @@
 use Rattle.std.proofs.Common.{◌≡◌, ℕ, ◌+◌, sym, ◌∙◌, ap, inl, inr, arith, Option}
 use Rattle.model_syntax.specs.declared.sign.Sign.{Sign}
 use Rattle.model_syntax.specs.Source.{byte_at}
-use Rattle.groovy_lex.specs.Signs.{assign_sign, pair_sign, bracket_sign, single_sign}
+use Rattle.groovy_lex.specs.Signs.{assign_sign, pair_sign, punctuation_sign, single_sign}
 use Rattle.groovy_lex.proofs.SignLemmas.{pair_at, single_at, no_sign, sign_past}
 use Rattle.groovy_lex.proofs.signs.sign_at.Goals as goal
 
@@ -24,11 +24,11 @@ returns-in-Some-pair_sign-clause-stands c = pair_at (byte_at c.args.src.now) c.a
 pub returns-in-Some-pair_sign-clause-past : goal.returns-in-Some-pair_sign-clause-past
 returns-in-Some-pair_sign-clause-past c = (omega arith, sign_past c.args.src.now c.args.at (c.args.at + 2) c.in-Some-pair_sign.sign (omega arith) (returns-in-Some-pair_sign-clause-stands c))
 
-pub returns-in-Some-bracket_sign-clause-stands : goal.returns-in-Some-bracket_sign-clause-stands
-returns-in-Some-bracket_sign-clause-stands c = single_at (byte_at c.args.src.now) c.args.at c.in-Some-bracket_sign.sign
+pub returns-in-Some-punctuation_sign-clause-stands : goal.returns-in-Some-punctuation_sign-clause-stands
+returns-in-Some-punctuation_sign-clause-stands c = single_at (byte_at c.args.src.now) c.args.at c.in-Some-punctuation_sign.sign
     (two assign_sign c.byte-first.ensures.value c.byte-next.ensures.value c.assign_sign.ensures c.in_default.is)
     (two pair_sign c.byte-first.ensures.value c.byte-next.ensures.value c.pair_sign.ensures c.in_default-pair_sign.is)
-    (inl (one bracket_sign c.byte-first.ensures.value c.bracket_sign.ensures c.in-Some-bracket_sign.is))
+    (inl (one punctuation_sign c.byte-first.ensures.value c.punctuation_sign.ensures c.in-Some-punctuation_sign.is))
 
 pub returns-in-Some-single_sign-clause-stands : goal.returns-in-Some-single_sign-clause-stands
 returns-in-Some-single_sign-clause-stands c = single_at (byte_at c.args.src.now) c.args.at c.in-Some-single_sign.sign
@@ -40,5 +40,5 @@ pub returns-in-None-clause-stands : goal.returns-in-None-clause-stands
 returns-in-None-clause-stands c = no_sign (byte_at c.args.src.now) c.args.at
     (two assign_sign c.byte-first.ensures.value c.byte-next.ensures.value c.assign_sign.ensures c.in_default.is)
     (two pair_sign c.byte-first.ensures.value c.byte-next.ensures.value c.pair_sign.ensures c.in_default-pair_sign.is)
-    (one bracket_sign c.byte-first.ensures.value c.bracket_sign.ensures c.in_default-bracket_sign.is)
+    (one punctuation_sign c.byte-first.ensures.value c.punctuation_sign.ensures c.in_default-punctuation_sign.is)
     (one single_sign c.byte-first.ensures.value c.single_sign.ensures c.in-None.is)
