@@ -1,2 +1,15 @@
 mod CutLemmas
 mod PartsLemmas
+mod PlaceLemmas
+mod OpenLemmas
+mod SpelledLemmas
+mod CharacterLemmas
+mod WordLemmas
+mod SignLemmas
+mod NameLemmas
+mod NumberLemmas
+mod ContentLemmas
+mod CodeLemmas
+mod InsideLemmas
+mod LayoutLemmas
+mod RawLemmas

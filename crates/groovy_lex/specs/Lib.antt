@@ -1,3 +1,16 @@
+pub mod OpenStack
+pub mod Steps
+pub mod Names
+pub mod Words
+pub mod Numbers
+pub mod Signs
+pub mod Contents
+pub mod Stops
+pub mod Turns
+pub mod Paths
+pub mod Layout
+pub mod Raws
+pub mod Refusals
 pub mod Cut
 pub mod Parts
 pub mod Line

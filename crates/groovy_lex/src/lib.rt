@@ -1,11 +1,40 @@
-//! Reads one line of a script.
+//! The tokens of a script.
 //!
-//! A line is blanks alone, or one `echo` step with a text in single quotes. For example, [`read_line`] finds
-//! in the line `  echo 'hi'` the text `hi`, and in `echo hi` nothing.
+//! [`lex`] gives the tokens of Groovy source in the part of Groovy that scripted Pipelines use, or the script's one
+//! lexical fault with the tokens before it. What tokens and faults are stands in `model_syntax` (`Reading`, `Tokens`):
+//! `lex` is proved to give exactly those, and no others. [`place_of`] tells the line and the column of a byte.
+//!
+//! ```
+//! let tokens = lex(alloc, b"echo 'hi'")?;
+//! assert!(tokens.len() == 2);
+//! ```
+//!
+//! `line`, `cut` and `parts` are an earlier stage's reader of `echo` lines, which other crates still use.
 #![tactic(auto)]
 
+mod characters;
+mod code;
+mod comments;
+mod contents;
 mod cut;
+mod escapes;
+mod inside;
+mod lexer;
 mod line;
+mod names;
+mod newlines;
+mod numbers;
+mod open;
 mod parts;
+mod place;
+mod raw;
+mod signs;
+mod source;
+mod step;
+#[cfg(test)]
+mod tests;
+mod words;
 
+pub use lexer::{LexRefusal, lex};
 pub use line::{Line, read_line};
+pub use place::place_of;

@@ -1,0 +1,13 @@
+use Rattle.std.proofs.Common.{◌≡◌, ◌-◌, ◌≤◌, length}
+use Rattle.model_syntax.specs.Source.{byte_at, Passed}
+use Rattle.groovy_lex.proofs.comments.line_end.Given as goal
+
+abbrev pub invariant-characters : goal.invariant-characters
+invariant-characters l = record {
+  passed : Passed (byte_at l.src) (λ k. byte_at l.src k ≡ 10) l.from l.at;
+  later : l.from ≤ l.at;
+  inside : l.at ≤ length l.src;
+}
+
+abbrev pub decreases-characters : goal.decreases-characters
+decreases-characters l = length l.src - l.at

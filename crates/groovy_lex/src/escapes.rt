@@ -1,0 +1,187 @@
+//! The characters of a text, and what they stand for (Groovy).
+ghost use Rattle.std.specs.Prelude.{◌≡◌, ℕ, ◌+◌, ◌-◌, ◌^◌, ◌<◌, ◌≤◌, ◌≢◌, ◌++◌, length, encode_utf8, MatchBool, MatchOption, IfOk};
+ghost use Rattle.std.specs.Char.{IsScalar, digit_value};
+ghost use Rattle.std.specs.Str.Parse.{AllDigits, digits_value};
+ghost use Rattle.model_syntax.specs.Source.{byte_at, Spelled};
+ghost use Rattle.model_syntax.specs.TextForms.{quotes, escape, is_plain};
+ghost use Rattle.groovy_lex.specs.OpenStack.{form_of};
+ghost use Rattle.groovy_lex.specs.Contents.{four, Takes};
+
+use crate::characters::character_end;
+use crate::open::TextForm;
+use crate::source::byte;
+use model_text::Text;
+use std::alloc::AllocError;
+
+/// Whether the closing quotes of a text of this form stand at the place.
+pub(crate) fn closes(src: &[u8], form: TextForm, at: usize) -> bool
+    requires { at ≤ length src.now }
+    ensures { MatchBool result (Spelled (byte_at src.now) (quotes (form_of form)) at) (Spelled (byte_at src.now) (quotes (form_of form)) at → ⊥) }
+{
+    let quote = form.quote();
+    if byte(src, at) != quote {
+        return false;
+    }
+    if !form.is_triple() {
+        return true;
+    }
+    byte(src, at + 1) == quote && byte(src, at + 2) == quote
+}
+
+/// Whether the byte stands for itself in a text of this form, where it begins a character.
+fn is_plain(form: TextForm, byte: u16) -> bool
+    ensures { result ≡ is_plain (form_of form) byte }
+{
+    let ends = byte == 10 || byte == form.quote();
+    byte != 92 && ((form.is_triple() || !ends) && !(form.is_double() && byte == 36))
+}
+
+/// What a backslash and this byte stand for.
+fn escape_of(byte: u16) -> Option<u8>
+    ensures { result ≡ escape byte }
+{
+    if byte == 110 {
+        return Some(10);
+    }
+    if byte == 116 {
+        return Some(9);
+    }
+    if byte == 114 {
+        return Some(13);
+    }
+    if byte == 98 {
+        return Some(8);
+    }
+    if byte == 102 {
+        return Some(12);
+    }
+    if byte == 92 {
+        return Some(92);
+    }
+    if byte == 39 {
+        return Some(39);
+    }
+    if byte == 34 {
+        return Some(34);
+    }
+    if byte == 36 {
+        return Some(36);
+    }
+    None
+}
+
+/// The value of a hexadecimal digit.
+fn hexadecimal(byte: u16) -> Option<u32>
+    ensures { MatchOption result (digit_value byte < 16 → ⊥) (λ digit. (digit ≡ digit_value byte) × (digit < 16)) }
+{
+    if byte > 255 {
+        return None;
+    }
+    char::from(byte as u8).to_digit(16)
+}
+
+/// The number of the four hexadecimal digits that stand at a place.
+fn four_digits(src: &[u8], at: usize) -> Option<u32>
+    requires { at < 2 ^ 64 - 4 }
+    ensures { MatchOption result (AllDigits 16 (four (byte_at src.now) at) → ⊥) (λ code. AllDigits 16 (four (byte_at src.now) at) × (code ≡ digits_value 16 (four (byte_at src.now) at))) }
+{
+    let first = hexadecimal(byte(src, at))?;
+    let second = hexadecimal(byte(src, at + 1))?;
+    let third = hexadecimal(byte(src, at + 2))?;
+    let fourth = hexadecimal(byte(src, at + 3))?;
+    Some(((first * 16 + second) * 16 + third) * 16 + fourth)
+}
+
+/// The character of the four hexadecimal digits that stand at a place, and `None` where they are not digits or their
+/// number is a surrogate's.
+fn unicode(src: &[u8], at: usize) -> Option<char>
+    requires { at < 2 ^ 64 - 4 }
+    ensures { MatchOption result (AllDigits 16 (four (byte_at src.now) at) × IsScalar (digits_value 16 (four (byte_at src.now) at)) → ⊥) (λ c. AllDigits 16 (four (byte_at src.now) at) × IsScalar (digits_value 16 (four (byte_at src.now) at)) × (c ≡ digits_value 16 (four (byte_at src.now) at))) }
+{
+    match four_digits(src, at) {
+        Some(code) => char::from_u32(code),
+        None => None,
+    }
+}
+
+/// Puts the bytes of a character behind a text.
+fn append_character(text: &mut Text, character: char) -> Result<(), AllocError>
+    ensures { IfOk result (λ _. text.new ≡ text.old ++ encode_utf8 character) }
+{
+    let mut buffer = [0u8; 4];
+    let encoded = character.encode_utf8(&mut buffer);
+    text.append(encoded.as_bytes())
+}
+
+/// Puts behind a text what the escape at a place stands for. Gives the place behind it, and `None` where it is none.
+fn take_escape(
+    src: &[u8],
+    form: TextForm,
+    at: usize,
+    text: &mut Text,
+) -> Result<Option<usize>, AllocError>
+    requires inside { at < length src.now }
+    requires backslash { byte_at src.now at ≡ 92 }
+    ensures takes { IfOk result (λ end. Takes (byte_at src.now) (form_of form) at (length src.now) text.old text.new end) }
+{
+    let next = byte(src, at + 1);
+    if next == 10 {
+        return Ok(Some(at + 2));
+    }
+    if let Some(byte) = escape_of(next) {
+        text.push(byte)?;
+        return Ok(Some(at + 2));
+    }
+    if next != 117 {
+        return Ok(None);
+    }
+    match unicode(src, at + 2) {
+        Some(character) => {
+            append_character(text, character)?;
+            Ok(Some(at + 6))
+        }
+        None => Ok(None),
+    }
+}
+
+/// Puts behind a text the character that stands at a place. Gives the place behind it, and `None` where none stands for
+/// itself there.
+fn take_plain(
+    src: &[u8],
+    form: TextForm,
+    at: usize,
+    text: &mut Text,
+) -> Result<Option<usize>, AllocError>
+    requires inside { at < length src.now }
+    requires plain { byte_at src.now at ≢ 92 }
+    ensures takes { IfOk result (λ end. Takes (byte_at src.now) (form_of form) at (length src.now) text.old text.new end) }
+{
+    if !is_plain(form, byte(src, at)) {
+        return Ok(None);
+    }
+    match character_end(src, at) {
+        Some(end) => {
+            text.append(&src[at..end])?;
+            Ok(Some(end))
+        }
+        None => Ok(None),
+    }
+}
+
+/// Puts behind a text what its next character stands for. Gives the place behind that character, and `None` where no
+/// character of such a text stands. `AllocError` only for want of memory.
+pub(crate) fn take_character(
+    src: &[u8],
+    form: TextForm,
+    at: usize,
+    text: &mut Text,
+) -> Result<Option<usize>, AllocError>
+    requires { at < length src.now }
+    ensures takes { IfOk result (λ end. Takes (byte_at src.now) (form_of form) at (length src.now) text.old text.new end) }
+{
+    if byte(src, at) == 92 {
+        take_escape(src, form, at, text)
+    } else {
+        take_plain(src, form, at, text)
+    }
+}
