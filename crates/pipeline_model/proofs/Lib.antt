@@ -24,3 +24,4 @@ mod CountExamples
 mod CellExamples
 mod OrderExamples
 mod StateExamples
+mod PathExamples
