@@ -17,7 +17,7 @@ use Rattle.model_run.specs.Meaning.{eval, ev}
 use Rattle.model_run.specs.State.{through}
 use Rattle.model_run.specs.Terms.{term_at}
 use Rattle.model_run.specs.World.{settle}
-use Rattle.pipeline_model.proofs.ScriptWords.{text, number, variable, call, entry, list, closure, suffixed, method, plus, statement, step, to_name, assign, for_each, try_block, finally_block, script, site, build, granted}
+use Rattle.pipeline_model.proofs.ScriptWords.{text, number, variable, call, entry, list, closure, suffixed, method, plus, statement, step, to_name, assign, for_each, try_block, finally_block, script, site, build, granted, proceeds}
 
 abbrev path_in : Result → List Frame
 path_in (Waits asked path s) = path
@@ -96,3 +96,16 @@ abbrev walk_that_waits : List Node
 walk_that_waits =
     statement (suffixed (list (number 1 ∷ number 2 ∷ [])) (method "collect" (closure (step "input" (text "x" ∷ []) ∷ statement (variable "it") ∷ []) ∷ []) ∷ []))
     ∷ []
+
+-- the walk keeps its list, its closure, its position and what it collected
+pub walk_that_waits_path : paths_of walk_that_waits (proceeds 1 "ann" ∷ [])
+    ≡ (frame kind.Statement 0 0 [] []
+      ∷ frame kind.SuffixedPart 2 0 [] []
+      ∷ frame kind.WalkTurn 6 0 [] (InCell 0 ∷ InCell 1 ∷ whole 1 ∷ Whole (pos 1) ∷ [])
+      ∷ frame kind.CallBody 7 0 [] []
+      ∷ frame kind.Statement 8 1 (bound (codes "it") 4 ∷ []) []
+      ∷ frame kind.InputWait 10 0 (bound (codes "it") 4 ∷ []) []
+      ∷ [])
+    ∷ []
+unfolding settle eval ev through term_at text_within size digits int_wrap equal_within
+walk_that_waits_path = refl
