@@ -17,7 +17,7 @@ use Rattle.model_run.specs.Meaning.{eval, ev}
 use Rattle.model_run.specs.State.{through}
 use Rattle.model_run.specs.Terms.{term_at}
 use Rattle.model_run.specs.World.{settle}
-use Rattle.pipeline_model.proofs.ScriptWords.{text, number, variable, call, entry, list, closure, suffixed, method, plus, statement, step, to_name, assign, for_each, try_block, finally_block, script, site, build, granted}
+use Rattle.pipeline_model.proofs.ScriptWords.{text, number, variable, call, entry, list, closure, suffixed, method, plus, statement, step, to_name, assign, for_each, try_block, finally_block, script, site, build, granted, proceeds}
 
 abbrev path_in : Result → List Frame
 path_in (Waits asked path s) = path
@@ -41,11 +41,11 @@ task_in_a_node =
 -- the body of `node` begins behind its block, flow node 3, with flow node 4
 pub task_in_a_node_path : paths_of task_in_a_node (granted 1 0 ∷ [])
     ≡ (frame kind.Statement 0 0 [] []
-      ∷ frame kind.NodeBody 2 0 [] (whole 3 ∷ whole 4 ∷ [])
-      ∷ frame kind.CallBody 3 0 [] []
-      ∷ frame kind.Statement 4 0 (bound (codes "it") 1 ∷ []) []
-      ∷ frame kind.ShWait 6 0 (bound (codes "it") 1 ∷ []) (Truth false ∷ Truth false ∷ [])
-      ∷ [])
+    ∷ frame kind.NodeBody 2 0 [] (whole 3 ∷ whole 4 ∷ [])
+    ∷ frame kind.CallBody 3 0 [] []
+    ∷ frame kind.Statement 4 0 (bound (codes "it") 1 ∷ []) []
+    ∷ frame kind.ShWait 6 0 (bound (codes "it") 1 ∷ []) (Truth false ∷ Truth false ∷ [])
+    ∷ [])
     ∷ []
 unfolding settle eval ev through term_at text_within size digits int_wrap equal_within
 task_in_a_node_path = refl
@@ -59,14 +59,14 @@ wait_in_an_operand =
 -- the loop keeps its list and its position, the sum its left operand
 pub wait_in_an_operand_path : paths_of wait_in_an_operand []
     ≡ (frame kind.Statement 0 0 [] []
-      ∷ frame kind.EachBody 1 0 [] (InCell 0 ∷ whole 0 ∷ [])
-      ∷ frame kind.Statement 4 0 (bound (codes "i") 1 ∷ []) []
-      ∷ frame kind.TryBlock 5 0 (bound (codes "i") 1 ∷ []) []
-      ∷ frame kind.Statement 6 0 (bound (codes "i") 1 ∷ []) []
-      ∷ frame kind.AssignValue 7 0 (bound (codes "i") 1 ∷ []) []
-      ∷ frame kind.JoinedOperand 9 0 (bound (codes "i") 1 ∷ []) (Whole (pos 10) ∷ [])
-      ∷ frame kind.InputWait 12 0 (bound (codes "i") 1 ∷ []) []
-      ∷ [])
+    ∷ frame kind.EachBody 1 0 [] (InCell 0 ∷ whole 0 ∷ [])
+    ∷ frame kind.Statement 4 0 (bound (codes "i") 1 ∷ []) []
+    ∷ frame kind.TryBlock 5 0 (bound (codes "i") 1 ∷ []) []
+    ∷ frame kind.Statement 6 0 (bound (codes "i") 1 ∷ []) []
+    ∷ frame kind.AssignValue 7 0 (bound (codes "i") 1 ∷ []) []
+    ∷ frame kind.JoinedOperand 9 0 (bound (codes "i") 1 ∷ []) (Whole (pos 10) ∷ [])
+    ∷ frame kind.InputWait 12 0 (bound (codes "i") 1 ∷ []) []
+    ∷ [])
     ∷ []
 unfolding settle eval ev through term_at text_within size digits int_wrap equal_within
 wait_in_an_operand_path = refl
@@ -80,13 +80,13 @@ waiting_branch =
 -- the branch begins with flow node 4
 pub waiting_branch_paths : paths_of waiting_branch []
     ≡ (frame kind.Statement 0 0 [] []
-      ∷ frame kind.ParallelWait 2 0 [] (whole 3 ∷ [])
-      ∷ [])
+    ∷ frame kind.ParallelWait 2 0 [] (whole 3 ∷ [])
+    ∷ [])
     ∷ (frame kind.BranchBody 4 0 [] (whole 4 ∷ [])
-      ∷ frame kind.CallBody 4 0 [] []
-      ∷ frame kind.Statement 5 0 (bound (codes "it") 2 ∷ []) []
-      ∷ frame kind.InputWait 7 0 (bound (codes "it") 2 ∷ []) []
-      ∷ [])
+    ∷ frame kind.CallBody 4 0 [] []
+    ∷ frame kind.Statement 5 0 (bound (codes "it") 2 ∷ []) []
+    ∷ frame kind.InputWait 7 0 (bound (codes "it") 2 ∷ []) []
+    ∷ [])
     ∷ []
 unfolding settle eval ev through term_at text_within size digits int_wrap equal_within
 waiting_branch_paths = refl
@@ -96,3 +96,16 @@ abbrev walk_that_waits : List Node
 walk_that_waits =
     statement (suffixed (list (number 1 ∷ number 2 ∷ [])) (method "collect" (closure (step "input" (text "x" ∷ []) ∷ statement (variable "it") ∷ []) ∷ []) ∷ []))
     ∷ []
+
+-- the walk keeps its list, its closure, its position and what it collected
+pub walk_that_waits_path : paths_of walk_that_waits (proceeds 1 "ann" ∷ [])
+    ≡ (frame kind.Statement 0 0 [] []
+    ∷ frame kind.SuffixedPart 2 0 [] []
+    ∷ frame kind.WalkTurn 6 0 [] (InCell 0 ∷ InCell 1 ∷ whole 1 ∷ Whole (pos 1) ∷ [])
+    ∷ frame kind.CallBody 7 0 [] []
+    ∷ frame kind.Statement 8 1 (bound (codes "it") 4 ∷ []) []
+    ∷ frame kind.InputWait 10 0 (bound (codes "it") 4 ∷ []) []
+    ∷ [])
+    ∷ []
+unfolding settle eval ev through term_at text_within size digits int_wrap equal_within
+walk_that_waits_path = refl

@@ -5,8 +5,7 @@ use Rattle.std.specs.Int.{int_wrap}
 use Rattle.model_syntax.specs.Nodes.{Node, size}
 use Rattle.model_run.specs.declared.request.Request.TheVariants.{Node as NodeRequest, Input as InputRequest}
 use Rattle.model_run.specs.declared.result.BuildResult.TheVariants.{Success, Failure}
-use Rattle.model_values.specs.Limits.{Limits, product_limits}
-use Rattle.model_run.specs.State.{RunLimits}
+use Rattle.model_values.specs.Limits.{product_limits}
 use Rattle.model_run.specs.World.{run_limits}
 use Rattle.model_values.specs.TextOf.{text_within}
 use Rattle.model_values.specs.Equality.{equal_within}
