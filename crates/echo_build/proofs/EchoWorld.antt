@@ -1,0 +1,155 @@
+-- The world of a script of `echo` steps is its closed form.
+use Rattle.std.proofs.Common.{arith, append_assoc, ◌≡◌, ℕ, zero, suc, ◌+◌, ◌-◌, ◌++◌, refl, sym, ap, subst, ◌∙◌, List, [], ◌∷◌, length, length-append, map, None}
+use Rattle.std.specs.Prelude.{codes}
+use Rattle.model_syntax.specs.declared.node.NodeForm.TheVariants as form
+use Rattle.model_syntax.specs.Nodes.{node, nodes, size}
+use Rattle.model_values.specs.Limits.{limit_line}
+use Rattle.model_values.specs.declared.value.Value.{Value}
+use Rattle.model_values.specs.declared.value.Value.TheVariants.{Null}
+use Rattle.model_values.specs.declared.limit.LimitKind.{LimitKind}
+use Rattle.model_run.specs.declared.site.Site.{Site}
+use Rattle.model_run.specs.declared.event.Event.TheVariants.{Start as StartEvent}
+use Rattle.model_run.specs.declared.result.BuildResult.TheVariants.{Failure}
+use Rattle.model_run.specs.declared.frame.FrameKind.TheVariants as kind
+use Rattle.model_run.specs.Results.{ended_log, worse}
+use Rattle.model_run.specs.Terms.{Term, Terms, term, terms, forms_of, nth_part}
+use Rattle.model_run.specs.State.{Setting, Common, Own, State, Env, Normal, Frame, Result, Ended, Limited, through}
+use Rattle.model_run.specs.Around.{First, Around, frame}
+use Rattle.model_run.specs.Callables.{function_in, function_named}
+use Rattle.model_run.specs.Statements.{on_statement, statements}
+use Rattle.model_run.specs.Meaning.{eval, ev, fuel}
+use Rattle.model_run.specs.declared.wait.Answer.TheVariants.{Begin}
+use Rattle.model_run.specs.World.{Build, begun, first_own, world, settle, stopped, stopped_at, finish, limit_met, take_turn, first_ready, setting_of, run_limits, given_answer, first_thread, with_thread}
+use Rattle.model_run.proofs.Walk.{Again, Call, from}
+use Rattle.model_run.proofs.Monotone.{again_with, call_with}
+use Rattle.model_run.proofs.Replay.{part_is}
+use Rattle.echo_build.specs.EchoBuild.{echo_node, Progress, Echoed, Goes, Meets, echo_step, and_echo, echo_all, begun as at_start, final_log, final_result, echo_log, echo_result}
+use Rattle.echo_build.proofs.EchoStatement.{world_of}
+use Rattle.echo_build.proofs.EchoSteps.{state, Ties, RunsTo, runs_on, runs_into, statement_runs}
+
+-- the script of these texts
+abbrev pub echo_terms : ℕ → List (List ℕ) → Terms
+echo_terms k ts = terms k (nodes (map echo_node ts))
+
+abbrev pub echo_script : List (List ℕ) → Term
+echo_script ts = term 0 (node form.Script (nodes (map echo_node ts)))
+
+no_function : (k : ℕ) (ts : List (List ℕ)) → function_in (codes "echo") (echo_terms k ts) ≡ None
+no_function k [] = refl
+no_function k (t ∷ ts) = no_function (k + size (echo_node t)) ts
+
+as_many : (k : ℕ) (ts : List (List ℕ)) → length (forms_of (echo_terms k ts)) ≡ length ts
+as_many k [] = refl
+as_many k (t ∷ ts) = ap suc (as_many (k + size (echo_node t)) ts)
+
+-- the part behind as many texts is the statement of the next one
+nth_echo : (root : Term) (k : ℕ) (pre : List (List ℕ)) (t : List ℕ) (post : List (List ℕ)) → (j : ℕ) × (nth_part root (echo_terms k (pre ++ t ∷ post)) (length pre) ≡ term j (echo_node t))
+nth_echo root k [] t post = (k, refl)
+nth_echo root k (s ∷ pre) t post = nth_echo root (k + size (echo_node s)) pre t post
+
+-- behind a statement the next ones go on, or the limit that it met
+behind : (root : Term) (site : Site) (f : Frame) (go : Value → Env → State → Result) (more : Progress → Echoed) → ((v : Value) (p : Progress) (u : Common) (o : Own) → Ties p u → RunsTo root site (go v [] (state root site u o)) (more p)) → (r : Result) (x : Echoed) → RunsTo root site r x → RunsTo root site (through f (on_statement [] go) r) (and_echo more x)
+unfolding through
+behind root site f go more h r (Goes p) (runs_on v u o e ties) = subst (λ q. RunsTo root site (through f (on_statement [] go) q) (more p)) (sym e) (h v p u o ties)
+behind root site f go more h r (Meets k p) (runs_into u o e log result) = runs_into u o (ap (through f (on_statement [] go)) e) log result
+
+module _ (site : Site) (ts : List (List ℕ)) (again : Again) (call : Call) where
+  functions : (u : Common) (o : Own) → function_named (codes "echo") (world_of (echo_script ts) site u o) ≡ None
+  functions u o = no_function 1 ts
+
+  abbrev whole : Around
+  whole = from again call 0 form.Script (echo_terms 1 ts)
+
+  -- the part behind these texts
+  part_at : (pre : List (List ℕ)) (t : List ℕ) (post : List (List ℕ)) → ts ≡ pre ++ t ∷ post → (s : State) → (j : ℕ) × (whole.part First (length ts - suc (length post)) [] s ≡ eval again call First (term j (echo_node t)) [] s)
+  part_at pre t post e s =
+      let at : length ts - suc (length post) ≡ length pre = ap (λ xs. length xs - suc (length post)) e ∙ place in
+      let found : (j : ℕ) × (nth_part (echo_script ts) (echo_terms 1 (pre ++ t ∷ post)) (length pre) ≡ term j (echo_node t)) = nth_echo (echo_script ts) 1 pre t post in (
+        found.0,
+        ap (λ x. x [] s) (part_is (echo_script ts) again call (echo_terms 1 ts) (length ts - suc (length post)) First)
+            ∙ ap (λ i. eval again call First (nth_part (echo_script ts) (echo_terms 1 ts) i) [] s) at
+            ∙ ap (λ xs. eval again call First (nth_part (echo_script ts) (echo_terms 1 xs) (length pre)) [] s) e
+            ∙ ap (λ x. eval again call First x [] s) found.1,
+      )
+    where
+      place : length (pre ++ t ∷ post) - suc (length post) ≡ length pre
+      place = omega (arith, length-append pre (t ∷ post))
+
+  -- the statements of the last texts
+  statements_run : (post pre : List (List ℕ)) → ts ≡ pre ++ post → (v : Value) (p : Progress) (u : Common) (o : Own) → Ties p u → RunsTo (echo_script ts) site (statements whole 0 (length ts) (length post) v [] (state (echo_script ts) site u o)) (echo_all post p)
+  statements_run [] pre e v p u o ties = runs_on v u o refl ties
+  statements_run (t ∷ post) pre e v p u o ties =
+      let next : ts ≡ (pre ++ t ∷ []) ++ post = e ∙ sym (append_assoc pre (t ∷ []) post) in
+      let part : (j : ℕ) × (whole.part First (length ts - suc (length post)) [] (state (echo_script ts) site u o) ≡ eval again call First (term j (echo_node t)) [] (state (echo_script ts) site u o)) = part_at pre t post e (state (echo_script ts) site u o) in
+      behind (echo_script ts) site (frame kind.Statement 0 (length post) [] []) (statements whole 0 (length ts) (length post)) (echo_all post)
+      (λ v p u o ties. statements_run post (pre ++ t ∷ []) next v p u o ties) _ (echo_step t p)
+      (subst (λ r. RunsTo (echo_script ts) site r (echo_step t p)) (sym part.1) (statement_runs (echo_script ts) site again call functions part.0 t p u o ties))
+
+abbrev whole_with : List (List ℕ) → ℕ → Around
+whole_with ts n = from (again_with (echo_script ts) n) (call_with (echo_script ts) n) 0 form.Script (echo_terms 1 ts)
+
+as_statements : (ts : List (List ℕ)) (n : ℕ) (s : State) → ev (echo_script ts) (suc n) First (echo_script ts) [] s ≡ statements (whole_with ts n) 0 (length (forms_of (echo_terms 1 ts))) (length (forms_of (echo_terms 1 ts))) Null [] s
+unfolding ev eval
+as_statements ts n s = refl
+
+-- the script from its beginning
+with_fuel : (site : Site) (ts : List (List ℕ)) (n : ℕ) → RunsTo (echo_script ts) site (ev (echo_script ts) (suc n) First (echo_script ts) [] (state (echo_script ts) site begun.shared first_own)) (echo_all ts at_start)
+with_fuel site ts n =
+    let runs : RunsTo (echo_script ts) site (statements (whole_with ts n) 0 (length ts) (length ts) Null [] (state (echo_script ts) site begun.shared first_own)) (echo_all ts at_start) =
+    statements_run site ts (again_with (echo_script ts) n) (call_with (echo_script ts) n) ts [] refl Null at_start begun.shared first_own
+    (record { log = refl; nodes = refl; bytes = refl; cells = refl; count = refl; room = omega arith; binding = refl; result = refl }) in
+    let counted : RunsTo (echo_script ts) site (statements (whole_with ts n) 0 (length (forms_of (echo_terms 1 ts))) (length (forms_of (echo_terms 1 ts))) Null [] (state (echo_script ts) site begun.shared first_own)) (echo_all ts at_start) =
+    subst (λ m. RunsTo (echo_script ts) site (statements (whole_with ts n) 0 m m Null [] (state (echo_script ts) site begun.shared first_own)) (echo_all ts at_start)) (sym (as_many 1 ts)) runs in
+    subst (λ r. RunsTo (echo_script ts) site r (echo_all ts at_start)) (sym (as_statements ts n (state (echo_script ts) site begun.shared first_own))) counted
+
+script_runs : (site : Site) (ts : List (List ℕ)) → RunsTo (echo_script ts) site (ev (echo_script ts) (fuel 0) First (echo_script ts) [] (state (echo_script ts) site begun.shared first_own)) (echo_all ts at_start)
+script_runs site ts = with_fuel site ts 2999999
+
+-- the build in which the script's thread has its first answer
+asked : Build
+asked = record begun { threads = with_thread (λ old. given_answer begun.shared Begin first_thread) 0 begun.threads }
+
+-- a build without threads stays as it is
+no_threads : (n : ℕ) (setting : Setting) (b : Build) → b.threads ≡ [] → settle n setting b ≡ b
+unfolding settle
+no_threads zero setting b h = refl
+no_threads (suc n) setting b h = ap (λ ts. take_turn (settle n setting) setting b (first_ready ts)) h
+
+-- the first turn is the script's, and the only one
+one_turn : (n : ℕ) (root : Term) (site : Site) → settle (suc n) (setting_of run_limits root site) begun ≡ settle n (setting_of run_limits root site) (stopped run_limits None 0 (ev root (fuel 0) First root [] (state root site begun.shared first_own)) asked)
+unfolding settle asked
+one_turn n root site = refl
+
+module _ (root : Term) (site : Site) where
+  abbrev ended_build : Result → Build
+  ended_build r = settle 65536 (setting_of run_limits root site) (stopped run_limits None 0 r asked)
+
+  ends_normally : (v : Value) (u : Common) (o : Own) → ended_build (Ended (Normal v) (state root site u o)) ≡ finish (o.head ∷ []) [] u.result u (stopped_at (world_of root site u o) asked)
+  ends_normally v u o = no_threads 65536 (setting_of run_limits root site) (finish (o.head ∷ []) [] u.result u (stopped_at (world_of root site u o) asked)) refl
+
+  ends_at_limit : (k : LimitKind) (u : Common) (o : Own) → ended_build (Limited k (state root site u o)) ≡ limit_met k u (stopped_at (world_of root site u o) asked)
+  ends_at_limit k u o = no_threads 65536 (setting_of run_limits root site) (limit_met k u (stopped_at (world_of root site u o) asked)) refl
+
+  log_of : (r : Result) (x : Echoed) → RunsTo root site r x → (ended_build r).shared.log ≡ final_log x
+  log_of r (Goes p) (runs_on v u o e ties) =
+      ap (λ q. (ended_build q).shared.log) e ∙ ap (λ b. b.shared.log) (ends_normally v u o)
+      ∙ ap (λ l. ended_log [] u.result l) ties.log ∙ ap (λ x. ended_log [] x p.log) ties.result
+  log_of r (Meets k p) (runs_into u o e log result) =
+      ap (λ q. (ended_build q).shared.log) e ∙ ap (λ b. b.shared.log) (ends_at_limit k u o)
+      ∙ ap (λ l. ended_log (limit_line k ∷ []) (worse u.result Failure) l) log ∙ ap (λ x. ended_log (limit_line k ∷ []) (worse x Failure) p.log) result
+
+  result_of : (r : Result) (x : Echoed) → RunsTo root site r x → (ended_build r).shared.result ≡ final_result x
+  result_of r (Goes p) (runs_on v u o e ties) =
+      ap (λ q. (ended_build q).shared.result) e ∙ ap (λ b. b.shared.result) (ends_normally v u o) ∙ ties.result
+  result_of r (Meets k p) (runs_into u o e log result) =
+      ap (λ q. (ended_build q).shared.result) e ∙ ap (λ b. b.shared.result) (ends_at_limit k u o) ∙ ap (λ x. worse x Failure) result
+
+world_is : (site : Site) (ts : List (List ℕ)) (script agents : List ℕ) → world (echo_script ts) site (StartEvent script agents ∷ []) ≡ ended_build (echo_script ts) site (ev (echo_script ts) (fuel 0) First (echo_script ts) [] (state (echo_script ts) site begun.shared first_own))
+world_is site ts script agents = one_turn 65536 (echo_script ts) site
+
+-- The log of the world of a script of these texts, and its result.
+pub world_log : (site : Site) (ts : List (List ℕ)) (script agents : List ℕ) → (world (echo_script ts) site (StartEvent script agents ∷ [])).shared.log ≡ echo_log ts
+world_log site ts script agents = ap (λ b. b.shared.log) (world_is site ts script agents) ∙ log_of (echo_script ts) site _ _ (script_runs site ts)
+
+pub world_result : (site : Site) (ts : List (List ℕ)) (script agents : List ℕ) → (world (echo_script ts) site (StartEvent script agents ∷ [])).shared.result ≡ echo_result ts
+world_result site ts script agents = ap (λ b. b.shared.result) (world_is site ts script agents) ∙ result_of (echo_script ts) site _ _ (script_runs site ts)

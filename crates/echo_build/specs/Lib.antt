@@ -1,0 +1,2 @@
+pub mod EchoBuild
+pub mod Steps

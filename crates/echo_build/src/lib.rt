@@ -1,0 +1,21 @@
+//! Builds of scripts that are `echo` steps alone, each of one plain text.
+//!
+//! [`echo_build`] gives the log and the result of the build of such texts, under every limit of this product. They are those
+//! of the world of the script, whatever its executors: `proofs/EchoWorld` has that as theorems, `world_log` and
+//! `world_result`.
+//!
+//! ```
+//! // `echo 'hi'`
+//! let mut texts = Texts::new(alloc);
+//! texts.push(Text::from_str(alloc, "hi")?)?;
+//! let built = echo_build(alloc, &texts)?;
+//! assert!(built.result == BuildResult::Success);
+//! ```
+#![tactic(auto)]
+
+mod line;
+mod progress;
+#[cfg(test)]
+mod tests;
+
+pub use progress::{Built, Progress, Step, echo_build};
