@@ -4,7 +4,7 @@ ghost use Rattle.std.specs.Prelude.{◌≡◌, ◌≢◌, ◌≤◌, ℕ, List, 
 
 use crate::control::{ControlFolder, text};
 use crate::launch::spawn;
-use crate::sync::sync_folder;
+use crate::sync::{make_durable, sync_folder};
 use device_faults::{Failed, Faults};
 use jp_io::{Source, StdSource};
 use std::fs::File;
@@ -123,7 +123,7 @@ impl<R: Files + AllocGlobal + Clock + Processes> Host for FolderHost<'_, R> {
 // after a power cut the folder still keeps the task from being started again.
 fn make_folder<R: Files + AllocGlobal>(rt: &R, order: &Order) -> io::Result<bool> {
     let control = ControlFolder::of(rt.alloc(), order)?;
-    fs::create_dir_all(rt, control.parent.as_str())?;
+    make_durable(rt, control.parent.as_str())?;
     match fs::create_dir(rt, control.path.as_str()) {
         Ok(()) => {}
         Err(error) if error.kind() == ErrorKind::AlreadyExists => return Ok(false),

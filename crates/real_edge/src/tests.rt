@@ -56,6 +56,20 @@ fn written(
 }
 
 #[test]
+fn missing_folders_are_made_and_those_that_are_there_stay(rt: HostRuntime) -> Result<(), Fail> {
+    crate::sync::make_durable(&rt, "levels/of/folders")?;
+    fs::write(&rt, "levels/of/folders/kept", "x")?;
+    crate::sync::make_durable(&rt, "levels/of/folders")?;
+    assert_eq!(rt;
+        fs::read(&rt, "levels/of/folders/kept")?.as_slice(),
+        b"x".as_slice()
+    );
+    fs::write(&rt, "levels/file", "")?;
+    assert!(rt; crate::sync::make_durable(&rt, "levels/file/below").is_err());
+    Ok(())
+}
+
+#[test]
 fn echo_through_the_shell(rt: HostRuntime) -> Result<(), Fail> {
     let order = order(&rt, "echo", "echo hi")?;
     let mut host = FolderHost::new(&rt);
