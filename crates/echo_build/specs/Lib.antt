@@ -1,2 +1,3 @@
 pub mod EchoBuild
+pub mod Echoes
 pub mod Steps

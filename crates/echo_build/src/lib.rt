@@ -4,6 +4,9 @@
 //! of the world of the script, whatever its executors: `proofs/EchoWorld` has that as theorems, `world_log` and
 //! `world_result`.
 //!
+//! [`echo_texts`] says whether a parsed script is one of such steps, and where it is not, and [`tree_build`] builds it: its
+//! contract says that log and result are those of the world of the tree.
+//!
 //! ```
 //! // `echo 'hi'`
 //! let mut texts = Texts::new(alloc);
@@ -13,9 +16,11 @@
 //! ```
 #![tactic(auto)]
 
+mod echoes;
 mod line;
 mod progress;
 #[cfg(test)]
 mod tests;
 
+pub use echoes::{Unbuilt, echo_texts, tree_build};
 pub use progress::{Built, Progress, Step, echo_build};

@@ -1,8 +1,10 @@
-//! Whole logs of builds of `echo` steps.
+//! Whole logs of builds of `echo` steps, and scripts that are none.
 
-use crate::{Built, echo_build};
+use crate::{Built, Unbuilt, echo_build, tree_build};
 use model_run::BuildResult;
+use model_syntax::{Arguments, Expr, Place, Stmt, Top, Tree};
 use model_text::{Text, Texts};
+use sqlite_items::Items;
 use std::alloc::{AllocError, Global};
 use std::test::Fail;
 
@@ -54,5 +56,45 @@ fn the_65536th_step_meets_the_limit_of_flow_nodes(rt: HostRuntime) -> Result<(),
     assert!(rt; past.log.as_slice().ends_with(end));
     // the lines of all steps before it: `[Pipeline] echo` and an empty one
     assert_eq!(rt; past.log.len(), 29 + 65_535 * 17 + end.len());
+    Ok(())
+}
+
+/// The part `name value`, in this line.
+fn call(alloc: Global, line: u32, name: &str, value: Expr) -> Result<Top, AllocError> {
+    let mut ordered = Items::new(alloc);
+    ordered.push(value)?;
+    let named = Items::new(alloc);
+    let call = Expr::Call(Text::from_str(alloc, name)?, Arguments { named, ordered });
+    Ok(Top::Statement(Place { line, column: 3 }, Stmt::Evaluate(call)))
+}
+
+fn literal(alloc: Global, text: &str) -> Result<Expr, AllocError> {
+    Ok(Expr::Literal(Text::from_str(alloc, text)?))
+}
+
+#[test]
+fn a_tree_of_echo_steps_is_built(rt: HostRuntime) -> Result<(), Fail> {
+    let alloc = rt.alloc();
+    let mut tops = Items::new(alloc);
+    tops.push(call(alloc, 1, "echo", literal(alloc, "a")?)?)?;
+    tops.push(call(alloc, 2, "echo", literal(alloc, "b")?)?)?;
+    let build = tree_build(alloc, &Tree { tops })
+        .ok()
+        .ok_or("the script is not built")?;
+    let log: &[u8] =
+        b"[Pipeline] Start of Pipeline\n[Pipeline] echo\na\n[Pipeline] echo\nb\n[Pipeline] End of Pipeline\nFinished: SUCCESS\n";
+    assert_eq!(rt; build.log.as_slice(), log);
+    Ok(())
+}
+
+#[test]
+fn the_first_part_that_is_no_echo_is_told(rt: HostRuntime) -> Result<(), Fail> {
+    let alloc = rt.alloc();
+    let mut tops = Items::new(alloc);
+    tops.push(call(alloc, 1, "echo", literal(alloc, "a")?)?)?;
+    tops.push(call(alloc, 2, "echo", Expr::Null)?)?;
+    tops.push(call(alloc, 3, "error", literal(alloc, "a")?)?)?;
+    let refusal = tree_build(alloc, &Tree { tops }).err();
+    assert_eq!(rt; refusal, Some(Unbuilt::At(Place { line: 2, column: 3 })));
     Ok(())
 }
