@@ -1,0 +1,10 @@
+pub mod Answers
+pub mod Stops
+pub mod Firsts
+pub mod Brackets
+pub mod Ranks
+pub mod Readers
+pub mod Parsing
+pub mod Targets
+pub mod Updates
+pub mod Statements
