@@ -1,5 +1,3 @@
-mod CutLemmas
-mod PartsLemmas
 mod PlaceLemmas
 mod OpenLemmas
 mod SpelledLemmas

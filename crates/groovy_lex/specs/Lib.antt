@@ -11,6 +11,3 @@ pub mod Paths
 pub mod Layout
 pub mod Raws
 pub mod Refusals
-pub mod Cut
-pub mod Parts
-pub mod Line

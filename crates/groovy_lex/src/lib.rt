@@ -8,24 +8,19 @@
 //! let tokens = lex(alloc, b"echo 'hi'")?;
 //! assert!(tokens.len() == 2);
 //! ```
-//!
-//! `line`, `cut` and `parts` are an earlier stage's reader of `echo` lines, which other crates still use.
 #![tactic(auto)]
 
 mod characters;
 mod code;
 mod comments;
 mod contents;
-mod cut;
 mod escapes;
 mod inside;
 mod lexer;
-mod line;
 mod names;
 mod newlines;
 mod numbers;
 mod open;
-mod parts;
 mod place;
 mod raw;
 mod signs;
@@ -36,5 +31,4 @@ mod tests;
 mod words;
 
 pub use lexer::{LexRefusal, lex};
-pub use line::{Line, read_line};
 pub use place::place_of;

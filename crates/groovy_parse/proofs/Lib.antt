@@ -1,2 +1,7 @@
-mod LinesLemmas
-mod SplitLemmas
+pub mod Splice
+pub mod ParameterRules
+pub mod FunctionRules
+pub mod TopRules
+pub mod ScriptRules
+pub mod Whole
+pub mod FirstFaults

@@ -5,14 +5,16 @@ use Rattle.std.proofs.lemmas.List.{append-nil, length-append}
 use Rattle.std.specs.Io.KnownBytes.{Appends, Consumes, IsAtEnd}
 use Rattle.device_faults.specs.Faults.{Rose}
 use Rattle.jp_io.specs.Whole.{AppendsPart}
-use Rattle.pipeline_model.specs.declared.fault.ScriptFault.{ScriptFault}
-use Rattle.pipeline_model.specs.EchoScript.{IsScript, script_limit}
-use Rattle.pipeline_model.specs.EchoFault.{IsFirstFault}
+use Rattle.model_syntax.specs.declared.fault.ScriptFault.{ScriptFault}
+use Rattle.model_syntax.specs.declared.tree.Tree.{Tree}
+use Rattle.model_syntax.specs.FirstFault.{FirstFault, IsFaultless}
 use Rattle.jenkinsd.specs.declared.ending.Ending.{Ending}
-use Rattle.jenkinsd.specs.declared.ending.Ending.TheVariants.{Usage, ReadFailed, TooLong, OutOfMemory, Faulty, Success}
-use Rattle.jenkinsd.specs.Ending.{ending_status, ending_text, Logs, Tells}
+use Rattle.jenkinsd.specs.declared.ending.Ending.TheVariants.{Usage, ReadFailed, TooLong, OutOfMemory, Refused, Ended}
+use Rattle.jenkinsd.specs.Ending.{ending_status, ending_text, Builds, Tells}
 use Rattle.jenkinsd.specs.Command.{IsRun}
-use Rattle.jenkinsd.specs.Ends.{Runs, success, faulty, too_long, no_memory, Decides, ran, Writes, whole, log_cut, text_cut, Ends}
+use Rattle.jenkinsd.specs.Ends.{script_limit, Runs, built, faulty, not_built, too_long, no_memory, Decides, ran, Writes, whole, log_cut, text_cut, Ends}
+use Rattle.jenkinsd.specs.Statuses.{IsEnded}
+use Rattle.jenkinsd.specs.Texts.{fault_line}
 
 -- a text that was written whole
 pub written_whole : {old new : Option (List ℕ)} {before after : ℕ} (text told : List ℕ) (decided status : ℕ) → told ≡ text → status ≡ decided
@@ -21,21 +23,21 @@ written_whole {old} {new} {before} {after} text told decided status told-is stat
     subst (λ s. Writes old new before after text decided s) (sym status-is) (whole (subst (Appends old new) told-is appends) calm)
 
 -- a log that was cut short
-pub written_log : {old new : Option (List ℕ)} {before after : ℕ} (text told : List ℕ) (decided status : ℕ) → told ≡ text → status ≡ decided → status ≡ 0
+pub written_log : {old new : Option (List ℕ)} {before after : ℕ} (text told : List ℕ) (decided : ℕ) → told ≡ text → IsEnded decided
     → AppendsPart old new told → Rose before after → Writes old new before after text decided 7
-written_log {old} {new} {before} {after} text told decided status told-is status-is zero part rose =
-    subst (λ s. Writes old new before after text s 7) (sym zero ∙ status-is) (log_cut (subst (AppendsPart old new) told-is part) rose)
+written_log {old} {new} text told decided told-is ended part rose = log_cut (subst (AppendsPart old new) told-is part) rose ended
 
 -- another text that was cut short
-pub written_part : {old new : Option (List ℕ)} {before after : ℕ} (text told : List ℕ) (decided status : ℕ) → told ≡ text → status ≡ decided → ¬ (status ≡ 0)
+pub written_part : {old new : Option (List ℕ)} {before after : ℕ} (text told : List ℕ) (decided status : ℕ) → told ≡ text → status ≡ decided → ¬ (IsEnded decided)
     → AppendsPart old new told → Rose before after → Writes old new before after text decided status
 written_part {old} {new} {before} {after} text told decided status told-is status-is other part rose =
-    subst (λ s. Writes old new before after text s status) status-is (text_cut (subst (AppendsPart old new) told-is part) rose other)
+    subst (λ s. Writes old new before after text decided s) (sym status-is) (text_cut (subst (AppendsPart old new) told-is part) rose other)
 
 -- a longer script is too long as well, and want of memory can come at it too
-runs_longer : {script longer : List ℕ} {status : ℕ} {text : List ℕ} → script_limit < length script → script_limit < length longer → Runs script status text → Runs longer status text
-runs_longer long longer (success fits s) = absurd (omega (arith, long, fits))
+pub runs_longer : {script longer : List ℕ} {status : ℕ} {text : List ℕ} → script_limit < length script → script_limit < length longer → Runs script status text → Runs longer status text
+runs_longer long longer (built fits n e b) = absurd (omega (arith, long, fits))
 runs_longer long longer (faulty fits f) = absurd (omega (arith, long, fits))
+runs_longer long longer (not_built fits n u) = absurd (omega (arith, long, fits))
 runs_longer long longer (too_long l) = too_long longer
 runs_longer long longer no_memory = no_memory
 
@@ -56,25 +58,25 @@ read_runs {words} {before} {after} {status} {text} (Some all) (Some more) bytes 
 pub not_past : (n m : ℕ) → (n < m → ⊥) → m ≤ n
 not_past n m within = elim (cases_lt n m) [ inl past ↦ absurd (within past) | inr le ↦ le ]
 
--- the build of a script of the form
-pub runs_logged : {script : List ℕ} {texts : List (List ℕ)} (ending : Ending) → length script ≤ script_limit → IsScript script texts → Logs texts ending
+-- a script without a fault
+pub runs_built : {script : List ℕ} {tree : Tree} (ending : Ending) → length script ≤ script_limit → IsFaultless script tree → Builds tree ending
     → Runs script (ending_status ending) (ending_text ending)
-runs_logged {script} {texts} (Success log) fits s is = subst (Runs script 0) (sym is) (success fits s)
-runs_logged OutOfMemory fits s is = no_memory
-runs_logged Usage fits s is = absurd is
-runs_logged ReadFailed fits s is = absurd is
-runs_logged TooLong fits s is = absurd is
-runs_logged (Faulty text) fits s is = absurd is
+runs_built (Ended build) fits n is = built fits n is.0 is.1
+runs_built {script} (Refused text) fits n is = subst (Runs script 4) (sym is.2) (not_built fits n is.1)
+runs_built OutOfMemory fits n is = no_memory
+runs_built Usage fits n is = absurd is
+runs_built ReadFailed fits n is = absurd is
+runs_built TooLong fits n is = absurd is
 
 -- a script with a fault
-pub runs_faulty : {script : List ℕ} {fault : ScriptFault} (ending : Ending) → length script ≤ script_limit → IsFirstFault script fault → Tells fault ending
+pub runs_faulty : {script : List ℕ} {fault : ScriptFault} (ending : Ending) → length script ≤ script_limit → FirstFault script fault → Tells (fault_line fault) ending
     → Runs script (ending_status ending) (ending_text ending)
-runs_faulty {script} (Faulty text) fits f is = subst (Runs script 4) (sym is) (faulty fits f)
+runs_faulty {script} (Refused text) fits f is = subst (Runs script 4) (sym is) (faulty fits f)
 runs_faulty OutOfMemory fits f is = no_memory
 runs_faulty Usage fits f is = absurd is
 runs_faulty ReadFailed fits f is = absurd is
 runs_faulty TooLong fits f is = absurd is
-runs_faulty (Success log) fits f is = absurd is
+runs_faulty (Ended build) fits f is = absurd is
 
 -- what was decided, and what became of its text
 pub ends_by : {words : List (List ℕ)} {left old new : Option (List ℕ)} {a b c d decided status : ℕ} {text : List ℕ} → Decides words left a b decided text

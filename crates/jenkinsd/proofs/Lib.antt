@@ -1,4 +1,4 @@
 mod CommandLemmas
-mod LogLemmas
+mod StatusLemmas
 mod EndsLemmas
 mod CausesLemmas

@@ -1,28 +1,31 @@
 -- How a call of the controller ends: its status and what it writes.
-use Rattle.std.specs.Prelude.{◌≡◌, ℕ, ◌<◌, ◌≤◌, List, [], length, Option, IfSome}
+use Rattle.std.specs.Prelude.{◌≡◌, ℕ, ◌<◌, ◌≤◌, List, length, Option, IfSome}
 use Rattle.std.specs.Io.KnownBytes.{Appends}
 use Rattle.device_faults.specs.Faults.{Rose}
 use Rattle.jp_io.specs.Whole.{AppendsPart}
-use Rattle.pipeline_model.specs.declared.event.Event.TheVariants.{Start as Begin}
-use Rattle.pipeline_model.specs.declared.fault.ScriptFault.{ScriptFault}
-use Rattle.pipeline_model.specs.declared.tree.Tree.{Tree}
-use Rattle.pipeline_model.specs.EchoScript.{IsScript, script_limit}
-use Rattle.pipeline_model.specs.EchoFault.{IsFirstFault}
-use Rattle.pipeline_model.specs.LogText.{log_text}
-use Rattle.pipeline_model.specs.World.{world}
+use Rattle.model_syntax.specs.declared.fault.ScriptFault.{ScriptFault}
+use Rattle.model_syntax.specs.declared.place.Place.{Place}
+use Rattle.model_syntax.specs.declared.tree.Tree.{Tree}
+use Rattle.model_syntax.specs.FirstFault.{FirstFault, IsFaultless}
+use Rattle.model_run.specs.declared.result.BuildResult.{BuildResult}
+use Rattle.echo_build.specs.Echoes.{FirstUnbuilt, IsBuildOf, IsEchoScript}
 use Rattle.jenkinsd.specs.Command.{IsRun}
-use Rattle.jenkinsd.specs.Texts.{usage_text, read_failed_text, out_of_memory_text, too_long_text, fault_text}
+use Rattle.jenkinsd.specs.Statuses.{result_status, IsEnded}
+use Rattle.jenkinsd.specs.Texts.{usage_text, read_failed_text, out_of_memory_text, too_long_text, fault_line, not_built_line}
 
--- the log text of the world of a script with these texts, after the event that begins its build
-abbrev pub log_of : List ℕ → List (List ℕ) → List ℕ
-log_of script texts = let tree : Tree = record { texts = texts } in log_text (world tree (Begin script [])).log
+-- the most bytes of a script
+abbrev pub script_limit : ℕ
+script_limit = 1048576
 
 -- How a script that was read ends, by its bytes: the status, and the text that is to be written.
 pub data Runs (script : List ℕ) : ℕ → List ℕ → Type 0 where
-  -- its build ends with SUCCESS
-  success : {texts : List (List ℕ)} → length script ≤ script_limit → IsScript script texts → Runs script 0 (log_of script texts)
+  -- its build has ended: the log and the result are those of the world of its tree
+  built : {tree : Tree} {log : List ℕ} {result : BuildResult} → length script ≤ script_limit → IsFaultless script tree → IsEchoScript tree → IsBuildOf tree log result
+      → Runs script (result_status result) log
   -- it has a fault, and this is its first
-  faulty : {fault : ScriptFault} → length script ≤ script_limit → IsFirstFault script fault → Runs script 4 (fault_text fault)
+  faulty : {fault : ScriptFault} → length script ≤ script_limit → FirstFault script fault → Runs script 4 (fault_line fault)
+  -- it has none, and its first part that is no `echo` of one plain text stands at this place
+  not_built : {tree : Tree} {place : Place} → length script ≤ script_limit → IsFaultless script tree → FirstUnbuilt tree.tops place → Runs script 4 (not_built_line place)
   -- it is too long
   too_long : script_limit < length script → Runs script 4 too_long_text
   -- want of memory can come at any time
@@ -45,8 +48,8 @@ pub data Decides (words : List (List ℕ)) (left : Option (List ℕ)) (before af
 -- makes the status 7, and any other text leaves it as it is.
 pub data Writes (old new : Option (List ℕ)) (before after : ℕ) (text : List ℕ) : ℕ → ℕ → Type 0 where
   whole : {status : ℕ} → Appends old new text → after ≡ before → Writes old new before after text status status
-  log_cut : AppendsPart old new text → Rose before after → Writes old new before after text 0 7
-  text_cut : {status : ℕ} → AppendsPart old new text → Rose before after → ¬ (status ≡ 0) → Writes old new before after text status status
+  log_cut : {status : ℕ} → AppendsPart old new text → Rose before after → IsEnded status → Writes old new before after text status 7
+  text_cut : {status : ℕ} → AppendsPart old new text → Rose before after → ¬ (IsEnded status) → Writes old new before after text status status
 
 -- how a call ends: what was decided, and what became of its text
 pub record Ends (words : List (List ℕ)) (left old new : Option (List ℕ)) (source_before source_after sink_before sink_after status : ℕ) : Type 0 where

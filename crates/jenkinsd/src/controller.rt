@@ -1,15 +1,16 @@
 //! The top call.
 ghost use Rattle.std.specs.Prelude.{map, string_bytes};
 ghost use Rattle.jenkinsd.specs.Causes.{Causes};
-ghost use Rattle.jenkinsd.specs.Ending.{ending_status, ending_text, Logs, Tells};
+ghost use Rattle.jenkinsd.specs.Ending.{ending_status, ending_text, Builds, Tells};
 ghost use Rattle.jenkinsd.specs.Ends.{Decides, Ends, Runs};
+ghost use Rattle.jenkinsd.specs.Texts.{fault_line, not_built_line};
 
 use crate::command::run_folder;
 use crate::ending::{Ending, tell};
-use crate::log::log_bytes;
+use echo_build::{Unbuilt, tree_build};
 use groovy_parse::{SCRIPT_LIMIT, parse};
 use jp_io::{ReadFault, Sink, Source, read_up_to};
-use pipeline_model::{ScriptFault, ScriptRefusal, Tree};
+use model_syntax::{Place, ScriptFault, ScriptRefusal, Tree};
 use std::alloc::Global;
 
 /// Runs the command that the words give, and answers the exit status of the program.
@@ -22,10 +23,13 @@ use std::alloc::Global;
 /// |---|---|---|
 /// | 2 | exactly where the words are no command | how to use the program |
 /// | 6 | only where the script source counted a fault | `controller: read failed` |
-/// | 4 | exactly where the script has a fault or is too long | the place of its first fault |
+/// | 4 | exactly where the script has a fault, is too long, or has a part that is not built yet | the place of its first fault, or of the first such part |
 /// | 7 | only where the sink counted a fault | a part of the log, from its beginning |
-/// | 0 | exactly else | the log of the one run of the script |
+/// | 0, 1, 10, 11, 12 | exactly where the build ended with SUCCESS, FAILURE, UNSTABLE, NOT_BUILT, ABORTED | the log |
 /// | 8 | want of memory | `controller: out of memory` |
+///
+/// The parts at the top of a script that are built are `echo` steps of one plain text each. The log and the result are those
+/// of the world of the script's tree after its `Start`; a build that meets a limit ends there with FAILURE.
 ///
 /// Each yields to those above it, and all but 2 to want of memory. `rt` is the runtime of the program.
 pub fn controller<R, S: Source, K: Sink>(
@@ -64,30 +68,42 @@ fn run(alloc: Global, script: &[u8]) -> Ending
     ensures { Runs script.now (ending_status result) (ending_text result) }
 {
     match parse(alloc, script) {
-        Ok(tree) => logged(alloc, &tree),
+        Ok(tree) => build(alloc, &tree),
         Err(ScriptRefusal::Fault(fault)) => faulty(alloc, fault),
         Err(ScriptRefusal::TooLong) => Ending::TooLong,
         Err(ScriptRefusal::Memory) => Ending::OutOfMemory,
     }
 }
 
-/// The ending of a build of this tree.
-fn logged(alloc: Global, tree: &Tree) -> Ending
-    ensures { Logs tree.now.texts result }
+/// The ending of the build of this tree.
+fn build(alloc: Global, tree: &Tree) -> Ending
+    ensures { Builds tree.now result }
 {
-    match log_bytes(alloc, tree) {
-        Ok(log) => Ending::Success(log),
-        Err(_) => Ending::OutOfMemory,
+    match tree_build(alloc, tree) {
+        Ok(built) => Ending::Ended(built),
+        Err(Unbuilt::At(place)) => not_built(alloc, place),
+        Err(Unbuilt::Memory) => Ending::OutOfMemory,
     }
 }
 
 /// The ending of a script with this first fault.
 fn faulty(alloc: Global, fault: ScriptFault) -> Ending
-    ensures { Tells fault result }
+    ensures { Tells (fault_line fault) result }
 {
     let ScriptFault { line, column, kind } = fault;
     match format!(in alloc; "Jenkinsfile:{line}:{column}: {kind}\n") {
-        Ok(text) => Ending::Faulty(text),
+        Ok(text) => Ending::Refused(text),
+        Err(_) => Ending::OutOfMemory,
+    }
+}
+
+/// The ending of a script whose first part that is not built yet stands at this place.
+fn not_built(alloc: Global, place: Place) -> Ending
+    ensures { Tells (not_built_line place) result }
+{
+    let Place { line, column } = place;
+    match format!(in alloc; "Jenkinsfile:{line}:{column}: not built yet\n") {
+        Ok(text) => Ending::Refused(text),
         Err(_) => Ending::OutOfMemory,
     }
 }

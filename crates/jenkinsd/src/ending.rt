@@ -1,9 +1,12 @@
 //! How a call of the controller ends, and its text.
-ghost use Rattle.std.specs.Prelude.{◌≡◌};
+ghost use Rattle.std.specs.Prelude.{◌≡◌, ◌↔◌, IsTrue};
 ghost use Rattle.jenkinsd.specs.Ending.{ending_status, ending_text};
 ghost use Rattle.jenkinsd.specs.Ends.{Writes};
+ghost use Rattle.jenkinsd.specs.Statuses.{IsEnded, result_status};
 
+use echo_build::Built;
 use jp_io::{Sink, write_all};
+use model_run::BuildResult;
 
 /// How a call of the controller ends.
 #[derive(Debug, Drop)]
@@ -14,10 +17,10 @@ pub enum Ending {
     ReadFailed,
     /// The script has more bytes than it may have.
     TooLong,
-    /// The script has a fault, and this text tells its place and kind.
-    Faulty(String),
-    /// The build ended with SUCCESS, and this is its log.
-    Success(Vec<u8>),
+    /// The script has a fault or a part that is not built yet, and this text tells its place.
+    Refused(String),
+    /// The build has ended.
+    Ended(Built),
     /// There was no memory.
     OutOfMemory,
 }
@@ -28,9 +31,9 @@ impl Ending {
         ensures { result ≡ ending_status self.now }
     {
         match self {
-            Ending::Success(_) => 0,
+            Ending::Ended(build) => result_status(build.result),
             Ending::Usage => 2,
-            Ending::Faulty(_) | Ending::TooLong => 4,
+            Ending::Refused(_) | Ending::TooLong => 4,
             Ending::ReadFailed => 6,
             Ending::OutOfMemory => 8,
         }
@@ -41,13 +44,36 @@ impl Ending {
         ensures { result.now ≡ ending_text self.now }
     {
         match self {
-            Ending::Success(log) => log,
+            Ending::Ended(build) => build.log.as_slice(),
             Ending::Usage => USAGE.as_bytes(),
-            Ending::Faulty(text) => text.as_bytes(),
+            Ending::Refused(text) => text.as_bytes(),
             Ending::TooLong => b"Jenkinsfile: longer than 1048576 bytes\n",
             Ending::ReadFailed => b"controller: read failed\n",
             Ending::OutOfMemory => b"controller: out of memory\n",
         }
+    }
+
+    /// Whether its text is the log of a build.
+    fn has_log(&self) -> bool
+        ensures { IsTrue result ↔ IsEnded (ending_status self.now) }
+    {
+        match self {
+            Ending::Ended(_) => true,
+            _ => false,
+        }
+    }
+}
+
+/// The exit status of a build with this result.
+fn result_status(ended: BuildResult) -> u8
+    ensures { result ≡ result_status ended }
+{
+    match ended {
+        BuildResult::Success => 0,
+        BuildResult::Failure => 1,
+        BuildResult::Unstable => 10,
+        BuildResult::NotBuilt => 11,
+        BuildResult::Aborted => 12,
     }
 }
 
@@ -62,9 +88,8 @@ const WRITE_FAILED: u8 = 7;
 pub fn tell<K: Sink>(out: &mut K, ending: &Ending) -> u8
     ensures { Writes (K.written out.old) (K.written out.new) (K.faults out.old) (K.faults out.new) (ending_text ending.now) (ending_status ending.now) result }
 {
-    let status = ending.status();
     match write_all(out, ending.text()) {
-        Err(_) if status == 0 => WRITE_FAILED,
-        _ => status,
+        Err(_) if ending.has_log() => WRITE_FAILED,
+        _ => ending.status(),
     }
 }

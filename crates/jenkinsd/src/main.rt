@@ -7,7 +7,6 @@
 mod command;
 mod controller;
 mod ending;
-mod log;
 
 use command::run_folder;
 use controller::controller;

@@ -1,9 +1,3 @@
-pub mod EchoLine
-pub mod EchoScript
-pub mod EchoFault
-pub mod Result
-pub mod World
-pub mod LogText
 -- what a script of the whole language is
 pub use Rattle.model_syntax.specs.Source
 pub use Rattle.model_syntax.specs.Places
@@ -44,7 +38,7 @@ pub use Rattle.model_values.specs.Throws
 pub use Rattle.model_values.specs.Truth
 pub use Rattle.model_values.specs.Types
 pub use Rattle.model_values.specs.Walks
--- what a build is and does; `Builds` and `BuildLogText` are its world and its log beside those of one step
+-- what a build is and does
 pub use Rattle.model_run.specs.RunTypes
 pub use Rattle.model_run.specs.ValueTypes
 pub use Rattle.model_run.specs.GraphText
@@ -74,5 +68,5 @@ pub use Rattle.model_run.specs.Forms
 pub use Rattle.model_run.specs.Meaning
 pub use Rattle.model_run.specs.Below
 pub use Rattle.model_run.specs.Threads
-pub use Rattle.model_run.specs.LogText as BuildLogText
-pub use Rattle.model_run.specs.World as Builds
+pub use Rattle.model_run.specs.LogText
+pub use Rattle.model_run.specs.World

@@ -26,35 +26,85 @@ const RUN: [&str; 3] = ["controller", "run", "demo"];
 
 const USAGE: &str = "usage: controller run|resume|log|graph|check DIR\n       controller gen N\n";
 
+const HI: &str =
+    "[Pipeline] Start of Pipeline\n[Pipeline] echo\nhi\n[Pipeline] End of Pipeline\nFinished: SUCCESS\n";
+
+const EMPTY: &str = "[Pipeline] Start of Pipeline\n[Pipeline] End of Pipeline\nFinished: SUCCESS\n";
+
 #[test]
-fn scripts_give_these_logs_and_faults(rt: HostRuntime) -> Result<(), Fail> {
-    let hi =
-        "[Pipeline] Start of Pipeline\n[Pipeline] echo\nhi\n[Pipeline] End of Pipeline\nFinished: SUCCESS\n";
-    let cases: [(&[u8], u8, &str); 9] = [
-        (b"echo 'hi'", 0, hi),
-        (b"echo 'hi'\n", 0, hi),
-        (b" \t echo \t'hi' \t\n\t \n", 0, hi),
-        (
-            b"",
-            0,
-            "[Pipeline] Start of Pipeline\n[Pipeline] End of Pipeline\nFinished: SUCCESS\n",
-        ),
-        (b"echo 'a'\nfoo", 4, "Jenkinsfile:2:1: not built yet\n"),
-        (b"echo 'hi'\r\n", 4, "Jenkinsfile:1:1: not built yet\n"),
-        (b"echo '\xc3'", 4, "Jenkinsfile:1:1: not built yet\n"),
-        (b"echo \"hi\"", 4, "Jenkinsfile:1:1: not built yet\n"),
-        (
-            b"\n\n\n\n\n\n\n\n\n\n\necho 'hi",
-            4,
-            "Jenkinsfile:12:1: not built yet\n",
-        ),
+fn every_spelling_of_echo_steps_is_built(rt: HostRuntime) -> Result<(), Fail> {
+    let cases: [(&[u8], &str); 10] = [
+        (b"echo 'hi'", HI),
+        (b"echo 'hi'\n", HI),
+        (b" \t echo \t'hi' \t\n\t \n", HI),
+        (b"echo 'hi'\r\n", HI),
+        (b"echo('hi');", HI),
+        (b"echo \"hi\"", HI),
+        (b"echo '''hi'''", HI),
+        (b"// a line\necho /* a word */ '\\u0068i'", HI),
+        (b"", EMPTY),
+        (b"\n;\n", EMPTY),
     ];
-    for (script, status, text) in cases {
-        let (answer, written) = call(rt.alloc(), &RUN, script, &[], &[])?;
-        assert_eq!(rt; answer, status, "{script:?}");
-        assert_eq!(rt; written.as_slice(), text.as_bytes(), "{script:?}");
+    for (script, log) in cases {
+        let (status, written) = call(rt.alloc(), &RUN, script, &[], &[])?;
+        assert_eq!(rt; status, 0, "{script:?}");
+        assert_eq!(rt; written.as_slice(), log.as_bytes(), "{script:?}");
     }
-    assert_eq!(rt; hi.len(), 93);
+    assert_eq!(rt; HI.len(), 93);
+    Ok(())
+}
+
+#[test]
+fn the_first_fault_is_told(rt: HostRuntime) -> Result<(), Fail> {
+    let cases: [(&[u8], &str); 9] = [
+        (b"echo 'a", "1:6: unended text"),
+        (b"\n\n\n\n\n\n\n\n\n\n\necho 'hi", "12:6: unended text"),
+        (b"echo '\xc3'", "1:7: not UTF-8"),
+        (b"if (x y) { }", "1:7: unexpected token"),
+        (b"foo bar baz", "1:9: unexpected token"),
+        (b"echo \"${2147483648}\"", "1:9: bad number"),
+        (b"if (x) {", "1:9: unexpected end"),
+        (b"def x = 1\ndef x = 2", "2:5: name already declared"),
+        (b"foo\nbreak", "2:1: break outside a loop"),
+    ];
+    for (script, fault) in cases {
+        let (status, written) = call(rt.alloc(), &RUN, script, &[], &[])?;
+        let line = format!(in rt.alloc(); "Jenkinsfile:{fault}\n")?;
+        assert_eq!(rt; status, 4, "{script:?}");
+        assert_eq!(rt; written.as_slice(), line.as_bytes(), "{script:?}");
+    }
+    Ok(())
+}
+
+#[test]
+fn the_first_part_that_is_not_built_is_told(rt: HostRuntime) -> Result<(), Fail> {
+    let cases: [(&[u8], &str); 6] = [
+        (b"echo 'a'\nfoo", "2:1: not built yet"),
+        (b"echo 'a'; def x = 1; foo", "1:11: not built yet"),
+        (b"def f() { }\necho 'a'", "1:1: not built yet"),
+        (b"  echo \"${1}\"", "1:3: not built yet"),
+        (b"echo 'a', 'b'", "1:1: not built yet"),
+        (b"echo message: 'a'", "1:1: not built yet"),
+    ];
+    for (script, place) in cases {
+        let (status, written) = call(rt.alloc(), &RUN, script, &[], &[])?;
+        let line = format!(in rt.alloc(); "Jenkinsfile:{place}\n")?;
+        assert_eq!(rt; status, 4, "{script:?}");
+        assert_eq!(rt; written.as_slice(), line.as_bytes(), "{script:?}");
+    }
+    Ok(())
+}
+
+#[test]
+fn a_build_that_meets_a_limit_ends_with_1(rt: HostRuntime) -> Result<(), Fail> {
+    let mut script = Vec::new(rt.alloc());
+    for _ in 0..65_536 {
+        script.extend_from_slice(b"echo ''\n")?;
+    }
+    let (status, written) = call(rt.alloc(), &RUN, &script, &[], &[])?;
+    assert_eq!(rt; status, 1);
+    let end: &[u8] = b"[Pipeline] End of Pipeline\nLimit reached: flow nodes\nFinished: FAILURE\n";
+    assert!(rt; written.as_slice().ends_with(end));
     Ok(())
 }
 
