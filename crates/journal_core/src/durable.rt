@@ -2,10 +2,11 @@
 ghost use Rattle.std.specs.Prelude.{◌≡◌, ◌⊎◌, ◌≤◌, ◌<◌, ◌+◌, ◌^◌, max, List, ℕ, length, IfOk, OnOk, IsErr, Some};
 ghost use Rattle.jp_disk.specs.Images.{IsOnlyImage, IsTornWrite, after_write};
 ghost use Rattle.jp_disk.specs.Moments.{AtEachMoment};
-ghost use Rattle.jp_disk.specs.Faults.{HasCause};
+ghost use Rattle.device_faults.specs.Faults.{HasCause};
 ghost use Rattle.journal_core.specs.Moments.{SinceSync};
 
-use jp_disk::{Disk, Failed};
+use device_faults::Failed;
+use jp_disk::Disk;
 
 /// Syncs, and answers the length of the file.
 pub fn settle<D: Disk>(disk: &mut D) -> Result<u64, Failed>

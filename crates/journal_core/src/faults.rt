@@ -1,5 +1,5 @@
 // What the calls of a journal answer where they fail.
-use jp_disk::Failed;
+use device_faults::Failed;
 use std::alloc::{AllocError, AllocFailed};
 use thiserror::Error;
 

@@ -1,12 +1,13 @@
 // The gate at a place of the file, and the length behind it, in one read.
 ghost use Rattle.std.specs.Prelude.{◌≡◌, ◌≤◌, ◌<◌, ◌+◌, ◌^◌, List, ℕ, length, take, drop, OnOk, IfOk, Some};
 ghost use Rattle.byteorder.specs.Endian.{big_bytes, big_number};
-ghost use Rattle.jp_disk.specs.Faults.{HasCause};
+ghost use Rattle.device_faults.specs.Faults.{HasCause};
 ghost use Rattle.journal_core.specs.Moments.{OnlyReads};
 ghost use Rattle.journal_core.specs.Finding.{IsHead, HeadEnds};
 
 use byteorder::{BigEndian, ByteOrder};
-use jp_disk::{Disk, Failed};
+use device_faults::Failed;
+use jp_disk::Disk;
 
 /// What stands at a place: a closed gate, an open one whose record does not end in the file, or one with a record.
 pub enum Head {

@@ -2,7 +2,7 @@
 ghost use Rattle.std.specs.Prelude.{◌≡◌, ◌⊎◌, ◌≤◌, ◌<◌, ◌+◌, ◌^◌, ◌++◌, [], ◌∷◌, List, ℕ, length, true, false, IfOk, IfErr, OnOk, Some, MatchResult, slice_get, IsErrOf};
 ghost use Rattle.std.specs.List.{All};
 ghost use Rattle.jp_disk.specs.Moments.{AtEachMoment};
-ghost use Rattle.jp_disk.specs.Faults.{Rose};
+ghost use Rattle.device_faults.specs.Faults.{Rose};
 ghost use Rattle.journal_core.specs.Records.{records, Has, HasWithOrWithout};
 ghost use Rattle.journal_core.specs.State.{Holds};
 ghost use Rattle.journal_core.specs.Moments.{OnlyReads, SinceSync};

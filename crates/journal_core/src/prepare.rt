@@ -2,7 +2,7 @@
 ghost use Rattle.std.specs.Prelude.{◌≡◌, ◌⊎◌, ◌≤◌, ◌<◌, ◌+◌, List, [], ℕ, length, OnOk, Some, IsErrOf};
 ghost use Rattle.jp_disk.specs.Images.{IsOnlyImage};
 ghost use Rattle.jp_disk.specs.Moments.{AtEachMoment};
-ghost use Rattle.jp_disk.specs.Faults.{Rose};
+ghost use Rattle.device_faults.specs.Faults.{Rose};
 ghost use Rattle.journal_core.specs.Records.{records, Has};
 ghost use Rattle.journal_core.specs.State.{Stores};
 ghost use Rattle.journal_core.specs.Moments.{SinceSync};

@@ -1,13 +1,14 @@
 // A record, and how it is written.
 ghost use Rattle.std.specs.Prelude.{◌≡◌, ◌≤◌, ◌<◌, ◌+◌, ◌^◌, ◌++◌, [], ◌∷◌, List, ℕ, length, IfOk, OnOk};
 ghost use Rattle.jp_disk.specs.Moments.{AtEachMoment};
-ghost use Rattle.jp_disk.specs.Faults.{HasCause};
+ghost use Rattle.device_faults.specs.Faults.{HasCause};
 ghost use Rattle.journal_core.specs.Records.{body, HasWithOrWithout};
 ghost use Rattle.journal_core.specs.State.{Stores};
 
 use crate::durable::write_durably;
 use byteorder::{BigEndian, ByteOrder};
-use jp_disk::{Disk, Failed};
+use device_faults::Failed;
+use jp_disk::Disk;
 use std::alloc::{AllocError, Global};
 
 /// Where a record stands: the place of its gate in the file, and the number of bytes of its payload.

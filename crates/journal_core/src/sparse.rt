@@ -2,7 +2,8 @@
 // file, which reads as 0 from there on.
 ghost use Rattle.std.specs.Prelude.{⊤, None};
 
-use jp_disk::{Disk, Failed};
+use device_faults::Failed;
+use jp_disk::Disk;
 
 #[derive(Drop)]
 pub struct SparseDisk {

@@ -2,7 +2,7 @@
 ghost use Rattle.std.specs.Prelude.{◌≡◌, ◌≤◌, ◌<◌, ◌+◌, ◌^◌, List, ℕ, length, IfOk, Some, IsErrOf};
 ghost use Rattle.std.specs.List.{All};
 ghost use Rattle.jp_disk.specs.Moments.{AtEachMoment};
-ghost use Rattle.jp_disk.specs.Faults.{Rose};
+ghost use Rattle.device_faults.specs.Faults.{Rose};
 ghost use Rattle.journal_core.specs.Moments.{OnlyReads};
 ghost use Rattle.journal_core.specs.Finding.{WalkFinds, LoadFinds};
 

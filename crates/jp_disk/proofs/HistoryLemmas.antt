@@ -1,16 +1,16 @@
 -- What one call more says of the medium, the images and the faults.
 use Rattle.std.proofs.Common.{◌≡◌, ◌⊎◌, inl, inr, ⊎_elim, ◌≤◌, ◌+◌, ◌-◌, ◌^◌, ℕ, Bool, true, false, List, [], ◌∷◌, ◌++◌, length, Some, Result, Ok, Err, refl, sym, ◌∙◌, ap, subst, rules, arith}
-use Rattle.std.specs.Prelude.{OnOk, OnErr, IsErr, is_ok, max}
+use Rattle.std.specs.Prelude.{OnOk, OnErr, IsErr, IsOk, is_ok, max}
 use Rattle.std.proofs.lemmas.Bool.{cases_lt}
 use Rattle.std.proofs.lemmas.List.{places}
 use Rattle.jp_disk.specs.Images.{IsTornWrite, ImagesStep, IsOnlyImage, WritesNothing, after_write}
 use Rattle.jp_disk.specs.Moments.{TimePasses}
-use Rattle.jp_disk.specs.Faults.{HasCause, Rose}
+use Rattle.device_faults.specs.Faults.{Rose, HasCause}
 use Rattle.jp_disk.specs.Medium.{Medium, MayLeave, LeftSince, at_rest, after, after_all}
 use Rattle.jp_disk.specs.ImageLaws.{same_image, whole_write}
 use Rattle.jp_disk.specs.MediumLaws.{reads_image}
 use Rattle.jp_disk.specs.History.{History, medium, images_since, counted, IsOneCall}
-use Rattle.jp_disk.specs.declared.disk.Failed.{Failed}
+use Rattle.device_faults.specs.declared.faults.Failed.{Failed}
 use Rattle.jp_disk.specs.declared.call.Call.{Call}
 use Rattle.jp_disk.specs.declared.call.Call.TheVariants.{Write, Sync}
 use Rattle.jp_disk.proofs.ImageLemmas.{image_before, only_same}
@@ -48,9 +48,9 @@ time_passes call old new done is =
     (λ refused. from old.calls refused.calls (nothing_passes old.calls (at_rest old.first)))
     is.kept
 
-pub has_cause : {T : Type 0} (call : Bool → Call) (old new : History) (done : Bool) (result : Result T Failed) → (IsErr result → done ≡ false) → IsOneCall call old new done → HasCause old.faults new.faults result
-has_cause call old new true result why is = record { never_falls = omega (arith, is.faults); failed = λ failed. absurd (cc (why failed)) }
-has_cause call old new false result why is = record { never_falls = omega (arith, is.faults); failed = λ failed. rose old.faults new.faults is.faults }
+pub has_cause : {T : Type 0} (call : Bool → Call) (old new : History) (done : Bool) (result : Result T Failed) → (IsErr result → done ≡ false) → (IsOk result → done ≡ true) → IsOneCall call old new done → HasCause old.faults new.faults result
+has_cause call old new true result undone is_done is = record { never_falls = omega (arith, is.faults); calm = λ ok. is.faults; failed = λ failed. absurd (cc (undone failed)) }
+has_cause call old new false result undone is_done is = record { never_falls = omega (arith, is.faults); calm = λ ok. absurd (cc (is_done ok)); failed = λ failed. rose old.faults new.faults is.faults }
   where
     rose : (before now : ℕ) → now ≡ counted before → Rose before now
     rose before now is = ⊎_elim (λ lt. inl (omega (arith, lt, is))) (λ le. inr (omega (arith, le, is))) (cases_lt before (2 ^ 64 - 1))
@@ -101,6 +101,10 @@ module _ (old new : History) (at : ℕ) (bytes : List ℕ) (done : Bool) (is : I
 pub not_done : {T E : Type 0} (result : Result T E) → IsErr result → is_ok result ≡ false
 not_done (Ok x) failed = absurd (cc failed)
 not_done (Err e) failed = refl
+
+pub was_done : {T E : Type 0} (result : Result T E) → IsOk result → is_ok result ≡ true
+was_done (Ok x) ok = refl
+was_done (Err e) ok = absurd (cc ok)
 
 pub on_ok : {T E : Type 0} (result : Result T E) (P : Type 0) → (is_ok result ≡ true → P) → OnOk result P
 on_ok (Ok x) P then = then refl

@@ -1,7 +1,6 @@
 pub mod Images
 pub mod ImageLaws
 pub mod Moments
-pub mod Faults
 pub mod Reading
 pub mod Medium
 pub mod MediumLaws

@@ -2,15 +2,10 @@
 ghost use Rattle.std.specs.Prelude.{◌≡◌, ◌+◌, ◌^◌, ◌<◌, ◌≤◌, List, ℕ, length, max, Option, IfOk, IfSome, IsSomeAnd, OnOk, OnErr, Some};
 ghost use Rattle.jp_disk.specs.Images.{after_write, ImagesStep, IsOnlyImage, IsTornWrite, WritesNothing};
 ghost use Rattle.jp_disk.specs.Moments.{TimePasses};
-ghost use Rattle.jp_disk.specs.Faults.{HasCause};
+ghost use Rattle.device_faults.specs.Faults.{HasCause};
 ghost use Rattle.jp_disk.specs.Reading.{HasRead, IsReadCount};
 
-use thiserror::Error;
-
-/// A call that the disk did not do, or of which it does not know whether it did it. The disk's count of faults rose.
-#[derive(Clone, Copy, Debug, PartialEq, Eq, Error)]
-#[error("the disk failed")]
-pub struct Failed;
+use device_faults::Failed;
 
 /// One file on a disk, of at most `u64::MAX` bytes, which nobody else writes.
 ///

@@ -13,8 +13,8 @@
 //! ```
 //!
 //! What is promised: a crash leaves only what the trait's clauses allow (`image` of `MemoryDisk::crash`); the calls
-//! that are listed fail, and no others but for want of memory (`one_call` of each call); a call fails only where the
-//! count of faults rose (`cause`).
+//! that are listed fail, and no others but for want of memory (`one_call` of each call); a call fails exactly where the
+//! count of faults rises (`cause`).
 #![tactic(auto)]
 
 mod bytes;
@@ -25,7 +25,7 @@ mod tear;
 
 pub use bytes::{Bytes, Numbers};
 pub use call::Call;
-pub use disk::{Disk, Failed};
+pub use disk::Disk;
 pub use memory::MemoryDisk;
 
 #[cfg(test)]

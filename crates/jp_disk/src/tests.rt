@@ -1,5 +1,6 @@
 use crate::untold::UntoldDisk;
-use crate::{Bytes, Call, Disk, Failed, MemoryDisk, Numbers};
+use crate::{Bytes, Call, Disk, MemoryDisk, Numbers};
+use device_faults::Failed;
 use std::alloc::Global;
 use std::process::Abort;
 use std::test::Fail;

@@ -1,7 +1,8 @@
 // A disk that tells nothing of its bytes nor of crashes, as one over a real file does: it knows a length alone.
 ghost use Rattle.std.specs.Prelude.{⊤, None};
 
-use crate::{Disk, Failed};
+use crate::Disk;
+use device_faults::Failed;
 
 #[derive(Drop)]
 pub struct UntoldDisk {

@@ -5,8 +5,8 @@ ghost use Rattle.device_faults.specs.Faults.{Rose};
 ghost use Rattle.jp_disk.specs.Reading.{IsReadCount};
 
 use crate::sync::sync_folder;
-use device_faults::Faults;
-use jp_disk::{Disk, Failed};
+use device_faults::{Failed, Faults};
+use jp_disk::Disk;
 use jp_io::{Source, StdSink, StdSource, write_all};
 use std::fs::{File, OpenFile, OpenOptions};
 use std::io;
@@ -24,7 +24,7 @@ use std::rt::Files;
 /// contract can say what a real file keeps.
 #[derive(Drop)]
 pub struct FileDisk<'a, R: Files> {
-    file: LazyFile<'a, R>,
+    file: FileAtPath<'a, R>,
     end: u64,
     faults: Faults,
 }
@@ -33,7 +33,7 @@ impl<'a, R: Files> FileDisk<'a, R> {
     /// A disk over the file at this path. Nothing is opened yet, and no call has failed.
     pub fn new(files: &'a R, path: String) -> Self {
         FileDisk {
-            file: LazyFile {
+            file: FileAtPath {
                 files,
                 path,
                 opened: None,
@@ -72,7 +72,7 @@ impl<R: Files> Disk for FileDisk<'_, R> {
                 self.end = len;
                 Ok(len)
             }
-            Err(_) => Err(fault(&mut self.faults)),
+            Err(_) => Err(self.faults.rise()),
         }
     }
 
@@ -82,7 +82,7 @@ impl<R: Files> Disk for FileDisk<'_, R> {
         }
         match self.file.read_at(at, buf) {
             Ok(count) if count > 0 => Ok(count),
-            _ => Err(fault(&mut self.faults)),
+            _ => Err(self.faults.rise()),
         }
     }
 
@@ -92,30 +92,21 @@ impl<R: Files> Disk for FileDisk<'_, R> {
                 self.end = self.end.max(at + bytes.len() as u64);
                 Ok(())
             }
-            Err(_) => Err(fault(&mut self.faults)),
+            Err(_) => Err(self.faults.rise()),
         }
     }
 
     fn sync(&mut self) -> Result<(), Failed> {
         match self.file.sync() {
             Ok(()) => Ok(()),
-            Err(_) => Err(fault(&mut self.faults)),
+            Err(_) => Err(self.faults.rise()),
         }
     }
 }
 
-// Counts a fault.
-fn fault(faults: &mut Faults) -> Failed
-    ensures rose { Rose faults.old faults.new }
-    ensures later { faults.old ≤ faults.new }
-{
-    faults.rise();
-    Failed
-}
-
 // The file, opened when it is first needed.
 #[derive(Drop)]
-struct LazyFile<'a, R: Files> {
+struct FileAtPath<'a, R: Files> {
     files: &'a R,
     path: String,
     opened: Option<R::File>,
@@ -123,7 +114,7 @@ struct LazyFile<'a, R: Files> {
     folder_is_synced: bool,
 }
 
-impl<R: Files> LazyFile<'_, R> {
+impl<R: Files> FileAtPath<'_, R> {
     // The file, or none where it is missing.
     fn open(&mut self) -> io::Result<Option<&mut R::File>> {
         if self.opened.is_none() {

@@ -1,6 +1,7 @@
 //! What real folders and processes do. Each test has a workspace or a file of its own name.
 
 use super::*;
+use device_faults::Failed;
 use jp_disk::Disk;
 use std::alloc::{AllocError, Global};
 use std::test::Fail;
@@ -240,7 +241,7 @@ fn what_was_written_is_read_again(rt: HostRuntime) -> Result<(), Fail> {
 fn a_file_that_cannot_be_made(rt: HostRuntime) -> Result<(), Fail> {
     let mut disk = disk(&rt, "no such folder/program.dat")?;
     assert_eq!(rt; disk.len(), Ok(0));
-    assert_eq!(rt; disk.write_at(0, b"x"), Err(jp_disk::Failed));
+    assert_eq!(rt; disk.write_at(0, b"x"), Err(Failed));
     assert_eq!(rt; disk.sync(), Ok(()), "nothing was written");
     Ok(())
 }
@@ -249,8 +250,8 @@ fn a_file_that_cannot_be_made(rt: HostRuntime) -> Result<(), Fail> {
 fn a_folder_is_no_file(rt: HostRuntime) -> Result<(), Fail> {
     fs::create_dir(&rt, "folder.dat")?;
     let mut disk = disk(&rt, "folder.dat")?;
-    assert_eq!(rt; disk.len(), Err(jp_disk::Failed));
-    assert_eq!(rt; disk.write_at(0, b"x"), Err(jp_disk::Failed));
+    assert_eq!(rt; disk.len(), Err(Failed));
+    assert_eq!(rt; disk.write_at(0, b"x"), Err(Failed));
     Ok(())
 }
 
@@ -261,6 +262,6 @@ fn no_bytes_below_the_end_is_a_fault(rt: HostRuntime) -> Result<(), Fail> {
     fs::write(&rt, "cut.dat", "he")?;
     let mut buf = [0u8; 8];
     assert_eq!(rt; disk.read_at(1, &mut buf), Ok(1));
-    assert_eq!(rt; disk.read_at(3, &mut buf), Err(jp_disk::Failed));
+    assert_eq!(rt; disk.read_at(3, &mut buf), Err(Failed));
     Ok(())
 }

@@ -2,7 +2,7 @@
 ghost use Rattle.std.specs.Prelude.{◌≡◌, ◌≤◌, ◌<◌, ◌+◌, ◌^◌, [], length, IfOk, OnOk, OnErr, refl, Some, max, is_ok};
 ghost use Rattle.jp_disk.specs.Images.{after_write, IsTornWrite, ImagesStep, IsOnlyImage, WritesNothing};
 ghost use Rattle.jp_disk.specs.Moments.{TimePasses};
-ghost use Rattle.jp_disk.specs.Faults.{HasCause};
+ghost use Rattle.device_faults.specs.Faults.{HasCause};
 ghost use Rattle.jp_disk.specs.Reading.{IsReadCount, HasRead};
 ghost use Rattle.jp_disk.specs.Medium.{MayLeave, at_rest};
 ghost use Rattle.jp_disk.specs.History.{medium, images_since, IsOneCall};
@@ -10,7 +10,8 @@ ghost use Rattle.jp_disk.specs.ImageLaws.{same_image};
 ghost use Rattle.jp_disk.specs.MediumLaws.{reads_image, left_now, left_last};
 
 use crate::memory::MemoryDisk;
-use crate::{Call, Disk, Failed};
+use crate::{Call, Disk};
+use device_faults::Failed;
 
 impl Disk for MemoryDisk {
     ghost end = { λ d. length (medium d).reads };

@@ -5,7 +5,8 @@ ghost use Rattle.jp_disk.specs.Medium.{IsQuiet};
 ghost use Rattle.jp_disk.specs.History.{medium, counted, IsListed, IsOneCall};
 
 use crate::memory::MemoryDisk;
-use crate::{Bytes, Call, Failed};
+use crate::{Bytes, Call};
+use device_faults::Failed;
 use std::alloc::{AllocError, Global};
 
 impl MemoryDisk {

@@ -1,4 +1,4 @@
-use Rattle.std.proofs.Common.{◌≡◌, ◌≤◌, ◌-◌, ◌+◌, ℕ, List, [], ◌++◌, length, take, drop, ◌∙◌, ap, subst, arith, length-take, length-drop, length-append}
+use Rattle.std.proofs.Common.{◌≡◌, ◌≤◌, ◌-◌, ◌+◌, ℕ, List, [], ◌++◌, length, take, drop, ◌∙◌, refl, ap, subst, arith, length-take, length-drop, length-append}
 use Rattle.std.proofs.lemmas.List.{take_all, drop_all, append-nil}
 use borrow.Rule.Slice.PartMut.{put_mid}
 use Rattle.jp_disk.specs.Reading.{HasRead}
@@ -26,7 +26,7 @@ loop-done-preserved g c =
       size = whole ∙ inv.size;
       quiet =
           only_reads_on g.D.Disk.reads g.D.Disk.may_leave g.D.Disk.clock g.D.Disk.may_have_left_since g.D.Disk.end c.args.disk.now c.loop-done.disk c.read_at.new.self inv.quiet c.read_at.ensures.end c.read_at.ensures.still c.read_at.ensures.time;
-      faults = omega (arith, inv.faults, c.read_at.ensures.cause.never_falls);
+      faults = c.in_ok-n.ensures.cause.calm refl ∙ inv.faults;
       filled = λ file told.
           let read = if_told (λ file. HasRead file (c.args.at + done) n (take (length buf - done) (drop done buf)) part) (inv.quiet.told ∙ told) c.in_ok-n.ensures.bytes in
           filled_more file buf part _ c.args.at done n inv.within (inv.filled file told) (subst (λ (l : List ℕ). HasRead file (c.args.at + done) n l part) mid read) size room is;

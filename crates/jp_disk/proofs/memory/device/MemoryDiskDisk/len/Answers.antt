@@ -1,7 +1,7 @@
 use Rattle.std.proofs.Common.{length, ap, refl}
 use Rattle.jp_disk.specs.Medium.{Medium}
 use Rattle.jp_disk.specs.declared.call.Call.TheVariants.{Len}
-use Rattle.jp_disk.proofs.HistoryLemmas.{on_err, medium_quiet, quiet_still, time_passes, has_cause}
+use Rattle.jp_disk.proofs.HistoryLemmas.{on_err, medium_quiet, quiet_still, time_passes}
 use Rattle.jp_disk.proofs.memory.device.MemoryDiskDisk.len.Goals as goal
 
 pub returns-in_err-call_len-clause-end : goal.returns-in_err-call_len-clause-end
@@ -12,9 +12,6 @@ returns-in_err-call_len-clause-still c = quiet_still Len c.args.self.now c.call_
 
 pub returns-in_err-call_len-clause-time : goal.returns-in_err-call_len-clause-time
 returns-in_err-call_len-clause-time c = time_passes Len c.args.self.now c.call_len.new.self _ c.in_err-call_len.ensures
-
-pub returns-in_err-call_len-clause-cause : goal.returns-in_err-call_len-clause-cause
-returns-in_err-call_len-clause-cause c = has_cause Len c.args.self.now c.call_len.new.self _ _ (λ _. refl) c.in_err-call_len.ensures
 
 pub returns-clause-still : goal.returns-clause-still
 returns-clause-still c = quiet_still Len c.args.self.now c.call_len.new.self _ refl c.call_len.ensures

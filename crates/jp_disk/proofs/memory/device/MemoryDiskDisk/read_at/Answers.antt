@@ -3,7 +3,7 @@ use Rattle.jp_disk.specs.Medium.{Medium}
 use Rattle.jp_disk.specs.History.{History, medium}
 use Rattle.jp_disk.specs.Reading.{IsReadCount, HasRead}
 use Rattle.jp_disk.specs.declared.call.Call.TheVariants.{Read}
-use Rattle.jp_disk.proofs.HistoryLemmas.{medium_quiet, quiet_still, time_passes, has_cause}
+use Rattle.jp_disk.proofs.HistoryLemmas.{medium_quiet, quiet_still, time_passes}
 use Rattle.jp_disk.proofs.memory.device.MemoryDiskDisk.read_at.Goals as goal
 
 pub returns-in_err-call_read-clause-end : goal.returns-in_err-call_read-clause-end
@@ -17,9 +17,6 @@ returns-in_err-call_read-clause-still c = quiet_still (Read c.args.at (length c.
 
 pub returns-in_err-call_read-clause-time : goal.returns-in_err-call_read-clause-time
 returns-in_err-call_read-clause-time c = time_passes (Read c.args.at (length c.args.buf.now)) c.args.self.now c.call_read.new.self _ c.in_err-call_read.ensures
-
-pub returns-in_err-call_read-clause-cause : goal.returns-in_err-call_read-clause-cause
-returns-in_err-call_read-clause-cause c = has_cause (Read c.args.at (length c.args.buf.now)) c.args.self.now c.call_read.new.self _ _ (λ _. refl) c.in_err-call_read.ensures
 
 pub returns-clause-still : goal.returns-clause-still
 returns-clause-still c = quiet_still (Read c.args.at (length c.args.buf.now)) c.args.self.now c.call_read.new.self _ refl c.call_read.ensures

@@ -1,7 +1,7 @@
 use Rattle.std.proofs.Common.{ℕ, List, length, Some, ◌∙◌, ap}
 use Rattle.jp_disk.specs.History.{medium}
 use Rattle.jp_disk.specs.declared.call.Call.TheVariants.{Write}
-use Rattle.jp_disk.proofs.HistoryLemmas.{on_ok, not_done, length-after_write, write_reads, write_told, write_images, time_passes, has_cause}
+use Rattle.jp_disk.proofs.HistoryLemmas.{on_ok, not_done, was_done, length-after_write, write_reads, write_told, write_images, time_passes, has_cause}
 use Rattle.jp_disk.proofs.memory.device.MemoryDiskDisk.write_at.Goals as goal
 
 pub returns-clause-told : goal.returns-clause-told
@@ -14,7 +14,7 @@ pub returns-clause-time : goal.returns-clause-time
 returns-clause-time c = time_passes (Write c.args.at c.args.bytes.now) c.args.self.now c.call_write.new.self _ c.call_write.ensures
 
 pub returns-clause-cause : goal.returns-clause-cause
-returns-clause-cause c = has_cause (Write c.args.at c.args.bytes.now) c.args.self.now c.call_write.new.self _ _ (not_done c.call_write.result) c.call_write.ensures
+returns-clause-cause c = has_cause (Write c.args.at c.args.bytes.now) c.args.self.now c.call_write.new.self _ _ (not_done c.call_write.result) (was_done c.call_write.result) c.call_write.ensures
 
 pub returns-clause-written : goal.returns-clause-written
 returns-clause-written c = on_ok c.call_write.result _ (λ done. ap (λ (x : List ℕ). Some x) (write_reads c.args.self.now c.call_write.new.self c.args.at c.args.bytes.now _ c.call_write.ensures done))
