@@ -148,6 +148,20 @@ pub list_in_itself_log : log_of list_in_itself []
 unfolding settle eval ev through term_at text_within size digits int_wrap equal_within
 list_in_itself_log = refl
 
+-- `def l = []`, `l.add(l)`, `println l`
+abbrev list_in_itself_printed : List Node
+list_in_itself_printed =
+    declare "l" (list [])
+    ∷ statement (suffixed (variable "l") (method "add" (variable "l" ∷ []) ∷ []))
+    ∷ step "println" (variable "l" ∷ [])
+    ∷ []
+
+pub list_in_itself_printed_log : log_of list_in_itself_printed []
+    ≡ codes "[Pipeline] Start of Pipeline\n[Pipeline] End of Pipeline\nLimit reached: value depth\n"
+    ++ codes "Finished: FAILURE\n"
+unfolding settle eval ev through term_at text_within size digits int_wrap equal_within
+list_in_itself_printed_log = refl
+
 -- `[[1]] == [[1]]`
 abbrev equal_depths : List Node
 equal_depths =
@@ -164,6 +178,11 @@ pub equality_of_depth_one : log_in (record run_limits { values = record product_
     ++ codes "Finished: FAILURE\n"
 unfolding settle eval ev through term_at text_within size digits int_wrap equal_within
 equality_of_depth_one = refl
+
+-- the statement, three nodes of each list, the operator, and the two pairs of lists, of which the inner one meets the limit
+pub count_at_depth_one : (build_in (record run_limits { values = record product_limits { depth = 1 } }) equal_depths []).shared.count ≡ 10
+unfolding settle eval ev through term_at text_within size digits int_wrap equal_within
+count_at_depth_one = refl
 
 -- `parallel a: { }, b: { }`, `parallel c: { }, d: { }`: threads that ended live no more
 abbrev threads_that_ended : List Node
