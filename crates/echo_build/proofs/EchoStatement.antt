@@ -3,7 +3,7 @@ use Rattle.std.proofs.Common.{arith, ◌≡◌, ℕ, suc, ◌+◌, ap, ◌∙◌
 use Rattle.std.specs.Prelude.{codes, nat_lt, if◌then◌else◌}
 use Rattle.model_syntax.specs.declared.node.NodeForm.TheVariants as form
 use Rattle.model_syntax.specs.Nodes.{nodes}
-use Rattle.echo_build.specs.EchoBuild.{literal, echo_call, echo_node}
+use Rattle.echo_build.proofs.EchoNodes.{literal, echo_call, echo_node}
 use Rattle.model_values.specs.Cells.{Gives, Meets, new_text}
 use Rattle.model_values.specs.Kinds.{text, kind}
 use Rattle.model_values.specs.Limits.{product_limits}

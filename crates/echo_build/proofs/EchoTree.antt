@@ -12,9 +12,10 @@ use Rattle.model_run.specs.declared.result.BuildResult.{BuildResult}
 use Rattle.model_run.specs.declared.site.Site.{Site}
 use Rattle.model_run.specs.Terms.{term}
 use Rattle.model_run.specs.World.{world, tree_world}
-use Rattle.echo_build.specs.EchoBuild.{echo_call, echo_node, echo_log, echo_result}
+use Rattle.echo_build.specs.EchoBuild.{echo_log, echo_result, echo_steps, echo_graph}
+use Rattle.echo_build.proofs.EchoNodes.{echo_call, echo_node}
 use Rattle.echo_build.specs.Echoes.{only_text, echo_expr, IsEcho, AreEchoes, no_echoes, more_echoes, IsBuildOf}
-use Rattle.echo_build.proofs.EchoWorld.{echo_script, world_log, world_result}
+use Rattle.echo_build.proofs.EchoWorld.{echo_script, world_log, world_graph, world_result}
 
 call_node : (t : List ℕ) → expr_node (echo_expr t) ≡ echo_call t
 call_node t =
@@ -32,16 +33,20 @@ part_nodes (more_echoes {parts = parts} {t = t} e es) = ap (λ p. p ∷ map top_
 pub same_script : (tree : Tree) {ts : List (List ℕ)} → AreEchoes tree.tops ts → term 0 (tree_node tree) ≡ echo_script ts
 same_script tree e = ap (λ ps. term 0 (node form.Script (nodes ps))) (part_nodes e)
 
--- The log of the world of a parsed script of these texts, and its result.
+-- The log, the flow graph and the result of the world of a parsed script of these texts.
 pub tree_log : (tree : Tree) {ts : List (List ℕ)} → AreEchoes tree.tops ts → (site : Site) (script agents : List ℕ) → (tree_world tree site (StartEvent script agents ∷ [])).shared.log ≡ echo_log ts
 tree_log tree {ts} e site script agents = ap (λ root. (world root site (StartEvent script agents ∷ [])).shared.log) (same_script tree e) ∙ world_log site ts script agents
+
+pub tree_graph : (tree : Tree) {ts : List (List ℕ)} → AreEchoes tree.tops ts → (site : Site) (script agents : List ℕ) → (tree_world tree site (StartEvent script agents ∷ [])).shared.nodes ≡ echo_graph (echo_steps ts)
+tree_graph tree {ts} e site script agents = ap (λ root. (world root site (StartEvent script agents ∷ [])).shared.nodes) (same_script tree e) ∙ world_graph site ts script agents
 
 pub tree_result : (tree : Tree) {ts : List (List ℕ)} → AreEchoes tree.tops ts → (site : Site) (script agents : List ℕ) → (tree_world tree site (StartEvent script agents ∷ [])).shared.result ≡ echo_result ts
 tree_result tree {ts} e site script agents = ap (λ root. (world root site (StartEvent script agents ∷ [])).shared.result) (same_script tree e) ∙ world_result site ts script agents
 
--- a log and a result in closed form are those of the world
-pub is_build : (tree : Tree) {ts : List (List ℕ)} {log : List ℕ} {result : BuildResult} → AreEchoes tree.tops ts → log ≡ echo_log ts → result ≡ echo_result ts → IsBuildOf tree log result
-is_build tree e l r = record {
+-- a log, a number of steps and a result in closed form are those of the world
+pub is_build : (tree : Tree) {ts : List (List ℕ)} {log : List ℕ} {steps : ℕ} {result : BuildResult} → AreEchoes tree.tops ts → log ≡ echo_log ts → steps ≡ echo_steps ts → result ≡ echo_result ts → IsBuildOf tree log (echo_graph steps) result
+is_build tree e l s r = record {
   log_is = λ site script agents. l ∙ sym (tree_log tree e site script agents);
+  graph_is = λ site script agents. ap echo_graph s ∙ sym (tree_graph tree e site script agents);
   result_is = λ site script agents. r ∙ sym (tree_result tree e site script agents);
 }

@@ -9,6 +9,8 @@ use Rattle.model_values.specs.declared.value.Value.TheVariants.{Null}
 use Rattle.model_values.specs.declared.limit.LimitKind.{LimitKind}
 use Rattle.model_run.specs.declared.site.Site.{Site}
 use Rattle.model_run.specs.declared.event.Event.TheVariants.{Start as StartEvent}
+use Rattle.model_run.specs.declared.flow.FlowNode.{FlowNode}
+use Rattle.model_run.specs.declared.flow.NodeKind.TheVariants.{End as EndNode}
 use Rattle.model_run.specs.declared.result.BuildResult.TheVariants.{Failure}
 use Rattle.model_run.specs.declared.frame.FrameKind.TheVariants as kind
 use Rattle.model_run.specs.Results.{ended_log, worse}
@@ -19,13 +21,14 @@ use Rattle.model_run.specs.Callables.{function_in, function_named}
 use Rattle.model_run.specs.Statements.{on_statement, statements}
 use Rattle.model_run.specs.Meaning.{eval, ev, fuel}
 use Rattle.model_run.specs.declared.wait.Answer.TheVariants.{Begin}
-use Rattle.model_run.specs.World.{Build, begun, first_own, world, settle, stopped, stopped_at, finish, limit_met, take_turn, first_ready, setting_of, run_limits, given_answer, first_thread, with_thread}
+use Rattle.model_run.specs.World.{Build, begun, first_own, world, settle, stopped, stopped_at, finish, limit_met, take_turn, first_ready, setting_of, run_limits, given_answer, first_thread, with_thread, with_head as put_head, end_node}
 use Rattle.model_run.proofs.Walk.{Again, Call, from}
 use Rattle.model_run.proofs.Monotone.{again_with, call_with}
 use Rattle.model_run.proofs.Replay.{part_is}
-use Rattle.echo_build.specs.EchoBuild.{echo_node, Progress, Echoed, Goes, Meets, echo_step, and_echo, echo_all, begun as at_start, final_log, final_result, echo_log, echo_result}
+use Rattle.echo_build.specs.EchoBuild.{Progress, Echoed, Goes, Meets, echo_step, and_echo, echo_all, begun as at_start, final_log, final_steps, final_result, echo_log, echo_steps, echo_graph, step_nodes, echo_result}
+use Rattle.echo_build.proofs.EchoNodes.{echo_node}
 use Rattle.echo_build.proofs.EchoStatement.{world_of}
-use Rattle.echo_build.proofs.EchoSteps.{state, Ties, RunsTo, runs_on, runs_into, statement_runs}
+use Rattle.echo_build.proofs.EchoSteps.{state, Shown, Ties, RunsTo, runs_on, runs_into, count_of, statement_runs}
 
 -- the script of these texts
 abbrev pub echo_terms : ℕ → List (List ℕ) → Terms
@@ -48,10 +51,10 @@ nth_echo root k [] t post = (k, refl)
 nth_echo root k (s ∷ pre) t post = nth_echo root (k + size (echo_node s)) pre t post
 
 -- behind a statement the next ones go on, or the limit that it met
-behind : (root : Term) (site : Site) (f : Frame) (go : Value → Env → State → Result) (more : Progress → Echoed) → ((v : Value) (p : Progress) (u : Common) (o : Own) → Ties p u → RunsTo root site (go v [] (state root site u o)) (more p)) → (r : Result) (x : Echoed) → RunsTo root site r x → RunsTo root site (through f (on_statement [] go) r) (and_echo more x)
+behind : (root : Term) (site : Site) (f : Frame) (go : Value → Env → State → Result) (more : Progress → Echoed) → ((v : Value) (p : Progress) (u : Common) (o : Own) → Ties p u o → RunsTo root site (go v [] (state root site u o)) (more p)) → (r : Result) (x : Echoed) → RunsTo root site r x → RunsTo root site (through f (on_statement [] go) r) (and_echo more x)
 unfolding through
 behind root site f go more h r (Goes p) (runs_on v u o e ties) = subst (λ q. RunsTo root site (through f (on_statement [] go) q) (more p)) (sym e) (h v p u o ties)
-behind root site f go more h r (Meets k p) (runs_into u o e log result) = runs_into u o (ap (through f (on_statement [] go)) e) log result
+behind root site f go more h r (Meets k p) (runs_into u o e shown) = runs_into u o (ap (through f (on_statement [] go)) e) shown
 
 module _ (site : Site) (ts : List (List ℕ)) (again : Again) (call : Call) where
   functions : (u : Common) (o : Own) → function_named (codes "echo") (world_of (echo_script ts) site u o) ≡ None
@@ -76,7 +79,7 @@ module _ (site : Site) (ts : List (List ℕ)) (again : Again) (call : Call) wher
       place = omega (arith, length-append pre (t ∷ post))
 
   -- the statements of the last texts
-  statements_run : (post pre : List (List ℕ)) → ts ≡ pre ++ post → (v : Value) (p : Progress) (u : Common) (o : Own) → Ties p u → RunsTo (echo_script ts) site (statements whole 0 (length ts) (length post) v [] (state (echo_script ts) site u o)) (echo_all post p)
+  statements_run : (post pre : List (List ℕ)) → ts ≡ pre ++ post → (v : Value) (p : Progress) (u : Common) (o : Own) → Ties p u o → RunsTo (echo_script ts) site (statements whole 0 (length ts) (length post) v [] (state (echo_script ts) site u o)) (echo_all post p)
   statements_run [] pre e v p u o ties = runs_on v u o refl ties
   statements_run (t ∷ post) pre e v p u o ties =
       let next : ts ≡ (pre ++ t ∷ []) ++ post = e ∙ sym (append_assoc pre (t ∷ []) post) in
@@ -97,7 +100,14 @@ with_fuel : (site : Site) (ts : List (List ℕ)) (n : ℕ) → RunsTo (echo_scri
 with_fuel site ts n =
     let runs : RunsTo (echo_script ts) site (statements (whole_with ts n) 0 (length ts) (length ts) Null [] (state (echo_script ts) site begun.shared first_own)) (echo_all ts at_start) =
     statements_run site ts (again_with (echo_script ts) n) (call_with (echo_script ts) n) ts [] refl Null at_start begun.shared first_own
-    (record { log = refl; nodes = refl; bytes = refl; cells = refl; count = refl; room = omega arith; binding = refl; result = refl }) in
+    (record {
+      shown = record { log_is = refl; nodes = refl; head = refl; number = refl; result = refl };
+      bytes = refl;
+      cells = refl;
+      count = refl;
+      room = omega arith;
+      binding = refl;
+    }) in
     let counted : RunsTo (echo_script ts) site (statements (whole_with ts n) 0 (length (forms_of (echo_terms 1 ts))) (length (forms_of (echo_terms 1 ts))) Null [] (state (echo_script ts) site begun.shared first_own)) (echo_all ts at_start) =
     subst (λ m. RunsTo (echo_script ts) site (statements (whole_with ts n) 0 m m Null [] (state (echo_script ts) site begun.shared first_own)) (echo_all ts at_start)) (sym (as_many 1 ts)) runs in
     subst (λ r. RunsTo (echo_script ts) site r (echo_all ts at_start)) (sym (as_statements ts n (state (echo_script ts) site begun.shared first_own))) counted
@@ -130,26 +140,54 @@ module _ (root : Term) (site : Site) where
   ends_at_limit : (k : LimitKind) (u : Common) (o : Own) → ended_build (Limited k (state root site u o)) ≡ limit_met k u (stopped_at (world_of root site u o) asked)
   ends_at_limit k u o = no_threads 65536 (setting_of run_limits root site) (limit_met k u (stopped_at (world_of root site u o) asked)) refl
 
-  log_of : (r : Result) (x : Echoed) → RunsTo root site r x → (ended_build r).shared.log ≡ final_log x
-  log_of r (Goes p) (runs_on v u o e ties) =
-      ap (λ q. (ended_build q).shared.log) e ∙ ap (λ b. b.shared.log) (ends_normally v u o)
-      ∙ ap (λ l. ended_log [] u.result l) ties.log ∙ ap (λ x. ended_log [] x p.log) ties.result
-  log_of r (Meets k p) (runs_into u o e log result) =
-      ap (λ q. (ended_build q).shared.log) e ∙ ap (λ b. b.shared.log) (ends_at_limit k u o)
-      ∙ ap (λ l. ended_log (limit_line k ∷ []) (worse u.result Failure) l) log ∙ ap (λ x. ended_log (limit_line k ∷ []) (worse x Failure) p.log) result
+  -- the build at its end has this log, this flow graph and this result
+  record Final (x : Echoed) (b : Build) : Type 0 where
+    log_is : b.shared.log ≡ final_log x
+    graph_is : b.shared.nodes ≡ echo_graph (final_steps x)
+    result_is : b.shared.result ≡ final_result x
 
-  result_of : (r : Result) (x : Echoed) → RunsTo root site r x → (ended_build r).shared.result ≡ final_result x
-  result_of r (Goes p) (runs_on v u o e ties) =
-      ap (λ q. (ended_build q).shared.result) e ∙ ap (λ b. b.shared.result) (ends_normally v u o) ∙ ties.result
-  result_of r (Meets k p) (runs_into u o e log result) =
-      ap (λ q. (ended_build q).shared.result) e ∙ ap (λ b. b.shared.result) (ends_at_limit k u o) ∙ ap (λ x. worse x Failure) result
+  -- the nodes of so many steps, and the end node behind them
+  with_end : {log : List ℕ} {n : ℕ} (u : Common) (o : Own) → Shown log n u o → u.nodes ++ end_node u (o.head ∷ []) ∷ [] ≡ echo_graph n
+  with_end {log} {n} u o shown =
+      ap (λ xs. xs ++ end_at (length xs + 2) o.head ∷ []) shown.nodes
+      ∙ ap (λ i. step_nodes n ++ end_at i o.head ∷ []) id_is
+      ∙ ap (λ h. step_nodes n ++ end_at (n + 3) h ∷ []) shown.head
+    where
+      end_at : ℕ → ℕ → FlowNode
+      end_at id head = record { id = id; kind = EndNode; name = []; start = 0; parents = head ∷ [] }
+
+      id_is : length (step_nodes n) + 2 ≡ n + 3
+      id_is = omega (arith, count_of n)
+
+  -- the only thread's last node is the parent of the end node
+  its_head : (u : Common) (o : Own) → o.number ≡ 0 → map (λ t. t.head) (stopped_at (world_of root site u o) asked).threads ≡ o.head ∷ []
+  unfolding asked
+  its_head u o h = ap (λ n. map (λ t. t.head) (with_thread (put_head o.head) n asked.threads)) h
+
+  final : (r : Result) (x : Echoed) → RunsTo root site r x → Final x (ended_build r)
+  final r (Goes p) (runs_on v u o e ties) = subst (Final (Goes p)) (sym (ap ended_build e ∙ ends_normally v u o)) (record {
+    log_is = ap (λ l. ended_log [] u.result l) ties.shown.log_is ∙ ap (λ x. ended_log [] x p.log) ties.shown.result;
+    graph_is = with_end u o ties.shown;
+    result_is = ties.shown.result;
+  })
+  final r (Meets k p) (runs_into u o e shown) = subst (Final (Meets k p)) (sym (ap ended_build e ∙ ends_at_limit k u o)) (record {
+    log_is = ap (λ l. ended_log (limit_line k ∷ []) (worse u.result Failure) l) shown.log_is ∙ ap (λ x. ended_log (limit_line k ∷ []) (worse x Failure) p.log) shown.result;
+    graph_is = ap (λ heads. u.nodes ++ end_node u heads ∷ []) (its_head u o shown.number) ∙ with_end u o shown;
+    result_is = ap (λ x. worse x Failure) shown.result;
+  })
 
 world_is : (site : Site) (ts : List (List ℕ)) (script agents : List ℕ) → world (echo_script ts) site (StartEvent script agents ∷ []) ≡ ended_build (echo_script ts) site (ev (echo_script ts) (fuel 0) First (echo_script ts) [] (state (echo_script ts) site begun.shared first_own))
 world_is site ts script agents = one_turn 65536 (echo_script ts) site
 
--- The log of the world of a script of these texts, and its result.
+final_world : (site : Site) (ts : List (List ℕ)) (script agents : List ℕ) → Final (echo_script ts) site (echo_all ts at_start) (world (echo_script ts) site (StartEvent script agents ∷ []))
+final_world site ts script agents = subst (Final (echo_script ts) site (echo_all ts at_start)) (sym (world_is site ts script agents)) (final (echo_script ts) site _ _ (script_runs site ts))
+
+-- The log of the world of a script of these texts, its flow graph and its result.
 pub world_log : (site : Site) (ts : List (List ℕ)) (script agents : List ℕ) → (world (echo_script ts) site (StartEvent script agents ∷ [])).shared.log ≡ echo_log ts
-world_log site ts script agents = ap (λ b. b.shared.log) (world_is site ts script agents) ∙ log_of (echo_script ts) site _ _ (script_runs site ts)
+world_log site ts script agents = (final_world site ts script agents).log_is
+
+pub world_graph : (site : Site) (ts : List (List ℕ)) (script agents : List ℕ) → (world (echo_script ts) site (StartEvent script agents ∷ [])).shared.nodes ≡ echo_graph (echo_steps ts)
+world_graph site ts script agents = (final_world site ts script agents).graph_is
 
 pub world_result : (site : Site) (ts : List (List ℕ)) (script agents : List ℕ) → (world (echo_script ts) site (StartEvent script agents ∷ [])).shared.result ≡ echo_result ts
-world_result site ts script agents = ap (λ b. b.shared.result) (world_is site ts script agents) ∙ result_of (echo_script ts) site _ _ (script_runs site ts)
+world_result site ts script agents = (final_world site ts script agents).result_is

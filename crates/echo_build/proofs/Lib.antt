@@ -1,3 +1,4 @@
+pub mod EchoNodes
 pub mod EchoStatement
 pub mod EchoSteps
 pub mod EchoWorld

@@ -1,30 +1,21 @@
 -- The build of a script whose parts are all `echo` steps of one plain text, in closed form. That it is the world of the
 -- script is a theorem (proofs/EchoWorld).
-use Rattle.std.specs.Prelude.{ℕ, ◌+◌, nat_lt, if◌then◌else◌, List, [], ◌∷◌, length, codes}
-use Rattle.model_syntax.specs.declared.node.NodeForm.TheVariants as form
-use Rattle.model_syntax.specs.Nodes.{Node, node, nodes}
+use Rattle.std.specs.Prelude.{ℕ, zero, suc, ◌+◌, nat_lt, if◌then◌else◌, List, [], ◌∷◌, ◌++◌, length, codes}
 use Rattle.model_values.specs.Limits.{limit_line}
 use Rattle.model_values.specs.declared.limit.LimitKind.{LimitKind}
 use Rattle.model_values.specs.declared.limit.LimitKind.TheVariants.{TextLength, HeapBytes, FlowNodes, LogSize}
 use Rattle.model_run.specs.declared.result.BuildResult.{BuildResult}
 use Rattle.model_run.specs.declared.result.BuildResult.TheVariants.{Success, Failure}
+use Rattle.model_run.specs.declared.flow.FlowNode.{FlowNode}
+use Rattle.model_run.specs.declared.flow.NodeKind.TheVariants.{Atom as AtomNode, End as EndNode}
 use Rattle.model_run.specs.LogText.{line}
 use Rattle.model_run.specs.Results.{begun_log, ended_log}
+use Rattle.model_run.specs.World.{start_node}
 
--- the node of `echo 'text'`
-abbrev pub literal : List ℕ → Node
-literal t = node (form.Literal t) (nodes [])
-
-abbrev pub echo_call : List ℕ → Node
-echo_call t = node (form.Call (codes "echo")) (nodes (literal t ∷ []))
-
-abbrev pub echo_node : List ℕ → Node
-echo_node t = node form.Evaluate (nodes (echo_call t ∷ []))
-
--- How far a build is: its log, how many flow nodes it has, and its heap bytes.
+-- How far a build is: its log, how many steps have their flow node, and its heap bytes.
 pub record Progress : Type 0 where
   pub log : List ℕ
-  pub nodes : ℕ
+  pub steps : ℕ
   pub bytes : ℕ
 
 -- a step more, or the limit that it met
@@ -39,7 +30,7 @@ abbrev pub with_text : List ℕ → Progress → Progress
 with_text t p = record p { bytes = p.bytes + (16 + length t) }
 
 abbrev pub with_node : Progress → Progress
-with_node p = record p { log = line echo_line p.log; nodes = p.nodes + 1 }
+with_node p = record p { log = line echo_line p.log; steps = p.steps + 1 }
 
 abbrev pub with_line : List ℕ → Progress → Progress
 with_line t p = record p { log = line t p.log }
@@ -49,7 +40,7 @@ log_text t p = if nat_lt 16777216 (length (line t p.log)) then Meets LogSize p e
 
 abbrev pub note_step : List ℕ → Progress → Echoed
 note_step t p =
-    if nat_lt p.nodes 65536 then (if nat_lt 16777216 (length (line echo_line p.log)) then Meets LogSize p else log_text t (with_node p))
+    if nat_lt (p.steps + 1) 65536 then (if nat_lt 16777216 (length (line echo_line p.log)) then Meets LogSize p else log_text t (with_node p))
     else Meets FlowNodes p
 
 -- a step: its text, its node with its line, and the text's line, each under its limit
@@ -69,7 +60,7 @@ echo_all (t ∷ ts) p = and_echo (echo_all ts) (echo_step t p)
 
 -- behind the first line and the start node
 abbrev pub begun : Progress
-begun = record { log = begun_log; nodes = 1; bytes = 0 }
+begun = record { log = begun_log; steps = 0; bytes = 0 }
 
 abbrev pub final_log : Echoed → List ℕ
 final_log (Goes p) = ended_log [] Success p.log
@@ -79,9 +70,27 @@ abbrev pub final_result : Echoed → BuildResult
 final_result (Goes p) = Success
 final_result (Meets k p) = Failure
 
--- the log and the result of the build of these texts
+abbrev pub final_steps : Echoed → ℕ
+final_steps (Goes p) = p.steps
+final_steps (Meets k p) = p.steps
+
+-- The flow graph (Jenkins): the start, an atom a step, and the end, each behind the one before.
+abbrev pub echo_atom : ℕ → FlowNode
+echo_atom n = record { id = n + 3; kind = AtomNode; name = codes "echo"; start = 0; parents = (n + 2) ∷ [] }
+
+abbrev pub step_nodes : ℕ → List FlowNode
+step_nodes zero = start_node ∷ []
+step_nodes (suc n) = step_nodes n ++ echo_atom n ∷ []
+
+abbrev pub echo_graph : ℕ → List FlowNode
+echo_graph n = step_nodes n ++ (record { id = n + 3; kind = EndNode; name = []; start = 0; parents = (n + 2) ∷ [] }) ∷ []
+
+-- the log and the result of the build of these texts, and how many of them have a flow node
 abbrev pub echo_log : List (List ℕ) → List ℕ
 echo_log texts = final_log (echo_all texts begun)
 
 abbrev pub echo_result : List (List ℕ) → BuildResult
 echo_result texts = final_result (echo_all texts begun)
+
+abbrev pub echo_steps : List (List ℕ) → ℕ
+echo_steps texts = final_steps (echo_all texts begun)

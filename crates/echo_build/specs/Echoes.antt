@@ -9,6 +9,7 @@ use Rattle.model_syntax.specs.declared.tree.Top.{Top}
 use Rattle.model_syntax.specs.declared.tree.Top.TheVariants as top
 use Rattle.model_syntax.specs.declared.tree.Tree.{Tree}
 use Rattle.model_run.specs.declared.event.Event.TheVariants.{Start as StartEvent}
+use Rattle.model_run.specs.declared.flow.FlowNode.{FlowNode}
 use Rattle.model_run.specs.declared.result.BuildResult.{BuildResult}
 use Rattle.model_run.specs.declared.site.Site.{Site}
 use Rattle.model_run.specs.World.{tree_world}
@@ -59,7 +60,9 @@ pub record IsEchoScript (tree : Tree) : Type 0 where
   pub texts : List (List ℕ)
   pub echoes : AreEchoes tree.tops texts
 
--- the world of the script has this log and this result behind its `Start`, whatever its bytes and its executors
-pub record IsBuildOf (tree : Tree) (log : List ℕ) (result : BuildResult) : Type 0 where
+-- The world of the script has this log, this flow graph and this result behind its `Start`, whatever its bytes and its
+-- executors.
+pub record IsBuildOf (tree : Tree) (log : List ℕ) (graph : List FlowNode) (result : BuildResult) : Type 0 where
   pub log_is : (site : Site) (script agents : List ℕ) → log ≡ (tree_world tree site (StartEvent script agents ∷ [])).shared.log
+  pub graph_is : (site : Site) (script agents : List ℕ) → graph ≡ (tree_world tree site (StartEvent script agents ∷ [])).shared.nodes
   pub result_is : (site : Site) (script agents : List ℕ) → result ≡ (tree_world tree site (StartEvent script agents ∷ [])).shared.result

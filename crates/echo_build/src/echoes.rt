@@ -6,6 +6,7 @@ ghost use Rattle.model_syntax.specs.declared.tree.Expr.{Expr};
 ghost use Rattle.model_syntax.specs.declared.tree.Expr.TheVariants as expr;
 ghost use Rattle.model_syntax.specs.declared.tree.Stmt.TheVariants as stmt;
 ghost use Rattle.model_syntax.specs.declared.tree.Top.TheVariants as top;
+ghost use Rattle.echo_build.specs.EchoBuild.{echo_graph};
 ghost use Rattle.echo_build.specs.Echoes.{AreEchoes, IsBuildOf, IsEcho, IsEchoScript, IsUnbuilt, only_text, place_of};
 
 use crate::progress::{Built, echo_build};
@@ -33,7 +34,7 @@ impl From<AllocError> for Unbuilt {
     }
 }
 
-/// The log and the result of the build of a script whose parts are all `echo` steps of one plain text each.
+/// The log, the flow graph and the result of the build of a script whose parts are all `echo` steps of one plain text each.
 ///
 /// They are those of the world of the script after its `Start`, whatever its executors.
 ///
@@ -42,7 +43,7 @@ impl From<AllocError> for Unbuilt {
 /// `At` exactly where there is another part, with the place of the first; `Memory` where the memory was refused.
 pub fn tree_build(alloc: Global, tree: &Tree) -> Result<Built, Unbuilt>
     ensures echoes { IfOk result (λ _. IsEchoScript tree.now) }
-    ensures built { IfOk result (λ built. IsBuildOf tree.now built.log.items built.result) }
+    ensures built { IfOk result (λ built. IsBuildOf tree.now built.log.items (echo_graph built.steps) built.result) }
     ensures unbuilt { IfErr result (IsUnbuilt tree.now.tops) }
 {
     let texts = echo_texts(alloc, tree)?;

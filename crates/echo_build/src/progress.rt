@@ -2,7 +2,7 @@
 ghost use Rattle.std.specs.Prelude.{◌≡◌, ◌≤◌, [], ◌∷◌, IfOk, length};
 ghost use Rattle.model_run.specs.Results.{ended_log};
 ghost use Rattle.model_values.specs.Limits.{limit_line};
-ghost use Rattle.echo_build.specs.EchoBuild.{begun, log_text, note_step, echo_step, echo_log, echo_result};
+ghost use Rattle.echo_build.specs.EchoBuild.{begun, log_text, note_step, echo_step, echo_log, echo_result, echo_steps};
 ghost use Rattle.echo_build.specs.Steps.{seen};
 
 use crate::line::{len_with_line, put_line};
@@ -21,30 +21,35 @@ const NODE_LIMIT: usize = 65_536;
 /// The most bytes of a log.
 const LOG_LIMIT: usize = 16_777_216;
 
-/// The log and the result of a build that has ended.
+/// The log, the flow graph and the result of a build that has ended.
 #[derive(Debug, Drop)]
 pub struct Built {
+    /// The whole log, to its line `Finished: ..`.
     pub log: Vec<u8>,
+    /// How many steps have a flow node. The flow graph is the start, an atom for each of them, and the end, one behind
+    /// the other.
+    pub steps: usize,
+    /// SUCCESS, or FAILURE where the build met a limit.
     pub result: BuildResult,
 }
 
-/// How far a build is: its log, how many flow nodes it has, and its heap bytes. No limit is passed.
+/// How far a build is: its log, how many steps have their flow node, and its heap bytes. No limit is passed.
 #[derive(Drop)]
 pub struct Progress {
     log: Vec<u8>,
-    nodes: usize,
+    steps: usize,
     bytes: usize,
 }
 
 impl Model for Progress {
-    ghost use Rattle.std.specs.Prelude.{◌≤◌, length};
+    ghost use Rattle.std.specs.Prelude.{◌≤◌, ◌<◌, length};
     ghost use Rattle.echo_build.specs.EchoBuild.{Progress as Far};
 
     ghost Value = { Far };
 
-    ghost view = { λ progress. record { log = progress.log.items; nodes = progress.nodes; bytes = progress.bytes } };
+    ghost view = { λ progress. record { log = progress.log.items; steps = progress.steps; bytes = progress.bytes } };
 
-    ghost invariant = { λ progress. (length progress.log.items ≤ 16777216) × (progress.nodes ≤ 65536) × (progress.bytes ≤ 268435456) };
+    ghost invariant = { λ progress. (length progress.log.items ≤ 16777216) × (progress.steps < 65536) × (progress.bytes ≤ 268435456) };
 }
 
 /// What a step comes to.
@@ -65,7 +70,7 @@ impl Progress {
         put_line(&mut log, b"[Pipeline] Start of Pipeline")?;
         Ok(Progress {
             log,
-            nodes: 1,
+            steps: 0,
             bytes: 0,
         })
     }
@@ -77,14 +82,14 @@ impl Progress {
         if text.len() > TEXT_LIMIT {
             return Ok(Step::Limited(LimitKind::TextLength, self));
         }
-        let Progress { log, nodes, bytes } = self;
+        let Progress { log, steps, bytes } = self;
         let with_text = bytes + (16 + text.len());
         if with_text > HEAP_LIMIT {
-            return Ok(Step::Limited(LimitKind::HeapBytes, Progress { log, nodes, bytes }));
+            return Ok(Step::Limited(LimitKind::HeapBytes, Progress { log, steps, bytes }));
         }
         let held = Progress {
             log,
-            nodes,
+            steps,
             bytes: with_text,
         };
         let step = held.note(text)?;
@@ -96,7 +101,7 @@ impl Progress {
         requires { length text.now ≤ 1048576 }
         ensures { IfOk result (λ step. seen step ≡ note_step text.now self) }
     {
-        if self.nodes >= NODE_LIMIT {
+        if self.steps + 1 >= NODE_LIMIT {
             return Ok(Step::Limited(LimitKind::FlowNodes, self));
         }
         if len_with_line(&self.log, b"[Pipeline] echo") > LOG_LIMIT {
@@ -104,13 +109,13 @@ impl Progress {
         }
         let Progress {
             mut log,
-            nodes,
+            steps,
             bytes,
         } = self;
         put_line(&mut log, b"[Pipeline] echo")?;
         let noted = Progress {
             log,
-            nodes: nodes + 1,
+            steps: steps + 1,
             bytes,
         };
         let step = noted.tell(text)?;
@@ -127,23 +132,25 @@ impl Progress {
         }
         let Progress {
             mut log,
-            nodes,
+            steps,
             bytes,
         } = self;
         put_line(&mut log, text)?;
-        Ok(Step::Done(Progress { log, nodes, bytes }))
+        Ok(Step::Done(Progress { log, steps, bytes }))
     }
 
     /// The build at its end.
     fn ended(self) -> Result<Built, AllocError>
         ensures log { IfOk result (λ built. built.log.items ≡ ended_log [] BuildResult.Success self.log) }
+        ensures steps { IfOk result (λ built. built.steps ≡ self.steps) }
         ensures result { IfOk result (λ built. built.result ≡ BuildResult.Success) }
     {
-        let Progress { mut log, .. } = self;
+        let Progress { mut log, steps, .. } = self;
         put_line(&mut log, b"[Pipeline] End of Pipeline")?;
         put_line(&mut log, b"Finished: SUCCESS")?;
         Ok(Built {
             log,
+            steps,
             result: BuildResult::Success,
         })
     }
@@ -151,14 +158,16 @@ impl Progress {
     /// The build where it met a limit.
     fn stopped(self, limit: LimitKind) -> Result<Built, AllocError>
         ensures log { IfOk result (λ built. built.log.items ≡ ended_log (limit_line limit ∷ []) BuildResult.Failure self.log) }
+        ensures steps { IfOk result (λ built. built.steps ≡ self.steps) }
         ensures result { IfOk result (λ built. built.result ≡ BuildResult.Failure) }
     {
-        let Progress { mut log, .. } = self;
+        let Progress { mut log, steps, .. } = self;
         put_line(&mut log, b"[Pipeline] End of Pipeline")?;
         put_line(&mut log, limit_line(limit))?;
         put_line(&mut log, b"Finished: FAILURE")?;
         Ok(Built {
             log,
+            steps,
             result: BuildResult::Failure,
         })
     }
@@ -182,12 +191,13 @@ fn limit_line(limit: LimitKind) -> &'static [u8]
     }
 }
 
-/// The log and the result of the build of a script of these texts.
+/// The log, the flow graph and the result of the build of a script of these texts.
 ///
 /// They are those of the world of the script after its `Start`: a build that meets a limit ends there with FAILURE.
 /// `AllocError` where the memory was refused.
 pub fn echo_build(alloc: Global, texts: &Texts) -> Result<Built, AllocError>
     ensures log { IfOk result (λ built. built.log.items ≡ echo_log texts.now) }
+    ensures steps { IfOk result (λ built. built.steps ≡ echo_steps texts.now) }
     ensures result { IfOk result (λ built. built.result ≡ echo_result texts.now) }
 {
     let mut progress = Progress::begun(alloc)?;

@@ -24,6 +24,7 @@ fn one_text_is_five_lines(rt: HostRuntime) -> Result<(), Fail> {
         b"[Pipeline] Start of Pipeline\n[Pipeline] echo\nhi\n[Pipeline] End of Pipeline\nFinished: SUCCESS\n";
     assert_eq!(rt; build.log.as_slice(), log);
     assert_eq!(rt; build.log.len(), 93);
+    assert_eq!(rt; build.steps, 1);
     assert_eq!(rt; build.result, BuildResult::Success);
     Ok(())
 }
@@ -34,6 +35,7 @@ fn no_text_is_a_build_too(rt: HostRuntime) -> Result<(), Fail> {
     let log: &[u8] =
         b"[Pipeline] Start of Pipeline\n[Pipeline] End of Pipeline\nFinished: SUCCESS\n";
     assert_eq!(rt; build.log.as_slice(), log);
+    assert_eq!(rt; build.steps, 0);
     Ok(())
 }
 
@@ -50,8 +52,10 @@ fn a_text_that_ends_with_a_newline_has_no_second_one(rt: HostRuntime) -> Result<
 fn the_65536th_step_meets_the_limit_of_flow_nodes(rt: HostRuntime) -> Result<(), Fail> {
     let within = built(rt.alloc(), "", 65_535)?;
     assert_eq!(rt; within.result, BuildResult::Success);
+    assert_eq!(rt; within.steps, 65_535);
     let past = built(rt.alloc(), "", 65_536)?;
     assert_eq!(rt; past.result, BuildResult::Failure);
+    assert_eq!(rt; past.steps, 65_535);
     let end: &[u8] = b"[Pipeline] End of Pipeline\nLimit reached: flow nodes\nFinished: FAILURE\n";
     assert!(rt; past.log.as_slice().ends_with(end));
     // the lines of all steps before it: `[Pipeline] echo` and an empty one
@@ -84,6 +88,7 @@ fn a_tree_of_echo_steps_is_built(rt: HostRuntime) -> Result<(), Fail> {
     let log: &[u8] =
         b"[Pipeline] Start of Pipeline\n[Pipeline] echo\na\n[Pipeline] echo\nb\n[Pipeline] End of Pipeline\nFinished: SUCCESS\n";
     assert_eq!(rt; build.log.as_slice(), log);
+    assert_eq!(rt; build.steps, 2);
     Ok(())
 }
 

@@ -7,6 +7,7 @@ use Rattle.model_syntax.proofs.FirstFaultLaws.{faultless_or_fault}
 use Rattle.model_syntax.proofs.TokenLaws.{lexed-only}
 use Rattle.model_run.specs.declared.result.BuildResult.{BuildResult}
 use Rattle.model_run.specs.declared.site.Site.{Site}
+use Rattle.echo_build.specs.EchoBuild.{echo_graph}
 use Rattle.echo_build.specs.Echoes.{FirstUnbuilt, IsBuildOf}
 use Rattle.echo_build.proofs.EchoParts.{echoes_or_unbuilt}
 use Rattle.jenkinsd.specs.Command.{IsRun}
@@ -33,7 +34,7 @@ built_not_refused r script e (by_length long) = absurd (omega (arith, e.fits, lo
 -- a script ends with one result
 one_end : (r s : BuildResult) (script : List ℕ) → EndsWith r script → EndsWith s script → r ≡ s
 one_end r s script e f =
-    let other : IsBuildOf e.tree f.log s = subst (λ t. IsBuildOf t f.log s) (one_tree f.faultless e.faultless) f.build in
+    let other : IsBuildOf e.tree f.log f.graph s = subst (λ t. IsBuildOf t f.log f.graph s) (one_tree f.faultless e.faultless) f.build in
     e.build.result_is no_site [] [] ∙ sym (other.result_is no_site [] [])
 
 -- how the call ends, by its status
@@ -57,10 +58,10 @@ told_of (text_cut part rose other) = inl refl
 -- a script that was read
 ran_outcome : {words : List (List ℕ)} {left : Option (List ℕ)} {a b c d : ℕ} (script : List ℕ) {decided : ℕ} {text : List ℕ} (status : ℕ) → IsRun words
     → IfSome left (λ bytes. bytes ≡ script) → Runs script decided text → Told c d decided status → Outcome words left a b c d status
-ran_outcome script status command read (built {tree = tree} {log = log} {result = r} fits n e b) (inl told) =
-    as_built script r told command read (record { tree = tree; log = log; fits = fits; faultless = n; echoes = e; build = b })
-ran_outcome script status command read (built {tree = tree} {log = log} {result = r} fits n e b) (inr cut) =
-    as_cut script r cut.1 command read (record { tree = tree; log = log; fits = fits; faultless = n; echoes = e; build = b }) cut.2
+ran_outcome script status command read (built {tree = tree} {log = log} {result = r} steps fits n e b) (inl told) =
+    as_built script r told command read (record { tree = tree; log = log; graph = echo_graph steps; fits = fits; faultless = n; echoes = e; build = b })
+ran_outcome script status command read (built {tree = tree} {log = log} {result = r} steps fits n e b) (inr cut) =
+    as_cut script r cut.1 command read (record { tree = tree; log = log; graph = echo_graph steps; fits = fits; faultless = n; echoes = e; build = b }) cut.2
 ran_outcome script status command read (faulty fits f) (inl told) = as_refused script told command read (by_fault f)
 ran_outcome script status command read (faulty fits f) (inr cut) = absurd (four_not_ended cut.0)
 ran_outcome script status command read (not_built fits n u) (inl told) = as_refused script told command read (by_part n u)

@@ -35,7 +35,7 @@ written_part {old} {new} {before} {after} text told decided status told-is statu
 
 -- a longer script is too long as well, and want of memory can come at it too
 pub runs_longer : {script longer : List ℕ} {status : ℕ} {text : List ℕ} → script_limit < length script → script_limit < length longer → Runs script status text → Runs longer status text
-runs_longer long longer (built fits n e b) = absurd (omega (arith, long, fits))
+runs_longer long longer (built steps fits n e b) = absurd (omega (arith, long, fits))
 runs_longer long longer (faulty fits f) = absurd (omega (arith, long, fits))
 runs_longer long longer (not_built fits n u) = absurd (omega (arith, long, fits))
 runs_longer long longer (too_long l) = too_long longer
@@ -61,7 +61,7 @@ not_past n m within = elim (cases_lt n m) [ inl past ↦ absurd (within past) | 
 -- a script without a fault
 pub runs_built : {script : List ℕ} {tree : Tree} (ending : Ending) → length script ≤ script_limit → IsFaultless script tree → Builds tree ending
     → Runs script (ending_status ending) (ending_text ending)
-runs_built (Ended build) fits n is = built fits n is.0 is.1
+runs_built (Ended build) fits n is = built build.steps fits n is.0 is.1
 runs_built {script} (Refused text) fits n is = subst (Runs script 4) (sym is.2) (not_built fits n is.1)
 runs_built OutOfMemory fits n is = no_memory
 runs_built Usage fits n is = absurd is

@@ -5,6 +5,7 @@ use Rattle.model_syntax.specs.declared.fault.ScriptFault.{ScriptFault}
 use Rattle.model_syntax.specs.declared.place.Place.{Place}
 use Rattle.model_syntax.specs.declared.tree.Tree.{Tree}
 use Rattle.model_syntax.specs.FirstFault.{FirstFault, IsFaultless}
+use Rattle.model_run.specs.declared.flow.FlowNode.{FlowNode}
 use Rattle.model_run.specs.declared.result.BuildResult.{BuildResult}
 use Rattle.echo_build.specs.Echoes.{FirstUnbuilt, IsBuildOf, IsEchoScript}
 use Rattle.jenkinsd.specs.Command.{IsRun}
@@ -21,10 +22,11 @@ pub data IsRefused (script : List ℕ) : Type 0 where
 pub record EndsWith (result : BuildResult) (script : List ℕ) : Type 0 where
   pub tree : Tree
   pub log : List ℕ
+  pub graph : List FlowNode
   pub fits : length script ≤ script_limit
   pub faultless : IsFaultless script tree
   pub echoes : IsEchoScript tree
-  pub build : IsBuildOf tree log result
+  pub build : IsBuildOf tree log graph result
 
 pub record Causes (words : List (List ℕ)) (left : Option (List ℕ)) (source_before source_after sink_before sink_after status : ℕ) : Type 0 where
   -- 2 exactly where the words are no command

@@ -2,6 +2,7 @@
 use Rattle.std.specs.Prelude.{◌≡◌, ℕ, List, string_bytes}
 use Rattle.model_syntax.specs.declared.place.Place.{Place}
 use Rattle.model_syntax.specs.declared.tree.Tree.{Tree}
+use Rattle.echo_build.specs.EchoBuild.{echo_graph}
 use Rattle.echo_build.specs.Echoes.{FirstUnbuilt, IsBuildOf, IsEchoScript}
 use Rattle.jenkinsd.specs.declared.ending.Ending.{Ending}
 use Rattle.jenkinsd.specs.declared.ending.Ending.TheVariants.{Usage, ReadFailed, TooLong, OutOfMemory, Refused, Ended}
@@ -32,7 +33,7 @@ Tells line _ = ⊥
 
 -- the ending is the build of this script, or tells its first part that is not built yet, or want of memory
 abbrev pub Builds : Tree → Ending → Type 0
-Builds tree (Ended build) = IsEchoScript tree × IsBuildOf tree build.log.items build.result
+Builds tree (Ended build) = IsEchoScript tree × IsBuildOf tree build.log.items (echo_graph build.steps) build.result
 Builds tree (Refused text) = (place : Place) × FirstUnbuilt tree.tops place × (string_bytes text ≡ not_built_line place)
 Builds tree OutOfMemory = Unit {0}
 Builds tree _ = ⊥

@@ -8,6 +8,7 @@ use Rattle.model_syntax.specs.declared.place.Place.{Place}
 use Rattle.model_syntax.specs.declared.tree.Tree.{Tree}
 use Rattle.model_syntax.specs.FirstFault.{FirstFault, IsFaultless}
 use Rattle.model_run.specs.declared.result.BuildResult.{BuildResult}
+use Rattle.echo_build.specs.EchoBuild.{echo_graph}
 use Rattle.echo_build.specs.Echoes.{FirstUnbuilt, IsBuildOf, IsEchoScript}
 use Rattle.jenkinsd.specs.Command.{IsRun}
 use Rattle.jenkinsd.specs.Statuses.{result_status, IsEnded}
@@ -19,8 +20,9 @@ script_limit = 1048576
 
 -- How a script that was read ends, by its bytes: the status, and the text that is to be written.
 pub data Runs (script : List ℕ) : ℕ → List ℕ → Type 0 where
-  -- its build has ended: the log and the result are those of the world of its tree
-  built : {tree : Tree} {log : List ℕ} {result : BuildResult} → length script ≤ script_limit → IsFaultless script tree → IsEchoScript tree → IsBuildOf tree log result
+  -- its build has ended: the log, the flow graph and the result are those of the world of its tree, and the graph is a
+  -- chain of so many steps
+  built : {tree : Tree} {log : List ℕ} {result : BuildResult} (steps : ℕ) → length script ≤ script_limit → IsFaultless script tree → IsEchoScript tree → IsBuildOf tree log (echo_graph steps) result
       → Runs script (result_status result) log
   -- it has a fault, and this is its first
   faulty : {fault : ScriptFault} → length script ≤ script_limit → FirstFault script fault → Runs script 4 (fault_line fault)

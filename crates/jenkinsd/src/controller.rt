@@ -28,8 +28,8 @@ use std::alloc::Global;
 /// | 0, 1, 10, 11, 12 | exactly where the build ended with SUCCESS, FAILURE, UNSTABLE, NOT_BUILT, ABORTED | the log |
 /// | 8 | want of memory | `controller: out of memory` |
 ///
-/// The parts at the top of a script that are built are `echo` steps of one plain text each. The log and the result are those
-/// of the world of the script's tree after its `Start`; a build that meets a limit ends there with FAILURE.
+/// The parts at the top of a script that are built are `echo` steps of one plain text each. The log, the flow graph and the
+/// result are those of the world of the script's tree after its `Start`; a build that meets a limit ends there with FAILURE.
 ///
 /// Each yields to those above it, and all but 2 to want of memory. `rt` is the runtime of the program.
 pub fn controller<R, S: Source, K: Sink>(
