@@ -61,6 +61,7 @@ fn declarations_and_assignments(rt: HostRuntime) -> Result<(), Fail> {
         ("T x", "T(x)"),
         ("x += 2", "x += 2"),
         ("a.b -= 1", "a.b -= 1"),
+        ("a[0] = 1", "a[0] = 1"),
         ("a[0] *= 2", "a[0] *= 2"),
         ("a.b[1].c %= 3", "a.b[1].c %= 3"),
         ("x++; a.b--; a[1]++", "x++; a.b--; a[1]++"),
@@ -92,6 +93,7 @@ fn operators_bind_in_their_ranks(rt: HostRuntime) -> Result<(), Fail> {
         ("x = a > b", "x = (a > b)"),
         ("x = a >= b", "x = (a >= b)"),
         ("x = !-a.b", "x = (!-a.b)"),
+        ("x = +a", "x = (+a)"),
         ("x = (1 + 2) * 3", "x = (group((1 + 2)) * 3)"),
         ("x = a ? b : c ?: d", "x = (a ? b : c ?: d)"),
         ("f -1", "(f - 1)"),
@@ -141,6 +143,22 @@ fn texts_and_their_escapes(rt: HostRuntime) -> Result<(), Fail> {
         (
             r#"x = 'a\n\t\r\b\f\\\'\"\$\u0041'"#,
             "x = 'a\n\t\r\u{8}\u{c}\\'\"$A'",
+        ),
+        (
+            r#"x = '''a\n\t\r\b\f\\\'\"\$\u0041'''"#,
+            "x = 'a\n\t\r\u{8}\u{c}\\'\"$A'",
+        ),
+        (
+            r#"x = "a\n\t\r\b\f\\\'\"\$\u0041""#,
+            "x = 'a\n\t\r\u{8}\u{c}\\'\"$A'",
+        ),
+        (
+            r#"x = """a\n\t\r\b\f\\\'\"\$\u0041""""#,
+            "x = 'a\n\t\r\u{8}\u{c}\\'\"$A'",
+        ),
+        (
+            r#"x = "a\n\t\r\b\f\\\'\"\$\u0041${b}""#,
+            "x = \"a\n\t\r\u{8}\u{c}\\'\"$A${b}\"",
         ),
         ("x = 'a\\\nb'", "x = 'ab'"),
         ("x = '''a\n'b'''", "x = 'a\n'b'"),
@@ -226,6 +244,8 @@ fn conditions_and_loops(rt: HostRuntime) -> Result<(), Fail> {
         ("for (x in [1]) { }", "for (x in [1]) {}"),
         ("for (def x in y) z", "for (x in y) {z}"),
         ("for (String x : y) { }", "for (x in y) {}"),
+        ("for (def x : y) { }", "for (x in y) {}"),
+        ("for (x in y)\n  z", "for (x in y) {z}"),
         (
             "for (int i = 0; i < 3; i++) { continue }",
             "for (def i = 0; (i < 3); i++) {continue}",
@@ -258,6 +278,10 @@ fn catches_and_throwables(rt: HostRuntime) -> Result<(), Fail> {
         (
             "try { a } catch (Exception e) { b } catch (Throwable t) { c } finally { d }",
             "try {a} catch (Exception e) {b} catch (Throwable t) {c} finally {d}",
+        ),
+        (
+            "try\n{ a }\ncatch (e)\n{ b }",
+            "try {a} catch (Exception e) {b}",
         ),
         ("try { a }\nfinally\n{ b }", "try {a} finally {b}"),
         ("try { a }", "1:10 unexpected end"),

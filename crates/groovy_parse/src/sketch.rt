@@ -23,6 +23,16 @@ pub fn sketch_of(alloc: Global, tree: &Tree) -> Result<String, AllocError> {
     Ok(sketch.text)
 }
 
+/// The text of an expression.
+pub fn sketch_of_expression(alloc: Global, value: &Expr) -> Result<String, AllocError> {
+    let mut sketch = Sketch {
+        alloc,
+        text: String::new(alloc),
+    };
+    sketch.expression(value)?;
+    Ok(sketch.text)
+}
+
 /// The text so far.
 #[derive(Drop)]
 struct Sketch {

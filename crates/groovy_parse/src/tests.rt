@@ -1,8 +1,9 @@
+use crate::sketch::sketch_of_expression;
 use crate::{SCRIPT_LIMIT, parse, parse_tokens};
-use groovy_expr::Refusal;
+use groovy_expr::{ExprRefusal, Parser, Refusal};
 use groovy_lex::lex;
 use model_syntax::{FaultKind, ScriptFault, ScriptRefusal};
-use std::alloc::Global;
+use std::alloc::{AllocError, Global};
 use std::test::Fail;
 
 /// The first fault of a script.
@@ -96,6 +97,48 @@ fn brackets_nest_to_128(rt: HostRuntime) -> Result<(), Fail> {
     Ok(())
 }
 
+/// These bytes, and then these so often.
+fn repeated(alloc: Global, front: &[u8], part: &[u8], times: usize) -> Result<Vec<u8>, AllocError> {
+    let mut script = front.to_vec(alloc)?;
+    for _ in 0..times {
+        script.extend_from_slice(part)?;
+    }
+    Ok(script)
+}
+
+/// What the grammar puts behind one another takes no deeper calls, however long it is.
+#[test]
+fn only_brackets_nest(rt: HostRuntime) -> Result<(), Fail> {
+    let alloc = rt.alloc();
+    let cases: [(&[u8], &[u8], usize); 8] = [
+        (b"x = a", b" + 1", 6_000),
+        (b"x = a", b" && b", 6_000),
+        (b"x = a", b" ?: b", 6_000),
+        (b"x = a", b" ? b : c", 6_000),
+        (b"x = a", b".b", 6_000),
+        (b"x = a", b"[1]", 6_000),
+        (b"if (a) b", b" else if (a) b", 6_000),
+        (b"x = \"", b"$a", 6_000),
+    ];
+    for (front, part, times) in cases {
+        let mut script = repeated(alloc, front, part, times)?;
+        if front.ends_with(b"\"") {
+            script.push(b'"')?;
+        }
+        assert_eq!(rt; parse(alloc, &script)?.tops.len(), 1, "{front:?}");
+    }
+    Ok(())
+}
+
+#[test]
+fn signs_before_an_operand_do_not_nest(rt: HostRuntime) -> Result<(), Fail> {
+    let alloc = rt.alloc();
+    let mut script = repeated(alloc, b"x = ", b"- ", 6_000)?;
+    script.push(b'1')?;
+    assert_eq!(rt; parse(alloc, &script)?.tops.len(), 1);
+    Ok(())
+}
+
 #[test]
 fn a_script_of_one_byte_too_many_is_too_long(rt: HostRuntime) -> Result<(), Fail> {
     let alloc = rt.alloc();
@@ -115,5 +158,49 @@ fn the_token_of_a_fault_is_told(rt: HostRuntime) -> Result<(), Fail> {
     };
     let refusal = parse_tokens(alloc, tokens.as_slice()).err();
     assert_eq!(rt; refusal, Some(Refusal::Fault(2)));
+    Ok(())
+}
+
+/// The text of the parser's next expression.
+fn next_sketch(alloc: Global, parser: &mut Parser) -> Result<String, Fail> {
+    let Ok(value) = parser.expr() else {
+        return Err("no expression".into());
+    };
+    Ok(sketch_of_expression(alloc, &value)?)
+}
+
+#[test]
+fn expressions_are_read_one_behind_the_other_and_a_fault_is_told_again(
+    rt: HostRuntime,
+) -> Result<(), Fail> {
+    let alloc = rt.alloc();
+    let Ok(tokens) = lex(alloc, b"a + 1 'b' )") else {
+        return Err("no tokens".into());
+    };
+    if tokens.len() != 5 {
+        return Err("not five tokens".into());
+    }
+    let mut parser = Parser::new(alloc, tokens.as_slice());
+    assert_eq!(rt; next_sketch(alloc, &mut parser)?.as_str(), "(a + 1)");
+    assert_eq!(rt; next_sketch(alloc, &mut parser)?.as_str(), "'b'");
+    let fault = Some(ExprRefusal::Fault { token: 4 });
+    assert_eq!(rt; parser.expr().err(), fault);
+    assert_eq!(rt; parser.expr().err(), fault);
+    Ok(())
+}
+
+#[test]
+fn an_expression_that_ends_too_early_has_its_fault_at_the_end(rt: HostRuntime) -> Result<(), Fail> {
+    let alloc = rt.alloc();
+    let Ok(tokens) = lex(alloc, b"a * (b +") else {
+        return Err("no tokens".into());
+    };
+    if tokens.len() != 5 {
+        return Err("not five tokens".into());
+    }
+    let mut parser = Parser::new(alloc, tokens.as_slice());
+    let fault = Some(ExprRefusal::Fault { token: 5 });
+    assert_eq!(rt; parser.expr().err(), fault);
+    assert_eq!(rt; parser.expr().err(), fault);
     Ok(())
 }
