@@ -127,9 +127,9 @@ eight_unrun (inr is) = absurd (omega (arith, is))
 
 -- what was told of an ending has run a build where the ending has
 told_run : {old new : Option (List ℕ)} {c d : ℕ} {text : List ℕ} {decided status : ℕ} → Writes old new c d text decided status → HasRun status → HasRun decided
-told_run (whole appends calm) ran = ran
-told_run (log_cut part rose ended) ran = inl ended
-told_run (text_cut part rose other) ran = ran
+told_run (whole appends calm) run = run
+told_run (log_cut part rose ended) run = inl ended
+told_run (text_cut part rose other) run = run
 
 pub reads_by : {words : List (List ℕ)} {left rest old new : Option (List ℕ)} {c d decided status : ℕ} {text : List ℕ} → Reads words left rest decided
     → Writes old new c d text decided status → Reads words left rest status
