@@ -1,5 +1,5 @@
 -- The world of a parsed script of `echo` steps is the one in closed form.
-use Rattle.std.proofs.Common.{◌≡◌, ℕ, refl, sym, ap, ◌∙◌, List, [], ◌∷◌, map, codes}
+use Rattle.std.proofs.Common.{◌≡◌, ℕ, refl, sym, ap, ◌∙◌, List, [], ◌∷◌, map, codes, true}
 use Rattle.model_syntax.specs.declared.node.NodeForm.TheVariants as form
 use Rattle.model_syntax.specs.declared.tree.Expr.TheVariants as expr
 use Rattle.model_syntax.specs.declared.tree.Top.{Top}
@@ -15,7 +15,7 @@ use Rattle.model_run.specs.World.{world, tree_world}
 use Rattle.echo_build.specs.EchoBuild.{echo_log, echo_result, echo_steps, echo_graph}
 use Rattle.echo_build.proofs.EchoNodes.{echo_call, echo_node}
 use Rattle.echo_build.specs.Echoes.{only_text, echo_expr, IsEcho, AreEchoes, no_echoes, more_echoes, IsBuildOf}
-use Rattle.echo_build.proofs.EchoWorld.{echo_script, world_log, world_graph, world_result}
+use Rattle.echo_build.proofs.EchoWorld.{echo_script, world_ended, world_log, world_graph, world_result}
 
 call_node : (t : List ℕ) → expr_node (echo_expr t) ≡ echo_call t
 call_node t =
@@ -33,7 +33,10 @@ part_nodes (more_echoes {parts = parts} {t = t} e es) = ap (λ p. p ∷ map top_
 pub same_script : (tree : Tree) {ts : List (List ℕ)} → AreEchoes tree.tops ts → term 0 (tree_node tree) ≡ echo_script ts
 same_script tree e = ap (λ ps. term 0 (node form.Script (nodes ps))) (part_nodes e)
 
--- The log, the flow graph and the result of the world of a parsed script of these texts.
+-- The world of a parsed script of these texts has ended; its log, its flow graph and its result.
+pub tree_ended : (tree : Tree) {ts : List (List ℕ)} → AreEchoes tree.tops ts → (site : Site) (script agents : List ℕ) → (tree_world tree site (StartEvent script agents ∷ [])).ended ≡ true
+tree_ended tree {ts} e site script agents = ap (λ root. (world root site (StartEvent script agents ∷ [])).ended) (same_script tree e) ∙ world_ended site ts script agents
+
 pub tree_log : (tree : Tree) {ts : List (List ℕ)} → AreEchoes tree.tops ts → (site : Site) (script agents : List ℕ) → (tree_world tree site (StartEvent script agents ∷ [])).shared.log ≡ echo_log ts
 tree_log tree {ts} e site script agents = ap (λ root. (world root site (StartEvent script agents ∷ [])).shared.log) (same_script tree e) ∙ world_log site ts script agents
 
@@ -46,6 +49,7 @@ tree_result tree {ts} e site script agents = ap (λ root. (world root site (Star
 -- a log, a number of steps and a result in closed form are those of the world
 pub is_build : (tree : Tree) {ts : List (List ℕ)} {log : List ℕ} {steps : ℕ} {result : BuildResult} → AreEchoes tree.tops ts → log ≡ echo_log ts → steps ≡ echo_steps ts → result ≡ echo_result ts → IsBuildOf tree log (echo_graph steps) result
 is_build tree e l s r = record {
+  ended_is = λ site script agents. tree_ended tree e site script agents;
   log_is = λ site script agents. l ∙ sym (tree_log tree e site script agents);
   graph_is = λ site script agents. ap echo_graph s ∙ sym (tree_graph tree e site script agents);
   result_is = λ site script agents. r ∙ sym (tree_result tree e site script agents);

@@ -1,5 +1,5 @@
 -- The world of a script of `echo` steps is its closed form.
-use Rattle.std.proofs.Common.{arith, append_assoc, ◌≡◌, ℕ, zero, suc, ◌+◌, ◌-◌, ◌++◌, refl, sym, ap, subst, ◌∙◌, List, [], ◌∷◌, length, length-append, map, None}
+use Rattle.std.proofs.Common.{arith, append_assoc, ◌≡◌, ℕ, zero, suc, ◌+◌, ◌-◌, ◌++◌, refl, sym, ap, subst, ◌∙◌, List, [], ◌∷◌, length, length-append, map, None, true}
 use Rattle.std.specs.Prelude.{codes}
 use Rattle.model_syntax.specs.declared.node.NodeForm.TheVariants as form
 use Rattle.model_syntax.specs.Nodes.{node, nodes, size}
@@ -140,8 +140,9 @@ module _ (root : Term) (site : Site) where
   ends_at_limit : (k : LimitKind) (u : Common) (o : Own) → ended_build (Limited k (state root site u o)) ≡ limit_met k u (stopped_at (world_of root site u o) asked)
   ends_at_limit k u o = no_threads 65536 (setting_of run_limits root site) (limit_met k u (stopped_at (world_of root site u o) asked)) refl
 
-  -- the build at its end has this log, this flow graph and this result
+  -- the build has ended, with this log, this flow graph and this result
   record Final (x : Echoed) (b : Build) : Type 0 where
+    ended_is : b.ended ≡ true
     log_is : b.shared.log ≡ final_log x
     graph_is : b.shared.nodes ≡ echo_graph (final_steps x)
     result_is : b.shared.result ≡ final_result x
@@ -166,11 +167,13 @@ module _ (root : Term) (site : Site) where
 
   final : (r : Result) (x : Echoed) → RunsTo root site r x → Final x (ended_build r)
   final r (Goes p) (runs_on v u o e ties) = subst (Final (Goes p)) (sym (ap ended_build e ∙ ends_normally v u o)) (record {
+    ended_is = refl;
     log_is = ap (λ l. ended_log [] u.result l) ties.shown.log_is ∙ ap (λ x. ended_log [] x p.log) ties.shown.result;
     graph_is = with_end u o ties.shown;
     result_is = ties.shown.result;
   })
   final r (Meets k p) (runs_into u o e shown) = subst (Final (Meets k p)) (sym (ap ended_build e ∙ ends_at_limit k u o)) (record {
+    ended_is = refl;
     log_is = ap (λ l. ended_log (limit_line k ∷ []) (worse u.result Failure) l) shown.log_is ∙ ap (λ x. ended_log (limit_line k ∷ []) (worse x Failure) p.log) shown.result;
     graph_is = ap (λ heads. u.nodes ++ end_node u heads ∷ []) (its_head u o shown.number) ∙ with_end u o shown;
     result_is = ap (λ x. worse x Failure) shown.result;
@@ -182,7 +185,10 @@ world_is site ts script agents = one_turn 65536 (echo_script ts) site
 final_world : (site : Site) (ts : List (List ℕ)) (script agents : List ℕ) → Final (echo_script ts) site (echo_all ts at_start) (world (echo_script ts) site (StartEvent script agents ∷ []))
 final_world site ts script agents = subst (Final (echo_script ts) site (echo_all ts at_start)) (sym (world_is site ts script agents)) (final (echo_script ts) site _ _ (script_runs site ts))
 
--- The log of the world of a script of these texts, its flow graph and its result.
+-- The world of a script of these texts has ended; its log, its flow graph and its result.
+pub world_ended : (site : Site) (ts : List (List ℕ)) (script agents : List ℕ) → (world (echo_script ts) site (StartEvent script agents ∷ [])).ended ≡ true
+world_ended site ts script agents = (final_world site ts script agents).ended_is
+
 pub world_log : (site : Site) (ts : List (List ℕ)) (script agents : List ℕ) → (world (echo_script ts) site (StartEvent script agents ∷ [])).shared.log ≡ echo_log ts
 world_log site ts script agents = (final_world site ts script agents).log_is
 

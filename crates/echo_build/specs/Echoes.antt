@@ -1,5 +1,5 @@
 -- Scripts whose parts are all `echo` steps of one plain text, the first part that is none, and the build of a script.
-use Rattle.std.specs.Prelude.{◌≡◌, ℕ, List, [], ◌∷◌, ◌++◌, codes}
+use Rattle.std.specs.Prelude.{◌≡◌, ℕ, true, List, [], ◌∷◌, ◌++◌, codes}
 use Rattle.model_syntax.specs.declared.place.Place.{Place}
 use Rattle.model_syntax.specs.declared.tree.Arguments.{Arguments}
 use Rattle.model_syntax.specs.declared.tree.Expr.{Expr}
@@ -60,9 +60,10 @@ pub record IsEchoScript (tree : Tree) : Type 0 where
   pub texts : List (List ℕ)
   pub echoes : AreEchoes tree.tops texts
 
--- The world of the script has this log, this flow graph and this result behind its `Start`, whatever its bytes and its
--- executors.
+-- The world of the script has ended behind its `Start`, with this log, this flow graph and this result, whatever its bytes
+-- and its executors.
 pub record IsBuildOf (tree : Tree) (log : List ℕ) (graph : List FlowNode) (result : BuildResult) : Type 0 where
+  pub ended_is : (site : Site) (script agents : List ℕ) → (tree_world tree site (StartEvent script agents ∷ [])).ended ≡ true
   pub log_is : (site : Site) (script agents : List ℕ) → log ≡ (tree_world tree site (StartEvent script agents ∷ [])).shared.log
   pub graph_is : (site : Site) (script agents : List ℕ) → graph ≡ (tree_world tree site (StartEvent script agents ∷ [])).shared.nodes
   pub result_is : (site : Site) (script agents : List ℕ) → result ≡ (tree_world tree site (StartEvent script agents ∷ [])).shared.result

@@ -1,8 +1,8 @@
 -- How a call of the controller ends: its status and what it writes.
-use Rattle.std.specs.Prelude.{◌≡◌, ℕ, ◌<◌, ◌≤◌, List, length, Option, IfSome}
-use Rattle.std.specs.Io.KnownBytes.{Appends}
+use Rattle.std.specs.Prelude.{◌≡◌, ◌⊎◌, ℕ, ◌+◌, ◌<◌, ◌≤◌, List, length, Option, IfSome}
+use Rattle.std.specs.Io.KnownBytes.{Appends, IsAtEnd}
 use Rattle.device_faults.specs.Faults.{Rose}
-use Rattle.jp_io.specs.Whole.{AppendsPart}
+use Rattle.jp_io.specs.Whole.{AppendsPart, TakesAtMost}
 use Rattle.model_syntax.specs.declared.fault.ScriptFault.{ScriptFault}
 use Rattle.model_syntax.specs.declared.place.Place.{Place}
 use Rattle.model_syntax.specs.declared.tree.Tree.{Tree}
@@ -59,3 +59,10 @@ pub record Ends (words : List (List ℕ)) (left old new : Option (List ℕ)) (so
   pub text : List ℕ
   pub decides : Decides words left source_before source_after decided_status text
   pub writes : Writes old new sink_before sink_after text decided_status status
+
+-- What a call takes from the script source: of words that are no command nothing, else at most one byte more than a script may
+-- have. A call that ran a build has read the source to its end.
+pub record Reads (words : List (List ℕ)) (left rest : Option (List ℕ)) (status : ℕ) : Type 0 where
+  pub none : ¬ (IsRun words) → rest ≡ left
+  pub most : TakesAtMost (script_limit + 1) left rest
+  pub whole : (IsEnded status ⊎ (status ≡ 7)) → IsAtEnd rest

@@ -2,7 +2,7 @@
 ghost use Rattle.std.specs.Prelude.{map, string_bytes};
 ghost use Rattle.jenkinsd.specs.Causes.{Causes};
 ghost use Rattle.jenkinsd.specs.Ending.{ending_status, ending_text, Builds, Tells};
-ghost use Rattle.jenkinsd.specs.Ends.{Decides, Ends, Runs};
+ghost use Rattle.jenkinsd.specs.Ends.{Decides, Ends, Reads, Runs};
 ghost use Rattle.jenkinsd.specs.Texts.{fault_line, not_built_line};
 
 use crate::command::run_folder;
@@ -31,7 +31,8 @@ use std::alloc::Global;
 /// The parts at the top of a script that are built are `echo` steps of one plain text each. The log, the flow graph and the
 /// result are those of the world of the script's tree after its `Start`; a build that meets a limit ends there with FAILURE.
 ///
-/// Each yields to those above it, and all but 2 to want of memory. `rt` is the runtime of the program.
+/// Each yields to those above it, and all but 2 to want of memory. The source is asked for at most one byte more than a script
+/// may have; a build that ran has read it to its end. `rt` is the runtime of the program.
 pub fn controller<R, S: Source, K: Sink>(
     _rt: &R,
     alloc: Global,
@@ -43,6 +44,7 @@ pub fn controller<R, S: Source, K: Sink>(
         (S.faults script.old) (S.faults script.new) (K.faults out.old) (K.faults out.new) result }
     ensures ends { Ends (map string_bytes words.items) (S.left script.old) (K.written out.old) (K.written out.new)
         (S.faults script.old) (S.faults script.new) (K.faults out.old) (K.faults out.new) result }
+    ensures reads { Reads (map string_bytes words.items) (S.left script.old) (S.left script.new) result }
 {
     let ending = decide(alloc, &words, script);
     tell(out, &ending)
@@ -50,8 +52,9 @@ pub fn controller<R, S: Source, K: Sink>(
 
 /// How the call ends, before its text is written.
 fn decide<S: Source>(alloc: Global, words: &[String], script: &mut S) -> Ending
-    ensures { Decides (map string_bytes words.now) (S.left script.old) (S.faults script.old) (S.faults script.new)
+    ensures decides { Decides (map string_bytes words.now) (S.left script.old) (S.faults script.old) (S.faults script.new)
         (ending_status result) (ending_text result) }
+    ensures reads { Reads (map string_bytes words.now) (S.left script.old) (S.left script.new) (ending_status result) }
 {
     let Some(_) = run_folder(words) else {
         return Ending::Usage;

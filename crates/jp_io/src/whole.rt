@@ -2,7 +2,7 @@
 ghost use Rattle.std.specs.Prelude.{◌≡◌, ◌≤◌, ◌<◌, ◌++◌, ℕ, List, length, IfOk, OnOk, OnErr, vec_len};
 ghost use Rattle.std.specs.Io.KnownBytes.{Appends, Consumes, IsAtEnd};
 ghost use Rattle.device_faults.specs.Faults.{Rose, HasCause};
-ghost use Rattle.jp_io.specs.Whole.{ReadCause, AppendsPart};
+ghost use Rattle.jp_io.specs.Whole.{ReadCause, AppendsPart, TakesAtMost};
 
 use crate::{Sink, Source};
 use device_faults::Failed;
@@ -20,7 +20,7 @@ pub enum ReadFault {
 /// How many bytes are read at once.
 const PIECE: usize = 4096;
 
-/// Reads a source to its end, but at most `limit` bytes, and asks it for no more than these.
+/// Reads a source to its end, but at most `limit` bytes, and asks it for no more than these, also where it fails.
 ///
 /// Where fewer than `limit` bytes come back, the source is at its end.
 ///
@@ -36,6 +36,7 @@ pub fn read_up_to<S: Source>(
     ensures bytes { IfOk result (λ v. Consumes (S.left source.old) (S.left source.new) v.items) }
     ensures within { IfOk result (λ v. vec_len v ≤ limit) }
     ensures whole { IfOk result (λ v. vec_len v < limit → IsAtEnd (S.left source.new)) }
+    ensures most { TakesAtMost limit (S.left source.old) (S.left source.new) }
     ensures cause { ReadCause (S.faults source.old) (S.faults source.new) result }
 {
     let mut bytes = Vec::new(alloc);
@@ -60,6 +61,7 @@ fn read_piece<S: Source>(
         × (bytes.new.items ≡ bytes.old.items ++ piece)
         × Consumes (S.left source.old) (S.left source.new) piece) }
     ensures end { IfOk result (λ n. n ≡ 0 → IsAtEnd (S.left source.new)) }
+    ensures most { TakesAtMost room (S.left source.old) (S.left source.new) }
     ensures cause { ReadCause (S.faults source.old) (S.faults source.new) result }
 {
     let mut piece = [0; PIECE];
