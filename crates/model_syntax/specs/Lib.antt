@@ -7,6 +7,7 @@ pub mod Reading
 pub mod Newlines
 pub mod Tokens
 pub mod Stream
+pub mod BracketDepth
 pub mod Lookahead
 pub mod Operators
 pub mod Grammar
