@@ -8,6 +8,7 @@ use Rattle.model_syntax.specs.declared.token.TokenKind.{TokenKind}
 use Rattle.model_syntax.specs.declared.token.TokenKind.TheVariants as kind
 use Rattle.model_syntax.specs.declared.tree.Access.TheVariants.{Direct}
 use Rattle.model_syntax.specs.declared.tree.AssignSign.TheVariants.{Set}
+use Rattle.model_syntax.specs.declared.tree.Assignment.TheVariants.{Write}
 use Rattle.model_syntax.specs.declared.tree.Caught.TheVariants.{Exceptions}
 use Rattle.model_syntax.specs.declared.tree.Expr.TheVariants as expr
 use Rattle.model_syntax.specs.declared.tree.Stmt.TheVariants as stmt
@@ -41,7 +42,7 @@ pub if_script : (P : Places) → IsScript if_tokens P (record {
   tops = Statement (P 0) (stmt.If (
       record { test = expr.Variable (codes "a"); body = stmt.Evaluate (expr.Call (codes "b") no_arguments) ∷ [] } ∷
       record { test = expr.Variable (codes "c"); body = [] } ∷ [])
-      (Some (stmt.Assign (ToName (codes "d")) Set (expr.Number (pos 1)) ∷ []))) ∷ [];
+      (Some (stmt.Assign (Write (ToName (codes "d")) Set (expr.Number (pos 1))) ∷ []))) ∷ [];
 })
 if_script P = tops_some no_break (top_statement (stmt_if
     (arm refl refl (just (primary_name refl)) refl no_break (body_simple (simple_evaluate (λ e. cc) (whole_expr refl (just (primary_call refl (call_empty refl refl no_closure)))))))

@@ -6,7 +6,7 @@ use Rattle.model_syntax.specs.declared.word.Word.TheVariants as word
 use Rattle.model_syntax.specs.declared.token.TokenKind.{TokenKind}
 use Rattle.model_syntax.specs.declared.token.TokenKind.TheVariants as kind
 use Rattle.model_syntax.specs.declared.tree.Expr.{Expr}
-use Rattle.model_syntax.specs.declared.tree.Stmt.{Stmt}
+use Rattle.model_syntax.specs.declared.tree.Assignment.{Assignment}
 use Rattle.model_syntax.specs.declared.tree.Suffix.{Suffix}
 use Rattle.model_syntax.specs.declared.tree.Prefix.{Prefix}
 use Rattle.model_syntax.specs.declared.tree.Target.{Target}
@@ -92,7 +92,7 @@ pub whole_begins : {K : Stream} {P : Places} {e : Expr} {a b : ℕ} → IsWhole 
 whole_begins (whole_call i n r) = begun _ _ refl n
 whole_begins (whole_expr i e) = expr_begins e
 
-pub assign_begins : {K : Stream} {P : Places} {s : Stmt} {a b : ℕ} → IsAssign K P s a b → begins_expr (K a) ≡ true
+pub assign_begins : {K : Stream} {P : Places} {u : Assignment} {a b : ℕ} → IsAssign K P u a b → begins_expr (K a) ≡ true
 assign_begins (assign_value t s o e) = target_begins t
 assign_begins (assign_up t s) = target_begins t
 assign_begins (assign_down t s) = target_begins t

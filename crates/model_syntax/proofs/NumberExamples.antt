@@ -5,6 +5,7 @@ use Rattle.model_syntax.specs.declared.place.Place.{Place}
 use Rattle.model_syntax.specs.declared.node.NodeForm.{NodeForm}
 use Rattle.model_syntax.specs.declared.node.NodeForm.TheVariants as form
 use Rattle.model_syntax.specs.declared.tree.AssignSign.TheVariants.{Set}
+use Rattle.model_syntax.specs.declared.tree.Assignment.TheVariants.{Write}
 use Rattle.model_syntax.specs.declared.tree.Operator.{Operator}
 use Rattle.model_syntax.specs.declared.tree.Operator.TheVariants.{Less, Plus}
 use Rattle.model_syntax.specs.declared.tree.Expr.{Expr}
@@ -17,7 +18,7 @@ use Rattle.model_syntax.specs.declared.tree.Tree.{Tree}
 use Rattle.model_syntax.specs.Operators.{operand}
 use Rattle.model_syntax.specs.Nodes.{Node, node, nodes, size, sizes, Numbered, numbers, numbered, numbered_parts}
 use Rattle.model_syntax.specs.TreeNodes.{expr_node, stmt_node, tree_node, block}
-use Rattle.model_syntax.proofs.TreeNodeLaws.{expr-Number, expr-Literal, expr-Variable, expr-Call, expr-Joined, operand-is, arguments-is, stmt-While, stmt-Assign, stmt-Evaluate, target-ToName}
+use Rattle.model_syntax.proofs.TreeNodeLaws.{assignment-Write, expr-Number, expr-Literal, expr-Variable, expr-Call, expr-Joined, operand-is, arguments-is, stmt-While, stmt-Assign, stmt-Evaluate, target-ToName}
 
 abbrev pub x : List ℕ
 x = codes "x"
@@ -38,7 +39,7 @@ abbrev pub echo : Stmt
 echo = Evaluate (Call (codes "echo") (record { named = []; ordered = text ∷ [] }))
 
 abbrev pub step : Stmt
-step = Assign (ToName x) Set sum
+step = Assign (Write (ToName x) Set sum)
 
 abbrev pub tree : Place → Tree
 tree p = record { tops = Statement p (While test (echo ∷ step ∷ [])) ∷ [] }
@@ -66,7 +67,8 @@ echo-node =
 
 step-node : stmt_node step ≡ step_node
 step-node =
-    stmt-Assign (ToName x) Set sum
+    stmt-Assign (Write (ToName x) Set sum)
+    ∙ assignment-Write (ToName x) Set sum
     ∙ ap (λ z. node (form.Assign Set) (nodes (z ∷ expr_node sum ∷ []))) (target-ToName x)
     ∙ ap (λ z. node (form.Assign Set) (nodes (leaf (form.ToName x) ∷ z ∷ []))) (two-node (Variable x) (Number (pos 1)) Plus (expr-Variable x) (expr-Number (pos 1)))
 

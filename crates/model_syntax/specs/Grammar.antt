@@ -21,6 +21,10 @@ use Rattle.model_syntax.specs.declared.tree.Stmt.{Stmt}
 use Rattle.model_syntax.specs.declared.tree.Stmt.TheVariants as stmt
 use Rattle.model_syntax.specs.declared.tree.Arm.{Arm}
 use Rattle.model_syntax.specs.declared.tree.Catch.{Catch}
+use Rattle.model_syntax.specs.declared.tree.Assignment.{Assignment}
+use Rattle.model_syntax.specs.declared.tree.Assignment.TheVariants as assignment
+use Rattle.model_syntax.specs.declared.tree.Init.{Init}
+use Rattle.model_syntax.specs.declared.tree.Init.TheVariants as init
 use Rattle.model_syntax.specs.declared.tree.Target.{Target}
 use Rattle.model_syntax.specs.declared.tree.Target.TheVariants.{ToName, ToProperty, ToIndex}
 use Rattle.model_syntax.specs.declared.tree.Operand.{Operand}
@@ -35,7 +39,7 @@ use Rattle.model_syntax.specs.declared.tree.Entry.{Entry}
 use Rattle.model_syntax.specs.declared.tree.Entry.TheVariants.{Named, Numbered, Computed}
 use Rattle.model_syntax.specs.Stream.{Stream, Places, Sees, SeesWord, SeesName, declared}
 use Rattle.model_syntax.specs.Lookahead.{is_call, is_named, has_heads}
-use Rattle.model_syntax.specs.Operators.{Chain, by_or, Pair, Terms, Rank, rank_whole, rank_chain, rank_pair, rank_terms, rank_unary, within_chain, within_pair, within_terms, chain_sign, pair_operator, terms_operator, prefix_of, assign_sign, chosen, chained, joined, suffixed, prefixed, operand, with_closure}
+use Rattle.model_syntax.specs.Operators.{Chain, by_or, Pair, Terms, Rank, rank_whole, rank_chain, rank_pair, rank_terms, rank_unary, within_chain, within_pair, within_terms, chain_sign, pair_operator, terms_operator, prefix_of, assign_sign, chosen, chained, joined, suffixed, prefixed, operand, with_closure, for_steps}
 
 -- [ NL ]
 pub data MayBreak (K : Stream) : ℕ → ℕ → Type 0 where
@@ -227,17 +231,17 @@ mutual
     target_index : {e i : Expr} {ss : List Suffix} {a m n b : ℕ} → IsPrimary K P e a m → Suffixes K P ss m n → Sees K n sign.BracketOpen → IsExpr K P rank_whole i (n + 1) b → Sees K b sign.BracketClose → IsTarget K P (ToIndex (suffixed e ss) i) a (b + 1)
 
   -- Assign = Target ( ("=" | "+=" | "-=" | "*=" | "%=") Whole | "++" | "--" )
-  pub data IsAssign (K : Stream) (P : Places) : Stmt → ℕ → ℕ → Type 0 where
-    assign_value : {t : Target} {s : Sign} {o : AssignSign} {e : Expr} {a m b : ℕ} → IsTarget K P t a m → Sees K m s → assign_sign s ≡ Some o → IsWhole K P e (m + 1) b → IsAssign K P (stmt.Assign t o e) a b
-    assign_up : {t : Target} {a b : ℕ} → IsTarget K P t a b → Sees K b sign.Increment → IsAssign K P (stmt.Increment t) a (b + 1)
-    assign_down : {t : Target} {a b : ℕ} → IsTarget K P t a b → Sees K b sign.Decrement → IsAssign K P (stmt.Decrement t) a (b + 1)
+  pub data IsAssign (K : Stream) (P : Places) : Assignment → ℕ → ℕ → Type 0 where
+    assign_value : {t : Target} {s : Sign} {o : AssignSign} {e : Expr} {a m b : ℕ} → IsTarget K P t a m → Sees K m s → assign_sign s ≡ Some o → IsWhole K P e (m + 1) b → IsAssign K P (assignment.Write t o e) a b
+    assign_up : {t : Target} {a b : ℕ} → IsTarget K P t a b → Sees K b sign.Increment → IsAssign K P (assignment.Increment t) a (b + 1)
+    assign_down : {t : Target} {a b : ℕ} → IsTarget K P t a b → Sees K b sign.Decrement → IsAssign K P (assignment.Decrement t) a (b + 1)
 
   -- Simple = "def" NAME [ "=" Whole ] | NAME NAME "=" Whole | Assign | Whole | "return" [ Whole ] | "break" | "continue"
   --        | "throw" Expr; a statement does not begin with "{"
   pub data IsSimple (K : Stream) (P : Places) : Stmt → ℕ → ℕ → Type 0 where
     simple_def : {n : List ℕ} {a : ℕ} → SeesWord K a word.Def → SeesName K (a + 1) n → IsSimple K P (stmt.Declare (declared n (P (a + 1))) None) a (a + 1 + 1)
     simple_declare : {n : List ℕ} {e : Expr} {a b : ℕ} → SeesType K a → SeesName K (a + 1) n → Sees K (a + 1 + 1) sign.Assign → IsWhole K P e (a + 1 + 1 + 1) b → IsSimple K P (stmt.Declare (declared n (P (a + 1))) (Some e)) a b
-    simple_assign : {s : Stmt} {a b : ℕ} → (Sees K a sign.BraceOpen → ⊥) → IsAssign K P s a b → IsSimple K P s a b
+    simple_assign : {u : Assignment} {a b : ℕ} → (Sees K a sign.BraceOpen → ⊥) → IsAssign K P u a b → IsSimple K P (stmt.Assign u) a b
     simple_evaluate : {e : Expr} {a b : ℕ} → (Sees K a sign.BraceOpen → ⊥) → IsWhole K P e a b → IsSimple K P (stmt.Evaluate e) a b
     simple_return : {a : ℕ} → SeesWord K a word.Return → IsSimple K P (stmt.Return None) a (a + 1)
     simple_return_value : {e : Expr} {a b : ℕ} → SeesWord K a word.Return → IsWhole K P e (a + 1) b → IsSimple K P (stmt.Return (Some e)) a b
@@ -253,7 +257,7 @@ mutual
     stmt_while : {e : Expr} {ss : List Stmt} {a m n b : ℕ} → SeesWord K a word.While → Sees K (a + 1) sign.ParenOpen → IsExpr K P rank_whole e (a + 1 + 1) m → Sees K m sign.ParenClose → MayBreak K (m + 1) n → IsBody K P ss n b → IsStmt K P (stmt.While e ss) a b
     -- For = "for" "(" ( Each | Init ";" Expr ";" Assign ) ")" [ NL ] Body
     stmt_for_each : {d : Declared} {e : Expr} {ss : List Stmt} {a m n b : ℕ} → SeesWord K a word.For → Sees K (a + 1) sign.ParenOpen → IsEach K P d e (a + 1 + 1) m → Sees K m sign.ParenClose → MayBreak K (m + 1) n → IsBody K P ss n b → IsStmt K P (stmt.ForEach d e ss) a b
-    stmt_for_steps : {i u : Stmt} {e : Expr} {ss : List Stmt} {a k l m n b : ℕ} → SeesWord K a word.For → Sees K (a + 1) sign.ParenOpen → IsInit K P i (a + 1 + 1) k → Sees K k sign.Semicolon → IsExpr K P rank_whole e (k + 1) l → Sees K l sign.Semicolon → IsAssign K P u (l + 1) m → Sees K m sign.ParenClose → MayBreak K (m + 1) n → IsBody K P ss n b → IsStmt K P (stmt.ForSteps i e u ss) a b
+    stmt_for_steps : {i : Init} {u : Assignment} {e : Expr} {ss : List Stmt} {a k l m n b : ℕ} → SeesWord K a word.For → Sees K (a + 1) sign.ParenOpen → IsInit K P i (a + 1 + 1) k → Sees K k sign.Semicolon → IsExpr K P rank_whole e (k + 1) l → Sees K l sign.Semicolon → IsAssign K P u (l + 1) m → Sees K m sign.ParenClose → MayBreak K (m + 1) n → IsBody K P ss n b → IsStmt K P (for_steps i e u ss) a b
     -- Try = "try" [ NL ] Block ( Catch { Catch } [ Finally ] | Finally )
     stmt_try_catch : {ss : List Stmt} {c : Catch} {cs : List Catch} {o : Option (List Stmt)} {a k l m n b : ℕ} → SeesWord K a word.Try → MayBreak K (a + 1) k → IsBlock K P ss k l → IsCatch K P c l m → CatchList K P cs m n → MayFinally K P o n b → IsStmt K P (stmt.Try ss (c ∷ cs) o) a b
     stmt_try_finally : {ss ts : List Stmt} {a k l b : ℕ} → SeesWord K a word.Try → MayBreak K (a + 1) k → IsBlock K P ss k l → IsFinally K P ts l b → IsStmt K P (stmt.Try ss [] (Some ts)) a b
@@ -279,9 +283,9 @@ mutual
     each_typed : {n : List ℕ} {e : Expr} {a b : ℕ} → SeesType K a → SeesName K (a + 1) n → SeesWord K (a + 1 + 1) word.In ⊎ Sees K (a + 1 + 1) sign.Colon → IsExpr K P rank_whole e (a + 1 + 1 + 1) b → IsEach K P (declared n (P (a + 1))) e a b
 
   -- Init = ("def" | NAME) NAME "=" Whole | Assign
-  pub data IsInit (K : Stream) (P : Places) : Stmt → ℕ → ℕ → Type 0 where
-    init_declare : {n : List ℕ} {e : Expr} {a b : ℕ} → SeesType K a → SeesName K (a + 1) n → Sees K (a + 1 + 1) sign.Assign → IsWhole K P e (a + 1 + 1 + 1) b → IsInit K P (stmt.Declare (declared n (P (a + 1))) (Some e)) a b
-    init_assign : {s : Stmt} {a b : ℕ} → IsAssign K P s a b → IsInit K P s a b
+  pub data IsInit (K : Stream) (P : Places) : Init → ℕ → ℕ → Type 0 where
+    init_declare : {n : List ℕ} {e : Expr} {a b : ℕ} → SeesType K a → SeesName K (a + 1) n → Sees K (a + 1 + 1) sign.Assign → IsWhole K P e (a + 1 + 1 + 1) b → IsInit K P (init.Declare (declared n (P (a + 1))) e) a b
+    init_assign : {u : Assignment} {a b : ℕ} → IsAssign K P u a b → IsInit K P (init.Assign u) a b
 
   -- Catch = "catch" "(" [ "Exception" | "Throwable" ] NAME ")" [ NL ] Block
   pub data IsCatch (K : Stream) (P : Places) : Catch → ℕ → ℕ → Type 0 where

@@ -7,10 +7,15 @@ use Rattle.model_syntax.specs.declared.tree.Operator.TheVariants as operator
 use Rattle.model_syntax.specs.declared.tree.Prefix.{Prefix}
 use Rattle.model_syntax.specs.declared.tree.Prefix.TheVariants as prefix
 use Rattle.model_syntax.specs.declared.tree.AssignSign.{AssignSign}
+use Rattle.model_syntax.specs.declared.tree.Assignment.{Assignment}
 use Rattle.model_syntax.specs.declared.tree.AssignSign.TheVariants as assign
 use Rattle.model_syntax.specs.declared.tree.Expr.{Expr}
 use Rattle.model_syntax.specs.declared.tree.Expr.TheVariants as expr
+use Rattle.model_syntax.specs.declared.tree.Init.{Init}
+use Rattle.model_syntax.specs.declared.tree.Init.TheVariants as init
 use Rattle.model_syntax.specs.declared.tree.Operand.{Operand}
+use Rattle.model_syntax.specs.declared.tree.Stmt.{Stmt}
+use Rattle.model_syntax.specs.declared.tree.Stmt.TheVariants as stmt
 use Rattle.model_syntax.specs.declared.tree.Suffix.{Suffix}
 use Rattle.model_syntax.specs.declared.tree.Choice.{Choice}
 use Rattle.model_syntax.specs.declared.tree.Arguments.{Arguments}
@@ -130,3 +135,8 @@ operand o e = record { operator = o; value = e }
 -- A closure behind `)` is the last argument.
 abbrev pub with_closure : Arguments → List Expr → Arguments
 with_closure args cs = record { named = args.named; ordered = args.ordered ++ cs }
+
+-- A `for` with steps: what its first part is decides the statement.
+abbrev pub for_steps : Init → Expr → Assignment → List Stmt → Stmt
+for_steps (init.Declare d v) e u ss = stmt.ForDeclared d v e u ss
+for_steps (init.Assign i) e u ss = stmt.ForSteps i e u ss

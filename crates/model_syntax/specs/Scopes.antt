@@ -6,6 +6,7 @@ use Rattle.model_syntax.specs.declared.place.Declared.{Declared}
 use Rattle.model_syntax.specs.declared.fault.FaultKind.{FaultKind}
 use Rattle.model_syntax.specs.declared.fault.FaultKind.TheVariants.{NameAlreadyDeclared, FunctionAlreadyDeclared, BreakOutsideLoop, ContinueOutsideLoop}
 use Rattle.model_syntax.specs.declared.fault.ScriptFault.{ScriptFault}
+use Rattle.model_syntax.specs.declared.tree.Assignment.{Assignment, Assignment-F, fold-Assignment}
 use Rattle.model_syntax.specs.declared.tree.Choice.{Choice, Choice-F, fold-Choice}
 use Rattle.model_syntax.specs.declared.tree.Entry.{Entry, Entry-F, fold-Entry}
 use Rattle.model_syntax.specs.declared.tree.Expr.{Expr, Expr-F, fold-Expr}
@@ -77,16 +78,21 @@ heads None = declares_it ∷ []
 heads (Some ds) = declares_each ds
 
 -- The marks of a node from those of its parts.
-abbrev pub choice_step : Choice-F Marks Marks Marks Marks Marks Marks Marks Marks Marks Marks Marks → Marks
+abbrev pub assignment_step : Assignment-F Marks Marks Marks Marks Marks Marks Marks Marks Marks Marks Marks Marks → Marks
+assignment_step (Assignment-F.Write t o e) = t ++ e
+assignment_step (Assignment-F.Increment t) = t
+assignment_step (Assignment-F.Decrement t) = t
+
+abbrev pub choice_step : Choice-F Marks Marks Marks Marks Marks Marks Marks Marks Marks Marks Marks Marks → Marks
 choice_step (Choice-F.IfTrue t v) = t ++ v
 choice_step (Choice-F.IfSet v) = v
 
-abbrev pub entry_step : Entry-F Marks Marks Marks Marks Marks Marks Marks Marks Marks Marks Marks → Marks
+abbrev pub entry_step : Entry-F Marks Marks Marks Marks Marks Marks Marks Marks Marks Marks Marks Marks → Marks
 entry_step (Entry-F.Named n e) = e
 entry_step (Entry-F.Numbered v e) = e
 entry_step (Entry-F.Computed k e) = k ++ e
 
-abbrev pub expr_step : Expr-F Marks Marks Marks Marks Marks Marks Marks Marks Marks Marks Marks → Marks
+abbrev pub expr_step : Expr-F Marks Marks Marks Marks Marks Marks Marks Marks Marks Marks Marks Marks → Marks
 expr_step (Expr-F.GString ps) = all ps
 expr_step (Expr-F.Call n args) = args
 expr_step (Expr-F.Group e) = e
@@ -102,82 +108,84 @@ expr_step (Expr-F.Or es) = all es
 expr_step (Expr-F.Chosen cs e) = all cs ++ e
 expr_step e = []
 
-abbrev pub part_step : Part-F Marks Marks Marks Marks Marks Marks Marks Marks Marks Marks Marks → Marks
+abbrev pub part_step : Part-F Marks Marks Marks Marks Marks Marks Marks Marks Marks Marks Marks Marks → Marks
 part_step (Part-F.Plain t) = []
 part_step (Part-F.Inner e) = e
 
-abbrev pub stmt_step : Stmt-F Marks Marks Marks Marks Marks Marks Marks Marks Marks Marks Marks → Marks
+abbrev pub stmt_step : Stmt-F Marks Marks Marks Marks Marks Marks Marks Marks Marks Marks Marks Marks → Marks
 stmt_step (Stmt-F.If ts o) = all ts ++ block_if_any o
 stmt_step (Stmt-F.While e ss) = e ++ loop ss
 stmt_step (Stmt-F.ForEach d e ss) = block ((declares d ∷ []) ∷ e ∷ loop ss ∷ [])
+stmt_step (Stmt-F.ForDeclared d v e u ss) = block ((declares d ∷ v) ∷ e ∷ u ∷ loop ss ∷ [])
 stmt_step (Stmt-F.ForSteps i e u ss) = block (i ∷ e ∷ u ∷ loop ss ∷ [])
 stmt_step (Stmt-F.Try ss cs o) = block ss ++ (all cs ++ block_if_any o)
 stmt_step (Stmt-F.Declare d e) = declares d ∷ if_any e
-stmt_step (Stmt-F.Assign t o e) = t ++ e
-stmt_step (Stmt-F.Increment t) = t
-stmt_step (Stmt-F.Decrement t) = t
+stmt_step (Stmt-F.Assign u) = u
 stmt_step (Stmt-F.Evaluate e) = e
 stmt_step (Stmt-F.Return e) = if_any e
 stmt_step (Stmt-F.Break p) = breaks p ∷ []
 stmt_step (Stmt-F.Continue p) = continues p ∷ []
 stmt_step (Stmt-F.Throw e) = e
 
-abbrev pub suffix_step : Suffix-F Marks Marks Marks Marks Marks Marks Marks Marks Marks Marks Marks → Marks
+abbrev pub suffix_step : Suffix-F Marks Marks Marks Marks Marks Marks Marks Marks Marks Marks Marks Marks → Marks
 suffix_step (Suffix-F.Property d n) = []
 suffix_step (Suffix-F.Method d n args) = args
 suffix_step (Suffix-F.Index e) = e
 
-abbrev pub target_step : Target-F Marks Marks Marks Marks Marks Marks Marks Marks Marks Marks Marks → Marks
+abbrev pub target_step : Target-F Marks Marks Marks Marks Marks Marks Marks Marks Marks Marks Marks Marks → Marks
 target_step (Target-F.ToName n) = []
 target_step (Target-F.ToProperty e n) = e
 target_step (Target-F.ToIndex e i) = e ++ i
 
-abbrev pub arguments_step : Arguments-F Marks Marks Marks Marks Marks Marks Marks Marks Marks Marks Marks → Marks
+abbrev pub arguments_step : Arguments-F Marks Marks Marks Marks Marks Marks Marks Marks Marks Marks Marks Marks → Marks
 arguments_step args = all args.named ++ all args.ordered
 
-abbrev pub arm_step : Arm-F Marks Marks Marks Marks Marks Marks Marks Marks Marks Marks Marks → Marks
+abbrev pub arm_step : Arm-F Marks Marks Marks Marks Marks Marks Marks Marks Marks Marks Marks Marks → Marks
 arm_step t = t.test ++ block t.body
 
 -- The name of a catch stands in the scope of its block.
-abbrev pub catch_step : Catch-F Marks Marks Marks Marks Marks Marks Marks Marks Marks Marks Marks → Marks
+abbrev pub catch_step : Catch-F Marks Marks Marks Marks Marks Marks Marks Marks Marks Marks Marks Marks → Marks
 catch_step c = block ((declares c.name ∷ []) ∷ c.body)
 
-abbrev pub operand_step : Operand-F Marks Marks Marks Marks Marks Marks Marks Marks Marks Marks Marks → Marks
+abbrev pub operand_step : Operand-F Marks Marks Marks Marks Marks Marks Marks Marks Marks Marks Marks Marks → Marks
 operand_step o = o.value
 
 -- The marks of whole parts of a tree.
+abbrev pub assignment_marks : Assignment → Marks
+assignment_marks = fold-Assignment Marks Marks Marks Marks Marks Marks Marks Marks Marks Marks Marks Marks assignment_step choice_step entry_step expr_step part_step stmt_step suffix_step target_step arguments_step arm_step catch_step operand_step
+
 abbrev pub choice_marks : Choice → Marks
-choice_marks = fold-Choice Marks Marks Marks Marks Marks Marks Marks Marks Marks Marks Marks choice_step entry_step expr_step part_step stmt_step suffix_step target_step arguments_step arm_step catch_step operand_step
+choice_marks = fold-Choice Marks Marks Marks Marks Marks Marks Marks Marks Marks Marks Marks Marks assignment_step choice_step entry_step expr_step part_step stmt_step suffix_step target_step arguments_step arm_step catch_step operand_step
 
 abbrev pub entry_marks : Entry → Marks
-entry_marks = fold-Entry Marks Marks Marks Marks Marks Marks Marks Marks Marks Marks Marks choice_step entry_step expr_step part_step stmt_step suffix_step target_step arguments_step arm_step catch_step operand_step
+entry_marks = fold-Entry Marks Marks Marks Marks Marks Marks Marks Marks Marks Marks Marks Marks assignment_step choice_step entry_step expr_step part_step stmt_step suffix_step target_step arguments_step arm_step catch_step operand_step
 
 abbrev pub expr_marks : Expr → Marks
-expr_marks = fold-Expr Marks Marks Marks Marks Marks Marks Marks Marks Marks Marks Marks choice_step entry_step expr_step part_step stmt_step suffix_step target_step arguments_step arm_step catch_step operand_step
+expr_marks = fold-Expr Marks Marks Marks Marks Marks Marks Marks Marks Marks Marks Marks Marks assignment_step choice_step entry_step expr_step part_step stmt_step suffix_step target_step arguments_step arm_step catch_step operand_step
 
 abbrev pub part_marks : Part → Marks
-part_marks = fold-Part Marks Marks Marks Marks Marks Marks Marks Marks Marks Marks Marks choice_step entry_step expr_step part_step stmt_step suffix_step target_step arguments_step arm_step catch_step operand_step
+part_marks = fold-Part Marks Marks Marks Marks Marks Marks Marks Marks Marks Marks Marks Marks assignment_step choice_step entry_step expr_step part_step stmt_step suffix_step target_step arguments_step arm_step catch_step operand_step
 
 abbrev pub stmt_marks : Stmt → Marks
-stmt_marks = fold-Stmt Marks Marks Marks Marks Marks Marks Marks Marks Marks Marks Marks choice_step entry_step expr_step part_step stmt_step suffix_step target_step arguments_step arm_step catch_step operand_step
+stmt_marks = fold-Stmt Marks Marks Marks Marks Marks Marks Marks Marks Marks Marks Marks Marks assignment_step choice_step entry_step expr_step part_step stmt_step suffix_step target_step arguments_step arm_step catch_step operand_step
 
 abbrev pub suffix_marks : Suffix → Marks
-suffix_marks = fold-Suffix Marks Marks Marks Marks Marks Marks Marks Marks Marks Marks Marks choice_step entry_step expr_step part_step stmt_step suffix_step target_step arguments_step arm_step catch_step operand_step
+suffix_marks = fold-Suffix Marks Marks Marks Marks Marks Marks Marks Marks Marks Marks Marks Marks assignment_step choice_step entry_step expr_step part_step stmt_step suffix_step target_step arguments_step arm_step catch_step operand_step
 
 abbrev pub target_marks : Target → Marks
-target_marks = fold-Target Marks Marks Marks Marks Marks Marks Marks Marks Marks Marks Marks choice_step entry_step expr_step part_step stmt_step suffix_step target_step arguments_step arm_step catch_step operand_step
+target_marks = fold-Target Marks Marks Marks Marks Marks Marks Marks Marks Marks Marks Marks Marks assignment_step choice_step entry_step expr_step part_step stmt_step suffix_step target_step arguments_step arm_step catch_step operand_step
 
 abbrev pub arguments_marks : Arguments → Marks
-arguments_marks = fold-Arguments Marks Marks Marks Marks Marks Marks Marks Marks Marks Marks Marks choice_step entry_step expr_step part_step stmt_step suffix_step target_step arguments_step arm_step catch_step operand_step
+arguments_marks = fold-Arguments Marks Marks Marks Marks Marks Marks Marks Marks Marks Marks Marks Marks assignment_step choice_step entry_step expr_step part_step stmt_step suffix_step target_step arguments_step arm_step catch_step operand_step
 
 abbrev pub arm_marks : Arm → Marks
-arm_marks = fold-Arm Marks Marks Marks Marks Marks Marks Marks Marks Marks Marks Marks choice_step entry_step expr_step part_step stmt_step suffix_step target_step arguments_step arm_step catch_step operand_step
+arm_marks = fold-Arm Marks Marks Marks Marks Marks Marks Marks Marks Marks Marks Marks Marks assignment_step choice_step entry_step expr_step part_step stmt_step suffix_step target_step arguments_step arm_step catch_step operand_step
 
 abbrev pub catch_marks : Catch → Marks
-catch_marks = fold-Catch Marks Marks Marks Marks Marks Marks Marks Marks Marks Marks Marks choice_step entry_step expr_step part_step stmt_step suffix_step target_step arguments_step arm_step catch_step operand_step
+catch_marks = fold-Catch Marks Marks Marks Marks Marks Marks Marks Marks Marks Marks Marks Marks assignment_step choice_step entry_step expr_step part_step stmt_step suffix_step target_step arguments_step arm_step catch_step operand_step
 
 abbrev pub operand_marks : Operand → Marks
-operand_marks = fold-Operand Marks Marks Marks Marks Marks Marks Marks Marks Marks Marks Marks choice_step entry_step expr_step part_step stmt_step suffix_step target_step arguments_step arm_step catch_step operand_step
+operand_marks = fold-Operand Marks Marks Marks Marks Marks Marks Marks Marks Marks Marks Marks Marks assignment_step choice_step entry_step expr_step part_step stmt_step suffix_step target_step arguments_step arm_step catch_step operand_step
 
 -- A function is declared, and its parameters and statements are one scope.
 abbrev pub function_marks : Function → Marks

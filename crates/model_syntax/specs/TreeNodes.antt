@@ -3,6 +3,7 @@ use Rattle.std.specs.Prelude.{ℕ, Option, Some, None, List, [], ◌∷◌, ◌+
 use Rattle.model_syntax.specs.declared.place.Declared.{Declared}
 use Rattle.model_syntax.specs.declared.node.NodeForm.TheVariants as form
 use Rattle.model_syntax.specs.declared.tree.Prefix.{Prefix}
+use Rattle.model_syntax.specs.declared.tree.Assignment.{Assignment, Assignment-F, fold-Assignment}
 use Rattle.model_syntax.specs.declared.tree.Choice.{Choice, Choice-F, fold-Choice}
 use Rattle.model_syntax.specs.declared.tree.Entry.{Entry, Entry-F, fold-Entry}
 use Rattle.model_syntax.specs.declared.tree.Expr.{Expr, Expr-F, fold-Expr}
@@ -49,11 +50,16 @@ finally_if_any None = []
 finally_if_any (Some ss) = node form.Finally (nodes (block ss ∷ [])) ∷ []
 
 -- The node of a part of a tree from the nodes of its parts. Arguments give the nodes of all of them in one row.
-abbrev pub choice_step : Choice-F Node Node Node Node Node Node Node (List Node) Node Node Node → Node
+abbrev pub assignment_step : Assignment-F Node Node Node Node Node Node Node Node (List Node) Node Node Node → Node
+assignment_step (Assignment-F.Write t o e) = node (form.Assign o) (nodes (t ∷ e ∷ []))
+assignment_step (Assignment-F.Increment t) = node form.Increment (nodes (t ∷ []))
+assignment_step (Assignment-F.Decrement t) = node form.Decrement (nodes (t ∷ []))
+
+abbrev pub choice_step : Choice-F Node Node Node Node Node Node Node Node (List Node) Node Node Node → Node
 choice_step (Choice-F.IfTrue t v) = node form.IfTrue (nodes (t ∷ v ∷ []))
 choice_step (Choice-F.IfSet v) = node form.IfSet (nodes (v ∷ []))
 
-abbrev pub entry_step : Entry-F Node Node Node Node Node Node Node (List Node) Node Node Node → Node
+abbrev pub entry_step : Entry-F Node Node Node Node Node Node Node Node (List Node) Node Node Node → Node
 entry_step (Entry-F.Named n e) = node (form.NamedEntry n) (nodes (e ∷ []))
 entry_step (Entry-F.Numbered v e) = node (form.NumberedEntry v) (nodes (e ∷ []))
 entry_step (Entry-F.Computed k e) = node form.ComputedEntry (nodes (k ∷ e ∷ []))
@@ -62,7 +68,7 @@ entry_step (Entry-F.Computed k e) = node form.ComputedEntry (nodes (k ∷ e ∷ 
 abbrev pub prefix_node : Prefix → Node
 prefix_node p = node (form.Prefix p) (nodes [])
 
-abbrev pub expr_step : Expr-F Node Node Node Node Node Node Node (List Node) Node Node Node → Node
+abbrev pub expr_step : Expr-F Node Node Node Node Node Node Node Node (List Node) Node Node Node → Node
 expr_step (Expr-F.Number v) = node (form.Number v) (nodes [])
 expr_step (Expr-F.Literal t) = node (form.Literal t) (nodes [])
 expr_step (Expr-F.GString ps) = node form.GString (nodes ps)
@@ -83,81 +89,83 @@ expr_step (Expr-F.And es) = node form.And (nodes es)
 expr_step (Expr-F.Or es) = node form.Or (nodes es)
 expr_step (Expr-F.Chosen cs e) = node form.Chosen (nodes (cs ++ e ∷ []))
 
-abbrev pub part_step : Part-F Node Node Node Node Node Node Node (List Node) Node Node Node → Node
+abbrev pub part_step : Part-F Node Node Node Node Node Node Node Node (List Node) Node Node Node → Node
 part_step (Part-F.Plain t) = node (form.PlainPart t) (nodes [])
 part_step (Part-F.Inner e) = e
 
-abbrev pub stmt_step : Stmt-F Node Node Node Node Node Node Node (List Node) Node Node Node → Node
+abbrev pub stmt_step : Stmt-F Node Node Node Node Node Node Node Node (List Node) Node Node Node → Node
 stmt_step (Stmt-F.If ts o) = node form.If (nodes (ts ++ block_if_any o))
 stmt_step (Stmt-F.While e ss) = node form.While (nodes (e ∷ block ss ∷ []))
 stmt_step (Stmt-F.ForEach d e ss) = node (form.ForEach d.name) (nodes (e ∷ block ss ∷ []))
+stmt_step (Stmt-F.ForDeclared d v e u ss) = node form.ForSteps (nodes (node (form.Declare d.name) (nodes (v ∷ [])) ∷ e ∷ u ∷ block ss ∷ []))
 stmt_step (Stmt-F.ForSteps i e u ss) = node form.ForSteps (nodes (i ∷ e ∷ u ∷ block ss ∷ []))
 stmt_step (Stmt-F.Try ss cs o) = node form.Try (nodes (block ss ∷ (cs ++ finally_if_any o)))
 stmt_step (Stmt-F.Declare d e) = node (form.Declare d.name) (nodes (if_any e))
-stmt_step (Stmt-F.Assign t o e) = node (form.Assign o) (nodes (t ∷ e ∷ []))
-stmt_step (Stmt-F.Increment t) = node form.Increment (nodes (t ∷ []))
-stmt_step (Stmt-F.Decrement t) = node form.Decrement (nodes (t ∷ []))
+stmt_step (Stmt-F.Assign u) = u
 stmt_step (Stmt-F.Evaluate e) = node form.Evaluate (nodes (e ∷ []))
 stmt_step (Stmt-F.Return e) = node form.Return (nodes (if_any e))
 stmt_step (Stmt-F.Break p) = node form.Break (nodes [])
 stmt_step (Stmt-F.Continue p) = node form.Continue (nodes [])
 stmt_step (Stmt-F.Throw e) = node form.Throw (nodes (e ∷ []))
 
-abbrev pub suffix_step : Suffix-F Node Node Node Node Node Node Node (List Node) Node Node Node → Node
+abbrev pub suffix_step : Suffix-F Node Node Node Node Node Node Node Node (List Node) Node Node Node → Node
 suffix_step (Suffix-F.Property d n) = node (form.Property d n) (nodes [])
 suffix_step (Suffix-F.Method d n args) = node (form.Method d n) (nodes args)
 suffix_step (Suffix-F.Index e) = node form.Index (nodes (e ∷ []))
 
-abbrev pub target_step : Target-F Node Node Node Node Node Node Node (List Node) Node Node Node → Node
+abbrev pub target_step : Target-F Node Node Node Node Node Node Node Node (List Node) Node Node Node → Node
 target_step (Target-F.ToName n) = node (form.ToName n) (nodes [])
 target_step (Target-F.ToProperty e n) = node (form.ToProperty n) (nodes (e ∷ []))
 target_step (Target-F.ToIndex e i) = node form.ToIndex (nodes (e ∷ i ∷ []))
 
-abbrev pub arguments_step : Arguments-F Node Node Node Node Node Node Node (List Node) Node Node Node → List Node
+abbrev pub arguments_step : Arguments-F Node Node Node Node Node Node Node Node (List Node) Node Node Node → List Node
 arguments_step args = args.named ++ args.ordered
 
-abbrev pub arm_step : Arm-F Node Node Node Node Node Node Node (List Node) Node Node Node → Node
+abbrev pub arm_step : Arm-F Node Node Node Node Node Node Node Node (List Node) Node Node Node → Node
 arm_step t = node form.Arm (nodes (t.test ∷ block t.body ∷ []))
 
-abbrev pub catch_step : Catch-F Node Node Node Node Node Node Node (List Node) Node Node Node → Node
+abbrev pub catch_step : Catch-F Node Node Node Node Node Node Node Node (List Node) Node Node Node → Node
 catch_step c = node (form.Catch c.caught c.name.name) (nodes (block c.body ∷ []))
 
-abbrev pub operand_step : Operand-F Node Node Node Node Node Node Node (List Node) Node Node Node → Node
+abbrev pub operand_step : Operand-F Node Node Node Node Node Node Node Node (List Node) Node Node Node → Node
 operand_step o = node (form.Operand o.operator) (nodes (o.value ∷ []))
 
 -- The nodes of whole parts of a tree.
+abbrev pub assignment_node : Assignment → Node
+assignment_node = fold-Assignment Node Node Node Node Node Node Node Node (List Node) Node Node Node assignment_step choice_step entry_step expr_step part_step stmt_step suffix_step target_step arguments_step arm_step catch_step operand_step
+
 abbrev pub choice_node : Choice → Node
-choice_node = fold-Choice Node Node Node Node Node Node Node (List Node) Node Node Node choice_step entry_step expr_step part_step stmt_step suffix_step target_step arguments_step arm_step catch_step operand_step
+choice_node = fold-Choice Node Node Node Node Node Node Node Node (List Node) Node Node Node assignment_step choice_step entry_step expr_step part_step stmt_step suffix_step target_step arguments_step arm_step catch_step operand_step
 
 abbrev pub entry_node : Entry → Node
-entry_node = fold-Entry Node Node Node Node Node Node Node (List Node) Node Node Node choice_step entry_step expr_step part_step stmt_step suffix_step target_step arguments_step arm_step catch_step operand_step
+entry_node = fold-Entry Node Node Node Node Node Node Node Node (List Node) Node Node Node assignment_step choice_step entry_step expr_step part_step stmt_step suffix_step target_step arguments_step arm_step catch_step operand_step
 
 abbrev pub expr_node : Expr → Node
-expr_node = fold-Expr Node Node Node Node Node Node Node (List Node) Node Node Node choice_step entry_step expr_step part_step stmt_step suffix_step target_step arguments_step arm_step catch_step operand_step
+expr_node = fold-Expr Node Node Node Node Node Node Node Node (List Node) Node Node Node assignment_step choice_step entry_step expr_step part_step stmt_step suffix_step target_step arguments_step arm_step catch_step operand_step
 
 abbrev pub part_node : Part → Node
-part_node = fold-Part Node Node Node Node Node Node Node (List Node) Node Node Node choice_step entry_step expr_step part_step stmt_step suffix_step target_step arguments_step arm_step catch_step operand_step
+part_node = fold-Part Node Node Node Node Node Node Node Node (List Node) Node Node Node assignment_step choice_step entry_step expr_step part_step stmt_step suffix_step target_step arguments_step arm_step catch_step operand_step
 
 abbrev pub stmt_node : Stmt → Node
-stmt_node = fold-Stmt Node Node Node Node Node Node Node (List Node) Node Node Node choice_step entry_step expr_step part_step stmt_step suffix_step target_step arguments_step arm_step catch_step operand_step
+stmt_node = fold-Stmt Node Node Node Node Node Node Node Node (List Node) Node Node Node assignment_step choice_step entry_step expr_step part_step stmt_step suffix_step target_step arguments_step arm_step catch_step operand_step
 
 abbrev pub suffix_node : Suffix → Node
-suffix_node = fold-Suffix Node Node Node Node Node Node Node (List Node) Node Node Node choice_step entry_step expr_step part_step stmt_step suffix_step target_step arguments_step arm_step catch_step operand_step
+suffix_node = fold-Suffix Node Node Node Node Node Node Node Node (List Node) Node Node Node assignment_step choice_step entry_step expr_step part_step stmt_step suffix_step target_step arguments_step arm_step catch_step operand_step
 
 abbrev pub target_node : Target → Node
-target_node = fold-Target Node Node Node Node Node Node Node (List Node) Node Node Node choice_step entry_step expr_step part_step stmt_step suffix_step target_step arguments_step arm_step catch_step operand_step
+target_node = fold-Target Node Node Node Node Node Node Node Node (List Node) Node Node Node assignment_step choice_step entry_step expr_step part_step stmt_step suffix_step target_step arguments_step arm_step catch_step operand_step
 
 abbrev pub arguments_nodes : Arguments → List Node
-arguments_nodes = fold-Arguments Node Node Node Node Node Node Node (List Node) Node Node Node choice_step entry_step expr_step part_step stmt_step suffix_step target_step arguments_step arm_step catch_step operand_step
+arguments_nodes = fold-Arguments Node Node Node Node Node Node Node Node (List Node) Node Node Node assignment_step choice_step entry_step expr_step part_step stmt_step suffix_step target_step arguments_step arm_step catch_step operand_step
 
 abbrev pub arm_node : Arm → Node
-arm_node = fold-Arm Node Node Node Node Node Node Node (List Node) Node Node Node choice_step entry_step expr_step part_step stmt_step suffix_step target_step arguments_step arm_step catch_step operand_step
+arm_node = fold-Arm Node Node Node Node Node Node Node Node (List Node) Node Node Node assignment_step choice_step entry_step expr_step part_step stmt_step suffix_step target_step arguments_step arm_step catch_step operand_step
 
 abbrev pub catch_node : Catch → Node
-catch_node = fold-Catch Node Node Node Node Node Node Node (List Node) Node Node Node choice_step entry_step expr_step part_step stmt_step suffix_step target_step arguments_step arm_step catch_step operand_step
+catch_node = fold-Catch Node Node Node Node Node Node Node Node (List Node) Node Node Node assignment_step choice_step entry_step expr_step part_step stmt_step suffix_step target_step arguments_step arm_step catch_step operand_step
 
 abbrev pub operand_node : Operand → Node
-operand_node = fold-Operand Node Node Node Node Node Node Node (List Node) Node Node Node choice_step entry_step expr_step part_step stmt_step suffix_step target_step arguments_step arm_step catch_step operand_step
+operand_node = fold-Operand Node Node Node Node Node Node Node Node (List Node) Node Node Node assignment_step choice_step entry_step expr_step part_step stmt_step suffix_step target_step arguments_step arm_step catch_step operand_step
 
 -- A function has its name and parameters, and a block.
 abbrev pub function_node : Function → Node

@@ -40,7 +40,7 @@ pub use place::{Declared, Place};
 pub use sign::Sign;
 pub use token::{Token, TokenKind, Tokens};
 pub use tree::{
-    Access, Arguments, Arm, AssignSign, Catch, Caught, Choice, Entry, Expr, Function, NewClass,
-    Operand, Operator, Part, Prefix, Stmt, Suffix, Target, Top, Tree,
+    Access, Arguments, Arm, AssignSign, Assignment, Catch, Caught, Choice, Entry, Expr, Function,
+    Init, NewClass, Operand, Operator, Part, Prefix, Stmt, Suffix, Target, Top, Tree,
 };
 pub use word::Word;

@@ -92,17 +92,15 @@ pub enum Stmt {
     While(Expr, Items<Stmt>),
     /// `for (x in e)` and `for (def x : e)`
     ForEach(Declared, Expr, Items<Stmt>),
+    /// `for (def x = e; test; b)` and `for (String x = e; test; b)`
+    ForDeclared(Declared, Expr, Expr, Boxed<Assignment>, Items<Stmt>),
     /// `for (a; test; b)`
-    ForSteps(Boxed<Stmt>, Expr, Boxed<Stmt>, Items<Stmt>),
+    ForSteps(Boxed<Assignment>, Expr, Boxed<Assignment>, Items<Stmt>),
     /// The block, its catches in order, and the block of `finally`.
     Try(Items<Stmt>, Items<Catch>, Option<Items<Stmt>>),
     /// `def x`, `def x = e`, `String x = e`
     Declare(Declared, Option<Expr>),
-    Assign(Target, AssignSign, Expr),
-    /// `x++`
-    Increment(Target),
-    /// `x--`
-    Decrement(Target),
+    Assign(Assignment),
     Evaluate(Expr),
     Return(Option<Expr>),
     Break(Place),
@@ -125,6 +123,18 @@ pub struct Catch {
     pub caught: Caught,
     pub name: Declared,
     pub body: Items<Stmt>,
+}
+
+/// An assignment: a statement, and a part of a `for` head.
+#[cycle(syntax)]
+#[derive(Drop)]
+pub enum Assignment {
+    /// `x = e`, `x += e`
+    Write(Target, AssignSign, Expr),
+    /// `x++`
+    Increment(Target),
+    /// `x--`
+    Decrement(Target),
 }
 
 /// What an assignment writes.
@@ -224,4 +234,13 @@ pub enum Entry {
     Named(Text, Expr),
     Numbered(i32, Expr),
     Computed(Expr, Expr),
+}
+
+/// The first part of `for (a; test; b)`. A tree holds it by the two variants `ForDeclared` and `ForSteps` of its
+/// statement, so that no other statement can stand there.
+#[derive(Drop)]
+pub enum Init {
+    /// `def x = e`, `String x = e`
+    Declare(Declared, Expr),
+    Assign(Assignment),
 }
