@@ -1,5 +1,9 @@
 -- When a device's count of faults has risen, and what a call that can fail says of it. This product's own rule.
-use Rattle.std.specs.Prelude.{◌<◌, ◌≡◌, ◌⊎◌, ℕ, ◌+◌, ◌^◌, ◌≤◌, Result, IsOk, IsErr}
+use Rattle.std.specs.Prelude.{◌<◌, ◌≡◌, ◌⊎◌, ℕ, ◌+◌, ◌-◌, ◌^◌, ◌≤◌, min, max, Result, IsOk, IsErr}
+
+-- one more, where 64 bits hold it: a count stands still at its last value
+abbrev pub counted : ℕ → ℕ
+counted n = max n (min (n + 1) (2 ^ 64 - 1))
 
 -- a count of faults rose, or stands at its last value, where it can rise no more
 abbrev pub Rose : ℕ → ℕ → Type 0

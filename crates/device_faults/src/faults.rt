@@ -1,6 +1,6 @@
 //! The count of the faults of one device.
-ghost use Rattle.std.specs.Prelude.{◌≡◌, ◌≤◌, ℕ, Some, codes};
-ghost use Rattle.device_faults.specs.Faults.{Rose};
+ghost use Rattle.std.specs.Prelude.{◌≡◌, ℕ, Some, codes};
+ghost use Rattle.device_faults.specs.Faults.{Rose, counted};
 
 use std::fmt;
 use std::marker::Model;
@@ -41,10 +41,10 @@ impl Faults {
         Faults { count: 0 }
     }
 
-    /// Counts a fault, and gives what the failing call answers.
+    /// Counts one fault more, and gives what the failing call answers.
     pub fn rise(&mut self) -> Failed
+        ensures counted { self.new ≡ counted self.old }
         ensures rose { Rose self.old self.new }
-        ensures later { self.old ≤ self.new }
     {
         self.count = self.count.saturating_add(1);
         Failed

@@ -71,4 +71,4 @@ faults_of host = host.faults
 
 -- the numbers of the calls that are to fail
 abbrev pub failing_of : MemoryHost → List ℕ
-failing_of host = host.failing.0
+failing_of host = host.failing.fail_at
