@@ -1,11 +1,11 @@
 -- An escape, or the `$` of an expression, is cut off at one place at most, and a text does not go on there.
-use Rattle.std.proofs.Common.{◌≡◌, ◌≢◌, ℕ, ◌+◌, ◌<◌, ◌≤◌, ◌⊎◌, inl, inr, ⊎_elim, List, [], ◌∷◌, length, refl, sym, ap, ◌∙◌, arith, Some, None}
+use Rattle.std.proofs.Common.{◌≡◌, ◌≢◌, ℕ, ◌+◌, ◌<◌, ◌≤◌, ◌⊎◌, inl, inr, ⊎_elim, List, [], ◌∷◌, length, refl, sym, ap, subst, ◌∙◌, arith, Some, None}
 use Rattle.std.specs.Char.{digit_value}
 use Rattle.std.specs.Str.Parse.{AllDigits}
 use Rattle.std.proofs.lemmas.Bool.{cases_lt, cases_order}
 use Rattle.std.proofs.lemmas.Bool.Decides.{nat_tests}
 use Rattle.model_syntax.specs.Source.{Source, Spelled, NoCharacter}
-use Rattle.model_syntax.specs.TextForms.{Form, escape, Item, item_plain, item_escape, item_unicode, item_joined_lines, GoesOn, goes_on, Begun, begun_nothing, begun_backslash, begun_unicode, begun_dollar}
+use Rattle.model_syntax.specs.TextForms.{Form, escape, Item, item_plain, item_escape, item_unicode, item_joined_lines, GoesOn, goes_on, Begun, begun_nothing, begun_backslash, begun_unicode, begun_dollar, IsCutOff}
 use Rattle.model_syntax.proofs.SourceLemmas.{ascii_character}
 use Rattle.model_syntax.proofs.TextLemmas.{plain_backslash, stops_at, stops_at_none, dollar_not_plain}
 
@@ -98,3 +98,7 @@ cut_off_stops {f = f} (begun_dollar d e) n = stops_at 36 (omega arith) (λ k. om
 -- An end and a byte outside UTF-8 do not both cut it off.
 pub end_or_byte : {C : Type 0} {B : Source} {f : Form} {p q r : ℕ} → Begun B f p q → B q ≡ 256 → NoCharacter B q → Begun B f p r → (B r ≢ 256) → NoCharacter B r → C
 end_or_byte {B = B} b e n c u m = absurd (u (ap B (sym (cut_off-only b n c m)) ∙ e))
+
+-- Where it goes on no further it is cut off, if anywhere.
+pub furthest_cut_off : (B : Source) (f : Form) (p e : ℕ) → Begun B f p e → ((q : ℕ) → Begun B f p q → q ≤ e) → IsCutOff B f p → NoCharacter B e
+furthest_cut_off B f p e b h c = ⊎_elim (λ l. low_character B c.0 (begun_low b c.0 (begun-after c.1.0) l) c.1.1) (λ l. subst (λ z. NoCharacter B z) (let i : c.0 ≡ e = omega (arith, l, h c.0 c.1.0) in i) c.1.1) (cases_lt c.0 e)

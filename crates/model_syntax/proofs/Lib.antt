@@ -20,3 +20,4 @@ pub mod Deciding
 pub mod TokenExistence
 pub mod ScriptExistence
 pub mod TokenOrder
+pub mod BracketDepthLaws

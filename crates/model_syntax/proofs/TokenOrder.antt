@@ -79,7 +79,7 @@ within-append : {a b c : ℕ} {ts us : List Token} → Within a ts b → Within 
 within-append (no_token l) x = within-from l x
 within-append (one_more l m w) x = one_more l m (within-append w x)
 
-raw-order : {B : Source} {ts : List Token} {s u : List Open} {a b : ℕ} → Raw B ts s u a b → Within a ts b
+pub raw-order : {B : Source} {ts : List Token} {s u : List Open} {a b : ℕ} → Raw B ts s u a b → Within a ts b
 raw-order raw_none = no_token (omega arith)
 raw-order (raw_more ts r k) = within-append (reads-order r) (raw-order k)
 
