@@ -1,5 +1,6 @@
--- The scope faults of a tree. This product's own, as Groovy's but that an inner scope may declare a name anew.
-use Rattle.std.specs.Prelude.{ℕ, Bool, true, false, ◌||◌, if◌then◌else◌, Option, Some, None, List, [], ◌∷◌, ◌++◌, map, bytes_eq}
+-- The scope faults of a tree (this product's own: Groovy refuses a name that an inner scope declares anew, and allows
+-- functions of one name whose parameters differ).
+use Rattle.std.specs.Prelude.{ℕ, Bool, true, false, ◌||◌, if◌then◌else◌, Option, Some, None, List, [], ◌∷◌, ◌++◌, map, bytes_eq, codes}
 use Rattle.model_syntax.specs.declared.place.Place.{Place}
 use Rattle.model_syntax.specs.declared.place.Declared.{Declared}
 use Rattle.model_syntax.specs.declared.fault.FaultKind.{FaultKind}
@@ -30,6 +31,8 @@ pub data Mark : Type 0 where
   callable_begins : Mark
   scope_ends : Mark
   declares : Declared → Mark
+  -- the parameter `it` of a closure without heads, which has no place
+  declares_it : Mark
   declares_function : Declared → Mark
   breaks : Place → Mark
   continues : Place → Mark
@@ -52,8 +55,8 @@ abbrev pub loop : List Marks → Marks
 loop ss = loop_begins ∷ (all ss ++ scope_ends ∷ [])
 
 -- Parameters and the statements behind them stand in one scope.
-abbrev pub callable : List Declared → Marks → Marks
-callable ds ms = callable_begins ∷ (map declares ds ++ (ms ++ scope_ends ∷ []))
+abbrev pub callable : Marks → Marks → Marks
+callable ps ms = callable_begins ∷ (ps ++ (ms ++ scope_ends ∷ []))
 
 -- What may be absent has no marks then.
 abbrev pub if_any : Option Marks → Marks
@@ -65,10 +68,14 @@ abbrev pub block_if_any : Option (List Marks) → Marks
 block_if_any None = []
 block_if_any (Some ss) = block ss
 
--- A closure without heads declares no name.
-abbrev pub heads_of : Option (List Declared) → List Declared
-heads_of None = []
-heads_of (Some ds) = ds
+-- Each of these names is declared.
+abbrev pub declares_each : List Declared → Marks
+declares_each ds = map declares ds
+
+-- A closure without heads has one parameter, `it`.
+abbrev pub heads : Option (List Declared) → Marks
+heads None = declares_it ∷ []
+heads (Some ds) = declares_each ds
 
 -- The marks of a node from those of its parts.
 abbrev pub assignment_step : Assignment-F Marks Marks Marks Marks Marks Marks Marks Marks Marks Marks Marks Marks → Marks
@@ -91,7 +98,7 @@ expr_step (Expr-F.Call n args) = args
 expr_step (Expr-F.Group e) = e
 expr_step (Expr-F.List es) = all es
 expr_step (Expr-F.Map es) = all es
-expr_step (Expr-F.Closure ds ss) = callable (heads_of ds) (all ss)
+expr_step (Expr-F.Closure ds ss) = callable (heads ds) (all ss)
 expr_step (Expr-F.New c e) = if_any e
 expr_step (Expr-F.Suffixed e ss) = e ++ all ss
 expr_step (Expr-F.Prefixed ps e) = e
@@ -182,7 +189,7 @@ operand_marks = fold-Operand Marks Marks Marks Marks Marks Marks Marks Marks Mar
 
 -- A function is declared, and its parameters and statements are one scope.
 abbrev pub function_marks : Function → Marks
-function_marks f = declares_function f.name ∷ callable f.parameters (all (map stmt_marks f.body))
+function_marks f = declares_function f.name ∷ callable (declares_each f.parameters) (all (map stmt_marks f.body))
 
 -- The marks of a function or a statement.
 abbrev pub top_marks : Top → Marks
@@ -201,6 +208,10 @@ pub record Scope : Type 0 where
 -- A scope without names.
 abbrev pub scope : Bool → Scope
 scope in_loop = record { names = []; in_loop = in_loop }
+
+-- A scope with one more name.
+abbrev pub with_name : List ℕ → Scope → Scope
+with_name n s = record { names = n ∷ s.names; in_loop = s.in_loop }
 
 -- The name is one of these.
 unfoldable pub is_among : List ℕ → List (List ℕ) → Bool
@@ -223,7 +234,8 @@ first_wrong functions inner [] (scope_ends ∷ ms) = first_wrong functions inner
 first_wrong functions inner (o ∷ outer) (scope_ends ∷ ms) = first_wrong functions o outer ms
 first_wrong functions inner outer (declares d ∷ ms) =
     if is_among d.name inner.names then Some (fault_at d.place NameAlreadyDeclared)
-    else first_wrong functions (record { names = d.name ∷ inner.names; in_loop = inner.in_loop }) outer ms
+    else first_wrong functions (with_name d.name inner) outer ms
+first_wrong functions inner outer (declares_it ∷ ms) = first_wrong functions (with_name (codes "it") inner) outer ms
 first_wrong functions inner outer (declares_function d ∷ ms) =
     if is_among d.name functions then Some (fault_at d.place FunctionAlreadyDeclared)
     else first_wrong (d.name ∷ functions) inner outer ms

@@ -1,5 +1,5 @@
 -- The fault that a walk keeps is the first that is wrong.
-use Rattle.std.proofs.Common.{◌≡◌, ℕ, Bool, true, false, not, ◌||◌, if◌then◌else◌, Option, Some, None, List, [], ◌∷◌, map, refl, sym, ap, ◌∙◌}
+use Rattle.std.proofs.Common.{◌≡◌, ℕ, Bool, true, false, not, ◌||◌, if◌then◌else◌, Option, Some, None, List, [], ◌∷◌, map, refl, sym, ap, ◌∙◌, codes}
 use Rattle.std.specs.Ordering.{nat_cmp}
 use Rattle.std.specs.Cmp.Lexicographic.{slice_cmp, nat_list_cmp_total, texts_ties}
 use Rattle.std.specs.FinSet.{FinSet, empty, contains, insert, contains-empty, contains-insert}
@@ -8,7 +8,7 @@ use Rattle.model_syntax.specs.declared.fault.FaultKind.TheVariants.{NameAlreadyD
 use Rattle.model_syntax.specs.declared.fault.ScriptFault.{ScriptFault}
 use Rattle.model_syntax.specs.declared.tree.Top.{Top}
 use Rattle.model_syntax.specs.declared.tree.Tree.{Tree}
-use Rattle.model_syntax.specs.Scopes.{Mark, Marks, fault_at, block_begins, loop_begins, callable_begins, scope_ends, declares, declares_function, breaks, continues, is_among, first_wrong, scope_fault, tree_marks, top_marks, all}
+use Rattle.model_syntax.specs.Scopes.{Mark, Marks, fault_at, block_begins, loop_begins, callable_begins, scope_ends, declares, declares_it, declares_function, breaks, continues, is_among, first_wrong, scope_fault, tree_marks, top_marks, all}
 use Rattle.model_syntax.specs.Scopes as model
 use Rattle.scope_check.specs.declared.scopes.Scope.{Scope}
 use Rattle.scope_check.specs.declared.scopes.Scopes.{Scopes}
@@ -64,6 +64,7 @@ after_kept loop_begins s f is = is
 after_kept callable_begins s f is = is
 after_kept scope_ends s f is = closed_kept s.outer s f is
 after_kept (declares d) s f is = noted_kept _ _ _ f is
+after_kept declares_it s f is = is
 after_kept (declares_function d) s f is = noted_kept _ _ _ f is
 after_kept (breaks p) s f is = noted_kept _ _ _ f is
 after_kept (continues p) s f is = noted_kept _ _ _ f is
@@ -110,9 +111,12 @@ finds_first (scope_ends ∷ ms) s functions inner outer at =
     closed ms (finds_first ms) s.outer s functions inner outer refl at.outer at
 finds_first (declares d ∷ ms) s functions inner outer at =
     noted (contains s.inner.names d.name) ms (record s { inner = with_name d.name s.inner }) (fault_at d.place NameAlreadyDeclared) _ at.no_fault
-    (finds_first ms _ functions (record { names = d.name ∷ inner.names; in_loop = inner.in_loop }) outer
+    (finds_first ms _ functions (model.with_name d.name inner) outer
     (record { no_fault = at.no_fault; functions = at.functions; inner = record { names = HasNames-more s.inner.names inner.names d.name at.inner.names; in_loop = at.inner.in_loop }; outer = at.outer }))
-    ∙ ap (λ b. if b then Some (fault_at d.place NameAlreadyDeclared) else first_wrong functions (record { names = d.name ∷ inner.names; in_loop = inner.in_loop }) outer ms) (at.inner.names d.name)
+    ∙ ap (λ b. if b then Some (fault_at d.place NameAlreadyDeclared) else first_wrong functions (model.with_name d.name inner) outer ms) (at.inner.names d.name)
+finds_first (declares_it ∷ ms) s functions inner outer at =
+    finds_first ms _ functions (model.with_name (codes "it") inner) outer
+    (record { no_fault = at.no_fault; functions = at.functions; inner = record { names = HasNames-more s.inner.names inner.names (codes "it") at.inner.names; in_loop = at.inner.in_loop }; outer = at.outer })
 finds_first (declares_function d ∷ ms) s functions inner outer at =
     noted (contains s.functions d.name) ms (record s { functions = insert s.functions d.name }) (fault_at d.place FunctionAlreadyDeclared) _ at.no_fault
     (finds_first ms _ (d.name ∷ functions) inner outer

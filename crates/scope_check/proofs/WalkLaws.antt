@@ -6,10 +6,10 @@ use Rattle.model_syntax.specs.declared.tree.Arguments.{Arguments}
 use Rattle.model_syntax.specs.declared.tree.Arm.{Arm}
 use Rattle.model_syntax.specs.declared.tree.Catch.{Catch}
 use Rattle.model_syntax.specs.declared.tree.Operand.{Operand}
-use Rattle.model_syntax.specs.Scopes.{Mark, Marks, all, block, loop, callable, declares, scope_ends, arm_marks, catch_marks, operand_marks, arguments_marks, entry_marks, expr_marks, stmt_marks}
+use Rattle.model_syntax.specs.Scopes.{Mark, Marks, all, block, loop, callable, declares, declares_it, scope_ends, arm_marks, catch_marks, operand_marks, arguments_marks, entry_marks, expr_marks, stmt_marks}
 use Rattle.model_syntax.proofs.ScopeLaws.{arm-is, catch-is, operand-is, arguments-is}
 use Rattle.scope_check.specs.declared.scopes.Scopes.{Scopes}
-use Rattle.scope_check.specs.Walk.{walked, after, open_scope, close_scope, declare_name}
+use Rattle.scope_check.specs.Walk.{walked, after, open_scope, close_scope, declare_name, declare_it}
 
 pub walked-none : (s : Scopes) → walked [] s ≡ s
 unfolding walked
@@ -40,11 +40,15 @@ pub walked-loop : (ss : List Marks) (s : Scopes) → walked (loop ss) s ≡ clos
 unfolding walked
 walked-loop ss s = walked-ended (all ss) (open_scope true s)
 
-pub walked-callable : (ds : List Declared) (ms : Marks) (s : Scopes) → walked (callable ds ms) s ≡ close_scope (walked ms (walked (map declares ds) (open_scope false s)))
+pub walked-callable : (ps ms : Marks) (s : Scopes) → walked (callable ps ms) s ≡ close_scope (walked ms (walked ps (open_scope false s)))
 unfolding walked
-walked-callable ds ms s =
-    walked-append (map declares ds) (ms ++ scope_ends ∷ []) (open_scope false s)
-    ∙ walked-ended ms (walked (map declares ds) (open_scope false s))
+walked-callable ps ms s =
+    walked-append ps (ms ++ scope_ends ∷ []) (open_scope false s)
+    ∙ walked-ended ms (walked ps (open_scope false s))
+
+-- A closure without heads.
+pub walked-with_it : (ms : Marks) (s : Scopes) → walked (callable (declares_it ∷ []) ms) s ≡ close_scope (walked ms (declare_it (open_scope false s)))
+walked-with_it ms s = walked-callable (declares_it ∷ []) ms s ∙ ap (λ t. close_scope (walked ms t)) (walked-one declares_it (open_scope false s))
 
 -- One row of marks behind another.
 pub walked-then : (a b : Marks) (s : Scopes) {t u : Scopes} → t ≡ walked a s → u ≡ walked b t → u ≡ walked (a ++ b) s
@@ -118,4 +122,4 @@ pub all-declared_one : (ds : List Declared) → all (map declared_one ds) ≡ ma
 all-declared_one [] = refl
 all-declared_one (d ∷ ds) = ap (λ ms. declares d ∷ ms) (all-declared_one ds)
 
-pub ruleset walking = (walked-none, walked-one, walked-append, walked-block, walked-loop, walked-callable)
+pub ruleset walking = (walked-none, walked-one, walked-append, walked-block, walked-loop, walked-callable, walked-with_it)

@@ -1,5 +1,5 @@
 -- A walk through the marks of a script, which keeps the first fault and goes on.
-use Rattle.std.specs.Prelude.{ℕ, Bool, true, false, not, Option, Some, None, List, [], ◌∷◌, if◌then◌else◌}
+use Rattle.std.specs.Prelude.{ℕ, Bool, true, false, not, Option, Some, None, List, [], ◌∷◌, if◌then◌else◌, codes}
 use Rattle.std.specs.FinSet as set
 use Rattle.std.specs.declared.alloc.Global.{Global}
 use Rattle.model_syntax.specs.declared.place.Place.{Place}
@@ -7,7 +7,7 @@ use Rattle.model_syntax.specs.declared.place.Declared.{Declared}
 use Rattle.model_syntax.specs.declared.fault.FaultKind.{FaultKind}
 use Rattle.model_syntax.specs.declared.fault.FaultKind.TheVariants.{NameAlreadyDeclared, FunctionAlreadyDeclared, BreakOutsideLoop, ContinueOutsideLoop}
 use Rattle.model_syntax.specs.declared.fault.ScriptFault.{ScriptFault}
-use Rattle.model_syntax.specs.Scopes.{Mark, Marks, fault_at, block_begins, loop_begins, callable_begins, scope_ends, declares, declares_function, breaks, continues}
+use Rattle.model_syntax.specs.Scopes.{Mark, Marks, fault_at, block_begins, loop_begins, callable_begins, scope_ends, declares, declares_it, declares_function, breaks, continues}
 use Rattle.scope_check.specs.declared.scopes.Scope.{Scope}
 use Rattle.scope_check.specs.declared.scopes.Scopes.{Scopes}
 
@@ -55,6 +55,10 @@ declare_name d s =
     note_where (set.contains s.inner.names d.name) (fault_at d.place NameAlreadyDeclared)
     (record s { inner = with_name d.name s.inner })
 
+-- `it` is declared in the innermost scope, which has just begun.
+abbrev pub declare_it : Scopes → Scopes
+declare_it s = record s { inner = with_name (codes "it") s.inner }
+
 -- A function is declared: a fault, where there is one of this name already.
 abbrev pub declare_function : Declared → Scopes → Scopes
 declare_function d s =
@@ -72,6 +76,7 @@ after loop_begins s = open_scope true s
 after callable_begins s = open_scope false s
 after scope_ends s = close_scope s
 after (declares d) s = declare_name d s
+after declares_it s = declare_it s
 after (declares_function d) s = declare_function d s
 after (breaks p) s = need_loop BreakOutsideLoop p s
 after (continues p) s = need_loop ContinueOutsideLoop p s

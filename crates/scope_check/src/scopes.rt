@@ -1,10 +1,11 @@
 ghost use Rattle.std.specs.Prelude.{◌≡◌, true, false, OnOk};
-ghost use Rattle.scope_check.specs.Walk.{start, open_scope, close_scope, declare_name, declare_function, need_loop, note_fault};
+ghost use Rattle.scope_check.specs.Walk.{start, open_scope, close_scope, declare_name, declare_it, declare_function, need_loop, note_fault};
 ghost use Rattle.model_syntax.specs.Scopes.{fault_at};
 
 use crate::names::Names;
 use crate::stack::Stack;
 use model_syntax::{Declared, FaultKind, Place, ScriptFault};
+use model_text::Text;
 use std::alloc::{AllocError, Global};
 use std::mem;
 
@@ -72,6 +73,15 @@ impl Scopes {
         if !is_new {
             self.note(name.place, FaultKind::NameAlreadyDeclared);
         }
+        Ok(())
+    }
+
+    /// The parameter `it` of a closure without heads, whose scope has just begun. `AllocError` where the memory was refused.
+    pub fn declare_it(&mut self) -> Result<(), AllocError>
+        ensures { OnOk result (self.new ≡ declare_it self.old) }
+    {
+        let name = Text::from_str(self.alloc, "it")?;
+        self.inner.names.add(&name)?;
         Ok(())
     }
 

@@ -146,6 +146,34 @@ fn parameter_declared_again(alloc: Global) -> Result<(), ScriptRefusal> {
     answer(alloc, one(alloc, call(alloc, Some(parameters), body)?)?)
 }
 
+/// `f { def it }`, and with these heads in place of none
+fn it_declared(alloc: Global, heads: Option<Items<Declared>>) -> Result<(), ScriptRefusal> {
+    let body = defs(alloc, &[("it", 1, 9)])?;
+    answer(alloc, one(alloc, call(alloc, heads, body)?)?)
+}
+
+/// `f { a -> def it }`
+fn it_declared_behind_heads(alloc: Global) -> Result<(), ScriptRefusal> {
+    let heads = names(alloc, &[("a", 1, 5)])?;
+    it_declared(alloc, Some(heads))
+}
+
+/// `f { f { } }`
+fn closure_in_a_closure(alloc: Global) -> Result<(), ScriptRefusal> {
+    let inner = call(alloc, None, Items::new(alloc))?;
+    answer(alloc, one(alloc, call(alloc, None, one(alloc, inner)?)?)?)
+}
+
+/// `f { def it }` is refused by Groovy: "The current scope already contains a variable of the name it".
+#[test]
+fn a_closure_without_heads_has_the_parameter_it(rt: HostRuntime) {
+    let alloc = rt.alloc();
+    let again = fault(1, 9, FaultKind::NameAlreadyDeclared);
+    assert_eq!(rt; it_declared(alloc, None), again);
+    assert_eq!(rt; it_declared_behind_heads(alloc), Ok(()));
+    assert_eq!(rt; closure_in_a_closure(alloc), Ok(()));
+}
+
 /// `for (def i; true; def i) {}`
 fn head_with_a_name_twice(alloc: Global) -> Result<(), ScriptRefusal> {
     let first = Boxed::new(alloc, def(alloc, "i", 1, 10)?)?;

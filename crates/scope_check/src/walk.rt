@@ -1,6 +1,6 @@
 ghost use Rattle.std.specs.Prelude.{◌≡◌, [], ◌∷◌, ◌++◌, map, OnOk};
 ghost use Rattle.std.specs.Option.{option_map};
-ghost use Rattle.model_syntax.specs.Scopes.{Marks, all, block, loop, callable, if_any, block_if_any, heads_of, declares, arm_marks, catch_marks, choice_marks, entry_marks, expr_marks, operand_marks, part_marks, stmt_marks, suffix_marks, target_marks, arguments_marks, top_marks, function_marks};
+ghost use Rattle.model_syntax.specs.Scopes.{Marks, all, block, loop, callable, if_any, block_if_any, declares_each, heads, arm_marks, catch_marks, choice_marks, entry_marks, expr_marks, operand_marks, part_marks, stmt_marks, suffix_marks, target_marks, arguments_marks, top_marks, function_marks};
 ghost use Rattle.scope_check.specs.Walk.{walked};
 ghost use Rattle.scope_check.specs.Kinds.{IsIf, IsForEach, IsForSteps, IsTry};
 
@@ -42,10 +42,10 @@ impl Scopes {
         self.callable(function.parameters.as_slice(), function.body.as_slice())
     }
 
-    /// The parameters of a function or a closure and its statements behind them: a scope in no loop.
+    /// Parameters and the statements behind them: a scope in no loop.
     #[cycle(walk)]
     fn callable(&mut self, parameters: &[Declared], body: &[Stmt]) -> Result<(), AllocError>
-        ensures { OnOk result (self.new ≡ walked (callable parameters.now (all (map stmt_marks body.now))) self.old) }
+        ensures { OnOk result (self.new ≡ walked (callable (declares_each parameters.now) (all (map stmt_marks body.now))) self.old) }
     {
         self.open(false)?;
         self.parameters(parameters)?;
@@ -54,8 +54,20 @@ impl Scopes {
         Ok(())
     }
 
+    /// A closure without heads, which has the parameter `it`.
+    #[cycle(walk)]
+    fn closure_with_it(&mut self, body: &[Stmt]) -> Result<(), AllocError>
+        ensures { OnOk result (self.new ≡ walked (callable (heads None) (all (map stmt_marks body.now))) self.old) }
+    {
+        self.open(false)?;
+        self.declare_it()?;
+        self.statements(body)?;
+        self.close();
+        Ok(())
+    }
+
     fn parameters(&mut self, parameters: &[Declared]) -> Result<(), AllocError>
-        ensures { OnOk result (self.new ≡ walked (map declares parameters.now) self.old) }
+        ensures { OnOk result (self.new ≡ walked (declares_each parameters.now) self.old) }
     {
         for parameter in parameters {
             self.declare(parameter)?;
@@ -272,7 +284,7 @@ impl Scopes {
             Expr::Closure(Some(parameters), body) => {
                 self.callable(parameters.as_slice(), body.as_slice())
             }
-            Expr::Closure(None, body) => self.callable(&[], body.as_slice()),
+            Expr::Closure(None, body) => self.closure_with_it(body.as_slice()),
             Expr::New(_, message) => self.message(message),
             Expr::Suffixed(primary, suffixes) => {
                 self.expression(primary.get())?;
