@@ -1,6 +1,7 @@
 pub mod SourceLemmas
 pub mod SpellingLemmas
 pub mod TextLemmas
+pub mod CutOffLemmas
 pub mod ReadingLemmas
 pub mod TokenLaws
 pub mod FirstFaultLaws
@@ -9,6 +10,7 @@ pub mod ScopeLaws
 pub mod NodeLaws
 pub mod StepLemmas
 pub mod TokenExamples
+pub mod CutOffExamples
 pub mod GrammarLemmas
 pub mod GrammarExamples
 pub mod FaultExamples

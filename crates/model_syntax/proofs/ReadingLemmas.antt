@@ -5,18 +5,19 @@ use Rattle.std.specs.Char.{is_ascii_digit, is_ascii_alphabetic}
 use Rattle.std.specs.Int.{is_in_range}
 use Rattle.std.proofs.lemmas.Bool.{true≢false, eqb-true, ltb-true, not-false, false_from_ne_true}
 use Rattle.model_syntax.specs.declared.fault.FaultKind.{FaultKind}
-use Rattle.model_syntax.specs.declared.fault.FaultKind.TheVariants.{UnendedText}
+use Rattle.model_syntax.specs.declared.fault.FaultKind.TheVariants.{UnendedText, NotUtf8}
 use Rattle.model_syntax.specs.declared.token.TokenKind.{TokenKind}
 use Rattle.model_syntax.specs.declared.token.TokenKind.TheVariants as kind
 use Rattle.model_syntax.specs.declared.sign.Sign.TheVariants as sign
 use Rattle.model_syntax.specs.declared.token.Token.{Token}
 use Rattle.model_syntax.specs.Source.{Source, Spelled, NoCharacter}
 use Rattle.model_syntax.specs.Spelling.{is_letter, is_name_byte}
-use Rattle.model_syntax.specs.TextForms.{Form, quotes, is_triple, is_double, GoesOn, goes_on, Content}
+use Rattle.model_syntax.specs.TextForms.{Form, quotes, is_triple, is_double, GoesOn, goes_on, Content, Begun}
 use Rattle.model_syntax.specs.OpenBrackets.{Open, text, depth, innermost_text, text_holds_newlines}
 use Rattle.model_syntax.specs.Reading.{Outcome, goes, fails, token, part, is_blank, BeginsLine, EndsLine, IsNotUtf8, AfterLine, line_ends, line_not_utf8, AfterComment, comment_ends, comment_unended, comment_not_utf8, Blank, blank, line_comment, comment, Newline, newline_ends, newline_blank, newline_in_text, AfterFits, name_stands, word_stands, sign_stands, number_stands, sign_too_deep, number_bad, Lexeme, lexeme, BeginsExpression, begins_braces, begins_path, TextFails, fails_at_end, fails_at_newline, fails_at_backslash, fails_at_dollar, fails_too_deep, fails_not_utf8, AfterContent, text_whole, text_opens, text_fails, TextBegins, text_begins, Begins, begins_blank, begins_newline, begins_line, begins_comment, begins_lexeme, begins_text, Nothing, nothing_begins, nothing_in_utf8, nothing_ends, InCode, code_blank, code_newline, code_lexeme, code_text, code_nothing, Path, path_ends, path_more, InText, in_part, in_closing, in_braces, in_path, in_fault, Reads, reads_code, reads_text}
 use Rattle.model_syntax.proofs.SourceLemmas.{passed_only, ascii_character, end_no_character}
 use Rattle.model_syntax.proofs.SpellingLemmas.{either, in_range, none_of, all_false, member, is_first, is_sign_byte, sign_bytes, first_is, FirstIs, spells_first, fits_only}
+use Rattle.model_syntax.proofs.CutOffLemmas.{cut_off-only, no_cut_off, dollar_not_cut_off, cut_off_stops, end_or_byte}
 use Rattle.model_syntax.proofs.TextLemmas.{opens_only, quote_first, quote_cases, content_only, stops_at, stops_at_none, dollar_not_plain, newline_not_plain, content_goes}
 
 -- Two numbers of one byte.
@@ -132,43 +133,49 @@ lexeme_only {B = B} {s = s} {a = a} {y = y} (lexeme {t = t} {k = k} f r) (lexeme
     fits_after r (subst (λ z. AfterFits B s z a k y) (sym e.0) (subst (λ z. AfterFits B s u a z y) (sym e.1) r'))
 
 -- Texts.
+newline_not_cut_off : {C : Type 0} {B : Source} {f : Form} {p q : ℕ} → B p ≡ 10 → Begun B f p q → NoCharacter B q → C
+newline_not_cut_off e b n = no_cut_off 10 (omega arith) (λ k. omega (arith, k)) (λ k. omega (arith, k)) e b n
+
+braces_not_cut_off : {C : Type 0} {B : Source} {f : Form} {p q : ℕ} → Spelled B (codes "${") p → Begun B f p q → NoCharacter B q → C
+braces_not_cut_off e b n = dollar_not_cut_off e.0 (omega (arith, e.1.0)) b n
+
 fails_only : {B : Source} {s : List Open} {f : Form} {o p : ℕ} {k j : FaultKind} {q r : ℕ} → TextFails B s f o p k q → TextFails B s f o p j r → fails k q ≡ fails j r
-fails_only (fails_at_end e) (fails_at_end e') = refl
-fails_only (fails_at_end e) (fails_at_newline e' t) = refl
-fails_only (fails_at_end e) (fails_at_backslash e' g) = two 256 92 (λ k. omega (arith, k)) e e'
-fails_only (fails_at_end e) (fails_at_dollar e' d n l) = two 256 36 (λ k. omega (arith, k)) e e'
-fails_only (fails_at_end e) (fails_too_deep e' d h) = two 256 36 (λ k. omega (arith, k)) e e'.0
-fails_only (fails_at_end e) (fails_not_utf8 u) = absurd (u.0 e)
-fails_only (fails_at_newline e t) (fails_at_end e') = refl
+fails_only (fails_at_end b e) (fails_at_end b' e') = refl
+fails_only (fails_at_end b e) (fails_not_utf8 b' u) = end_or_byte b e (end_no_character _ _ e) b' u.0 u.1
+fails_only (fails_at_end b e) (fails_at_newline e' t) = refl
+fails_only {B = B} (fails_at_end {q = q} b e) (fails_at_backslash e' g n) = absurd (n (q, (b, end_no_character B q e)))
+fails_only {B = B} (fails_at_end {q = q} b e) (fails_at_dollar e' d n l m) = absurd (m (q, (b, end_no_character B q e)))
+fails_only {B = B} (fails_at_end {q = q} b e) (fails_too_deep e' d h) = braces_not_cut_off e' b (end_no_character B q e)
+fails_only (fails_not_utf8 b u) (fails_at_end b' e) = end_or_byte b' e (end_no_character _ _ e) b u.0 u.1
+fails_only (fails_not_utf8 b u) (fails_not_utf8 b' u') = ap (fails NotUtf8) (cut_off-only b u.1 b' u'.1)
+fails_only (fails_not_utf8 b u) (fails_at_newline e t) = newline_not_cut_off e b u.1
+fails_only (fails_not_utf8 {q = q} b u) (fails_at_backslash e g n) = absurd (n (q, (b, u.1)))
+fails_only (fails_not_utf8 {q = q} b u) (fails_at_dollar e d n l m) = absurd (m (q, (b, u.1)))
+fails_only (fails_not_utf8 b u) (fails_too_deep e d h) = braces_not_cut_off e b u.1
+fails_only (fails_at_newline e t) (fails_at_end b e') = refl
+fails_only (fails_at_newline e t) (fails_not_utf8 b u) = newline_not_cut_off e b u.1
 fails_only (fails_at_newline e t) (fails_at_newline e' t') = refl
-fails_only (fails_at_newline e t) (fails_at_backslash e' g) = two 10 92 (λ k. omega (arith, k)) e e'
-fails_only (fails_at_newline e t) (fails_at_dollar e' d n l) = two 10 36 (λ k. omega (arith, k)) e e'
+fails_only (fails_at_newline e t) (fails_at_backslash e' g n) = two 10 92 (λ k. omega (arith, k)) e e'
+fails_only (fails_at_newline e t) (fails_at_dollar e' d n l m) = two 10 36 (λ k. omega (arith, k)) e e'
 fails_only (fails_at_newline e t) (fails_too_deep e' d h) = two 10 36 (λ k. omega (arith, k)) e e'.0
-fails_only {B = B} {p = p} (fails_at_newline e t) (fails_not_utf8 u) = is_utf8 B 10 p (omega arith) e u
-fails_only (fails_at_backslash e g) (fails_at_end e') = two 92 256 (λ k. omega (arith, k)) e e'
-fails_only (fails_at_backslash e g) (fails_at_newline e' t) = two 92 10 (λ k. omega (arith, k)) e e'
-fails_only (fails_at_backslash e g) (fails_at_backslash e' g') = refl
-fails_only (fails_at_backslash e g) (fails_at_dollar e' d n l) = refl
-fails_only (fails_at_backslash e g) (fails_too_deep e' d h) = two 92 36 (λ k. omega (arith, k)) e e'.0
-fails_only {B = B} {p = p} (fails_at_backslash e g) (fails_not_utf8 u) = is_utf8 B 92 p (omega arith) e u
-fails_only (fails_at_dollar e d n l) (fails_at_end e') = two 36 256 (λ k. omega (arith, k)) e e'
-fails_only (fails_at_dollar e d n l) (fails_at_newline e' t) = two 36 10 (λ k. omega (arith, k)) e e'
-fails_only (fails_at_dollar e d n l) (fails_at_backslash e' g) = refl
-fails_only (fails_at_dollar e d n l) (fails_at_dollar e' d' n' l') = refl
-fails_only (fails_at_dollar e d n l) (fails_too_deep e' d' h) = absurd (n e'.1.0)
-fails_only {B = B} {p = p} (fails_at_dollar e d n l) (fails_not_utf8 u) = is_utf8 B 36 p (omega arith) e u
-fails_only (fails_too_deep e d h) (fails_at_end e') = two 36 256 (λ k. omega (arith, k)) e.0 e'
+fails_only {B = B} (fails_at_backslash e g n) (fails_at_end {q = q} b e') = absurd (n (q, (b, end_no_character B q e')))
+fails_only (fails_at_backslash e g n) (fails_not_utf8 {q = q} b u) = absurd (n (q, (b, u.1)))
+fails_only (fails_at_backslash e g n) (fails_at_newline e' t) = two 92 10 (λ k. omega (arith, k)) e e'
+fails_only (fails_at_backslash e g n) (fails_at_backslash e' g' n') = refl
+fails_only (fails_at_backslash e g n) (fails_at_dollar e' d m l c) = refl
+fails_only (fails_at_backslash e g n) (fails_too_deep e' d h) = two 92 36 (λ k. omega (arith, k)) e e'.0
+fails_only {B = B} (fails_at_dollar e d n l m) (fails_at_end {q = q} b e') = absurd (m (q, (b, end_no_character B q e')))
+fails_only (fails_at_dollar e d n l m) (fails_not_utf8 {q = q} b u) = absurd (m (q, (b, u.1)))
+fails_only (fails_at_dollar e d n l m) (fails_at_newline e' t) = two 36 10 (λ k. omega (arith, k)) e e'
+fails_only (fails_at_dollar e d n l m) (fails_at_backslash e' g c) = refl
+fails_only (fails_at_dollar e d n l m) (fails_at_dollar e' d' n' l' m') = refl
+fails_only (fails_at_dollar e d n l m) (fails_too_deep e' d' h) = absurd (n e'.1.0)
+fails_only {B = B} (fails_too_deep e d h) (fails_at_end {q = q} b e') = braces_not_cut_off e b (end_no_character B q e')
+fails_only (fails_too_deep e d h) (fails_not_utf8 b u) = braces_not_cut_off e b u.1
 fails_only (fails_too_deep e d h) (fails_at_newline e' t) = two 36 10 (λ k. omega (arith, k)) e.0 e'
-fails_only (fails_too_deep e d h) (fails_at_backslash e' g) = two 36 92 (λ k. omega (arith, k)) e.0 e'
-fails_only (fails_too_deep e d h) (fails_at_dollar e' d' n l) = absurd (n e.1.0)
+fails_only (fails_too_deep e d h) (fails_at_backslash e' g n) = two 36 92 (λ k. omega (arith, k)) e.0 e'
+fails_only (fails_too_deep e d h) (fails_at_dollar e' d' n l m) = absurd (n e.1.0)
 fails_only (fails_too_deep e d h) (fails_too_deep e' d' h') = refl
-fails_only {B = B} {p = p} (fails_too_deep e d h) (fails_not_utf8 u) = is_utf8 B 36 p (omega arith) e.0 u
-fails_only (fails_not_utf8 u) (fails_at_end e) = absurd (u.0 e)
-fails_only {B = B} {p = p} (fails_not_utf8 u) (fails_at_newline e t) = is_utf8 B 10 p (omega arith) e u
-fails_only {B = B} {p = p} (fails_not_utf8 u) (fails_at_backslash e g) = is_utf8 B 92 p (omega arith) e u
-fails_only {B = B} {p = p} (fails_not_utf8 u) (fails_at_dollar e d n l) = is_utf8 B 36 p (omega arith) e u
-fails_only {B = B} {p = p} (fails_not_utf8 u) (fails_too_deep e d h) = is_utf8 B 36 p (omega arith) e.0 u
-fails_only (fails_not_utf8 u) (fails_not_utf8 u') = refl
 
 expression_byte : {B : Source} {s : List Open} {a : ℕ} → BeginsExpression B s a → B a ≡ 36
 expression_byte (begins_braces p h) = p.0
@@ -181,26 +188,39 @@ quote_byte B f a n h i p e = ⊎_elim (λ k. two 39 n h (quote_first B f a p ∙
 quote_or_expression : {C : Type 0} (B : Source) (f : Form) (a : ℕ) → Spelled B (quotes f) a → B a ≡ 36 → C
 quote_or_expression B f a p e = quote_byte B f a 36 (λ k. omega (arith, k)) (λ k. omega (arith, k)) p e
 
+quote_not_cut_off : {C : Type 0} {B : Source} {f : Form} {p q : ℕ} → Spelled B (quotes f) p → Begun B f p q → NoCharacter B q → C
+quote_not_cut_off {B = B} {f = f} {p = p} e b n = absurd (⊎_elim (λ k. no_cut_off 39 (omega arith) (λ j. omega (arith, j)) (λ j. omega (arith, j)) (quote_first B f p e ∙ k) b n) (λ k. no_cut_off 34 (omega arith) (λ j. omega (arith, j)) (λ j. omega (arith, j)) (quote_first B f p e ∙ k) b n) (quote_cases f))
+
 quote_or_fault : {C : Type 0} {B : Source} {s : List Open} {f : Form} {o a : ℕ} {k : FaultKind} {q : ℕ} → Spelled B (quotes f) a → TextFails B s f o a k q → C
-quote_or_fault {B = B} {f = f} {a = a} p (fails_at_end e) = quote_byte B f a 256 (λ k. omega (arith, k)) (λ k. omega (arith, k)) p e
+quote_or_fault {B = B} p (fails_at_end {q = q} b e) = quote_not_cut_off p b (end_no_character B q e)
+quote_or_fault p (fails_not_utf8 b u) = quote_not_cut_off p b u.1
 quote_or_fault {B = B} {f = f} {a = a} p (fails_at_newline e t) = quote_byte B f a 10 (λ k. omega (arith, k)) (λ k. omega (arith, k)) p e
-quote_or_fault {B = B} {f = f} {a = a} p (fails_at_backslash e g) = quote_byte B f a 92 (λ k. omega (arith, k)) (λ k. omega (arith, k)) p e
-quote_or_fault {B = B} {f = f} {a = a} p (fails_at_dollar e d n l) = quote_byte B f a 36 (λ k. omega (arith, k)) (λ k. omega (arith, k)) p e
+quote_or_fault {B = B} {f = f} {a = a} p (fails_at_backslash e g n) = quote_byte B f a 92 (λ k. omega (arith, k)) (λ k. omega (arith, k)) p e
+quote_or_fault {B = B} {f = f} {a = a} p (fails_at_dollar e d n l m) = quote_byte B f a 36 (λ k. omega (arith, k)) (λ k. omega (arith, k)) p e
 quote_or_fault {B = B} {f = f} {a = a} p (fails_too_deep e d h) = quote_byte B f a 36 (λ k. omega (arith, k)) (λ k. omega (arith, k)) p e.0
-quote_or_fault {B = B} {f = f} {a = a} p (fails_not_utf8 u) = ⊎_elim (λ k. is_utf8 B 39 a (omega arith) (quote_first B f a p ∙ k) u) (λ k. is_utf8 B 34 a (omega arith) (quote_first B f a p ∙ k) u) (quote_cases f)
 
 letter_brace : {C : Type 0} (b : ℕ) → is_letter b ≡ true → b ≡ 123 → C
 letter_brace b p e = absurd (true≢false (sym p ∙ ap is_letter e))
 
+letter_low : (b : ℕ) → is_letter b ≡ true → b < 128
+letter_low b e =
+    either (is_ascii_alphabetic b) (b == 95)
+    (λ m. either (is_in_range 65 90 b) (is_in_range 97 122 b) (λ k. omega (arith, (in_range 65 90 b k).1)) (λ k. omega (arith, (in_range 97 122 b k).1)) m)
+    (λ k. omega (arith, eqb-true b 95 k)) e
+
+expression_not_cut_off : {C : Type 0} {B : Source} {s : List Open} {f : Form} {p q : ℕ} → BeginsExpression B s p → Begun B f p q → NoCharacter B q → C
+expression_not_cut_off (begins_braces e h) b n = braces_not_cut_off e b n
+expression_not_cut_off {B = B} {p = p} (begins_path e r) b n = dollar_not_cut_off e (letter_low (B (p + 1)) r) b n
+
 expression_or_fault : {C : Type 0} {B : Source} {s : List Open} {f : Form} {o a : ℕ} {k : FaultKind} {q : ℕ} → BeginsExpression B s a → TextFails B s f o a k q → C
-expression_or_fault x (fails_at_end e) = two 36 256 (λ k. omega (arith, k)) (expression_byte x) e
+expression_or_fault {B = B} x (fails_at_end {q = q} b e) = expression_not_cut_off x b (end_no_character B q e)
+expression_or_fault x (fails_not_utf8 b u) = expression_not_cut_off x b u.1
 expression_or_fault x (fails_at_newline e t) = two 36 10 (λ k. omega (arith, k)) (expression_byte x) e
-expression_or_fault x (fails_at_backslash e g) = two 36 92 (λ k. omega (arith, k)) (expression_byte x) e
-expression_or_fault (begins_braces p h) (fails_at_dollar e d n l) = absurd (n p.1.0)
-expression_or_fault (begins_path p r) (fails_at_dollar e d n l) = absurd (true≢false (sym r ∙ l))
+expression_or_fault x (fails_at_backslash e g n) = two 36 92 (λ k. omega (arith, k)) (expression_byte x) e
+expression_or_fault (begins_braces p h) (fails_at_dollar e d n l m) = absurd (n p.1.0)
+expression_or_fault (begins_path p r) (fails_at_dollar e d n l m) = absurd (true≢false (sym r ∙ l))
 expression_or_fault {s = s} (begins_braces p h) (fails_too_deep e d i) = too_deep (depth s) h i
 expression_or_fault {B = B} {a = a} (begins_path p r) (fails_too_deep e d i) = letter_brace (B (a + 1)) r e.1.0
-expression_or_fault {B = B} {a = a} x (fails_not_utf8 u) = is_utf8 B 36 a (omega arith) (expression_byte x) u
 
 after_only : {B : Source} {s : List Open} {f : Form} {t : List ℕ} {a b : ℕ} {x y : Outcome} → AfterContent B s f t a b x → AfterContent B s f t a b y → x ≡ y
 after_only (text_whole p) (text_whole p') = refl
@@ -220,12 +240,12 @@ pub quote_stops : {B : Source} {f : Form} {a : ℕ} → Spelled B (quotes f) a �
 quote_stops p (goes_on i s n) = n p
 
 pub fault_stops : {B : Source} {s : List Open} {f : Form} {o a : ℕ} {k : FaultKind} {q : ℕ} → TextFails B s f o a k q → GoesOn B f a → ⊥
-fault_stops {B = B} {a = a} (fails_at_end e) = stops_at_none (end_no_character B a e)
+fault_stops {B = B} (fails_at_end {q = q} b e) = cut_off_stops b (end_no_character B q e)
+fault_stops (fails_not_utf8 b u) = cut_off_stops b u.1
 fault_stops {f = f} (fails_at_newline e t) = stops_at 10 (omega arith) (λ k. omega (arith, k)) (newline_not_plain f t) e
-fault_stops (fails_at_backslash e g) = g
-fault_stops (fails_at_dollar e d n l) = dollar_stops d e
+fault_stops (fails_at_backslash e g n) = g
+fault_stops (fails_at_dollar e d n l m) = dollar_stops d e
 fault_stops (fails_too_deep e d h) = dollar_stops d e.0
-fault_stops (fails_not_utf8 u) = stops_at_none u.1
 
 pub after_stops : {B : Source} {s : List Open} {f : Form} {t : List ℕ} {a b : ℕ} {x : Outcome} → AfterContent B s f t a b x → GoesOn B f b → ⊥
 after_stops (text_whole p) = quote_stops p
@@ -290,12 +310,7 @@ lanes b m n h p q = absurd (h (sym p ∙ q))
 
 -- Where something begins stands a character of ASCII.
 name_low : (b : ℕ) → is_name_byte b ≡ true → b < 128
-name_low b e =
-    either (is_letter b) (is_ascii_digit b)
-    (λ l. either (is_ascii_alphabetic b) (b == 95)
-    (λ m. either (is_in_range 65 90 b) (is_in_range 97 122 b) (λ k. omega (arith, (in_range 65 90 b k).1)) (λ k. omega (arith, (in_range 97 122 b k).1)) m)
-    (λ k. omega (arith, eqb-true b 95 k)) l)
-    (λ k. omega (arith, (in_range 48 57 b k).1)) e
+name_low b e = either (is_letter b) (is_ascii_digit b) (letter_low b) (λ k. omega (arith, (in_range 48 57 b k).1)) e
 
 sign_low : (b : ℕ) → is_sign_byte b ≡ true → b < 128
 unfolding all_false member is_sign_byte sign_bytes

@@ -54,7 +54,7 @@ passed_only {B = B} {S = S} {c = c} (passed_more n ch r) (passed_more n' ch' r')
 pub ascii_character : (B : Source) (n a : ℕ) → n < 128 → B a ≡ n → Character B n a (a + length (encode_utf8 n))
 ascii_character B n a h e = character (low_scalar n (omega (arith, h))) (subst (λ l. Spelled B l a) (sym (encode_ascii n h)) (e, tt))
 
-first_low : (B : Source) (c a : ℕ) (x y z : Bool) → c < 1114112 → (x ≡ true → c < 128) → (y ≡ true → c < 2048) → (z ≡ true → c < 65536) → Spelled B (cond x (c ∷ []) (cond y ((192 + c / 64) ∷ next c ∷ []) (cond z ((224 + c / 4096) ∷ next (c / 64) ∷ next c ∷ []) ((240 + c / 262144) ∷ next (c / 4096) ∷ next (c / 64) ∷ next c ∷ [])))) a → B a < 256
+first_low : (B : Source) (c a : ℕ) (x y z : Bool) → c < 1114112 → (x ≡ true → c < 128) → (y ≡ true → c < 2048) → (z ≡ true → c < 65536) → Spelled B (cond x (c ∷ []) (cond y ((192 + c / 64) ∷ next c ∷ []) (cond z ((224 + c / 4096) ∷ next (c / 64) ∷ next c ∷ []) ((240 + c / 262144) ∷ next (c / 4096) ∷ next (c / 64) ∷ next c ∷ [])))) a → B a < 245
 first_low B c a true y z h i j k p = omega (arith, p.0, i refl)
 first_low B c a false true z h i j k p = omega (arith, p.0, j refl)
 first_low B c a false false true h i j k p = omega (arith, p.0, k refl)
@@ -63,12 +63,15 @@ first_low B c a false false false h i j k p = omega (arith, p.0, h)
 pub scalar_low : (c : ℕ) → IsScalar c → c < 1114112
 scalar_low c e = ⊎_elim (λ h. omega (arith, h)) (λ h. h.1) (scalar_cases c e)
 
-pub character_low : {B : Source} {c a b : ℕ} → Character B c a b → B a < 256
+pub character_low : {B : Source} {c a b : ℕ} → Character B c a b → B a < 245
 unfolding encode_utf8
 character_low {B = B} (character {c = c} {a = a} i p) = first_low B c a (ltb c 128) (ltb c 2048) (ltb c 65536) (scalar_low c i) (ltb-true c 128) (ltb-true c 2048) (ltb-true c 65536) p
 
+pub high_no_character : (B : Source) (a : ℕ) → 245 ≤ B a → NoCharacter B a
+high_no_character B a h c b ch = omega (arith, h, character_low ch)
+
 pub end_no_character : (B : Source) (a : ℕ) → B a ≡ 256 → NoCharacter B a
-end_no_character B a e c b ch = omega (arith, e, character_low ch)
+end_no_character B a e = high_no_character B a (omega (arith, e))
 
 pub passed-after : {B : Source} {S : ℕ → Type 0} {a b : ℕ} → Passed B S a b → a ≤ b
 passed-after passed_none = omega arith

@@ -2,7 +2,7 @@
 use Rattle.std.proofs.Common.{◌≡◌, ℕ, zero, suc, ◌+◌, ◌-◌, ◌<◌, ◌≤◌, ◌⊎◌, inl, inr, ⊎_elim, List, [], ◌∷◌, ◌++◌, length, refl, sym, ap, subst, ◌∙◌, arith, Bool, true, false, Option, Some, None, ◌&&◌, ◌||◌, ◌==◌, not}
 use Rattle.std.specs.Char.{IsScalar, encode_utf8, is_ascii_digit}
 use Rattle.std.specs.Str.Parse.{AllDigits, digits_value}
-use Rattle.std.proofs.lemmas.Bool.{true≢false, cases_lt, eqb-true, false_from_ne_true}
+use Rattle.std.proofs.lemmas.Bool.{true≢false, cases_lt, cases_order, eqb-true, false_from_ne_true}
 use Rattle.std.proofs.lemmas.Str.{encode_ascii}
 use Rattle.std.proofs.Math.Utf8.{low_scalar}
 use Rattle.model_syntax.specs.declared.fault.FaultKind.{FaultKind}
@@ -12,7 +12,7 @@ use Rattle.model_syntax.specs.declared.token.TokenKind.{TokenKind}
 use Rattle.model_syntax.specs.declared.token.TokenKind.TheVariants as kind
 use Rattle.model_syntax.specs.Source.{Source, Spelled, NoCharacter, character}
 use Rattle.model_syntax.specs.Spelling.{word_text, is_letter, is_name_byte, Spells, spells_sign, spells_word, spells_name, spells_number, Fits}
-use Rattle.model_syntax.specs.TextForms.{Form, single, triple_single, double, triple_double, quotes, quote, is_triple, is_double, escape, is_plain, Item, item_plain, item_escape, item_unicode, item_joined_lines, GoesOn, goes_on, Content, content_none, content_more}
+use Rattle.model_syntax.specs.TextForms.{Form, single, triple_single, double, triple_double, quotes, quote, is_triple, is_double, escape, is_plain, Item, item_plain, item_escape, item_unicode, item_joined_lines, GoesOn, goes_on, Content, content_none, content_more, Begun, begun_nothing, begun_backslash, begun_unicode, begun_dollar, IsCutOff}
 use Rattle.model_syntax.specs.OpenBrackets.{Open, depth}
 use Rattle.model_syntax.specs.Reading.{BeginsExpression, begins_braces, begins_path, TextFails, fails_at_end, fails_at_newline, fails_at_backslash, fails_at_dollar, fails_too_deep, fails_not_utf8, Path}
 use Rattle.model_syntax.proofs.SourceLemmas.{spelled_same, same_code, end_no_character, window}
@@ -175,14 +175,73 @@ pub told_bool : (b : Bool) → (b ≡ true) ⊎ (b ≡ false)
 told_bool true = inl refl
 told_bool false = inr refl
 
-at_dollar : (B : Source) (s : List Open) (f : Form) (o p : ℕ) → B p ≡ 36 → is_double f ≡ true → AtStop B s f o p
-at_dollar B s f o p e d = by (told_nat (B (p + 1)) 123) (told_below (depth s) 128) (told_bool (is_letter (B (p + 1))))
+-- What has begun at a place may be cut off.
+told_none : (B : Source) (a : ℕ) → Told (NoCharacter B a)
+told_none B a = ⊎_elim (λ ch. inr (λ n. n ch.0 _ (character ch.1.0 ch.1.1))) (λ n. inl n) (told_character B a)
+
+told_begun : (B : Source) (f : Form) (p q : ℕ) → Told (Begun B f p q)
+told_begun B f p q = by (told_nat p q) (told_nat (p + 1) q) (told_nat (B p) 92) (told_and (told_true (is_double f)) (told_nat (B p) 36)) (told_nat (p + 2 + length h) q) (told_and (told_below (length h) 4) (told_and (told_digits 16 h) (told_spelled B (92 ∷ 117 ∷ h) p)))
   where
-    by : Told (B (p + 1) ≡ 123) → Told (depth s < 128) → (is_letter (B (p + 1)) ≡ true) ⊎ (is_letter (B (p + 1)) ≡ false) → AtStop B s f o p
-    by (inl b) (inl l) r = at_expression d (begins_braces (e, (b, tt)) l)
-    by (inl b) (inr l) r = at_fault _ _ (fails_too_deep (e, (b, tt)) d (⊎_elim (λ k. absurd (l k)) (λ k. k) (cases_lt (depth s) 128)))
-    by (inr b) l (inl r) = at_expression d (begins_path e r)
-    by (inr b) l (inr r) = at_fault _ _ (fails_at_dollar e d b r)
+    h : List ℕ
+    h = window B (p + 1 + 1) (q - (p + 2))
+
+    Unicode : List ℕ → Type 0
+    Unicode g = (length g < 4) × (AllDigits 16 g × Spelled B (92 ∷ 117 ∷ g) p)
+
+    same_digits : (g : List ℕ) → p + 2 + length g ≡ q → Spelled B g (p + 1 + 1) → g ≡ h
+    same_digits g e s = spelled_same B g h (p + 1 + 1) s (window-stands B (p + 1 + 1) (q - (p + 2))) (omega (arith, e, window-length B (p + 1 + 1) (q - (p + 2))))
+
+    none : {r : ℕ} → (p ≡ q → ⊥) → (p + 1 ≡ q → ⊥) ⊎ ((B p ≡ 92 → ⊥) × ((is_double f ≡ true) × (B p ≡ 36) → ⊥)) → (p + 2 + length h ≡ q → ⊥) ⊎ (Unicode h → ⊥) → Begun B f p r → r ≡ q → ⊥
+    none n m u begun_nothing e = n e
+    none n m u (begun_backslash b) e = ⊎_elim (λ k. k e) (λ k. k.0 b) m
+    none n m u (begun_dollar d b) e = ⊎_elim (λ k. k e) (λ k. k.1 (d, b)) m
+    none n m u (begun_unicode g l d s) e = let i = same_digits g e s.1.1 in ⊎_elim (λ k. k (subst (λ z. p + 2 + length z ≡ q) i e)) (λ k. k (subst Unicode i (l, (d, s)))) u
+
+    at : {r : ℕ} → r ≡ q → Begun B f p r → Told (Begun B f p q)
+    at e b = inl (subst (Begun B f p) e b)
+
+    by : Told (p ≡ q) → Told (p + 1 ≡ q) → Told (B p ≡ 92) → Told ((is_double f ≡ true) × (B p ≡ 36)) → Told (p + 2 + length h ≡ q) → Told (Unicode h) → Told (Begun B f p q)
+    by (inl e) m b d l u = at e begun_nothing
+    by (inr n) (inl e) (inl b) d l u = at e (begun_backslash b)
+    by (inr n) (inl e) (inr b) (inl d) l u = at e (begun_dollar d.0 d.1)
+    by (inr n) m b d (inl e) (inl u) = at e (begun_unicode h u.0 u.1.0 u.1.1)
+    by (inr n) (inr m) b d (inr l) u = inr (λ g. none n (inl m) (inl l) g refl)
+    by (inr n) (inr m) b d (inl e) (inr u) = inr (λ g. none n (inl m) (inr u) g refl)
+    by (inr n) (inl e) (inr b) (inr d) (inr l) u = inr (λ g. none n (inr (b, d)) (inl l) g refl)
+    by (inr n) (inl e) (inr b) (inr d) (inl k) (inr u) = inr (λ g. none n (inr (b, d)) (inr u) g refl)
+
+begun_near : {B : Source} {f : Form} {p q : ℕ} → Begun B f p q → q < p + 6
+begun_near begun_nothing = omega arith
+begun_near (begun_backslash b) = omega arith
+begun_near (begun_unicode h l d s) = omega (arith, l)
+begun_near (begun_dollar d b) = omega arith
+
+told_cut_off : (B : Source) (f : Form) (p : ℕ) → Told (IsCutOff B f p)
+told_cut_off B f p = ⊎_elim (λ c. inl c) (λ n. inr (λ c. n c.0 (begun_near c.1.0) c.1)) (search (p + 6))
+  where
+    Cut : ℕ → Type 0
+    Cut q = Begun B f p q × NoCharacter B q
+
+    search : (n : ℕ) → IsCutOff B f p ⊎ ((q : ℕ) → q < n → Cut q → ⊥)
+    search zero = inr (λ q l c. omega (arith, l))
+    search (suc n) = ⊎_elim (λ c. inl c) (λ g. by g (told_and (told_begun B f p n) (told_none B n))) (search n)
+      where
+        by : ((q : ℕ) → q < n → Cut q → ⊥) → Told (Cut n) → IsCutOff B f p ⊎ ((q : ℕ) → q < suc n → Cut q → ⊥)
+        by g (inl c) = inl (n, c)
+        by g (inr m) = inr (λ q l c. ⊎_elim (λ e. m (subst Cut e c)) (λ k. ⊎_elim (λ i. g q i c) (λ i. omega (arith, i, l)) k) (cases_order q n))
+
+at_cut_off : (B : Source) (s : List Open) (f : Form) (o p : ℕ) → IsCutOff B f p → AtStop B s f o p
+at_cut_off B s f o p c = ⊎_elim (λ e. at_fault _ _ (fails_at_end c.1.0 e)) (λ n. at_fault _ _ (fails_not_utf8 c.1.0 (n, c.1.1))) (told_nat (B c.0) 256)
+
+at_dollar : (B : Source) (s : List Open) (f : Form) (o p : ℕ) → B p ≡ 36 → is_double f ≡ true → AtStop B s f o p
+at_dollar B s f o p e d = by (told_nat (B (p + 1)) 123) (told_below (depth s) 128) (told_bool (is_letter (B (p + 1)))) (told_cut_off B f p)
+  where
+    by : Told (B (p + 1) ≡ 123) → Told (depth s < 128) → (is_letter (B (p + 1)) ≡ true) ⊎ (is_letter (B (p + 1)) ≡ false) → Told (IsCutOff B f p) → AtStop B s f o p
+    by (inl b) (inl l) r u = at_expression d (begins_braces (e, (b, tt)) l)
+    by (inl b) (inr l) r u = at_fault _ _ (fails_too_deep (e, (b, tt)) d (⊎_elim (λ k. absurd (l k)) (λ k. k) (cases_lt (depth s) 128)))
+    by (inr b) l (inl r) u = at_expression d (begins_path e r)
+    by (inr b) l (inr r) (inl c) = at_cut_off B s f o p c
+    by (inr b) l (inr r) (inr n) = at_fault _ _ (fails_at_dollar e d b r n)
 
 at_character : (B : Source) (s : List Open) (f : Form) (o p : ℕ) → (GoesOn B f p → ⊥) → (Spelled B (quotes f) p → ⊥) → (B p ≡ 256 → ⊥) → (B p ≡ 92 → ⊥) → (B p ≡ 10 → ⊥) → (B p ≡ 36 → ⊥) → AtStop B s f o p
 at_character B s f o p g n end back line dollar = by (told_character B p) (told_bool (is_triple f))
@@ -195,15 +254,15 @@ at_character B s f o p g n end back line dollar = by (told_character B p) (told_
 
     by : ((c : ℕ) × (IsScalar c × Spelled B (encode_utf8 c) p)) ⊎ NoCharacter B p → (is_triple f ≡ true) ⊎ (is_triple f ≡ false) → AtStop B s f o p
     by (inl ch) t = absurd (g (goes_plain B f ch.0 p ch.1.0 ch.1.1 (plain ch.0 ch.1.1 t) n))
-    by (inr m) t = at_fault _ _ (fails_not_utf8 (end, m))
+    by (inr m) t = at_fault _ _ (fails_not_utf8 begun_nothing (end, m))
 
 pub at_stop : (B : Source) (s : List Open) (f : Form) (o p : ℕ) → (GoesOn B f p → ⊥) → AtStop B s f o p
 at_stop B s f o p g = by (told_spelled B (quotes f) p) (told_nat (B p) 256) (told_nat (B p) 92) (told_nat (B p) 10) (told_nat (B p) 36) (told_bool (is_triple f)) (told_bool (is_double f))
   where
     by : Told (Spelled B (quotes f) p) → Told (B p ≡ 256) → Told (B p ≡ 92) → Told (B p ≡ 10) → Told (B p ≡ 36) → (is_triple f ≡ true) ⊎ (is_triple f ≡ false) → (is_double f ≡ true) ⊎ (is_double f ≡ false) → AtStop B s f o p
     by (inl c) e b l d t q = at_closing c
-    by (inr c) (inl e) b l d t q = at_fault _ _ (fails_at_end e)
-    by (inr c) (inr e) (inl b) l d t q = at_fault _ _ (fails_at_backslash b g)
+    by (inr c) (inl e) b l d t q = at_fault _ _ (fails_at_end begun_nothing e)
+    by (inr c) (inr e) (inl b) l d t q = ⊎_elim (λ u. at_cut_off B s f o p u) (λ n. at_fault _ _ (fails_at_backslash b g n)) (told_cut_off B f p)
     by (inr c) (inr e) (inr b) (inl l) d (inl t) q = absurd (g (goes_ascii B f 10 p (omega arith) l (newline_plain f t) c))
     by (inr c) (inr e) (inr b) (inl l) d (inr t) q = at_fault _ _ (fails_at_newline l t)
     by (inr c) (inr e) (inr b) (inr l) (inl d) t (inl q) = at_dollar B s f o p d q

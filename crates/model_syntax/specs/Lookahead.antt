@@ -1,5 +1,5 @@
--- Where a token opens two rules, these say from the tokens behind it which is meant; three at most decide (Groovy's
--- rules, told by this product's own tests).
+-- Where a token opens two rules, these say from the tokens behind it which is meant; three at most decide. The tests are
+-- this product's own.
 use Rattle.std.specs.Prelude.{Bool, true, false, not, ◌&&◌, Option, Some}
 use Rattle.model_syntax.specs.declared.sign.Sign.TheVariants as sign
 use Rattle.model_syntax.specs.declared.word.Word.TheVariants as word

@@ -1,4 +1,5 @@
--- Which newlines are tokens (Groovy). One token stands for a run of newlines.
+-- Which newlines are tokens. This product's own: the tokens around a newline decide it, and no rule of the grammar does.
+-- One token stands for a run of newlines.
 use Rattle.std.specs.Prelude.{Bool, true, false, not, ◌&&◌, List, [], ◌∷◌, if◌then◌else◌}
 use Rattle.model_syntax.specs.declared.sign.Sign.{Sign}
 use Rattle.model_syntax.specs.declared.sign.Sign.TheVariants as sign

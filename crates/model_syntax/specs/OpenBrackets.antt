@@ -31,7 +31,8 @@ abbrev pub IsCode : List Open → Type 0
 IsCode (text f o ∷ s) = ⊥
 IsCode s = Unit {0}
 
--- A newline may end a statement (Groovy): not inside `(`, `[` or `${`.
+-- A newline may end a statement: not inside `(`, `[` or `${` (this product's own: in `${ .. }` of a triple text it never
+-- does).
 abbrev pub ends_statements : List Open → Bool
 ends_statements [] = true
 ends_statements (brace ∷ s) = true

@@ -11,7 +11,7 @@ use Rattle.model_syntax.specs.declared.token.Token.{Token}
 use Rattle.model_syntax.specs.Source.{Source, past_end, Spelled, Character, NoCharacter, Passed}
 use Rattle.model_syntax.specs.Places.{mark_end, place_at}
 use Rattle.model_syntax.specs.Spelling.{Spells, Fits, IsBadNumber, is_letter}
-use Rattle.model_syntax.specs.TextForms.{Form, quotes, is_triple, is_double, Opens, GoesOn, Content}
+use Rattle.model_syntax.specs.TextForms.{Form, quotes, is_triple, is_double, Opens, GoesOn, Content, Begun, IsCutOff}
 use Rattle.model_syntax.specs.OpenBrackets.{Open, expression, text, depth, innermost_text, holds_newlines, ends_statements, is_opening, after_sign, IsCode}
 
 -- What stands at a place, or what is wrong there.
@@ -29,7 +29,7 @@ token B k a b = record { kind = k; start = a; end = b; place = place_at B a }
 abbrev pub IsNotUtf8 : Source → ℕ → Type 0
 IsNotUtf8 B a = (B a ≢ past_end) × NoCharacter B a
 
--- Blanks and comments (Groovy). Space, tab and CR are blanks.
+-- Blanks and comments. Space, tab and CR are blanks (this product's own: a form feed is none, and a lone CR ends no line).
 abbrev pub is_blank : ℕ → Bool
 is_blank b = (b == 32) || ((b == 9) || (b == 13))
 
@@ -65,7 +65,7 @@ pub data Newline (B : Source) (s : List Open) (a : ℕ) : Outcome → Type 0 whe
   newline_blank : B a ≡ 10 → holds_newlines s ≡ true → ends_statements s ≡ false → Newline B s a (goes [] s (a + 1))
   newline_in_text : {f : Form} {o : ℕ} → B a ≡ 10 → innermost_text s ≡ Some (f, o) → is_triple f ≡ false → Newline B s a (fails UnendedText o)
 
--- Names, words, numbers and signs (Groovy). This product's own: at most 128 brackets are open at once.
+-- Names, words, numbers and signs. This product's own: at most 128 brackets are open at once.
 pub data AfterFits (B : Source) (s : List Open) (t : List ℕ) (a : ℕ) : TokenKind → Outcome → Type 0 where
   name_stands : {n : List ℕ} → AfterFits B s t a (kind.Name n) (goes (token B (kind.Name n) a (a + length t) ∷ []) s (a + length t))
   word_stands : {w : Word} → AfterFits B s t a (kind.Word w) (goes (token B (kind.Word w) a (a + length t) ∷ []) s (a + length t))
@@ -83,14 +83,15 @@ pub data BeginsExpression (B : Source) (s : List Open) (a : ℕ) : Type 0 where
   begins_braces : Spelled B (codes "${") a → depth s < 128 → BeginsExpression B s a
   begins_path : B a ≡ 36 → is_letter (B (a + 1)) ≡ true → BeginsExpression B s a
 
--- A text that opened at `o` cannot go on at the place `p`.
+-- A text that opened at `o` cannot go on at the place `p`. This product's own: what the end of the script cuts off has no
+-- end, what a byte outside UTF-8 cuts off is told at that byte, and what any other character cuts off is a bad escape.
 pub data TextFails (B : Source) (s : List Open) (f : Form) (o p : ℕ) : FaultKind → ℕ → Type 0 where
-  fails_at_end : B p ≡ past_end → TextFails B s f o p UnendedText o
+  fails_at_end : {q : ℕ} → Begun B f p q → B q ≡ past_end → TextFails B s f o p UnendedText o
+  fails_not_utf8 : {q : ℕ} → Begun B f p q → IsNotUtf8 B q → TextFails B s f o p NotUtf8 q
   fails_at_newline : B p ≡ 10 → is_triple f ≡ false → TextFails B s f o p UnendedText o
-  fails_at_backslash : B p ≡ 92 → (GoesOn B f p → ⊥) → TextFails B s f o p BadEscape p
-  fails_at_dollar : B p ≡ 36 → is_double f ≡ true → B (p + 1) ≢ 123 → is_letter (B (p + 1)) ≡ false → TextFails B s f o p BadEscape p
+  fails_at_backslash : B p ≡ 92 → (GoesOn B f p → ⊥) → (IsCutOff B f p → ⊥) → TextFails B s f o p BadEscape p
+  fails_at_dollar : B p ≡ 36 → is_double f ≡ true → B (p + 1) ≢ 123 → is_letter (B (p + 1)) ≡ false → (IsCutOff B f p → ⊥) → TextFails B s f o p BadEscape p
   fails_too_deep : Spelled B (codes "${") p → is_double f ≡ true → 128 ≤ depth s → TextFails B s f o p NestingOver128 p
-  fails_not_utf8 : IsNotUtf8 B p → TextFails B s f o p NotUtf8 p
 
 -- Texts (Groovy). One without expressions is one token. One with expressions is its opening, parts, expressions and its
 -- closing; its opening is a token once an expression begins.

@@ -19,7 +19,7 @@ abbrev pub Spelled : Source → List ℕ → ℕ → Type 0
 Spelled B [] a = Unit {0}
 Spelled B (x ∷ xs) a = (B a ≡ x) × Spelled B xs (a + 1)
 
--- The source is UTF-8 (Groovy): from one place up to another stands this character.
+-- The source is UTF-8 (this product's own): from one place up to another stands this character.
 pub data Character (B : Source) : ℕ → ℕ → ℕ → Type 0 where
   character : {c a : ℕ} → IsScalar c → Spelled B (encode_utf8 c) a → Character B c a (a + length (encode_utf8 c))
 

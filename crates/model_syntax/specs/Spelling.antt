@@ -1,4 +1,4 @@
--- How names, words, whole numbers and signs are spelled (Groovy).
+-- How names, words, whole numbers and signs are spelled. As in Groovy but where a rule is marked as this product's own.
 use Rattle.std.specs.Prelude.{◌≡◌, ℕ, ◌+◌, ◌<◌, ◌≤◌, ◌||◌, ◌==◌, Bool, true, List, [], ◌∷◌, All, length, codes, pos}
 use Rattle.std.specs.Char.{is_ascii_digit, is_ascii_alphabetic, digit_value}
 use Rattle.std.specs.Str.Parse.{IsNumeral, digits_value}
@@ -10,7 +10,7 @@ use Rattle.model_syntax.specs.declared.token.TokenKind.{TokenKind}
 use Rattle.model_syntax.specs.declared.token.TokenKind.TheVariants as kind
 use Rattle.model_syntax.specs.Source.{Source, Spelled}
 
--- The signs (Groovy).
+-- The signs: a part of Groovy's.
 abbrev pub sign_text : Sign → List ℕ
 sign_text sign.ParenOpen = codes "("
 sign_text sign.ParenClose = codes ")"
@@ -48,7 +48,8 @@ sign_text sign.Times = codes "*"
 sign_text sign.Mod = codes "%"
 sign_text sign.Not = codes "!"
 
--- The words that Groovy keeps for itself: those with a rule in the grammar, and then those without one.
+-- The words, this product's own choice of those that Groovy keeps for itself: those with a rule in the grammar, and then
+-- those without one. Groovy's further ones, as `public` or `int`, are names here; and here a word is never a name.
 abbrev pub word_text : Word → List ℕ
 word_text word.Def = codes "def"
 word_text word.Void = codes "void"
@@ -88,7 +89,7 @@ word_text word.InstanceOf = codes "instanceof"
 word_text word.This = codes "this"
 word_text word.Super = codes "super"
 
--- A letter of ASCII or `_`. Groovy has further letters and `$`; here they are of no name (own).
+-- A letter of ASCII or `_`. Groovy has further letters and `$`; here they are of no name (this product's own).
 abbrev pub is_letter : ℕ → Bool
 is_letter b = is_ascii_alphabetic b || (b == 95)
 

@@ -1,8 +1,8 @@
--- The four forms of texts, and their characters (Groovy).
-use Rattle.std.specs.Prelude.{◌≡◌, ℕ, ◌+◌, ◌≤◌, ◌||◌, ◌&&◌, ◌==◌, Bool, true, false, not, if◌then◌else◌, Option, Some, None, List, [], ◌∷◌, ◌++◌, length, codes, encode_utf8}
+-- The four forms of texts, and their characters. As in Groovy but where a rule is marked as this product's own.
+use Rattle.std.specs.Prelude.{◌≡◌, ℕ, ◌+◌, ◌<◌, ◌≤◌, ◌||◌, ◌&&◌, ◌==◌, Bool, true, false, not, if◌then◌else◌, Option, Some, None, List, [], ◌∷◌, ◌++◌, length, codes, encode_utf8}
 use Rattle.std.specs.Char.{IsScalar}
 use Rattle.std.specs.Str.Parse.{AllDigits, digits_value}
-use Rattle.model_syntax.specs.Source.{Source, Spelled}
+use Rattle.model_syntax.specs.Source.{Source, Spelled, NoCharacter}
 
 -- `'..'`, `'''..'''`, `".."` and `"""..."""`
 pub data Form : Type 0 where
@@ -56,7 +56,8 @@ escape b =
 abbrev pub is_plain : Form → ℕ → Bool
 is_plain f c = not (c == 92) && ((is_triple f || not ((c == 10) || (c == quote f))) && not (is_double f && (c == 36)))
 
--- One character of a text of this form: how it is spelled, and the bytes that it stands for.
+-- One character of a text of this form: how it is spelled, and the bytes that it stands for. This product's own: `\u` is an
+-- escape of texts alone, has one `u`, and gives no surrogate; octal escapes are none.
 pub data Item (f : Form) : List ℕ → List ℕ → Type 0 where
   item_plain : (c : ℕ) → IsScalar c → is_plain f c ≡ true → Item f (encode_utf8 c) (encode_utf8 c)
   item_escape : (b c : ℕ) → escape b ≡ Some c → Item f (92 ∷ b ∷ []) (c ∷ [])
@@ -71,3 +72,15 @@ pub data GoesOn (B : Source) (f : Form) (a : ℕ) : Type 0 where
 pub data Content (B : Source) (f : Form) : List ℕ → ℕ → ℕ → Type 0 where
   content_none : {a : ℕ} → Content B f [] a a
   content_more : {xs t ts : List ℕ} {a b : ℕ} → (Spelled B (quotes f) a → ⊥) → Item f xs t → Spelled B xs a → Content B f ts (a + length xs) b → Content B f (t ++ ts) a b
+
+-- At the place `p` an escape, or in the double forms the `$` of an expression, has begun and goes on up to `q`, where it is
+-- not over; or nothing has begun, and `q` is `p`.
+pub data Begun (B : Source) (f : Form) (p : ℕ) : ℕ → Type 0 where
+  begun_nothing : Begun B f p p
+  begun_backslash : B p ≡ 92 → Begun B f p (p + 1)
+  begun_unicode : (h : List ℕ) → length h < 4 → AllDigits 16 h → Spelled B (92 ∷ 117 ∷ h) p → Begun B f p (p + 2 + length h)
+  begun_dollar : is_double f ≡ true → B p ≡ 36 → Begun B f p (p + 1)
+
+-- What has begun there is cut off: where it is not over stands no character.
+abbrev pub IsCutOff : Source → Form → ℕ → Type 0
+IsCutOff B f p = (q : ℕ) × (Begun B f p q × NoCharacter B q)

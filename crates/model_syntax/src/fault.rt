@@ -7,11 +7,11 @@ use std::fmt;
 /// What is wrong with a script at the place of its first fault. Its text is what users see.
 #[derive(Clone, Copy, PartialEq, Eq, Debug)]
 pub enum FaultKind {
-    /// `not UTF-8`: a byte that is of no character.
+    /// `not UTF-8`: a byte that is of no character, also where it cuts an escape or a `$` off.
     NotUtf8,
     /// `unexpected character`: one that is of no token.
     UnexpectedCharacter,
-    /// `unended text`, at the opening of the innermost text.
+    /// `unended text`, at the opening of the innermost text, also where the end of the script cuts an escape or a `$` off.
     UnendedText,
     /// `unended comment`, at its opening.
     UnendedComment,
