@@ -77,7 +77,7 @@ pub walked-for_each : (d : Declared) (e l : Marks) (s : Scopes) {a b c f u : Sco
 walked-for_each d e l s opened declared first last closed =
     walked-catch d (e ∷ l ∷ []) s opened declared (walked-then e (l ++ []) _ first (walked-then l [] _ last (sym (walked-none _)))) closed
 
--- The scope of a `for` with steps: its first statement, its test, its step and the body.
+-- The scope of a `for` with steps: its first part, its test, its step and the body.
 pub walked-for_steps : (i e p l : Marks) (s : Scopes) {a b c f g u : Scopes}
     → a ≡ open_scope s.inner.in_loop s → b ≡ walked i a → c ≡ walked e b → f ≡ walked p c → g ≡ walked l f → u ≡ close_scope g
     → u ≡ walked (block (i ∷ e ∷ p ∷ l ∷ [])) s
@@ -85,6 +85,13 @@ walked-for_steps i e p l s opened first test step body closed =
     closed
     ∙ ap close_scope (walked-then i (e ++ (p ++ (l ++ []))) _ first (walked-then e (p ++ (l ++ [])) _ test (walked-then p (l ++ []) _ step (walked-then l [] _ body (sym (walked-none _))))) ∙ ap (walked (all (i ∷ e ∷ p ∷ l ∷ []))) opened)
     ∙ sym (walked-block (i ∷ e ∷ p ∷ l ∷ []) s)
+
+-- The scope of a `for` with steps and a declaration: its name and value, its test, its step and the body.
+pub walked-for_declared : (d : Declared) (v e p l : Marks) (s : Scopes) {a b c f g h u : Scopes}
+    → a ≡ open_scope s.inner.in_loop s → b ≡ declare_name d a → c ≡ walked v b → f ≡ walked e c → g ≡ walked p f → h ≡ walked l g → u ≡ close_scope h
+    → u ≡ walked (block ((declares d ∷ v) ∷ e ∷ p ∷ l ∷ [])) s
+walked-for_declared d v e p l s {a = a} opened declared value test step body closed =
+    walked-for_steps (declares d ∷ v) e p l s opened (value ∙ ap (walked v) declared ∙ sym (walked-more (declares d) v a)) test step body closed
 
 -- A loop over a list walks the marks of its elements.
 module _ {A : Type 0} (f : A → Marks) (xs : List A) (i : ℕ) (s : Scopes) where

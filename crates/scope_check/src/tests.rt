@@ -1,7 +1,7 @@
 use crate::check;
 use model_syntax::{
-    Arguments, Arm, Catch, Caught, Declared, Expr, FaultKind, Function, Place, ScriptFault,
-    ScriptRefusal, Stmt, Top, Tree,
+    Arguments, Arm, Assignment, Catch, Caught, Declared, Expr, FaultKind, Function, Place,
+    ScriptFault, ScriptRefusal, Stmt, Target, Top, Tree,
 };
 use model_text::Text;
 use sqlite_items::{Boxed, Items};
@@ -124,6 +124,16 @@ fn declared_anew_in_a_head_and_its_body(alloc: Global) -> Result<(), ScriptRefus
     answer_behind(alloc, &[("i", 1, 5)], Stmt::ForEach(name, Expr::Null, body))
 }
 
+/// `def i`, and in the second line `for (def i = null; true; i++) { def i }`
+fn declared_anew_in_a_head_of_steps(alloc: Global) -> Result<(), ScriptRefusal> {
+    let name = named(alloc, "i", 2, 10)?;
+    let counted = Assignment::Increment(Target::ToName(Text::from_str(alloc, "i")?));
+    let step = Boxed::new(alloc, counted)?;
+    let body = defs(alloc, &[("i", 2, 37)])?;
+    let head = Stmt::ForDeclared(name, Expr::Null, Expr::True, step, body);
+    answer_behind(alloc, &[("i", 1, 5)], head)
+}
+
 /// `def a`, and in the second line `f { a -> def c }`
 fn declared_anew_by_a_closure(alloc: Global) -> Result<(), ScriptRefusal> {
     let parameters = names(alloc, &[("a", 2, 5)])?;
@@ -136,6 +146,7 @@ fn an_inner_scope_may_declare_a_name_anew(rt: HostRuntime) {
     let alloc = rt.alloc();
     assert_eq!(rt; declared_anew_in_a_block(alloc), Ok(()));
     assert_eq!(rt; declared_anew_in_a_head_and_its_body(alloc), Ok(()));
+    assert_eq!(rt; declared_anew_in_a_head_of_steps(alloc), Ok(()));
     assert_eq!(rt; declared_anew_by_a_closure(alloc), Ok(()));
 }
 
@@ -174,17 +185,6 @@ fn a_closure_without_heads_has_the_parameter_it(rt: HostRuntime) {
     assert_eq!(rt; closure_in_a_closure(alloc), Ok(()));
 }
 
-/// `for (def i; true; def i) {}`
-fn head_with_a_name_twice(alloc: Global) -> Result<(), ScriptRefusal> {
-    let first = Boxed::new(alloc, def(alloc, "i", 1, 10)?)?;
-    let step = Boxed::new(alloc, def(alloc, "i", 1, 23)?)?;
-    let body = Items::new(alloc);
-    answer(
-        alloc,
-        one(alloc, Stmt::ForSteps(first, Expr::True, step, body))?,
-    )
-}
-
 /// `try {} catch (e) { def e }`
 fn caught_name_declared_again(alloc: Global) -> Result<(), ScriptRefusal> {
     let mut catches = Items::new(alloc);
@@ -204,7 +204,6 @@ fn what_stands_in_one_scope_with_its_statements(rt: HostRuntime) {
     let alloc = rt.alloc();
     let again = FaultKind::NameAlreadyDeclared;
     assert_eq!(rt; parameter_declared_again(alloc), fault(1, 17, again));
-    assert_eq!(rt; head_with_a_name_twice(alloc), fault(1, 23, again));
     assert_eq!(rt; caught_name_declared_again(alloc), fault(1, 24, again));
 }
 

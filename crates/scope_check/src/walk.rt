@@ -1,13 +1,13 @@
 ghost use Rattle.std.specs.Prelude.{◌≡◌, [], ◌∷◌, ◌++◌, map, OnOk};
 ghost use Rattle.std.specs.Option.{option_map};
-ghost use Rattle.model_syntax.specs.Scopes.{Marks, all, block, loop, callable, if_any, block_if_any, declares_each, heads, arm_marks, catch_marks, choice_marks, entry_marks, expr_marks, operand_marks, part_marks, stmt_marks, suffix_marks, target_marks, arguments_marks, top_marks, function_marks};
+ghost use Rattle.model_syntax.specs.Scopes.{Marks, all, block, loop, callable, if_any, block_if_any, declares_each, heads, arm_marks, assignment_marks, catch_marks, choice_marks, entry_marks, expr_marks, operand_marks, part_marks, stmt_marks, suffix_marks, target_marks, arguments_marks, top_marks, function_marks};
 ghost use Rattle.scope_check.specs.Walk.{walked};
-ghost use Rattle.scope_check.specs.Kinds.{IsIf, IsForEach, IsForSteps, IsTry};
+ghost use Rattle.scope_check.specs.Kinds.{IsIf, IsForDeclared, IsForEach, IsForSteps, IsTry};
 
 use crate::scopes::Scopes;
 use model_syntax::{
-    Arguments, Arm, Catch, Choice, Declared, Entry, Expr, FaultKind, Function, Operand, Part, Stmt,
-    Suffix, Target, Top,
+    Arguments, Arm, Assignment, Catch, Choice, Declared, Entry, Expr, FaultKind, Function, Operand,
+    Part, Stmt, Suffix, Target, Top,
 };
 use sqlite_items::Boxed;
 use std::alloc::AllocError;
@@ -118,17 +118,14 @@ impl Scopes {
                 self.loop_body(body.as_slice())
             }
             Stmt::ForEach(_, _, _) => self.for_each(statement),
+            Stmt::ForDeclared(_, _, _, _, _) => self.for_declared(statement),
             Stmt::ForSteps(_, _, _, _) => self.for_steps(statement),
             Stmt::Try(_, _, _) => self.try_block(statement),
             Stmt::Declare(name, value) => {
                 self.declare(name)?;
                 self.value(value)
             }
-            Stmt::Assign(target, _, value) => {
-                self.target(target)?;
-                self.expression(value)
-            }
-            Stmt::Increment(target) | Stmt::Decrement(target) => self.target(target),
+            Stmt::Assign(assignment) => self.assignment(assignment),
             Stmt::Evaluate(value) | Stmt::Throw(value) => self.expression(value),
             Stmt::Return(value) => self.value(value),
             Stmt::Break(place) => {
@@ -175,6 +172,25 @@ impl Scopes {
         Ok(())
     }
 
+    /// `for (def x = e; test; b)`
+    #[cycle(walk)]
+    fn for_declared(&mut self, statement: &Stmt) -> Result<(), AllocError>
+        requires { IsForDeclared statement.now }
+        ensures { OnOk result (self.new ≡ walked (stmt_marks statement.now) self.old) }
+    {
+        let Stmt::ForDeclared(name, value, test, step, body) = statement else {
+            unreachable!();
+        };
+        self.open(self.inner.in_loop)?;
+        self.declare(name)?;
+        self.expression(value)?;
+        self.expression(test)?;
+        self.assignment(step.get())?;
+        self.loop_body(body.as_slice())?;
+        self.close();
+        Ok(())
+    }
+
     /// `for (a; test; b)`
     #[cycle(walk)]
     fn for_steps(&mut self, statement: &Stmt) -> Result<(), AllocError>
@@ -185,12 +201,25 @@ impl Scopes {
             unreachable!();
         };
         self.open(self.inner.in_loop)?;
-        self.statement(first.get())?;
+        self.assignment(first.get())?;
         self.expression(test)?;
-        self.statement(step.get())?;
+        self.assignment(step.get())?;
         self.loop_body(body.as_slice())?;
         self.close();
         Ok(())
+    }
+
+    #[cycle(walk)]
+    fn assignment(&mut self, assignment: &Assignment) -> Result<(), AllocError>
+        ensures { OnOk result (self.new ≡ walked (assignment_marks assignment.now) self.old) }
+    {
+        match assignment {
+            Assignment::Write(target, _, value) => {
+                self.target(target)?;
+                self.expression(value)
+            }
+            Assignment::Increment(target) | Assignment::Decrement(target) => self.target(target),
+        }
     }
 
     /// `try`, its catches in order, and `finally`.

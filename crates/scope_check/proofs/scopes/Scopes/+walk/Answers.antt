@@ -1,7 +1,7 @@
 use Rattle.std.proofs.Common.{map, sym, ◌∙◌, arith}
 use Rattle.model_syntax.specs.Scopes.{breaks, continues, declares, arm_marks, catch_marks, choice_marks, entry_marks, expr_marks, operand_marks, part_marks, stmt_marks, suffix_marks}
-use Rattle.model_syntax.proofs.ScopeLaws.{choice-IfTrue, entry-Computed, expr-Number, expr-Literal, expr-True, expr-False, expr-Null, expr-Variable, expr-Suffixed, expr-Joined, expr-Chosen, part-Plain, suffix-Property, target-ToName, target-ToIndex, stmt-If, stmt-While, stmt-ForEach, stmt-ForSteps, stmt-Try, stmt-Declare, stmt-Assign, stmt-Break, stmt-Continue}
-use Rattle.scope_check.proofs.WalkLaws.{walked-none, walked-one, walked-then, walked-last, walked-behind, walked-catch, walked-for_each, walked-for_steps, walked-step, walked-done, marks-Arm, marks-Catch, marks-Operand, marks-Arguments}
+use Rattle.model_syntax.proofs.ScopeLaws.{assignment-Write, choice-IfTrue, entry-Computed, expr-Number, expr-Literal, expr-True, expr-False, expr-Null, expr-Variable, expr-Suffixed, expr-Joined, expr-Chosen, part-Plain, suffix-Property, target-ToName, target-ToIndex, stmt-If, stmt-While, stmt-ForEach, stmt-ForDeclared, stmt-ForSteps, stmt-Try, stmt-Declare, stmt-Break, stmt-Continue}
+use Rattle.scope_check.proofs.WalkLaws.{walked-none, walked-one, walked-then, walked-last, walked-behind, walked-catch, walked-for_each, walked-for_declared, walked-for_steps, walked-step, walked-done, marks-Arm, marks-Catch, marks-Operand, marks-Arguments}
 use Rattle.scope_check.proofs.scopes.Scopes.+walk.Goals as goal
 
 pub arms-loop-arm-preserved : goal.arms-loop-arm-preserved
@@ -107,8 +107,11 @@ expression-returns-in_ok-choices-in-Chosen t c = rw (c.in-Chosen.is, expr-Chosen
 pub for_each-returns : goal.for_each-returns
 for_each-returns t c = rw (c.in-ForEach.is, stmt-ForEach, ← c.as_slice.ensures) (walked-for_each _ _ _ _ c.in_ok-open.ensures c.in_ok-declare.ensures c.in_ok-expression.ensures c.in_ok-loop_body.ensures c.close.ensures)
 
+pub for_declared-returns : goal.for_declared-returns
+for_declared-returns t c = rw (c.in-ForDeclared.is, stmt-ForDeclared, ← c.get.ensures, ← c.as_slice.ensures) (walked-for_declared _ _ _ _ _ _ c.in_ok-open.ensures c.in_ok-declare.ensures c.in_ok-expression.ensures c.in_ok-expression-2.ensures c.in_ok-assignment.ensures c.in_ok-loop_body.ensures c.close.ensures)
+
 pub for_steps-returns : goal.for_steps-returns
-for_steps-returns t c = rw (c.in-ForSteps.is, stmt-ForSteps, ← c.get.ensures, ← c.get-2.ensures, ← c.as_slice.ensures) (walked-for_steps _ _ _ _ _ c.in_ok-open.ensures c.in_ok-statement.ensures c.in_ok-expression.ensures c.in_ok-statement-2.ensures c.in_ok-loop_body.ensures c.close.ensures)
+for_steps-returns t c = rw (c.in-ForSteps.is, stmt-ForSteps, ← c.get.ensures, ← c.get-2.ensures, ← c.as_slice.ensures) (walked-for_steps _ _ _ _ _ c.in_ok-open.ensures c.in_ok-assignment.ensures c.in_ok-expression.ensures c.in_ok-assignment-2.ensures c.in_ok-loop_body.ensures c.close.ensures)
 
 pub part-returns-in-Plain : goal.part-returns-in-Plain
 part-returns-in-Plain t c = rw (c.in-Plain.is, part-Plain) (sym (walked-none _))
@@ -125,8 +128,8 @@ statement-returns-in_ok-expression-in-While t c = rw (c.in-While.is, stmt-While,
 pub statement-returns-in_ok-declare-in-Declare : goal.statement-returns-in_ok-declare-in-Declare
 statement-returns-in_ok-declare-in-Declare t c = rw (c.in-Declare.is, stmt-Declare) (walked-behind _ (declares _) _ _ _ c.in_ok-declare-in-Declare.ensures c.value.ensures)
 
-pub statement-returns-in_ok-target-in-Assign : goal.statement-returns-in_ok-target-in-Assign
-statement-returns-in_ok-target-in-Assign t c = rw (c.in-Assign.is, stmt-Assign) (walked-last _ _ _ _ _ c.in_ok-target-in-Assign.ensures c.expression-in-Assign.ensures)
+pub assignment-returns-in_ok-target-in-Write : goal.assignment-returns-in_ok-target-in-Write
+assignment-returns-in_ok-target-in-Write t c = rw (c.in-Write.is, assignment-Write) (walked-last _ _ _ _ _ c.in_ok-target-in-Write.ensures c.expression.ensures)
 
 pub statement-returns-in-Break : goal.statement-returns-in-Break
 statement-returns-in-Break t c = rw (c.in-Break.is, stmt-Break) (c.need_loop.ensures ∙ sym (walked-one (breaks _) _))
