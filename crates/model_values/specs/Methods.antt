@@ -21,7 +21,8 @@ pub data Called : Type 0 where
   Walks : Method → ℕ → Called
   CallsClosure : ℕ → Called
 
--- Groovy: the methods with a closure: those of lists and maps, and of numbers
+-- this product's own: the methods with a closure are those of lists and maps, and `times` of numbers (Groovy's walk
+-- over texts and single values too)
 abbrev pub is_walk : Kind → Method → Bool
 is_walk (items c vs) Each = true
 is_walk (items c vs) Collect = true

@@ -1,5 +1,6 @@
 use crate::{Class, Entries, Value, Values};
-use model_text::{Sequence, Text};
+use chain::Chain;
+use model_text::Text;
 
 /// A name and the number of the cell of its variable.
 #[derive(Clone, PartialEq, Eq, Debug, Drop)]
@@ -9,7 +10,7 @@ pub struct Binding {
 }
 
 /// The variables that a place in a script sees, innermost first.
-pub type Env = Sequence<Binding>;
+pub type Env = Chain<Binding>;
 
 /// What a cell holds.
 #[derive(Clone, Drop)]
