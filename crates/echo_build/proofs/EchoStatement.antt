@@ -16,14 +16,17 @@ use Rattle.model_values.specs.declared.limit.LimitKind.TheVariants.{TextLength}
 use Rattle.model_run.specs.declared.site.Site.{Site}
 use Rattle.model_run.specs.World.{run_limits, setting_of}
 use Rattle.model_run.specs.Terms.{Term, term, terms}
-use Rattle.model_run.specs.State.{Common, Own, World, Reply, State, Normal, Result, Ended, Limited, with_world, through, changed, unless_limit, guarded, may_count, counted, operating, answered, put_cells}
-use Rattle.model_run.specs.Around.{First, Around, ended, limits, cells}
+use Rattle.model_run.specs.State.{Common, Own, World, Reply, State, Result, Ended, Limited, with_world, through, changed, unless_limit, guarded, may_count, counted, operating, answered, put_cells}
+use Rattle.model_run.specs.declared.ending.Ending.TheVariants.{Normal}
+use Rattle.model_run.specs.declared.ending.Entry.TheVariants.{First}
+use Rattle.model_run.specs.Around.{Around, ended, limits, cells}
 use Rattle.model_run.specs.Callables.{function_named, closure_of}
 use Rattle.model_run.specs.Names.{look, variable}
-use Rattle.model_run.specs.Calls.{Step_of, meant_variable, meant_function, meant_binding, call_meant}
+use Rattle.model_run.specs.Calls.{Step_of, meant_function, meant_binding, call_meant}
 use Rattle.std.specs.Prelude.{option_and_then}
 use Rattle.model_run.specs.FlowNodes.{atom, logging}
-use Rattle.model_run.specs.StepTable.{Echo, Binds, Fits, is_closure, writing_fits, and_fits, bind_fit, named_or_main, bind_given, bind_split, bind_step, written_or}
+use Rattle.model_run.specs.declared.step.Step.TheVariants.{Echo}
+use Rattle.model_run.specs.StepTable.{Binds, Fits, is_closure, writing_fits, and_fits, bind_fit, named_or_main, bind_given, bind_split, bind_step, written_or}
 use Rattle.model_run.specs.Steps.{bound_step, begin_step}
 use Rattle.model_run.specs.Meaning.{eval, evals}
 use Rattle.model_run.proofs.Walk.{Again, Call}
@@ -39,7 +42,7 @@ abbrev pub ticked : State → State
 ticked s = with_world (counted s.world) s
 
 -- the name means the step where nothing else has it
-pub means_step : (w : World) → w.shared.binding ≡ [] → function_named (codes "echo") w ≡ None → meant_variable (codes "echo") w None ≡ Step_of Echo
+pub means_step : (w : World) → w.shared.binding ≡ [] → function_named (codes "echo") w ≡ None → meant_function (codes "echo") w (function_named (codes "echo") w) ≡ Step_of Echo
 means_step w bound functions =
     ap (meant_function (codes "echo") w) functions
     ∙ ap (λ b. meant_binding (codes "echo") (option_and_then (λ c. closure_of w (variable w c)) (look (codes "echo") b))) bound

@@ -17,8 +17,10 @@ use Rattle.model_run.specs.declared.flow.NodeKind.TheVariants.{Atom as AtomNode}
 use Rattle.model_run.specs.declared.result.BuildResult.TheVariants.{Success}
 use Rattle.model_run.specs.LogText.{line}
 use Rattle.model_run.specs.Terms.{Term, term}
-use Rattle.model_run.specs.State.{Common, Own, State, Normal, Result, Ended, Limited, may_count}
-use Rattle.model_run.specs.Around.{First, ended}
+use Rattle.model_run.specs.State.{Common, Own, State, Result, Ended, Limited, may_count}
+use Rattle.model_run.specs.declared.ending.Ending.TheVariants.{Normal}
+use Rattle.model_run.specs.declared.ending.Entry.TheVariants.{First}
+use Rattle.model_run.specs.Around.{ended}
 use Rattle.model_run.specs.Callables.{function_named}
 use Rattle.model_run.specs.FlowNodes.{atom, logging, noted_limit, noted, pipeline, line_limit, with_line as line_put, else_limit}
 use Rattle.model_run.specs.Meaning.{eval}

@@ -15,8 +15,11 @@ use Rattle.model_run.specs.declared.result.BuildResult.TheVariants.{Failure}
 use Rattle.model_run.specs.declared.frame.FrameKind.TheVariants as kind
 use Rattle.model_run.specs.Results.{ended_log, worse}
 use Rattle.model_run.specs.Terms.{Term, Terms, term, terms, forms_of, nth_part}
-use Rattle.model_run.specs.State.{Setting, Common, Own, State, Env, Normal, Frame, Result, Ended, Limited, through}
-use Rattle.model_run.specs.Around.{First, Around, frame}
+use Rattle.model_run.specs.State.{Setting, Common, Own, State, Env, Result, Ended, Limited, through}
+use Rattle.model_run.specs.declared.ending.Ending.TheVariants.{Normal}
+use Rattle.model_run.specs.declared.ending.Entry.TheVariants.{First}
+use Rattle.model_run.specs.declared.frame.Frame.{Frame}
+use Rattle.model_run.specs.Around.{Around, frame}
 use Rattle.model_run.specs.Callables.{function_in, function_named}
 use Rattle.model_run.specs.Statements.{on_statement, statements}
 use Rattle.model_run.specs.Meaning.{eval, ev, fuel}

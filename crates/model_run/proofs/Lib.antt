@@ -2,19 +2,26 @@ pub mod GrantLaws
 mod LogExamples
 mod LabelExamples
 mod RunExamples
+mod RowExamples
 mod AgentsExamples
 pub mod Relation
-mod Room
-mod Under
+pub mod Room
+pub mod Under
 mod StatementLaws
 mod ExpressionLaws
 mod StepLaws
 mod CallLaws
-mod FormLaws
-mod BelowLaws
+pub mod FormLaws
+pub mod BelowLaws
 pub mod Walk
 pub mod Monotone
 pub mod Found
 pub mod Replay
 pub mod Enough
 pub mod Structure
+pub mod OwnLaws
+pub mod PathLaws
+pub mod WaitingLaws
+pub mod LaterLaws
+pub mod WorldLaws
+mod FirstFits

@@ -1,3 +1,5 @@
+use model_values::{Env, Values};
+
 /// The kinds of frames: what a green thread still has to do at a syntax node when one of its parts, or what it waits
 /// for, has ended. A thread's frames, outermost first, say all of where it stands.
 ///
@@ -97,4 +99,16 @@ pub enum FrameKind {
     ParallelWait,
     /// The closure of a branch of `parallel`.
     BranchBody,
+}
+
+/// What is still to be done at a node when something inside it has ended.
+#[derive(Clone, PartialEq, Eq, Debug, Drop)]
+pub struct Frame {
+    pub kind: FrameKind,
+    pub node: u32,
+    /// How many parts of the node still come behind the one that is being evaluated, where these are told apart.
+    pub left: u32,
+    pub env: Env,
+    /// The results that are still needed.
+    pub values: Values,
 }

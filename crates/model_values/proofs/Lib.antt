@@ -1,13 +1,24 @@
 mod CellExamples
+pub mod CellGrowth
 mod EqualityExamples
+pub mod Growth
 mod IndexExamples
+pub mod IndexGrowth
+pub mod KindFacts
+pub mod LaterLaws
 mod ListMethodExamples
+pub mod ListMethodGrowth
 mod MethodExamples
+pub mod MethodGrowth
 mod MethodNameExamples
 mod OperatorExamples
+pub mod OperatorGrowth
 mod Sample
 mod TextExamples
 mod TextMethodExamples
+pub mod TextMethodGrowth
+pub mod ThrowGrowth
 mod ThrowableExamples
 mod TruthExamples
 mod WalkExamples
+pub mod WalkGrowth

@@ -1,5 +1,5 @@
 -- Heap bytes, and how an evaluation makes and changes cells under the limits.
-use Rattle.std.specs.Prelude.{ℕ, ◌+◌, ◌*◌, nat_lt, if◌then◌else◌, List, [], ◌∷◌, ◌++◌, length, Option, Some, None, slice_set, true}
+use Rattle.std.specs.Prelude.{ℕ, ◌+◌, ◌*◌, nat_lt, if◌then◌else◌, List, [], ◌∷◌, ◌++◌, length, Option, Some, None, slice_get, slice_set, true}
 use Rattle.std.specs.Map.{lookup}
 use Rattle.indexmap.specs.IndexMap.{insert_entry}
 use Rattle.model_values.specs.Keys.{same_key}
@@ -94,3 +94,11 @@ module _ (l : Limits) (h : List Cell) where
   -- a key of the map in cell c gets a value, and `answer` is given. No limit is met where the key is there
   abbrev pub map_put : ℕ → List (Key × Value) → Key → Value → Value → Answer
   map_put c es k v answer = put_over (lookup (same_key k) es) c es k v answer
+
+-- the variable in a cell gets a value. Nothing else is assigned to, so what is no variable stays as it is
+abbrev pub variable_set : Option Cell → List Cell → ℕ → Value → List Cell
+variable_set (Some (Variable old)) h c v = slice_set h c (Variable v)
+variable_set o h c v = h
+
+abbrev pub set_variable : List Cell → ℕ → Value → List Cell
+set_variable h c v = variable_set (slice_get h c) h c v

@@ -1,10 +1,12 @@
 pub mod Cells
 pub mod Characters
 pub mod Equality
+pub mod Fitting
 pub mod Index
 pub mod KeyLaws
 pub mod Keys
 pub mod Kinds
+pub mod Later
 pub mod Limits
 pub mod ListMethods
 pub mod MethodNames
