@@ -1,5 +1,5 @@
 -- The characters of a text at a place.
-use Rattle.std.proofs.Common.{◌≡◌, ◌≢◌, ℕ, ◌+◌, ◌-◌, ◌<◌, ◌≤◌, ◌⊎◌, inl, inr, ⊎_elim, List, [], ◌∷◌, ◌++◌, length, take, drop, refl, sym, ap, subst, ◌∙◌, arith, Bool, true, false, Some, None, ◌==◌, append_assoc, append-nil, cond, ltb, ◌/◌}
+use Rattle.std.proofs.Common.{◌≡◌, ◌≢◌, ℕ, ◌+◌, ◌-◌, ◌<◌, ◌≤◌, ⊎_elim, List, [], ◌∷◌, ◌++◌, length, take, drop, refl, sym, ap, subst, ◌∙◌, arith, Bool, true, false, Some, None, ◌==◌, append_assoc, append-nil, cond, ltb, ◌/◌}
 use Rattle.std.specs.Char.{IsScalar, encode_utf8, digit_value}
 use Rattle.std.specs.Str.Parse.{AllDigits, digits_value}
 use Rattle.std.proofs.Math.Utf8.{next}
@@ -7,11 +7,11 @@ use Rattle.std.proofs.lemmas.Bool.{true≢false, ne_eqb, cases_lt, ltb-true}
 use Rattle.std.proofs.lemmas.Bool.Decides.{nat_tests}
 use Rattle.std.proofs.lemmas.Str.{encode_ascii}
 use Rattle.model_syntax.specs.Source.{Source, byte_at, Spelled, Character, character, NoCharacter}
-use Rattle.model_syntax.specs.TextForms.{Form, single, triple_single, double, triple_double, quotes, quote, is_triple, is_double, escape, is_plain, Item, item_plain, item_escape, item_unicode, item_joined_lines, GoesOn, goes_on, Content, content_none, content_more}
-use Rattle.model_syntax.proofs.SourceLemmas.{spelled_same}
+use Rattle.model_syntax.specs.TextForms.{Form, single, triple_single, double, triple_double, quotes, quote, is_triple, is_double, escape, is_plain, Item, item_plain, item_escape, item_unicode, item_joined_lines, GoesOn, goes_on, Content, content_none, content_more, IsCutOff}
+use Rattle.model_syntax.proofs.SourceLemmas.{spelled_same, end_no_character}
 use Rattle.model_syntax.proofs.TextLemmas.{plain_backslash}
 use Rattle.model_syntax.specs.declared.fault.FaultKind.{FaultKind}
-use Rattle.model_syntax.specs.declared.fault.FaultKind.TheVariants.{NotUtf8}
+use Rattle.model_syntax.specs.declared.fault.FaultKind.TheVariants.{BadEscape}
 use Rattle.model_syntax.specs.OpenBrackets.{Open}
 use Rattle.model_syntax.specs.Reading.{begins_braces, begins_path, TextFails, fails_at_end, fails_at_newline, fails_at_backslash, fails_at_dollar, fails_too_deep, fails_not_utf8}
 use Rattle.model_syntax.proofs.TokenExistence.{AtStop, at_closing, at_expression, at_fault, at_stop}
@@ -136,22 +136,22 @@ content_behind {B = B} {f = f} {xs = xs} {u = v} {a = a} {b = b} (content_more {
 pub stops_by : {B : Source} {f : Form} {a : ℕ} → NoItem B f a → GoesOn B f a → ⊥
 stops_by n (goes_on i s m) = n _ _ i s
 
--- Where a text does not go on, and neither its closing nor anything else of it stands, no character does.
-pub only_not_utf8 : (B : Source) (s : List Open) (f : Form) (o p : ℕ) → (GoesOn B f p → ⊥) → (Spelled B (quotes f) p → ⊥) → ((B p ≡ 36) × (is_double f ≡ true) → ⊥) → ((B p ≡ 256) ⊎ ((B p ≡ 10) × (is_triple f ≡ false)) → ⊥) → (B p ≡ 92 → ⊥) → TextFails B s f o p NotUtf8 p
-only_not_utf8 B s f o p g q d u b = by (at_stop B s f o p g)
+-- Where a text does not go on, and neither its closing nor anything else of it stands, it is cut off.
+pub only_cut_off : (B : Source) (s : List Open) (f : Form) (o p : ℕ) → (GoesOn B f p → ⊥) → (Spelled B (quotes f) p → ⊥) → ((B p ≡ 36) × (is_double f ≡ true) → ⊥) → ((B p ≡ 10) × (is_triple f ≡ false) → ⊥) → (B p ≡ 92 → ⊥) → (IsCutOff B f p → ⊥) → TextFails B s f o p BadEscape p
+only_cut_off B s f o p g q d l b n = absurd (by (at_stop B s f o p g))
   where
-    fault : {k : FaultKind} {z : ℕ} → TextFails B s f o p k z → TextFails B s f o p NotUtf8 p
-    fault (fails_at_end e) = absurd (u (inl e))
-    fault (fails_at_newline e t) = absurd (u (inr (e, t)))
-    fault (fails_at_backslash e n) = absurd (b e)
-    fault (fails_at_dollar e w n l) = absurd (d (e, w))
-    fault (fails_too_deep r w l) = absurd (d (r.0, w))
-    fault (fails_not_utf8 n) = fails_not_utf8 n
+    fault : {k : FaultKind} {z : ℕ} → TextFails B s f o p k z → ⊥
+    fault (fails_at_end {q = r} c e) = n (r, (c, end_no_character B r e))
+    fault (fails_not_utf8 {q = r} c u) = n (r, (c, u.1))
+    fault (fails_at_newline e t) = l (e, t)
+    fault (fails_at_backslash e m c) = b e
+    fault (fails_at_dollar e w m i c) = d (e, w)
+    fault (fails_too_deep r w i) = d (r.0, w)
 
-    by : AtStop B s f o p → TextFails B s f o p NotUtf8 p
-    by (at_closing r) = absurd (q r)
-    by (at_expression w (begins_braces r l)) = absurd (d (r.0, w))
-    by (at_expression w (begins_path e l)) = absurd (d (e, w))
+    by : AtStop B s f o p → ⊥
+    by (at_closing r) = q r
+    by (at_expression w (begins_braces r i)) = d (r.0, w)
+    by (at_expression w (begins_path e i)) = d (e, w)
     by (at_fault k z r) = fault r
 
 pub content_taken : {B : Source} {f : Form} {t u : List ℕ} {a b n e : ℕ} → Content B f t a b → (Spelled B (quotes f) b → ⊥) → TakesTo B f b n t u e → Content B f u a e

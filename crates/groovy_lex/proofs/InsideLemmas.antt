@@ -24,12 +24,12 @@ unfolding depth
 around s f o e = let k : depth s ≡ depth (text f o ∷ closed s) = ap depth e in k
 
 fails_around : {B : Source} {s u : List Open} {f : Form} {o p q : ℕ} {k : FaultKind} → depth s ≡ depth u → TextFails B s f o p k q → TextFails B u f o p k q
-fails_around d (fails_at_end e) = fails_at_end e
+fails_around d (fails_at_end b e) = fails_at_end b e
+fails_around d (fails_not_utf8 b n) = fails_not_utf8 b n
 fails_around d (fails_at_newline e t) = fails_at_newline e t
-fails_around d (fails_at_backslash e n) = fails_at_backslash e n
-fails_around d (fails_at_dollar e w n l) = fails_at_dollar e w n l
+fails_around d (fails_at_backslash e n c) = fails_at_backslash e n c
+fails_around d (fails_at_dollar e w n l c) = fails_at_dollar e w n l c
 fails_around d (fails_too_deep r w l) = fails_too_deep r w (omega (arith, d, l))
-fails_around d (fails_not_utf8 n) = fails_not_utf8 n
 
 inside_reads : (B : Source) (s : List Open) (f : Form) (o a : ℕ) (x : Outcome) → s ≡ text f o ∷ closed s → InText B (closed s) f o a x → Reads B s a x
 inside_reads B s f o a x e i = subst (λ z. Reads B z a x) (sym e) (reads_text i)

@@ -7,6 +7,7 @@ mod SignLemmas
 mod NameLemmas
 mod NumberLemmas
 mod ContentLemmas
+mod EscapeLemmas
 mod CodeLemmas
 mod InsideLemmas
 mod LayoutLemmas

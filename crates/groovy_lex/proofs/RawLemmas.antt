@@ -3,7 +3,7 @@ use Rattle.std.proofs.Common.{◌≡◌, ℕ, List, [], ◌∷◌, sym, ap, subs
 use Rattle.model_syntax.specs.declared.fault.FaultKind.TheVariants.{UnendedText}
 use Rattle.model_syntax.specs.declared.token.Token.{Token}
 use Rattle.model_syntax.specs.Source.{Source}
-use Rattle.model_syntax.specs.TextForms.{Form}
+use Rattle.model_syntax.specs.TextForms.{Form, begun_nothing}
 use Rattle.model_syntax.specs.OpenBrackets.{Open, paren, bracket, brace, expression, text, innermost_text}
 use Rattle.model_syntax.specs.Reading.{Reads, reads_code, reads_text, code_nothing, nothing_ends, in_fault, fails, fails_at_end}
 use Rattle.model_syntax.specs.Newlines.{kept}
@@ -22,7 +22,7 @@ end_reads B (paren ∷ s) a f o e i = reads_code tt (code_nothing (nothing_ends 
 end_reads B (bracket ∷ s) a f o e i = reads_code tt (code_nothing (nothing_ends e i))
 end_reads B (brace ∷ s) a f o e i = reads_code tt (code_nothing (nothing_ends e i))
 end_reads B (expression ∷ s) a f o e i = reads_code tt (code_nothing (nothing_ends e i))
-end_reads B (text g w ∷ s) a f o e i = let q : (g, w) ≡ (f, o) = cc in let k : w ≡ o = ap (λ (z : Form × ℕ). z.1) q in subst (λ z. Reads B (text g w ∷ s) a (fails UnendedText z)) k (reads_text (in_fault (fails_at_end e)))
+end_reads B (text g w ∷ s) a f o e i = let q : (g, w) ≡ (f, o) = cc in let k : w ≡ o = ap (λ (z : Form × ℕ). z.1) q in subst (λ z. Reads B (text g w ∷ s) a (fails UnendedText z)) k (reads_text (in_fault (fails_at_end begun_nothing e)))
 
 pub end_stops : (B : Source) (s : List Open) (a : ℕ) (o : Option Found) → B a ≡ 256 → MatchOption o (innermost_text s ≡ None) (λ f. IsEndFault s f) → StopsWith B s a o
 end_stops B s a None e m = (e, m)

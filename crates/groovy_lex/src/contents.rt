@@ -1,15 +1,19 @@
 //! The characters of a text up to where none goes on, and what stands there.
-ghost use Rattle.std.specs.Prelude.{◌≡◌, ℕ, ◌+◌, ◌<◌, ◌≤◌, ◌⊎◌, length, true, false, MatchBool, IfOk};
-ghost use Rattle.model_syntax.specs.Source.{byte_at, past_end};
-ghost use Rattle.model_syntax.specs.TextForms.{GoesOn, is_double, is_triple};
+ghost use Rattle.std.specs.Prelude.{◌≡◌, ℕ, ◌+◌, ◌<◌, ◌≤◌, List, length, true, false, MatchBool, IfOk};
+ghost use Rattle.model_syntax.specs.declared.fault.FaultKind.TheVariants.{BadEscape};
+ghost use Rattle.model_syntax.specs.Source.{byte_at};
+ghost use Rattle.model_syntax.specs.TextForms.{Form, GoesOn, Begun, IsCutOff, is_double, is_triple};
+ghost use Rattle.model_syntax.specs.OpenBrackets.{Open};
+ghost use Rattle.model_syntax.specs.Reading.{TextFails};
 ghost use Rattle.groovy_lex.specs.OpenStack.{form_of};
 ghost use Rattle.groovy_lex.specs.Contents.{IsContent};
 ghost use Rattle.groovy_lex.specs.Stops.{IsStop};
 
-use crate::escapes::{closes, take_character};
+use crate::characters::character_end;
+use crate::escapes::{closes, escape_front, take_character};
 use crate::names::is_letter;
 use crate::open::{OpenStack, TextForm};
-use crate::source::{PAST_END, byte};
+use crate::source::byte;
 use model_syntax::FaultKind;
 use model_text::Text;
 use std::alloc::{AllocError, Global};
@@ -59,11 +63,27 @@ fn is_dollar(form: TextForm, byte: u16) -> bool
     byte == 36 && form.is_double()
 }
 
-/// Whether the text has no end: the script ends here, or a line where the text holds no newlines.
-fn is_unended(form: TextForm, byte: u16) -> bool
-    ensures { MatchBool result ((byte ≡ past_end) ⊎ ((byte ≡ 10) × (is_triple (form_of form) ≡ false))) ((byte ≡ past_end) ⊎ ((byte ≡ 10) × (is_triple (form_of form) ≡ false)) → ⊥) }
+/// Whether the byte is a newline and the text holds none.
+fn ends_line(form: TextForm, byte: u16) -> bool
+    ensures { MatchBool result ((byte ≡ 10) × (is_triple (form_of form) ≡ false)) ((byte ≡ 10) × (is_triple (form_of form) ≡ false) → ⊥) }
 {
-    byte == PAST_END || (byte == 10 && !form.is_triple())
+    byte == 10 && !form.is_triple()
+}
+
+/// The fault of what goes on from `at` up to `end` and is not over there: the end of the script leaves the text without an
+/// end, a byte that is of no character is told at itself, and any other character makes it a bad escape. `opening` is where
+/// the text began.
+fn broken_stop(src: &[u8], opening: usize, at: usize, end: usize) -> Stop
+    requires { end ≤ length src.now }
+    ensures { (s : List Open) (f : Form) → Begun (byte_at src.now) f at end → ((q : ℕ) → Begun (byte_at src.now) f at q → q ≤ end) → ((IsCutOff (byte_at src.now) f at → ⊥) → TextFails (byte_at src.now) s f opening at BadEscape at) → IsStop (byte_at src.now) s f opening at result }
+{
+    if end == src.len() {
+        return Stop::Fails(FaultKind::UnendedText, opening);
+    }
+    match character_end(src, end) {
+        Some(_) => Stop::Fails(FaultKind::BadEscape, at),
+        None => Stop::Fails(FaultKind::NotUtf8, end),
+    }
 }
 
 /// What a `$` begins in a text with expressions.
@@ -83,7 +103,7 @@ fn dollar_stop(src: &[u8], stack: &OpenStack, form: TextForm, opening: usize, at
     if is_letter(next) {
         return Stop::Path;
     }
-    Stop::Fails(FaultKind::BadEscape, at)
+    broken_stop(src, opening, at, at + 1)
 }
 
 /// What stands in a text where no character goes on. `opening` is where the text began.
@@ -105,11 +125,12 @@ pub(crate) fn stop_at(
     if is_dollar(form, byte) {
         return dollar_stop(src, stack, form, opening, at);
     }
-    if is_unended(form, byte) {
+    if ends_line(form, byte) {
         return Stop::Fails(FaultKind::UnendedText, opening);
     }
     if byte == 92 {
-        return Stop::Fails(FaultKind::BadEscape, at);
+        let end = escape_front(src, at);
+        return broken_stop(src, opening, at, end);
     }
-    Stop::Fails(FaultKind::NotUtf8, at)
+    broken_stop(src, opening, at, at)
 }

@@ -3,7 +3,7 @@ ghost use Rattle.std.specs.Prelude.{◌≡◌, ℕ, ◌+◌, ◌-◌, ◌^◌, �
 ghost use Rattle.std.specs.Char.{IsScalar, digit_value};
 ghost use Rattle.std.specs.Str.Parse.{AllDigits, digits_value};
 ghost use Rattle.model_syntax.specs.Source.{byte_at, Spelled};
-ghost use Rattle.model_syntax.specs.TextForms.{quotes, escape, is_plain};
+ghost use Rattle.model_syntax.specs.TextForms.{Form, quotes, escape, is_plain, Begun};
 ghost use Rattle.groovy_lex.specs.OpenStack.{form_of};
 ghost use Rattle.groovy_lex.specs.Contents.{four, Takes};
 
@@ -102,6 +102,28 @@ fn unicode(src: &[u8], at: usize) -> Option<char>
         Some(code) => char::from_u32(code),
         None => None,
     }
+}
+
+/// The place up to which an escape goes on that begins here, without being over there: behind the backslash, or behind
+/// `\u` and its first hexadecimal digits, three at most.
+pub(crate) fn escape_front(src: &[u8], at: usize) -> usize
+    requires inside { at < length src.now }
+    requires backslash { byte_at src.now at ≡ 92 }
+    ensures begun { (f : Form) → Begun (byte_at src.now) f at result }
+    ensures furthest { (f : Form) (q : ℕ) → Begun (byte_at src.now) f at q → q ≤ result }
+    ensures inside { result ≤ length src.now }
+{
+    if byte(src, at + 1) != 117 {
+        return at + 1;
+    }
+    let mut end = at + 2;
+    'digits: while end < at + 5 {
+        match hexadecimal(byte(src, end)) {
+            Some(_) => end += 1,
+            None => return end,
+        }
+    }
+    end
 }
 
 /// Puts the bytes of a character behind a text.

@@ -98,7 +98,7 @@ fn each_lexical_fault_has_its_place_and_the_tokens_before_it(rt: HostRuntime) ->
             "ParenOpen 1 Opens part\"a\" Braces b BraceClose part\" c\" | bad escape at 11",
         ),
         ("\"a $ b\"", " | bad escape at 3"),
-        ("'a\\", " | bad escape at 2"),
+        ("'a\\", " | unended text at 0"),
         ("'\\ud800'", " | bad escape at 1"),
         ("'\\u12g4'", " | bad escape at 1"),
         ("12 007", "12 | bad number at 3"),
@@ -116,6 +116,31 @@ fn each_lexical_fault_has_its_place_and_the_tokens_before_it(rt: HostRuntime) ->
         ("a & b", "a | unexpected character at 2"),
     ];
     assert_listed(&rt, rt.alloc(), cases)
+}
+
+#[test]
+fn texts_that_are_cut_off_are_unended_at_the_end_alone(rt: HostRuntime) -> Result<(), Fail> {
+    let alloc = rt.alloc();
+    let cases: &[(&str, &str)] = &[
+        ("x = 'ab\\", "x Assign | unended text at 4"),
+        ("x = \"ab$", "x Assign | unended text at 4"),
+        ("x = 'ab\\u00", "x Assign | unended text at 4"),
+        ("x = \"\"\"ab\\u00e", "x Assign | unended text at 4"),
+        ("\"a${'b\\", "Opens part\"a\" Braces | unended text at 4"),
+        ("'ab\\u00'", " | bad escape at 3"),
+        ("'ab\\u00\n", " | bad escape at 3"),
+        ("'ab\\ud800", " | bad escape at 3"),
+        ("\"ab$\n", " | bad escape at 3"),
+        ("\"ab$é", " | bad escape at 3"),
+    ];
+    assert_listed(&rt, alloc, cases)?;
+    assert_eq!(rt; listing(alloc, b"'ab\\\xff")?.as_str(), " | not UTF-8 at 4");
+    assert_eq!(rt;
+        listing(alloc, b"'ab\\u0\xff")?.as_str(),
+        " | not UTF-8 at 6"
+    );
+    assert_eq!(rt; listing(alloc, b"\"ab$\xff")?.as_str(), " | not UTF-8 at 4");
+    Ok(())
 }
 
 #[test]

@@ -1,5 +1,5 @@
 -- The brackets of a script's tokens nest at most 128 deep, and so do those of the tokens before its lexical fault.
-use Rattle.std.proofs.Common.{◌≡◌, ℕ, ◌+◌, ◌-◌, ◌<◌, ◌≤◌, ◌⊎◌, ⊎_elim, List, [], ◌∷◌, ◌++◌, refl, sym, ap, subst, ◌∙◌, arith, Bool, true, false, ◌&&◌, not, ltb}
+use Rattle.std.proofs.Common.{◌≡◌, ℕ, ◌-◌, ◌<◌, ◌≤◌, List, [], ◌∷◌, ◌++◌, refl, sym, ap, subst, ◌∙◌, arith, Bool, true, false, ◌&&◌, not, ltb}
 use Rattle.std.specs.Prelude.{filter, if◌then◌else◌}
 use Rattle.std.proofs.lemmas.Bool.{true≢false, ltb-true, ltb-false}
 use Rattle.model_syntax.specs.declared.fault.FaultKind.{FaultKind}
@@ -9,7 +9,7 @@ use Rattle.model_syntax.specs.declared.token.Token.{Token}
 use Rattle.model_syntax.specs.declared.token.TokenKind.{TokenKind}
 use Rattle.model_syntax.specs.declared.token.TokenKind.TheVariants as kind
 use Rattle.model_syntax.specs.Source.{Source, Spelled}
-use Rattle.model_syntax.specs.Spelling.{is_letter, Spells, spells_sign, spells_word, spells_name, spells_number, Fits}
+use Rattle.model_syntax.specs.Spelling.{is_letter, Spells, spells_sign, spells_word, spells_name, spells_number}
 use Rattle.model_syntax.specs.TextForms.{Form}
 use Rattle.model_syntax.specs.OpenBrackets.{Open, paren, bracket, brace, expression, text, depth, is_opening, closed, after_sign, IsCode}
 use Rattle.model_syntax.specs.Reading.{goes, part, Blank, AfterLine, line_ends, AfterComment, comment_ends, blank, line_comment, comment, newline_ends, newline_blank, AfterFits, name_stands, word_stands, sign_stands, number_stands, lexeme, AfterContent, text_whole, text_opens, text_begins, InCode, code_blank, code_newline, code_lexeme, code_text, code_nothing, Path, path_ends, path_more, InText, in_part, in_closing, in_braces, in_path, Reads, reads_code, reads_text}
