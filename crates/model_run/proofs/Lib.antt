@@ -7,10 +7,10 @@ mod AgentsExamples
 pub mod Relation
 pub mod Room
 pub mod Under
-mod StatementLaws
-mod ExpressionLaws
-mod StepLaws
-mod CallLaws
+pub mod StatementLaws
+pub mod ExpressionLaws
+pub mod StepLaws
+pub mod CallLaws
 pub mod FormLaws
 pub mod BelowLaws
 pub mod Walk
