@@ -19,9 +19,11 @@ pub mod Found
 pub mod Replay
 pub mod Enough
 pub mod Structure
+pub mod OperationLaws
 pub mod OwnLaws
 pub mod PathLaws
 pub mod WaitingLaws
 pub mod LaterLaws
+pub mod SinceLaws
 pub mod WorldLaws
 mod FirstFits
