@@ -1,13 +1,14 @@
 -- What fits a shared state fits each later one.
-use Rattle.std.proofs.Common.{arith, ◌≡◌, ◌+◌, ◌<◌, sym, subst, refl, List, [], ◌∷◌, length, Option, Some}
-use Rattle.std.specs.Prelude.{slice_get, pos}
-use Rattle.model_run.specs.ValueTypes.{Value, Null, Truth, Whole, InCell, Cell, Variable, TextCell, ClosureCell, ThrownCell}
+use Rattle.std.proofs.Common.{arith, ◌+◌, ◌<◌, List, [], ◌∷◌, length}
+use Rattle.std.specs.Prelude.{pos}
+use Rattle.model_run.specs.ValueTypes.{Value, Null, Truth, Whole, InCell}
 use Rattle.model_run.specs.State.{Common, Env, Frame}
 use Rattle.model_run.specs.Terms.{Term}
 use Rattle.model_run.specs.FrameTable.{Sort, Further, No_more, One_more, Any_more, Any, Up_to, Flag, Flow_node, A_closure, A_throwable, Text_or_null}
-use Rattle.model_run.specs.Nesting.{Sorts, FurtherFit, ValuesFit, FrameFits, All}
+use Rattle.model_run.specs.Nesting.{Sorts, FurtherFit, ValuesFit, FrameFits}
 use Rattle.model_run.specs.Scoping.{Names}
-use Rattle.model_run.specs.Fitting.{There, HasVariable, HasText, HasThrowable, HasClosure, EnvFits, known, StaysAs, Later}
+use Rattle.model_run.specs.Fitting.{EnvFits, known, Later}
+use Rattle.model_values.proofs.LaterLaws.{there_later, text_later, closure_later, throwable_later, variables_later}
 
 -- the table with a wider notion of sorts
 further_wider : (f g : Sorts) → ((s : Sort) (v : Value) → f s v → g s v) → (further : Further) (vs : List Value) → FurtherFit f further vs → FurtherFit g further vs
@@ -25,47 +26,20 @@ pub frame_wider : (f g : Sorts) → ((s : Sort) (v : Value) → f s v → g s v)
 frame_wider f g up root x h = record { node = h.node; meets = record { stands = (h.meets).stands; left = (h.meets).left; values = values_wider f g up _ _ _ (h.meets).values } }
 
 module _ (u v : Common) (later : Later u v) where
-  there_later : (x : Value) → There u.cells x → There v.cells x
-  there_later (InCell c) h = omega (arith, h, later.more)
-  there_later Null h = tt
-  there_later (Truth b) h = tt
-  there_later (Whole z) h = tt
-
-  variable_stays : (o p : Option Cell) → ((x : Cell) → o ≡ Some x → StaysAs x p) → HasVariable o → HasVariable p
-  variable_stays (Some (Variable a)) (Some (Variable b)) stays h = tt
-  variable_stays (Some (Variable a)) p stays h = absurd (stays (Variable a) refl)
-  variable_stays o p stays h = absurd h
-
-  text_stays : (o p : Option Cell) → ((x : Cell) → o ≡ Some x → StaysAs x p) → HasText o → HasText p
-  text_stays (Some (TextCell t)) p stays h = subst HasText (sym (stays (TextCell t) refl)) tt
-  text_stays o p stays h = absurd h
-
-  throwable_stays : (o p : Option Cell) → ((x : Cell) → o ≡ Some x → StaysAs x p) → HasThrowable o → HasThrowable p
-  throwable_stays (Some (ThrownCell class m)) p stays h = subst HasThrowable (sym (stays (ThrownCell class m) refl)) tt
-  throwable_stays o p stays h = absurd h
-
-  closure_stays : (o p : Option Cell) → ((x : Cell) → o ≡ Some x → StaysAs x p) → HasClosure o → HasClosure p
-  closure_stays (Some (ClosureCell k env)) p stays h = subst HasClosure (sym (stays (ClosureCell k env) refl)) tt
-  closure_stays o p stays h = absurd h
-
-  known_later : (s : Sort) (x : Value) → known u s x → known v s x
-  known_later Any x h = there_later x h
+  pub known_later : (s : Sort) (x : Value) → known u s x → known v s x
+  known_later Any x h = there_later u.cells v.cells later.cells x h
   known_later (Up_to n) (Whole (pos m)) h = h
   known_later Flag (Truth b) h = tt
   known_later Flow_node (Whole (pos n)) h = (h.0, let lt : n < length u.nodes + 2 = h.1 in omega (arith, later.nodes))
-  known_later A_closure (InCell c) h = closure_stays _ _ (later.cells c) h
-  known_later A_throwable (InCell c) h = throwable_stays _ _ (later.cells c) h
+  known_later A_closure (InCell c) h = closure_later u.cells v.cells later.cells c h
+  known_later A_throwable (InCell c) h = throwable_later u.cells v.cells later.cells c h
   known_later Text_or_null Null h = tt
-  known_later Text_or_null (InCell c) h = text_stays _ _ (later.cells c) h
+  known_later Text_or_null (InCell c) h = text_later u.cells v.cells later.cells c h
   known_later s x h = absurd h
 
   -- a frame that fits goes on to fit
   pub frame_later : (root : Term) (x : Frame) → FrameFits (known u) root x → FrameFits (known v) root x
   frame_later root x h = frame_wider (known u) (known v) known_later root x h
 
-  variables_later : (env : Env) → All (λ b. HasVariable (slice_get u.cells b.cell)) env → All (λ b. HasVariable (slice_get v.cells b.cell)) env
-  variables_later [] h = tt
-  variables_later (b ∷ bs) h = (variable_stays _ _ (later.cells b.cell) h.0, variables_later bs h.1)
-
   pub env_later : (xs : Names) (env : Env) → EnvFits u.cells xs env → EnvFits v.cells xs env
-  env_later xs env h = record { names = h.names; variables = variables_later env h.variables }
+  env_later xs env h = record { names = h.names; variables = variables_later u.cells v.cells later.cells env h.variables }

@@ -7,10 +7,10 @@ mod AgentsExamples
 pub mod Relation
 pub mod Room
 pub mod Under
-mod StatementLaws
-mod ExpressionLaws
-mod StepLaws
-mod CallLaws
+pub mod StatementLaws
+pub mod ExpressionLaws
+pub mod StepLaws
+pub mod CallLaws
 pub mod FormLaws
 pub mod BelowLaws
 pub mod Walk
@@ -19,9 +19,11 @@ pub mod Found
 pub mod Replay
 pub mod Enough
 pub mod Structure
+pub mod OperationLaws
 pub mod OwnLaws
 pub mod PathLaws
 pub mod WaitingLaws
 pub mod LaterLaws
+pub mod SinceLaws
 pub mod WorldLaws
 mod FirstFits

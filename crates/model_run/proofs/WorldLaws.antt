@@ -5,7 +5,8 @@ use Rattle.model_run.specs.RunTypes.{Event}
 use Rattle.model_run.specs.Terms.{Term, term}
 use Rattle.model_run.specs.State.{Setting, Reply, Frame, Asked}
 use Rattle.model_run.specs.Threads.{Thread, stands_from}
-use Rattle.model_run.specs.Nesting.{Spot, spot_in, FrameFits, anything, Nested, Chained, WaitsFor, innermost, All}
+use Rattle.std.specs.List.{AllByRecursion as All}
+use Rattle.model_run.specs.Nesting.{Spot, spot_in, FrameFits, anything, Nested, Chained, WaitsFor, innermost}
 use Rattle.model_run.specs.Waiting.{Waiting, IsReady}
 use Rattle.model_run.specs.World.{world_in}
 use Rattle.model_run.proofs.PathLaws.{PathFrom, outer_spot, stands_paths}

@@ -3,8 +3,11 @@
 use Rattle.std.specs.Prelude.{◌≡◌, ◌<◌, ◌≤◌, ◌⊎◌, ℕ, suc, ◌+◌, nat_eq, Bool, true, false, List, [], ◌∷◌, ◌++◌, length, map, filter, drop, find, Option, Some, None, slice_get, pos}
 use Rattle.std.specs.Cmp.Lexicographic.{slice_cmp}
 use Rattle.std.specs.Ordering.{nat_cmp, is_lt}
+use Rattle.std.specs.List.{AllByRecursion as All}
 use Rattle.model_values.specs.Cells.{heap_bytes}
-use Rattle.model_run.specs.ValueTypes.{Value, Null, Truth, Whole, InCell, Cell, Variable, TextCell, ListCell, MapCell, ClosureCell, ThrownCell, Binding}
+use Rattle.model_values.specs.Fitting.{There, HasVariable, HasText, HasClosure, HasThrowable, CellsFit}
+use Rattle.model_values.specs.Later.{CellsLater, cell_size}
+use Rattle.model_run.specs.ValueTypes.{Null, Truth, Whole, InCell, Cell, Binding}
 use Rattle.model_run.specs.RunTypes.{FlowNode, Event, Answer, Begin, GrantedAnswer, Done, DecidedAnswer, Joined, Wait, Ready, RequestWait, BranchesWait, Join, JoinEnd, Outcome, ValueOutcome, ThrownOutcome, Request, NodeRequest, TaskRequest, InputRequest, OpenRequest, Held, Site, Context, FrameKind}
 use Rattle.model_run.specs.declared.frame.FrameKind.TheVariants as kind
 use Rattle.model_run.specs.Grants.{executor_of}
@@ -17,54 +20,17 @@ use Rattle.model_run.specs.World.{Build, world_in}
 use Rattle.model_run.specs.Terms.{Term, nodes_of}
 use Rattle.model_run.specs.State.{Setting, Common, Env, Frame, Result, Waits}
 use Rattle.model_run.specs.FrameTable.{Any, Up_to, Flag, Flow_node, A_closure, A_throwable, Text_or_null, is_closure_form}
-use Rattle.model_run.specs.Nesting.{Sorts, Spot, Begun, Any_branch, For_executor, For_task, For_person, For_branches, FrameFits, Chained, innermost, shape_at, All}
+use Rattle.model_run.specs.Nesting.{Sorts, Spot, Begun, Any_branch, For_executor, For_task, For_person, For_branches, FrameFits, Chained, innermost, shape_at}
 use Rattle.model_run.specs.Scoping.{Names, names_at, names_of, names_for}
-
--- the cell that a value names is there
-abbrev pub There : List Cell → Value → Type 0
-There h (InCell c) = c < length h
-There h v = Unit {0}
-
--- there is a cell, and it is of this kind
-abbrev pub HasVariable : Option Cell → Type 0
-HasVariable (Some (Variable v)) = Unit {0}
-HasVariable o = ⊥
-
-abbrev pub HasText : Option Cell → Type 0
-HasText (Some (TextCell t)) = Unit {0}
-HasText o = ⊥
-
-abbrev pub HasThrowable : Option Cell → Type 0
-HasThrowable (Some (ThrownCell class message)) = Unit {0}
-HasThrowable o = ⊥
-
-abbrev pub HasClosure : Option Cell → Type 0
-HasClosure (Some (ClosureCell k env)) = Unit {0}
-HasClosure o = ⊥
 
 -- variables by their cells, with these names
 pub record EnvFits (h : List Cell) (xs : Names) (env : Env) : Type 0 where
   pub names : names_of env ≡ xs
   pub variables : All (λ b. HasVariable (slice_get h b.cell)) env
 
--- A cell names what is there, and a closure is one of the script's, which sees the variables that its node sees.
-abbrev pub CellFits : Term → List Cell → Cell → Type 0
-CellFits root h (Variable v) = There h v
-CellFits root h (TextCell t) = Unit {0}
-CellFits root h (ListCell vs) = All (There h) vs
-CellFits root h (MapCell es) = All (λ e. There h e.1) es
-CellFits root h (ClosureCell k env) = (k < length (nodes_of root)) × (is_closure_form (shape_at root k).form ≡ true) × EnvFits h (names_at root k) env
-CellFits root h (ThrownCell class message) = Unit {0}
-
--- a cell holds fewer than 2147483648 bytes or entries
-abbrev pub IsShort : Cell → Type 0
-IsShort (Variable v) = Unit {0}
-IsShort (TextCell t) = length t < 2147483648
-IsShort (ListCell vs) = length vs < 2147483648
-IsShort (MapCell es) = length es < 2147483648
-IsShort (ClosureCell k env) = Unit {0}
-IsShort (ThrownCell class None) = Unit {0}
-IsShort (ThrownCell class (Some m)) = length m < 2147483648
+-- a closure is one of the script's, and sees the variables that its node sees
+abbrev pub closure_rule : Term → ℕ → Env → Type 0
+closure_rule root k env = (k < length (nodes_of root)) × (is_closure_form (shape_at root k).form ≡ true) × (names_of env ≡ names_at root k)
 
 -- the number of a flow node of the build: they are numbered from 2
 abbrev pub IsFlowNode : List FlowNode → ℕ → Type 0
@@ -126,8 +92,9 @@ pub record HeldFits (site : Site) (u : Common) (x : Held) : Type 0 where
 -- The shared state: cells, variables, flow nodes, requests and executors. What is counted stays far below what its numbers
 -- have room for.
 pub record SharedFits (setting : Setting) (u : Common) : Type 0 where
-  pub cells : All (CellFits setting.script u.cells) u.cells
-  pub short : All IsShort u.cells
+  pub cells : CellsFit (closure_rule setting.script) u.cells
+  -- each holds fewer than 2147483648 bytes or entries
+  pub short : All (λ c. cell_size c < 2147483648) u.cells
   pub few_cells : length u.cells < 4294967296
   pub few_bytes : heap_bytes u.cells ≤ 4611686018427387904
   pub binding : All (λ b. HasVariable (slice_get u.cells b.cell)) u.binding
@@ -315,21 +282,10 @@ pub record FitsAtRest (setting : Setting) (u : Common) (next_thread : ℕ) (seat
   pub fits : Fits setting u next_thread seats
   pub rests : All (λ t. NotReady t.wait) seats
 
--- A later shared state: cells only grow, each stays of its sort, and closures, texts and throwables stay as they are; and no flow
--- node goes away.
-abbrev pub StaysAs : Cell → Option Cell → Type 0
-StaysAs (Variable v) (Some (Variable w)) = Unit {0}
-StaysAs (ListCell vs) (Some (ListCell ws)) = Unit {0}
-StaysAs (MapCell es) (Some (MapCell fs)) = Unit {0}
-StaysAs (TextCell t) o = o ≡ Some (TextCell t)
-StaysAs (ClosureCell k env) o = o ≡ Some (ClosureCell k env)
-StaysAs (ThrownCell class m) o = o ≡ Some (ThrownCell class m)
-StaysAs x o = ⊥
-
--- (all that a thread relies on while others go on)
+-- A later shared state: cells only grow, each stays of its kind, and closures, texts and throwables stay as they are; and no flow
+-- node goes away. It is all that a thread relies on while others go on.
 pub record Later (u v : Common) : Type 0 where
-  pub more : length u.cells ≤ length v.cells
-  pub cells : (c : ℕ) (x : Cell) → slice_get u.cells c ≡ Some x → StaysAs x (slice_get v.cells c)
+  pub cells : CellsLater u.cells v.cells
   pub nodes : length u.nodes ≤ length v.nodes
 
 -- A thread of a world, as it stands.

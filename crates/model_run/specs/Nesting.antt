@@ -124,8 +124,3 @@ Chained root at (f ∷ fs) = Enters root f at × Chained root (spot_in root f) f
 abbrev pub innermost : Term → Spot → List Frame → Spot
 innermost root at [] = at
 innermost root at (f ∷ fs) = innermost root (spot_in root f) fs
-
--- this holds of each
-abbrev pub All : {A : Type 0} → (A → Type 0) → List A → Type 0
-All P [] = Unit {0}
-All P (x ∷ xs) = P x × All P xs

@@ -1,7 +1,7 @@
 -- Heap bytes, new cells and cells that grow, at and past each limit.
-use Rattle.std.specs.Prelude.{◌+◌, true, [], Some, None, pos, codes, refl, ◌≡◌, ◌∷◌, ◌++◌}
+use Rattle.std.specs.Prelude.{slice_get, ◌+◌, true, [], Some, None, pos, codes, refl, ◌≡◌, ◌∷◌, ◌++◌}
 use Rattle.model_values.specs.Limits.{limit_line}
-use Rattle.model_values.specs.Cells.{cell_bytes, heap_bytes, Gives, Meets, new_text, new_list, new_map, new_list_of, throw, list_push, map_put}
+use Rattle.model_values.specs.Cells.{cell_bytes, heap_bytes, Gives, Meets, new_text, new_list, new_map, new_list_of, throw, list_push, map_put, set_variable}
 use Rattle.model_values.proofs.Sample.{sample, ab, gives_new, throws, small}
 use Rattle.model_values.specs.Types.{Null, Truth, InCell, IntKey, TextKey, Variable, TextCell, ListCell, MapCell, ClosureCell, ThrownCell, Abort, Error, NodesEvaluated, CallDepth, FlowNodes, LogSize, GreenThreads, TextLength, CollectionSize, ValueDepth, Cells, HeapBytes}
 
@@ -125,3 +125,10 @@ line_of_LogSize = refl
 
 pub line_of_GreenThreads : limit_line GreenThreads ≡ codes "Limit reached: green threads"
 line_of_GreenThreads = refl
+
+-- an assignment writes into a variable, and into nothing else
+pub variable_gets_a_value : slice_get (set_variable sample 9 (Truth true)) 9 ≡ Some (Variable (Truth true))
+variable_gets_a_value = refl
+
+pub no_variable_stays : set_variable sample 1 (Truth true) ≡ sample
+no_variable_stays = refl
