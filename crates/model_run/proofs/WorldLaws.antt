@@ -5,14 +5,14 @@ use Rattle.model_run.specs.RunTypes.{Event}
 use Rattle.model_run.specs.Terms.{Term, term}
 use Rattle.model_run.specs.State.{Setting, Reply, Frame, Asked}
 use Rattle.model_run.specs.Threads.{Thread, stands_from}
-use Rattle.std.specs.List.{AllByRecursion as All}
+use Rattle.std.specs.List.{AllByRecursion as AllAre}
 use Rattle.model_run.specs.Nesting.{Spot, spot_in, FrameFits, anything, Nested, Chained, WaitsFor, innermost}
 use Rattle.model_run.specs.Waiting.{Waiting, IsReady}
 use Rattle.model_run.specs.World.{world_in}
 use Rattle.model_run.proofs.PathLaws.{PathFrom, outer_spot, stands_paths}
 use Rattle.model_run.proofs.WaitingLaws.{world_waits}
 
-pub frames_fit : (root : Term) (at : Spot) (fs : List Frame) (asked : Asked) → Nested root at fs asked → All (FrameFits anything root) fs
+pub frames_fit : (root : Term) (at : Spot) (fs : List Frame) (asked : Asked) → Nested root at fs asked → AllAre (FrameFits anything root) fs
 frames_fit root at [] asked h = tt
 frames_fit root at (f ∷ fs) asked h = (h.1, frames_fit root (spot_in root f) fs asked h.2)
 
@@ -37,9 +37,9 @@ module _ (setting : Setting) (p : Node) (e : setting.script ≡ term 0 p) where
     pub waiting : Waiting setting t
     pub nested : Nested setting.script (outer_spot t.runs) waiting.path waiting.asked
 
-  all_placed : (ts : List Thread) → All (Waiting setting) ts → All Placed ts
+  all_placed : (ts : List Thread) → AllAre (Waiting setting) ts → AllAre Placed ts
   all_placed [] h = tt
   all_placed (t ∷ ts) h = (record { waiting = h.0; nested = waiting_nested t h.0 }, all_placed ts h.1)
 
-  pub world_placed : (events : List Event) → All (λ t. IsReady t.wait → ⊥) (world_in setting events).threads → All Placed (world_in setting events).threads
+  pub world_placed : (events : List Event) → AllAre (λ t. IsReady t.wait → ⊥) (world_in setting events).threads → AllAre Placed (world_in setting events).threads
   world_placed events never = all_placed _ (world_waits setting events never)

@@ -3,7 +3,7 @@
 use Rattle.std.specs.Prelude.{◌≡◌, ◌<◌, ◌≤◌, ◌⊎◌, ℕ, suc, ◌+◌, nat_eq, Bool, true, false, List, [], ◌∷◌, ◌++◌, length, map, filter, drop, find, Option, Some, None, slice_get, pos}
 use Rattle.std.specs.Cmp.Lexicographic.{slice_cmp}
 use Rattle.std.specs.Ordering.{nat_cmp, is_lt}
-use Rattle.std.specs.List.{AllByRecursion as All}
+use Rattle.std.specs.List.{AllByRecursion as AllAre}
 use Rattle.model_values.specs.Cells.{heap_bytes}
 use Rattle.model_values.specs.Fitting.{There, HasVariable, HasText, HasClosure, HasThrowable, CellsFit}
 use Rattle.model_values.specs.Later.{CellsLater, cell_size}
@@ -26,7 +26,7 @@ use Rattle.model_run.specs.Scoping.{Names, names_at, names_of, names_for}
 -- variables by their cells, with these names
 pub record EnvFits (h : List Cell) (xs : Names) (env : Env) : Type 0 where
   pub names : names_of env ≡ xs
-  pub variables : All (λ b. HasVariable (slice_get h b.cell)) env
+  pub variables : AllAre (λ b. HasVariable (slice_get h b.cell)) env
 
 -- a closure is one of the script's, and sees the variables that its node sees
 abbrev pub closure_rule : Term → ℕ → Env → Type 0
@@ -51,7 +51,7 @@ known u s v = ⊥
 -- flow nodes are numbered one after the other, and name nodes before them; a start of 0 is none
 abbrev pub NodesFit : ℕ → List FlowNode → Type 0
 NodesFit id [] = Unit {0}
-NodesFit id (n ∷ ns) = (n.id ≡ id) × (n.start < id) × All (λ p. (2 ≤ p) × (p < id)) n.parents × NodesFit (suc id) ns
+NodesFit id (n ∷ ns) = (n.id ≡ id) × (n.start < id) × AllAre (λ p. (2 ≤ p) × (p < id)) n.parents × NodesFit (suc id) ns
 
 -- binding variables stand by rising names
 abbrev pub NamesRise : List Binding → Type 0
@@ -81,7 +81,7 @@ RequestFits site logged (InputRequest id) = (id ≡ [] → ⊥) × (has_blank id
 -- all differ
 abbrev pub Distinct : List ℕ → Type 0
 Distinct [] = Unit {0}
-Distinct (n ∷ ns) = All (λ m. n ≡ m → ⊥) ns × Distinct ns
+Distinct (n ∷ ns) = AllAre (λ m. n ≡ m → ⊥) ns × Distinct ns
 
 -- the executor is one of the site's, and its request was made and is no longer open
 pub record HeldFits (site : Site) (u : Common) (x : Held) : Type 0 where
@@ -94,19 +94,19 @@ pub record HeldFits (site : Site) (u : Common) (x : Held) : Type 0 where
 pub record SharedFits (setting : Setting) (u : Common) : Type 0 where
   pub cells : CellsFit (closure_rule setting.script) u.cells
   -- each holds fewer than 2147483648 bytes or entries
-  pub short : All (λ c. cell_size c < 2147483648) u.cells
+  pub short : AllAre (λ c. cell_size c < 2147483648) u.cells
   pub few_cells : length u.cells < 4294967296
   pub few_bytes : heap_bytes u.cells ≤ 4611686018427387904
-  pub binding : All (λ b. HasVariable (slice_get u.cells b.cell)) u.binding
+  pub binding : AllAre (λ b. HasVariable (slice_get u.cells b.cell)) u.binding
   pub names : NamesRise u.binding
   pub some_node : 0 < length u.nodes
   pub few_nodes : length u.nodes ≤ 100000000
   pub nodes : NodesFit 2 u.nodes
   pub requests : Rise 0 u.next_request (map (λ r. r.number) u.requests)
   pub few_requests : u.next_request ≤ 100000000 + length u.nodes
-  pub asks : All (λ r. RequestFits setting.site (length u.log) r.request) u.requests
+  pub asks : AllAre (λ r. RequestFits setting.site (length u.log) r.request) u.requests
   pub rising : Rises (map (λ x. x.executor) u.held)
-  pub held : All (HeldFits setting.site u) u.held
+  pub held : AllAre (HeldFits setting.site u) u.held
   pub differ : Distinct (map (λ x. x.request) u.held)
 
 -- A thread as it stands.
@@ -200,14 +200,14 @@ AnswerFits u at [] Begin = Unit {0}
 AnswerFits u For_executor fs (GrantedAnswer x) = find (λ h. nat_eq h.executor x) u.held ≡ None → ⊥
 AnswerFits u For_task fs (Done code out) = Unit {0}
 AnswerFits u For_person fs (DecidedAnswer proceed name) = Unit {0}
-AnswerFits u For_branches fs (Joined ends) = All (λ b. EndFits u b.end) ends
+AnswerFits u For_branches fs (Joined ends) = AllAre (λ b. EndFits u b.end) ends
 AnswerFits u at fs x = ⊥
 
 -- What a thread waits for: an answer that it is about to get, its open request, or its branches, of which one has not ended.
 abbrev pub WaitFits : Common → List Seat → Seat → Spot → Wait → Type 0
 WaitFits u seats t at (Ready x) = AnswerFits u at t.stack x
 WaitFits u seats t at (RequestWait r) = ForRequest at (find (λ q. nat_eq q.number r) u.requests) t.number
-WaitFits u seats t For_branches (BranchesWait js) = All (JoinFits u seats t.number) js × Some_of IsOpen js × Distinct (map (λ j. j.thread) js)
+WaitFits u seats t For_branches (BranchesWait js) = AllAre (JoinFits u seats t.number) js × Some_of IsOpen js × Distinct (map (λ j. j.thread) js)
 WaitFits u seats t at (BranchesWait js) = ⊥
 
 -- a branch that this wait is for
@@ -234,14 +234,14 @@ StartFits root h (Some c) = (c.node < length (nodes_of root)) × (is_closure_for
 pub record SeatFits (setting : Setting) (u : Common) (seats : List Seat) (t : Seat) : Type 0 where
   pub head : IsFlowNode u.nodes t.head
   pub parent : ParentFits seats t.number t.parent
-  pub frames : All (FrameFits (known u) setting.script) t.stack
-  pub envs : All (λ f. EnvFits u.cells (names_for setting.script f) f.env) t.stack
+  pub frames : AllAre (FrameFits (known u) setting.script) t.stack
+  pub envs : AllAre (λ f. EnvFits u.cells (names_for setting.script f) f.env) t.stack
   pub nested : Chained setting.script (outermost t.parent) t.stack
   pub waits : WaitFits u seats t (innermost setting.script (outermost t.parent) t.stack) t.wait
   pub start : StartFits setting.script u.cells t.start
   -- the held requests and the folders are those of its parent, and then those of its own open bodies
   pub own_held : (own : List ℕ) × (t.context.held ≡ (context_above seats t.parent).held ++ own) × (length own ≡ length (filter (λ f. holds_executor f.kind) t.stack))
-  pub holds : All (λ r. held_for r u.held ≡ None → ⊥) t.context.held
+  pub holds : AllAre (λ r. held_for r u.held ≡ None → ⊥) t.context.held
   pub folders : length t.context.folders ≡ length (context_above seats t.parent).folders + length (filter (λ f. holds_folder f.kind) t.stack)
 
 -- each open request has the thread that waits for it
@@ -267,10 +267,10 @@ pub record Fits (setting : Setting) (u : Common) (next_thread : ℕ) (seats : Li
   pub numbers : Rise 0 next_thread (map (λ t. t.number) seats)
   pub few_threads : next_thread ≤ 100000000 + length u.nodes
   pub main : seat_of seats 0 ≡ None → ⊥
-  pub threads : All (SeatFits setting u seats) seats
+  pub threads : AllAre (SeatFits setting u seats) seats
   -- the requests of all open `node` bodies differ
   pub differ : Distinct (concat_map (own_held_of seats) seats)
-  pub waited_for : All (IsWaitedFor seats) u.requests
+  pub waited_for : AllAre (IsWaitedFor seats) u.requests
 
 -- it is not about to go on
 abbrev pub NotReady : Wait → Type 0
@@ -280,7 +280,7 @@ NotReady w = Unit {0}
 -- as a build stands between two events, and in its image
 pub record FitsAtRest (setting : Setting) (u : Common) (next_thread : ℕ) (seats : List Seat) : Type 0 where
   pub fits : Fits setting u next_thread seats
-  pub rests : All (λ t. NotReady t.wait) seats
+  pub rests : AllAre (λ t. NotReady t.wait) seats
 
 -- A later shared state: cells only grow, each stays of its kind, and closures, texts and throwables stay as they are; and no flow
 -- node goes away. It is all that a thread relies on while others go on.

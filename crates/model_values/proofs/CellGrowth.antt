@@ -1,7 +1,7 @@
 -- How cells grow: not at all, by new cells, or by one that changes; and what makes and changes cells under the limits.
 use Rattle.std.proofs.Common.{arith, ◌≡◌, ◌≤◌, ◌<◌, ◌+◌, ◌*◌, ℕ, zero, suc, ◌⊎◌, inl, inr, refl, sym, ap, subst, ◌∙◌, Bool, true, false, List, [], ◌∷◌, ◌++◌, length, length-append, append_assoc, Option, Some, None, cond}
 use Rattle.std.specs.Prelude.{slice_get, slice_set, nat_lt, if◌then◌else◌}
-use Rattle.std.specs.List.{AllByRecursion as All}
+use Rattle.std.specs.List.{AllByRecursion as AllAre}
 use Rattle.std.specs.Map.{lookup}
 use Rattle.std.proofs.lemmas.List.{length-set}
 use Rattle.std.proofs.lemmas.Option.{slice_get_within}
@@ -17,16 +17,16 @@ use Rattle.model_values.specs.declared.cell.Binding.{Binding}
 use Rattle.model_values.proofs.LaterLaws.{later_itself, later_behind, later_changed, get_new, cell_later, there_later, all_weaker}
 
 -- Lists whose entries all are something.
-pub all_append : {A : Type 0} (P : A → Type 0) (xs ys : List A) → All P xs → All P ys → All P (xs ++ ys)
+pub all_append : {A : Type 0} (P : A → Type 0) (xs ys : List A) → AllAre P xs → AllAre P ys → AllAre P (xs ++ ys)
 all_append P [] ys h k = k
 all_append P (x ∷ xs) ys h k = (h.0, all_append P xs ys h.1 k)
 
-pub all_set : {A : Type 0} (P : A → Type 0) (xs : List A) (i : ℕ) (x : A) → All P xs → P x → All P (slice_set xs i x)
+pub all_set : {A : Type 0} (P : A → Type 0) (xs : List A) (i : ℕ) (x : A) → AllAre P xs → P x → AllAre P (slice_set xs i x)
 all_set P [] i x h p = tt
 all_set P (y ∷ ys) zero x h p = (p, h.1)
 all_set P (y ∷ ys) (suc i) x h p = (h.0, all_set P ys i x h.1 p)
 
-pub all_get : {A : Type 0} (P : A → Type 0) (xs : List A) (i : ℕ) (x : A) → slice_get xs i ≡ Some x → All P xs → P x
+pub all_get : {A : Type 0} (P : A → Type 0) (xs : List A) (i : ℕ) (x : A) → slice_get xs i ≡ Some x → AllAre P xs → P x
 all_get P [] i x e h = absurd (cc)
 all_get P (y ∷ ys) zero x e h = let same : y ≡ x = cc in subst P same h.0
 all_get P (y ∷ ys) (suc i) x e h = all_get P ys i x e h.1
@@ -71,11 +71,11 @@ entries_within [] = omega arith
 entries_within (e ∷ es) = omega (arith, entries_within es)
 
 -- the values of a map with one more, or another in the place of one
-insert_step : (P : Value → Type 0) (test : Bool) (e : Key × Value) (es fs : List (Key × Value)) (v : Value) → All (λ p. P p.1) (e ∷ es) → P v → All (λ p. P p.1) fs → All (λ p. P p.1) (if test then (e.0, v) ∷ es else e ∷ fs)
+insert_step : (P : Value → Type 0) (test : Bool) (e : Key × Value) (es fs : List (Key × Value)) (v : Value) → AllAre (λ p. P p.1) (e ∷ es) → P v → AllAre (λ p. P p.1) fs → AllAre (λ p. P p.1) (if test then (e.0, v) ∷ es else e ∷ fs)
 insert_step P true e es fs v h p k = (p, h.1)
 insert_step P false e es fs v h p k = (h.0, k)
 
-pub all_insert : (P : Value → Type 0) (k : Key) (v : Value) (es : List (Key × Value)) → All (λ e. P e.1) es → P v → All (λ e. P e.1) (insert_entry same_key es k v)
+pub all_insert : (P : Value → Type 0) (k : Key) (v : Value) (es : List (Key × Value)) → AllAre (λ e. P e.1) es → P v → AllAre (λ e. P e.1) (insert_entry same_key es k v)
 all_insert P k v [] h p = (p, tt)
 all_insert P k v (e ∷ es) h p = insert_step P (same_key k e.0) e es (insert_entry same_key es k v) v h p (all_insert P k v es h.1 p)
 
@@ -97,7 +97,7 @@ cell_within [] c x e = absurd (cc)
 cell_within (y ∷ h) zero x e = let same : y ≡ x = cc in omega (arith, ap cell_bytes same)
 cell_within (y ∷ h) (suc c) x e = omega (arith, cell_within h c x e)
 
-each_small : (n : ℕ) (cs : List Cell) → heap_bytes cs ≤ n → All (λ x. cell_size x ≤ n) cs
+each_small : (n : ℕ) (cs : List Cell) → heap_bytes cs ≤ n → AllAre (λ x. cell_size x ≤ n) cs
 each_small n [] le = tt
 each_small n (x ∷ cs) le = (omega (arith, size_within x), each_small n cs (omega arith))
 
@@ -142,7 +142,7 @@ module _ (b : Before) where
   pub grows_not : (result : Type 0) → (b.given → result) → Grown b b.h result
   grows_not result r = record { later = later_itself b.h; bounds = λ n m p q w. w; sizes = λ n p w. w; fits = λ x. (b.fit x, r x) }
 
-  pub grows_by : (cs : List Cell) (result : Type 0) → no_room b.l b.h cs ≡ None → (b.given → All (CellFits b.rule (b.h ++ cs)) cs) → (b.given → result) → Grown b (b.h ++ cs) result
+  pub grows_by : (cs : List Cell) (result : Type 0) → no_room b.l b.h cs ≡ None → (b.given → AllAre (CellFits b.rule (b.h ++ cs)) cs) → (b.given → result) → Grown b (b.h ++ cs) result
   grows_by cs result e new r =
       let free = none_of _ _ e in
       let few : length b.h + length cs ≤ b.l.cells = ltb-false b.l.cells (length b.h + length cs) free.0 in
@@ -166,10 +166,10 @@ module _ (b : Before) where
       }
 
   -- the entries of a list and of a map are there
-  pub items_there : (c : ℕ) (vs : List Value) → slice_get b.h c ≡ Some (ListCell vs) → b.given → All (There b.h) vs
+  pub items_there : (c : ℕ) (vs : List Value) → slice_get b.h c ≡ Some (ListCell vs) → b.given → AllAre (There b.h) vs
   items_there c vs e x = all_get (CellFits b.rule b.h) b.h c (ListCell vs) e (b.fit x)
 
-  pub pairs_there : (c : ℕ) (es : List (Key × Value)) → slice_get b.h c ≡ Some (MapCell es) → b.given → All (λ e. There b.h e.1) es
+  pub pairs_there : (c : ℕ) (es : List (Key × Value)) → slice_get b.h c ≡ Some (MapCell es) → b.given → AllAre (λ e. There b.h e.1) es
   pairs_there c es e x = all_get (CellFits b.rule b.h) b.h c (MapCell es) e (b.fit x)
 
   -- Answers.
@@ -187,7 +187,7 @@ module _ (b : Before) where
   unless_past sort true k answer f = tt
   unless_past sort false k answer f = f refl
 
-  pub gives_new : (sort : Sort) (cs : List Cell) (v : Value) → (b.given → All (CellFits b.rule (b.h ++ cs)) cs) → (b.given → sort (b.h ++ cs) v) → Answers sort (with_new b.l b.h cs (λ g. Gives g v))
+  pub gives_new : (sort : Sort) (cs : List Cell) (v : Value) → (b.given → AllAre (CellFits b.rule (b.h ++ cs)) cs) → (b.given → sort (b.h ++ cs) v) → Answers sort (with_new b.l b.h cs (λ g. Gives g v))
   gives_new sort cs v n s = unless_met sort (no_room b.l b.h cs) (Gives (b.h ++ cs) v) (λ e. grows_by cs (sort (b.h ++ cs) v) e n s)
 
   pub new_cell_grows : (sort : Sort) (x : Cell) → (b.given → CellFits b.rule (b.h ++ x ∷ []) x) → (b.given → sort (b.h ++ x ∷ []) (InCell (length b.h))) → Answers sort (new_cell b.l b.h x)
@@ -209,13 +209,13 @@ module _ (b : Before) where
   pub new_text_grows : (t : List ℕ) → Answers (IsIn HasText) (new_text b.l b.h t)
   new_text_grows t = unless_past (IsIn HasText) (nat_lt b.l.text (length t)) TextLength _ (λ e. new_of_kind HasText (TextCell t) tt (λ g. tt))
 
-  pub new_list_grows : (vs : List Value) → (b.given → All (There b.h) vs) → Answers (IsIn HasList) (new_list b.l b.h vs)
+  pub new_list_grows : (vs : List Value) → (b.given → AllAre (There b.h) vs) → Answers (IsIn HasList) (new_list b.l b.h vs)
   new_list_grows vs a = unless_past (IsIn HasList) (nat_lt b.l.entries (length vs)) CollectionSize _ (λ e. new_of_kind HasList (ListCell vs) tt a)
 
-  pub new_map_grows : (es : List (Key × Value)) → (b.given → All (λ e. There b.h e.1) es) → Answers (IsIn HasMap) (new_map b.l b.h es)
+  pub new_map_grows : (es : List (Key × Value)) → (b.given → AllAre (λ e. There b.h e.1) es) → Answers (IsIn HasMap) (new_map b.l b.h es)
   new_map_grows es a = unless_past (IsIn HasMap) (nat_lt b.l.entries (length es)) CollectionSize _ (λ e. new_of_kind HasMap (MapCell es) tt a)
 
-  pub new_list_of_grows : (parts : List Cell) (vs : List Value) → ((g : List Cell) → All (CellFits b.rule g) parts) → ((g : List Cell) → length b.h + length parts ≤ length g → b.given → All (There g) vs) → Answers (IsIn HasList) (new_list_of b.l b.h parts vs)
+  pub new_list_of_grows : (parts : List Cell) (vs : List Value) → ((g : List Cell) → AllAre (CellFits b.rule g) parts) → ((g : List Cell) → length b.h + length parts ≤ length g → b.given → AllAre (There g) vs) → Answers (IsIn HasList) (new_list_of b.l b.h parts vs)
   new_list_of_grows parts vs p a =
       let g = b.h ++ (parts ++ ListCell vs ∷ []) in
       let long : length b.h + length parts ≤ length g = omega (arith, length-append b.h (parts ++ ListCell vs ∷ []), length-append parts (ListCell vs ∷ [])) in
@@ -229,10 +229,10 @@ module _ (b : Before) where
       (λ free. grows_by (ThrownCell class (Some m) ∷ []) (HasThrowable (slice_get (b.h ++ ThrownCell class (Some m) ∷ []) (length b.h))) free (λ g. (tt, tt)) (λ g. subst HasThrowable (sym (get_new b.h (ThrownCell class (Some m)) [])) tt)))
 
   -- a list or a map in a cell gets other entries
-  pub list_changes : (sort : Sort) (c : ℕ) (vs ws : List Value) (v : Value) → slice_get b.h c ≡ Some (ListCell vs) → HasRoom b.l b.h (cell_bytes (ListCell vs)) (cell_bytes (ListCell ws)) (length vs) (length ws) → (b.given → All (There b.h) ws) → (b.given → sort (slice_set b.h c (ListCell ws)) v) → Answers sort (Gives (slice_set b.h c (ListCell ws)) v)
+  pub list_changes : (sort : Sort) (c : ℕ) (vs ws : List Value) (v : Value) → slice_get b.h c ≡ Some (ListCell vs) → HasRoom b.l b.h (cell_bytes (ListCell vs)) (cell_bytes (ListCell ws)) (length vs) (length ws) → (b.given → AllAre (There b.h) ws) → (b.given → sort (slice_set b.h c (ListCell ws)) v) → Answers sort (Gives (slice_set b.h c (ListCell ws)) v)
   list_changes sort c vs ws v e room a s = grows_at c (ListCell vs) (ListCell ws) (sort (slice_set b.h c (ListCell ws)) v) e tt room a s
 
-  pub map_changes : (c : ℕ) (es fs : List (Key × Value)) (v : Value) → slice_get b.h c ≡ Some (MapCell es) → HasRoom b.l b.h (cell_bytes (MapCell es)) (cell_bytes (MapCell fs)) (length es) (length fs) → (b.given → All (λ e. There b.h e.1) fs) → (b.given → There b.h v) → Answers There (Gives (slice_set b.h c (MapCell fs)) v)
+  pub map_changes : (c : ℕ) (es fs : List (Key × Value)) (v : Value) → slice_get b.h c ≡ Some (MapCell es) → HasRoom b.l b.h (cell_bytes (MapCell es)) (cell_bytes (MapCell fs)) (length es) (length fs) → (b.given → AllAre (λ e. There b.h e.1) fs) → (b.given → There b.h v) → Answers There (Gives (slice_set b.h c (MapCell fs)) v)
   map_changes c es fs v e room a s =
       grows_at c (MapCell es) (MapCell fs) (There (slice_set b.h c (MapCell fs)) v) e tt room a
       (λ x. there_later b.h (slice_set b.h c (MapCell fs)) (later_changed b.h c (MapCell es) (MapCell fs) e tt) v (s x))

@@ -1,7 +1,7 @@
 -- What each operation of the tables does to the cells, by what it is given: later cells within the limits; and where the cells and
 -- the values that it is given name what is there, the cells afterwards do, and what it gives is there.
 use Rattle.std.proofs.Common.{ℕ, ℤ, Bool, List, [], ◌∷◌, ◌++◌, length, Option, Some, None, refl}
-use Rattle.std.specs.List.{AllByRecursion as All}
+use Rattle.std.specs.List.{AllByRecursion as AllAre}
 use Rattle.model_values.specs.Cells.{new_cell, new_text, new_list, throw}
 use Rattle.model_values.specs.Fitting.{There, HasVariable, HasText, HasList, HasMap, HasThrowable, IsNumber, IsIn, CellsFit}
 use Rattle.model_values.specs.Index.{get_at, set_at, get_property, set_property}

@@ -1,7 +1,7 @@
 -- An index and a property, read and written.
 use Rattle.std.proofs.Common.{arith, inr, ◌≡◌, ◌≤◌, ◌+◌, ℕ, zero, suc, ℤ, pos, Bool, true, false, List, [], ◌∷◌, length, Option, Some, None, cond, sym, subst}
 use Rattle.std.specs.Prelude.{slice_get, slice_set, slice_index_or, codes, nat_eq, if◌then◌else◌, unwrap_or}
-use Rattle.std.specs.List.{AllByRecursion as All}
+use Rattle.std.specs.List.{AllByRecursion as AllAre}
 use Rattle.std.specs.Map.{lookup}
 use Rattle.std.specs.Cmp.Lexicographic.{pointwise}
 use Rattle.std.proofs.lemmas.List.{length-set}
@@ -18,7 +18,7 @@ use Rattle.model_values.proofs.KindFacts.{KindFits, kind_fits}
 use Rattle.model_values.proofs.LaterLaws.{later_changed, there_later}
 use Rattle.model_values.proofs.ThrowGrowth.{outside_grows, bad_key_grows, bad_argument_grows, no_method_grows, no_property_grows, no_property_to_set_grows}
 
-pub all_index : (P : Value → Type 0) (vs : List Value) (i : ℕ) (d : Value) → All P vs → P d → P (slice_index_or vs i d)
+pub all_index : (P : Value → Type 0) (vs : List Value) (i : ℕ) (d : Value) → AllAre P vs → P d → P (slice_index_or vs i d)
 all_index P [] i d h p = p
 all_index P (v ∷ vs) zero d h p = h.0
 all_index P (v ∷ vs) (suc i) d h p = all_index P vs i d h.1 p
@@ -28,12 +28,12 @@ lookup_step P true v o p q = p
 lookup_step P false v o p q = q
 
 -- the value of a key, or null
-pub all_lookup : (P : Value → Type 0) (test : Key → Bool) (es : List (Key × Value)) → All (λ e. P e.1) es → P Null → P (unwrap_or (lookup test es) Null)
+pub all_lookup : (P : Value → Type 0) (test : Key → Bool) (es : List (Key × Value)) → AllAre (λ e. P e.1) es → P Null → P (unwrap_or (lookup test es) Null)
 all_lookup P test [] h p = p
 all_lookup P test (e ∷ es) h p = lookup_step P (test e.0) e.1 (lookup test es) h.0 (all_lookup P test es h.1 p)
 
 module _ (b : Before) where
-  list_at_grows : (vs : List Value) (i : ℤ) (p : Place) → (b.given → All (There b.h) vs) → Answers b There (list_at b.l b.h vs i p)
+  list_at_grows : (vs : List Value) (i : ℤ) (p : Place) → (b.given → AllAre (There b.h) vs) → Answers b There (list_at b.l b.h vs i p)
   list_at_grows vs i (at j) a = gives b There (slice_index_or vs j Null) (λ x. all_index (There b.h) vs j Null (a x) tt)
   list_at_grows vs i past a = gives b There Null (λ x. tt)
   list_at_grows vs i below a = outside_grows b There i (length vs)
@@ -43,7 +43,7 @@ module _ (b : Before) where
   text_at_grows cs i past = outside_grows b (IsIn HasText) i (length cs)
   text_at_grows cs i below = outside_grows b (IsIn HasText) i (length cs)
 
-  pub map_at_grows : (es : List (Key × Value)) (o : Option Key) → (b.given → All (λ e. There b.h e.1) es) → Answers b There (map_at b.l b.h es o)
+  pub map_at_grows : (es : List (Key × Value)) (o : Option Key) → (b.given → AllAre (λ e. There b.h e.1) es) → Answers b There (map_at b.l b.h es o)
   map_at_grows es (Some k) a = gives b There (unwrap_or (lookup (same_key k) es) Null) (λ x. all_lookup (There b.h) (same_key k) es (a x) tt)
   map_at_grows es None a = bad_key_grows b There
 

@@ -1,7 +1,7 @@
 -- Later cells: of none, of later ones, of new ones behind, of one changed; and what fits cells fits later ones.
 use Rattle.std.proofs.Common.{arith, ◌≡◌, ◌≤◌, ◌<◌, ℕ, zero, suc, refl, sym, ap, subst, ◌∙◌, List, [], ◌∷◌, ◌++◌, length, length-append, Option, Some, None}
 use Rattle.std.specs.Prelude.{slice_get, slice_set}
-use Rattle.std.specs.List.{AllByRecursion as All}
+use Rattle.std.specs.List.{AllByRecursion as AllAre}
 use Rattle.std.proofs.lemmas.List.{length-set}
 use Rattle.std.proofs.lemmas.Option.{slice_get_within}
 use Rattle.model_values.specs.Fitting.{There, HasVariable, HasText, HasList, HasMap, HasClosure, HasThrowable, CellFits, CellsFit}
@@ -88,7 +88,7 @@ pub later_changed : (h : List Cell) (c : ℕ) (old new : Cell) → slice_get h c
 later_changed h c old new e s = record { more = omega (arith, length-set h c new); stays = stays_changed h c old new e s }
 
 -- What is there stays there, and is what it was.
-pub all_weaker : {A : Type 0} (P Q : A → Type 0) → ((x : A) → P x → Q x) → (xs : List A) → All P xs → All Q xs
+pub all_weaker : {A : Type 0} (P Q : A → Type 0) → ((x : A) → P x → Q x) → (xs : List A) → AllAre P xs → AllAre Q xs
 all_weaker P Q f [] h = tt
 all_weaker P Q f (x ∷ xs) h = (f x h.0, all_weaker P Q f xs h.1)
 
@@ -117,7 +117,7 @@ module _ (h g : List Cell) (later : CellsLater h g) where
   pub throwable_later : (c : ℕ) → HasThrowable (slice_get h c) → HasThrowable (slice_get g c)
   throwable_later c = throwable_stays _ _ (later.stays c)
 
-  pub variables_later : (env : List Binding) → All (λ b. HasVariable (slice_get h b.cell)) env → All (λ b. HasVariable (slice_get g b.cell)) env
+  pub variables_later : (env : List Binding) → AllAre (λ b. HasVariable (slice_get h b.cell)) env → AllAre (λ b. HasVariable (slice_get g b.cell)) env
   variables_later env a = all_weaker _ _ (λ b. variable_later b.cell) env a
 
   pub cell_later : (rule : ℕ → List Binding → Type 0) (x : Cell) → CellFits rule h x → CellFits rule g x

@@ -1,7 +1,7 @@
 -- The methods of lists and maps that take no closure.
 use Rattle.std.proofs.Common.{arith, inr, ◌≡◌, ◌≤◌, ◌+◌, ◌*◌, refl, subst, sym, ap, ℕ, zero, suc, ℤ, pos, negsuc, neg_ℤ, Bool, true, false, List, [], ◌∷◌, ◌++◌, length, length-append, reverse, map, Option, Some, None, cond}
 use Rattle.std.specs.Prelude.{slice_get, slice_set, nat_lt, if◌then◌else◌, is_some, unwrap_or, slice_index_or}
-use Rattle.std.specs.List.{AllByRecursion as All}
+use Rattle.std.specs.List.{AllByRecursion as AllAre}
 use Rattle.std.specs.Map.{lookup, remove_entry, values_of}
 use Rattle.std.proofs.lemmas.List.{reverse-append}
 use Rattle.model_values.specs.Cells.{entry_bytes, heap_bytes, Answer, Gives}
@@ -21,19 +21,19 @@ use Rattle.model_values.proofs.IndexGrowth.{all_index, all_lookup, map_at_grows}
 use Rattle.model_values.proofs.TextMethodGrowth.{MayAnswer, with_text_grows, with_number_grows, flag_there_too, count_there_too}
 use Rattle.model_values.proofs.ThrowGrowth.{bad_key_grows, outside_grows, empty_list_grows, written_grows}
 
-pub all_reverse : (P : Value → Type 0) (vs : List Value) → All P vs → All P (reverse vs)
+pub all_reverse : (P : Value → Type 0) (vs : List Value) → AllAre P vs → AllAre P (reverse vs)
 all_reverse P [] h = tt
-all_reverse P (v ∷ vs) h = subst (All P) (sym (reverse-append (v ∷ []) vs)) (all_append P (reverse vs) (v ∷ []) (all_reverse P vs h.1) (h.0, tt))
+all_reverse P (v ∷ vs) h = subst (AllAre P) (sym (reverse-append (v ∷ []) vs)) (all_append P (reverse vs) (v ∷ []) (all_reverse P vs h.1) (h.0, tt))
 
-pub all_values : (P : Value → Type 0) (es : List (Key × Value)) → All (λ e. P e.1) es → All P (values_of es)
+pub all_values : (P : Value → Type 0) (es : List (Key × Value)) → AllAre (λ e. P e.1) es → AllAre P (values_of es)
 all_values P [] h = tt
 all_values P (e ∷ es) h = (h.0, all_values P es h.1)
 
-remove_step : (P : Value → Type 0) (test : Bool) (e : Key × Value) (es fs : List (Key × Value)) → All (λ p. P p.1) (e ∷ es) → All (λ p. P p.1) fs → All (λ p. P p.1) (cond test es (e ∷ fs))
+remove_step : (P : Value → Type 0) (test : Bool) (e : Key × Value) (es fs : List (Key × Value)) → AllAre (λ p. P p.1) (e ∷ es) → AllAre (λ p. P p.1) fs → AllAre (λ p. P p.1) (cond test es (e ∷ fs))
 remove_step P true e es fs h k = h.1
 remove_step P false e es fs h k = (h.0, k)
 
-pub all_removed : (P : Value → Type 0) (test : Key → Bool) (es : List (Key × Value)) → All (λ e. P e.1) es → All (λ e. P e.1) (remove_entry test es)
+pub all_removed : (P : Value → Type 0) (test : Key → Bool) (es : List (Key × Value)) → AllAre (λ e. P e.1) es → AllAre (λ e. P e.1) (remove_entry test es)
 all_removed P test [] h = tt
 all_removed P test (e ∷ es) h = remove_step P (test e.0) e es (remove_entry test es) h (all_removed P test es h.1)
 
@@ -54,12 +54,12 @@ length_removed : (test : Key → Bool) (es : List (Key × Value)) → length (re
 length_removed test [] = omega arith
 length_removed test (e ∷ es) = shorter_step (test e.0) e es (remove_entry test es) (length_removed test es)
 
-key_cells_fit : (rule : ℕ → List Binding → Type 0) (es : List (Key × Value)) (g : List Cell) → All (CellFits rule g) (key_cells es)
+key_cells_fit : (rule : ℕ → List Binding → Type 0) (es : List (Key × Value)) (g : List Cell) → AllAre (CellFits rule g) (key_cells es)
 key_cells_fit rule [] g = tt
 key_cells_fit rule ((IntKey x, v) ∷ es) g = key_cells_fit rule es g
 key_cells_fit rule ((TextKey t, v) ∷ es) g = (tt, key_cells_fit rule es g)
 
-key_values_there : (g : List Cell) (n : ℕ) (es : List (Key × Value)) → n + length (key_cells es) ≤ length g → All (There g) (key_values n es)
+key_values_there : (g : List Cell) (n : ℕ) (es : List (Key × Value)) → n + length (key_cells es) ≤ length g → AllAre (There g) (key_values n es)
 key_values_there g n [] long = tt
 key_values_there g n ((IntKey x, v) ∷ es) long = (tt, key_values_there g n es long)
 key_values_there g n ((TextKey t, v) ∷ es) long = (omega arith, key_values_there g (n + 1) es (omega arith))
@@ -84,15 +84,15 @@ module _ (b : Before) where
   entry_or_outside true v i n t = gives b There v t
   entry_or_outside false v i n t = outside_grows b There i n
 
-  entry_at_grows : (vs : List Value) (i : ℤ) → (b.given → All (There b.h) vs) → Answers b There (entry_at b.l b.h vs i)
+  entry_at_grows : (vs : List Value) (i : ℤ) → (b.given → AllAre (There b.h) vs) → Answers b There (entry_at b.l b.h vs i)
   entry_at_grows vs (pos i) a = entry_or_outside (nat_lt i (length vs)) (slice_index_or vs i Null) (pos i) (length vs) (λ x. all_index (There b.h) vs i Null (a x) tt)
   entry_at_grows vs (negsuc i) a = outside_grows b There (negsuc i) (length vs)
 
-  first_of_list_grows : (vs : List Value) → (b.given → All (There b.h) vs) → Answers b There (first_of_list b.l b.h vs)
+  first_of_list_grows : (vs : List Value) → (b.given → AllAre (There b.h) vs) → Answers b There (first_of_list b.l b.h vs)
   first_of_list_grows [] a = empty_list_grows b There
   first_of_list_grows (v ∷ vs) a = gives b There v (λ x. (a x).0)
 
-  pub list_method_grows : (c : ℕ) (vs : List Value) (m : Method) (args : List Value) (n : ℕ) → slice_get b.h c ≡ Some (ListCell vs) → (b.given → All (There b.h) args) → MayAnswerCounted b (list_method b.l b.h c vs m args n)
+  pub list_method_grows : (c : ℕ) (vs : List Value) (m : Method) (args : List Value) (n : ℕ) → slice_get b.h c ≡ Some (ListCell vs) → (b.given → AllAre (There b.h) args) → MayAnswerCounted b (list_method b.l b.h c vs m args n)
   list_method_grows c vs Size [] n e a = count_there_too b (length vs)
   list_method_grows c vs IsEmpty [] n e a = flag_there_too b (is_empty_list b.l b.h vs)
   list_method_grows c vs Add (v ∷ []) n e a = flag_is_there b _ (list_push_grows b c vs v e (λ x. (a x).0))
@@ -117,7 +117,7 @@ module _ (b : Before) where
       map_changes b c es (remove_entry (same_key k) es) (old_or_null b.l b.h es k) e (inr (omega (arith, bytes_removed (same_key k) es), length_removed (same_key k) es))
       (λ x. all_removed (There b.h) (same_key k) es (pairs_there b c es e x)) (λ x. all_lookup (There b.h) (same_key k) es (pairs_there b c es e x) tt)
 
-  pub map_method_grows : (c : ℕ) (es : List (Key × Value)) (m : Method) (args : List Value) → slice_get b.h c ≡ Some (MapCell es) → (b.given → All (There b.h) args) → MayAnswer b (map_method b.l b.h c es m args)
+  pub map_method_grows : (c : ℕ) (es : List (Key × Value)) (m : Method) (args : List Value) → slice_get b.h c ≡ Some (MapCell es) → (b.given → AllAre (There b.h) args) → MayAnswer b (map_method b.l b.h c es m args)
   map_method_grows c es Size [] e a = count_there_too b (length es)
   map_method_grows c es IsEmpty [] e a = flag_there_too b (is_empty_list b.l b.h es)
   map_method_grows c es Get (v ∷ []) e a = map_at_grows b es (key_of (kind b.h v)) (pairs_there b c es e)

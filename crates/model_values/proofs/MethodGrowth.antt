@@ -1,7 +1,7 @@
 -- The method table.
 use Rattle.std.proofs.Common.{◌≡◌, refl, sym, ℕ, ℤ, pos, Bool, true, false, List, [], ◌∷◌, map, Option, Some, None}
 use Rattle.std.specs.Prelude.{slice_get, if◌then◌else◌, int_div}
-use Rattle.std.specs.List.{AllByRecursion as All}
+use Rattle.std.specs.List.{AllByRecursion as AllAre}
 use Rattle.std.specs.Ordering.{int_eq}
 use Rattle.model_values.specs.Cells.{Answer}
 use Rattle.model_values.specs.Equality.{Equality, Is, Stops as Halts, equal}
@@ -62,7 +62,7 @@ module _ (b : Before) where
   uncounted_grows None n a = tt
   uncounted_grows (Some answer) n a = a
 
-  kind_method_grows : (k : Kind) (m : Method) (args : List Value) (n : ℕ) → KindFits b.h k → (b.given → All (There b.h) args) → MayAnswerCounted b (kind_method b.l b.h k m args n)
+  kind_method_grows : (k : Kind) (m : Method) (args : List Value) (n : ℕ) → KindFits b.h k → (b.given → AllAre (There b.h) args) → MayAnswerCounted b (kind_method b.l b.h k m args n)
   kind_method_grows (text s) m args n e a = uncounted_grows _ n (text_method_grows b s m (map (kind b.h) args))
   kind_method_grows (items c vs) m args n e a = list_method_grows b c vs m args n e a
   kind_method_grows (pairs c es) m args n e a = uncounted_grows _ n (map_method_grows b c es m args e a)
@@ -78,20 +78,20 @@ module _ (b : Before) where
   walk_call_grows m (closure c) n e = e
   walk_call_grows m k n e = bad_argument_grows b There
 
-  walk_or_own_grows : (walks : Bool) (k : Kind) (name : List ℕ) (m : Method) (args : List Value) (n : ℕ) → KindFits b.h k → (b.given → All (There b.h) args) → Calls b (walk_or_own b.l b.h walks k name m args n)
+  walk_or_own_grows : (walks : Bool) (k : Kind) (name : List ℕ) (m : Method) (args : List Value) (n : ℕ) → KindFits b.h k → (b.given → AllAre (There b.h) args) → Calls b (walk_or_own b.l b.h walks k name m args n)
   walk_or_own_grows true k name m (v ∷ []) n e a = walk_call_grows m (kind b.h v) n (kind_fits b.h v)
   walk_or_own_grows true k name m args n e a = no_method_grows b There k name
   walk_or_own_grows false k name m args n e a = done_or_none_grows k name n (kind_method b.l b.h k m args n) (kind_method_grows k m args n e a)
 
-  named_call_grows : (on : Value) (k : Kind) (name : List ℕ) (m : Method) (args : List Value) (n : ℕ) → KindFits b.h k → (b.given → There b.h on) → (b.given → All (There b.h) args) → Calls b (named_call b.l b.h on k name m args n)
+  named_call_grows : (on : Value) (k : Kind) (name : List ℕ) (m : Method) (args : List Value) (n : ℕ) → KindFits b.h k → (b.given → There b.h on) → (b.given → AllAre (There b.h) args) → Calls b (named_call b.l b.h on k name m args n)
   named_call_grows on k name ToString [] n e t a = text_value_grows on k t
   named_call_grows on k name Equals (v ∷ []) n e t a = done_or_none_grows k name n (Some (equality_answer b.l b.h (equal b.l b.h on v n))) (equality_grows (equal b.l b.h on v n))
   named_call_grows on (closure c) name Call args n e t a = e
   named_call_grows on k name m args n e t a = walk_or_own_grows (is_walk k m) k name m args n e a
 
-  call_by_grows : (o : Option Method) (on : Value) (name : List ℕ) (args : List Value) (n : ℕ) → (b.given → There b.h on) → (b.given → All (There b.h) args) → Calls b (call_by b.l b.h o on name args n)
+  call_by_grows : (o : Option Method) (on : Value) (name : List ℕ) (args : List Value) (n : ℕ) → (b.given → There b.h on) → (b.given → AllAre (There b.h) args) → Calls b (call_by b.l b.h o on name args n)
   call_by_grows None on name args n t a = no_method_grows b There (kind b.h on) name
   call_by_grows (Some m) on name args n t a = named_call_grows on (kind b.h on) name m args n (kind_fits b.h on) t a
 
-  pub method_call_grows : (on : Value) (name : List ℕ) (args : List Value) (n : ℕ) → (b.given → There b.h on) → (b.given → All (There b.h) args) → Calls b (method_call b.l b.h on name args n)
+  pub method_call_grows : (on : Value) (name : List ℕ) (args : List Value) (n : ℕ) → (b.given → There b.h on) → (b.given → AllAre (There b.h) args) → Calls b (method_call b.l b.h on name args n)
   method_call_grows on name args n t a = call_by_grows (method_named name) on name args n t a

@@ -1,7 +1,7 @@
 -- The operators, on every pair of kinds.
 use Rattle.std.proofs.Common.{◌≡◌, ◌*◌, ℕ, zero, suc, ℤ, pos, ◌+ℤ◌, neg_ℤ, Bool, true, false, List, [], ◌∷◌, ◌++◌, Option, Some, None, fold}
 use Rattle.std.specs.Prelude.{codes, slice_get, if◌then◌else◌, ◌-ℤ◌, ◌*ℤ◌, int_rem, int_le, nat_abs}
-use Rattle.std.specs.List.{AllByRecursion as All}
+use Rattle.std.specs.List.{AllByRecursion as AllAre}
 use Rattle.std.specs.Int.{int_wrap, w32}
 use Rattle.std.specs.Ordering.{int_eq, int_cmp, nat_cmp, is_lt, is_le, is_gt, is_ge}
 use Rattle.std.specs.declared.cmp.Ordering.{Ordering}
@@ -20,12 +20,12 @@ use Rattle.model_values.proofs.IndexGrowth.{get_at_grows}
 use Rattle.model_values.proofs.KindFacts.{KindFits, kind_fits}
 use Rattle.model_values.proofs.ThrowGrowth.{no_method_grows, by_zero_grows, written_grows}
 
-pub all_inserts : (P : Value → Type 0) (es fs : List (Key × Value)) → All (λ e. P e.1) es → All (λ e. P e.1) fs → All (λ e. P e.1) (insert_all same_key es fs)
+pub all_inserts : (P : Value → Type 0) (es fs : List (Key × Value)) → AllAre (λ e. P e.1) es → AllAre (λ e. P e.1) fs → AllAre (λ e. P e.1) (insert_all same_key es fs)
 all_inserts P es [] h k = h
 all_inserts P es (f ∷ fs) h k = all_inserts P (insert_entry same_key es f.0 f.1) fs (all_insert P f.0 f.1 es h k.0) k.1
 
 module _ (b : Before) where
-  numbers_there : (step x : ℤ) (n : ℕ) → All (There b.h) (numbers_from step x n)
+  numbers_there : (step x : ℤ) (n : ℕ) → AllAre (There b.h) (numbers_from step x n)
   numbers_there step x zero = (tt, tt)
   numbers_there step x (suc n) = (tt, numbers_there step (x +ℤ step) n)
 

@@ -1,7 +1,7 @@
 -- The methods of texts.
 use Rattle.std.proofs.Common.{arith, ◌≡◌, ◌≤◌, ◌+◌, refl, ℕ, zero, suc, ℤ, pos, negsuc, Bool, true, false, List, [], ◌∷◌, length, Option, Some, None}
 use Rattle.std.specs.Prelude.{nat_lt, nat_le, ◌&&◌, if◌then◌else◌, is_some}
-use Rattle.std.specs.List.{AllByRecursion as All}
+use Rattle.std.specs.List.{AllByRecursion as AllAre}
 use Rattle.std.specs.Str.{str_to_ascii_lowercase, str_to_ascii_uppercase}
 use Rattle.model_values.specs.Cells.{Answer, new_text}
 use Rattle.model_values.specs.Characters.{characters, part_of}
@@ -16,7 +16,7 @@ use Rattle.model_values.specs.declared.cell.Binding.{Binding}
 use Rattle.model_values.proofs.CellGrowth.{Before, Sort, Answers, gives, new_text_grows, new_list_of_grows, text_is_there, list_is_there}
 use Rattle.model_values.proofs.ThrowGrowth.{bad_argument_grows, outside_grows, no_number_grows}
 
-text_cells_fit : (rule : ℕ → List Binding → Type 0) (ts : List (List ℕ)) (g : List Cell) → All (CellFits rule g) (text_cells ts)
+text_cells_fit : (rule : ℕ → List Binding → Type 0) (ts : List (List ℕ)) (g : List Cell) → AllAre (CellFits rule g) (text_cells ts)
 text_cells_fit rule [] g = tt
 text_cells_fit rule (t ∷ ts) g = (tt, text_cells_fit rule ts g)
 
@@ -25,7 +25,7 @@ length_cells [] = refl
 length_cells (t ∷ ts) = omega (arith, length_cells ts)
 
 -- cells in a row, the last of which is there
-cells_there : (g : List Cell) (n : ℕ) (ts : List (List ℕ)) → n + length ts ≤ length g → All (There g) (cells_from n ts)
+cells_there : (g : List Cell) (n : ℕ) (ts : List (List ℕ)) → n + length ts ≤ length g → AllAre (There g) (cells_from n ts)
 cells_there g n [] long = tt
 cells_there g n (t ∷ ts) long = (omega arith, cells_there g (n + 1) ts (omega arith))
 

@@ -1,7 +1,7 @@
 -- The methods that walk over a value with a closure, and the loop over a value.
 use Rattle.std.proofs.Common.{arith, ◌≡◌, ◌≤◌, ◌<◌, ◌+◌, sym, subst, refl, ap, ℕ, zero, suc, pos, Bool, true, false, List, [], ◌∷◌, ◌++◌, length, length-append, append_assoc, Option, Some, None}
 use Rattle.std.specs.Prelude.{slice_get, if◌then◌else◌, int_lt, nat_eq, codes}
-use Rattle.std.specs.List.{AllByRecursion as All}
+use Rattle.std.specs.List.{AllByRecursion as AllAre}
 use Rattle.indexmap.specs.IndexMap.{insert_entry}
 use Rattle.model_values.specs.Cells.{Answer, no_room, new_list, new_map}
 use Rattle.model_values.specs.Characters.{characters}
@@ -25,7 +25,7 @@ key_value_there : (g : List Cell) (n : ℕ) (k : Key) → n + length (key_cell k
 key_value_there g n (IntKey x) long = tt
 key_value_there g n (TextKey t) long = omega arith
 
-key_cell_fits : (rule : ℕ → List Binding → Type 0) (g : List Cell) (k : Key) → All (CellFits rule g) (key_cell k)
+key_cell_fits : (rule : ℕ → List Binding → Type 0) (g : List Cell) (k : Key) → AllAre (CellFits rule g) (key_cell k)
 key_cell_fits rule g (IntKey x) = tt
 key_cell_fits rule g (TextKey t) = (tt, tt)
 
@@ -41,15 +41,15 @@ module _ (b : Before) where
   unless_full_grows None t f = f refl
 
   -- a turn with values that are there, and no new cell
-  turns : (args element : List Value) → (b.given → All (There b.h) args) → (b.given → All (There b.h) element) → TurnBegins (Turns b.h args element)
-  turns args element a e = grows_not b (All (There b.h) args × All (There b.h) element) (λ x. (a x, e x))
+  turns : (args element : List Value) → (b.given → AllAre (There b.h) args) → (b.given → AllAre (There b.h) element) → TurnBegins (Turns b.h args element)
+  turns args element a e = grows_not b (AllAre (There b.h) args × AllAre (There b.h) element) (λ x. (a x, e x))
 
   element_turn_grows : (o : Option Value) → (b.given → (v : Value) → o ≡ Some v → There b.h v) → TurnBegins (element_turn b.l b.h o)
   element_turn_grows None t = tt
   element_turn_grows (Some v) t = turns (v ∷ []) (v ∷ []) (λ x. (t x v refl, tt)) (λ x. (t x v refl, tt))
 
   -- key and value of an entry, in cells that are there behind those of the key
-  entry_there : (g : List Cell) (k : Key) (v : Value) → length b.h + length (key_cell k) ≤ length g → There g v → All (There g) (key_value (length b.h) k ∷ v ∷ [])
+  entry_there : (g : List Cell) (k : Key) (v : Value) → length b.h + length (key_cell k) ≤ length g → There g v → AllAre (There g) (key_value (length b.h) k ∷ v ∷ [])
   entry_there g k v long t = (key_value_there g (length b.h) k long, (t, tt))
 
   entry_map_fits : (g : List Cell) (k : Key) (v : Value) → length b.h + length (key_cell k) ≤ length g → There g v → CellFits b.rule g (entry_map (key_value (length b.h) k) v)
@@ -59,9 +59,9 @@ module _ (b : Before) where
   two_turn k v t =
       let g = b.h ++ key_cell k in
       let long : length b.h + length (key_cell k) ≤ length (b.h ++ key_cell k) = omega (arith, length-append b.h (key_cell k)) in
-      let both : b.given → All (There (b.h ++ key_cell k)) (key_value (length b.h) k ∷ v ∷ []) = λ x. entry_there (b.h ++ key_cell k) k v long (there_later b.h (b.h ++ key_cell k) (later_behind b.h (key_cell k)) v (t x)) in
+      let both : b.given → AllAre (There (b.h ++ key_cell k)) (key_value (length b.h) k ∷ v ∷ []) = λ x. entry_there (b.h ++ key_cell k) k v long (there_later b.h (b.h ++ key_cell k) (later_behind b.h (key_cell k)) v (t x)) in
       unless_full_grows (no_room b.l b.h (key_cell k)) _
-      (λ free. grows_by b (key_cell k) (All (There (b.h ++ key_cell k)) (key_value (length b.h) k ∷ v ∷ []) × All (There (b.h ++ key_cell k)) (key_value (length b.h) k ∷ v ∷ [])) free
+      (λ free. grows_by b (key_cell k) (AllAre (There (b.h ++ key_cell k)) (key_value (length b.h) k ∷ v ∷ []) × AllAre (There (b.h ++ key_cell k)) (key_value (length b.h) k ∷ v ∷ [])) free
       (λ x. key_cell_fits b.rule (b.h ++ key_cell k) k) (λ x. (both x, both x)))
 
   map_turn : (k : Key) (v : Value) → (b.given → There b.h v) → TurnBegins (entry_turn b.l b.h false (Some (k, v)))
@@ -74,7 +74,7 @@ module _ (b : Before) where
       let first : length b.h + length (key_cell k) < length (b.h ++ (key_cell k ++ entry_map (key_value (length b.h) k) v ∷ [])) = omega (arith, more) in
       let there : b.given → There (b.h ++ (key_cell k ++ entry_map (key_value (length b.h) k) v ∷ [])) v = λ x. there_later b.h (b.h ++ (key_cell k ++ entry_map (key_value (length b.h) k) v ∷ [])) (later_behind b.h (key_cell k ++ entry_map (key_value (length b.h) k) v ∷ [])) v (t x) in
       unless_full_grows (no_room b.l b.h (key_cell k ++ entry_map (key_value (length b.h) k) v ∷ [])) _
-      (λ free. subst (λ (g : List Cell). Grown b g (All (There g) (InCell (length b.h + length (key_cell k)) ∷ []) × All (There g) (key_value (length b.h) k ∷ v ∷ [])))
+      (λ free. subst (λ (g : List Cell). Grown b g (AllAre (There g) (InCell (length b.h + length (key_cell k)) ∷ []) × AllAre (There g) (key_value (length b.h) k ∷ v ∷ [])))
       (sym (append_assoc b.h (key_cell k) (entry_map (key_value (length b.h) k) v ∷ [])))
       (grows_by b (key_cell k ++ entry_map (key_value (length b.h) k) v ∷ []) _ free
       (λ x. all_append _ (key_cell k) (entry_map (key_value (length b.h) k) v ∷ []) (key_cell_fits b.rule (b.h ++ (key_cell k ++ entry_map (key_value (length b.h) k) v ∷ [])) k) (entry_map_fits (b.h ++ (key_cell k ++ entry_map (key_value (length b.h) k) v ∷ [])) k v long (there x), tt))
@@ -119,7 +119,7 @@ module _ (b : Before) where
   pub loop_turn_grows : (on : Value) (i : ℕ) → (b.given → There b.h on) → TurnBegins (loop_turn b.l b.h on i)
   loop_turn_grows on i t = loop_kind_turn_grows on (kind b.h on) i (kind_fits b.h on) t
 
-  found_grows : (args : List Value) → (b.given → All (There b.h) args) → Answers b There (found b.l b.h args)
+  found_grows : (args : List Value) → (b.given → AllAre (There b.h) args) → Answers b There (found b.l b.h args)
   found_grows [] a = gives b There Null (λ x. tt)
   found_grows (v ∷ []) a = gives b There v (λ x. (a x).0)
   found_grows (k ∷ v ∷ vs) a =
@@ -128,7 +128,7 @@ module _ (b : Before) where
       (λ x. (there_later b.h (b.h ++ entry_map k v ∷ []) (later_behind b.h (entry_map k v ∷ [])) k (a x).0, (there_later b.h (b.h ++ entry_map k v ∷ []) (later_behind b.h (entry_map k v ∷ [])) v (a x).1.0, tt)))
       (λ x. omega (arith, length-append b.h (entry_map k v ∷ [])))
 
-  after_turn_grows : (m : Method) (args element : List Value) (f : Bool) (v : Value) (kept : List Value) → (b.given → All (There b.h) args) → (b.given → All (There b.h) element) → (b.given → There b.h v) → (b.given → All (There b.h) kept) → Goes_on (after_turn b.l b.h m args element f v kept)
+  after_turn_grows : (m : Method) (args element : List Value) (f : Bool) (v : Value) (kept : List Value) → (b.given → AllAre (There b.h) args) → (b.given → AllAre (There b.h) element) → (b.given → There b.h v) → (b.given → AllAre (There b.h) kept) → Goes_on (after_turn b.l b.h m args element f v kept)
   after_turn_grows Collect args element true v kept a e t k = λ x. all_append (There b.h) kept (v ∷ []) (k x) (t x, tt)
   after_turn_grows Collect args element false v kept a e t k = λ x. all_append (There b.h) kept (v ∷ []) (k x) (t x, tt)
   after_turn_grows FindAll args element true v kept a e t k = λ x. all_append (There b.h) kept element (k x) (e x)
@@ -137,26 +137,26 @@ module _ (b : Before) where
   after_turn_grows Every args element false v kept a e t k = gives b There (Truth false) (λ x. tt)
   after_turn_grows m args element f v kept a e t k = k
 
-  pub after_grows : (m : Method) (args element : List Value) (v : Value) (kept : List Value) → (b.given → All (There b.h) args) → (b.given → All (There b.h) element) → (b.given → There b.h v) → (b.given → All (There b.h) kept) → Goes_on (after b.l b.h m args element v kept)
+  pub after_grows : (m : Method) (args element : List Value) (v : Value) (kept : List Value) → (b.given → AllAre (There b.h) args) → (b.given → AllAre (There b.h) element) → (b.given → There b.h v) → (b.given → AllAre (There b.h) kept) → Goes_on (after b.l b.h m args element v kept)
   after_grows m args element v kept a e t k = after_turn_grows m args element (truth b.h v) v kept a e t k
 
-  with_entry_there : (es : List (Key × Value)) (o : Option Key) (v : Value) → All (λ e. There b.h e.1) es → There b.h v → All (λ e. There b.h e.1) (with_entry b.l b.h es o v)
+  with_entry_there : (es : List (Key × Value)) (o : Option Key) (v : Value) → AllAre (λ e. There b.h e.1) es → There b.h v → AllAre (λ e. There b.h e.1) (with_entry b.l b.h es o v)
   with_entry_there es None v h p = h
   with_entry_there es (Some k) v h p = all_insert (There b.h) k v es h p
 
-  kept_entries_there : (es : List (Key × Value)) (kept : List Value) → All (λ e. There b.h e.1) es → All (There b.h) kept → All (λ e. There b.h e.1) (kept_entries b.l b.h es kept)
+  kept_entries_there : (es : List (Key × Value)) (kept : List Value) → AllAre (λ e. There b.h e.1) es → AllAre (There b.h) kept → AllAre (λ e. There b.h e.1) (kept_entries b.l b.h es kept)
   kept_entries_there es [] h k = h
   kept_entries_there es (u ∷ []) h k = h
   kept_entries_there es (u ∷ v ∷ vs) h k = kept_entries_there (with_entry b.l b.h es (key_of (kind b.h u)) v) vs (with_entry_there es (key_of (kind b.h u)) v h k.1.0) k.1.1
 
-  kept_list : (kept : List Value) → (b.given → All (There b.h) kept) → Answers b There (new_list b.l b.h kept)
+  kept_list : (kept : List Value) → (b.given → AllAre (There b.h) kept) → Answers b There (new_list b.l b.h kept)
   kept_list kept k = list_is_there b _ (new_list_grows b kept k)
 
-  all_found_grows : (on : Kind) (kept : List Value) → (b.given → All (There b.h) kept) → Answers b There (all_found b.l b.h on kept)
+  all_found_grows : (on : Kind) (kept : List Value) → (b.given → AllAre (There b.h) kept) → Answers b There (all_found b.l b.h on kept)
   all_found_grows (pairs c es) kept k = map_is_there b _ (new_map_grows b (kept_entries b.l b.h [] kept) (λ x. kept_entries_there [] kept tt (k x)))
   all_found_grows on kept k = kept_list kept k
 
-  pub at_end_grows : (m : Method) (on : Value) (kept : List Value) → (b.given → There b.h on) → (b.given → All (There b.h) kept) → Answers b There (at_end b.l b.h m on kept)
+  pub at_end_grows : (m : Method) (on : Value) (kept : List Value) → (b.given → There b.h on) → (b.given → AllAre (There b.h) kept) → Answers b There (at_end b.l b.h m on kept)
   at_end_grows Each on kept t k = gives b There on t
   at_end_grows Collect on kept t k = kept_list kept k
   at_end_grows FindAll on kept t k = all_found_grows (kind b.h on) kept k

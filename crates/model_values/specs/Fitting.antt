@@ -1,7 +1,7 @@
 -- What values and cells name is there: no cell names a number of no cell, and a name that a closure sees is a variable's
 -- (this product's own).
 use Rattle.std.specs.Prelude.{ℕ, ◌<◌, List, length, Option, Some, slice_get}
-use Rattle.std.specs.List.{AllByRecursion as All}
+use Rattle.std.specs.List.{AllByRecursion as AllAre}
 use Rattle.model_values.specs.Types.{Value, Null, Truth, Whole, InCell, Cell, Variable, TextCell, ListCell, MapCell, ClosureCell, ThrownCell}
 use Rattle.model_values.specs.declared.cell.Binding.{Binding}
 
@@ -56,11 +56,11 @@ IsNullOrIn kind h v = IsIn kind h v
 -- to which the node belongs
 abbrev pub CellFits : (ℕ → List Binding → Type 0) → List Cell → Cell → Type 0
 CellFits rule h (Variable v) = There h v
-CellFits rule h (ListCell vs) = All (There h) vs
-CellFits rule h (MapCell es) = All (λ e. There h e.1) es
-CellFits rule h (ClosureCell node env) = rule node env × All (λ b. HasVariable (slice_get h b.cell)) env
+CellFits rule h (ListCell vs) = AllAre (There h) vs
+CellFits rule h (MapCell es) = AllAre (λ e. There h e.1) es
+CellFits rule h (ClosureCell node env) = rule node env × AllAre (λ b. HasVariable (slice_get h b.cell)) env
 CellFits rule h c = Unit {0}
 
 -- every cell names what is there
 abbrev pub CellsFit : (ℕ → List Binding → Type 0) → List Cell → Type 0
-CellsFit rule h = All (CellFits rule h) h
+CellsFit rule h = AllAre (CellFits rule h) h

@@ -1,7 +1,7 @@
 -- What an evaluation of values does to the cells: it makes new ones behind those that are there, and changes what a
 -- variable, a list or a map holds (this product's own).
 use Rattle.std.specs.Prelude.{◌≡◌, ◌≤◌, ℕ, List, length, Option, Some, slice_get}
-use Rattle.std.specs.List.{AllByRecursion as All}
+use Rattle.std.specs.List.{AllByRecursion as AllAre}
 use Rattle.model_values.specs.Cells.{Answer, Gives, Throws, Meets, heap_bytes}
 use Rattle.model_values.specs.Fitting.{There, HasVariable, HasList, HasMap, HasClosure, HasThrowable, CellsFit}
 use Rattle.model_values.specs.Limits.{Limits}
@@ -43,14 +43,14 @@ pub record Bounded (cells bytes : ℕ) (h : List Cell) : Type 0 where
 
 -- these cells and the values that an operation is given name what is there
 abbrev pub Given : (ℕ → List Binding → Type 0) → List Cell → List Value → Type 0
-Given rule h vs = CellsFit rule h × All (There h) vs
+Given rule h vs = CellsFit rule h × AllAre (There h) vs
 
 -- from cells h to cells g: they are later; they keep to the limits, and to every wider bound that h keeps to, each cell by itself
 -- too; and where what was given names what is there, so do g, and what comes with them is there too
 pub record Grows (l : Limits) (rule : ℕ → List Binding → Type 0) (h : List Cell) (given : Type 0) (g : List Cell) (result : Type 0) : Type 0 where
   pub later : CellsLater h g
   pub bounds : (cells bytes : ℕ) → l.cells ≤ cells → l.bytes ≤ bytes → Bounded cells bytes h → Bounded cells bytes g
-  pub sizes : (most : ℕ) → l.bytes ≤ most → All (λ c. cell_size c ≤ most) h → All (λ c. cell_size c ≤ most) g
+  pub sizes : (most : ℕ) → l.bytes ≤ most → AllAre (λ c. cell_size c ≤ most) h → AllAre (λ c. cell_size c ≤ most) g
   pub fits : given → CellsFit rule g × result
 
 module _ (l : Limits) (rule : ℕ → List Binding → Type 0) (h : List Cell) (given : Type 0) where
@@ -68,10 +68,10 @@ module _ (l : Limits) (rule : ℕ → List Binding → Type 0) (h : List Cell) (
 
   -- what a turn of a walk begins with is there, and what it keeps
   abbrev pub TurnGrows : Turn → Type 0
-  TurnGrows (Turns g args element) = Grows l rule h given g (All (There g) args × All (There g) element)
+  TurnGrows (Turns g args element) = Grows l rule h given g (AllAre (There g) args × AllAre (There g) element)
   TurnGrows Past = Unit {0}
   TurnGrows (Stops k) = Unit {0}
 
   abbrev pub AfterGrows : After → Type 0
-  AfterGrows (Keeps kept) = given → All (There h) kept
+  AfterGrows (Keeps kept) = given → AllAre (There h) kept
   AfterGrows (Ends answer) = AnswerGrows There answer
