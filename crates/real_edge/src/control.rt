@@ -1,8 +1,9 @@
 //! The control folder of a task.
 
 use std::alloc::{AllocError, Global};
-use std::io;
 use std::io::ErrorKind;
+use std::rt::Files;
+use std::{fs, io};
 use task_host::{Order, Stream};
 
 /// The path of a task's control folder, `WORKSPACE@tmp/durable-X`, where X is the task's number as eight lower
@@ -12,6 +13,19 @@ pub struct ControlFolder {
     /// `WORKSPACE@tmp`
     pub parent: String,
     pub path: String,
+}
+
+/// What lies in a control folder.
+#[derive(Clone, Copy, Debug, PartialEq, Eq)]
+pub enum Found {
+    /// There is no such folder.
+    Nothing,
+    /// Neither a log nor a result: the task was not started.
+    Unstarted,
+    /// A log and no result: the task was started.
+    Running,
+    /// A result: the task has ended.
+    Ended,
 }
 
 impl ControlFolder {
@@ -29,6 +43,24 @@ impl ControlFolder {
         })
     }
 
+    /// What lies in it.
+    ///
+    /// # Errors
+    ///
+    /// Where the system does not tell, or there is no memory.
+    pub fn found<R: Files + AllocGlobal>(&self, rt: &R) -> io::Result<Found> {
+        if !is_there(rt, self.path.as_str())? {
+            return Ok(Found::Nothing);
+        }
+        if is_there(rt, self.result(rt.alloc())?.as_str())? {
+            return Ok(Found::Ended);
+        }
+        if is_there(rt, self.log(rt.alloc())?.as_str())? {
+            return Ok(Found::Running);
+        }
+        Ok(Found::Unstarted)
+    }
+
     /// The script.
     pub fn script(&self, alloc: Global) -> Result<String, AllocError> {
         self.file(alloc, "script.sh")
@@ -39,7 +71,7 @@ impl ControlFolder {
         self.file(alloc, "jenkins-log.txt")
     }
 
-    /// The exit code. It stands from the end of the script on, and is whole.
+    /// The exit code. It stands from the end of the script on.
     pub fn result(&self, alloc: Global) -> Result<String, AllocError> {
         self.file(alloc, "jenkins-result.txt")
     }
@@ -58,6 +90,18 @@ impl ControlFolder {
     }
 }
 
+// A name that is too long, or one below a file, is no file's.
+fn is_there(files: &impl Files, path: &str) -> io::Result<bool> {
+    match fs::exists(files, path) {
+        Err(error) if names_nothing(error.kind()) => Ok(false),
+        answer => answer,
+    }
+}
+
+fn names_nothing(kind: ErrorKind) -> bool {
+    matches!(kind, ErrorKind::InvalidFilename | ErrorKind::NotADirectory)
+}
+
 /// Bytes of an order as a path or a variable of the system.
 ///
 /// # Errors
@@ -66,6 +110,9 @@ impl ControlFolder {
 pub fn text(bytes: &[u8]) -> io::Result<&str> {
     match std::str::from_utf8(bytes) {
         Ok(text) => Ok(text),
-        Err(_) => Err(io::Error::from(ErrorKind::InvalidInput)),
+        Err(_) => Err(io::Error::new(
+            ErrorKind::InvalidInput,
+            "a workspace, a folder or a variable is not UTF-8",
+        )),
     }
 }

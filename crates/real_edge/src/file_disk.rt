@@ -1,17 +1,14 @@
 //! A disk over one file of the system.
 
-ghost use Rattle.std.specs.Prelude.{◌≡◌, ◌≤◌, ◌<◌, ℕ, ⊤, None, length, IfOk};
+ghost use Rattle.std.specs.Prelude.{◌≡◌, ◌≤◌, ◌<◌, ℕ, ⊤, None, length, OnOk, OnErr, IsErr, IsTrue};
 ghost use Rattle.device_faults.specs.Faults.{Rose};
 ghost use Rattle.jp_disk.specs.Reading.{IsReadCount};
 
-use crate::sync::sync_folder;
+use crate::file_at_path::FileAtPath;
 use device_faults::{Failed, Faults};
 use jp_disk::Disk;
-use jp_io::{Source, StdSink, StdSource, write_all};
-use std::fs::{File, OpenFile, OpenOptions};
 use std::io;
-use std::io::{ErrorKind, Read, Seek, SeekFrom, Write};
-use std::path::Path;
+use std::io::ErrorKind;
 use std::rt::Files;
 
 /// A disk over the file at a path, which is opened when it is first needed.
@@ -20,24 +17,28 @@ use std::rt::Files;
 /// folder too, so that a power cut cannot lose the name of a file that was just made. One that may be read and not
 /// written can be read and synced; a write to it fails.
 ///
+/// After a write or a sync that failed every sync fails: of a file whose bytes were not written, the system may answer
+/// the next sync as if they had been.
+///
 /// It tells contracts the length that it knows and its faults, and of a crash it says that it may leave anything: no
 /// contract can say what a real file keeps.
 #[derive(Drop)]
 pub struct FileDisk<'a, R: Files> {
-    file: FileAtPath<'a, R>,
+    file: WatchedFile<'a, R>,
     end: u64,
     faults: Faults,
 }
 
 impl<'a, R: Files> FileDisk<'a, R> {
     /// A disk over the file at this path. Nothing is opened yet, and no call has failed.
-    pub fn new(files: &'a R, path: String) -> Self {
+    pub fn new(files: &'a R, path: String) -> Self
+        ensures end { ⟦<FileDisk<'a, R> as Disk>⟧.end result ≡ 0 }
+        ensures faults { ⟦<FileDisk<'a, R> as Disk>⟧.faults result ≡ 0 }
+    {
         FileDisk {
-            file: FileAtPath {
-                files,
-                path,
-                opened: None,
-                folder_is_synced: false,
+            file: WatchedFile {
+                file: FileAtPath::new(files, path),
+                has_failed: false,
             },
             end: 0,
             faults: Faults::new(),
@@ -67,7 +68,7 @@ impl<R: Files> Disk for FileDisk<'_, R> {
     ghost only_now = { λ _ _ _. tt };
 
     fn len(&mut self) -> Result<u64, Failed> {
-        match self.file.len() {
+        match self.file.file.len() {
             Ok(len) => {
                 self.end = len;
                 Ok(len)
@@ -80,7 +81,7 @@ impl<R: Files> Disk for FileDisk<'_, R> {
         if at >= self.end || buf.is_empty() {
             return Ok(0);
         }
-        match self.file.read_at(at, buf) {
+        match self.file.file.read_at(at, buf) {
             Ok(count) if count > 0 => Ok(count),
             _ => Err(self.faults.rise()),
         }
@@ -104,104 +105,32 @@ impl<R: Files> Disk for FileDisk<'_, R> {
     }
 }
 
-// The file, opened when it is first needed.
+// A file of which is remembered whether a write or a sync has failed: from then on no sync can tell what is on the disk.
 #[derive(Drop)]
-struct FileAtPath<'a, R: Files> {
-    files: &'a R,
-    path: String,
-    opened: Option<R::File>,
-    // Whether the folder was synced since the file was found or made.
-    folder_is_synced: bool,
+struct WatchedFile<'a, R: Files> {
+    file: FileAtPath<'a, R>,
+    has_failed: bool,
 }
 
-impl<R: Files> FileAtPath<'_, R> {
-    // The file, or none where it is missing.
-    fn open(&mut self) -> io::Result<Option<&mut R::File>> {
-        if self.opened.is_none() {
-            self.opened = open_existing(self.files, self.path.as_str())?;
-        }
-        Ok(self.opened.as_mut())
-    }
-
-    fn len(&mut self) -> io::Result<u64> {
-        match self.open()? {
-            Some(file) => Ok(file.metadata()?.len()),
-            None => Ok(0),
-        }
-    }
-
-    fn read_at(&mut self, at: u64, buf: &mut [u8]) -> io::Result<usize>
-        ensures { IfOk result (λ n. n ≤ length buf.old) }
+impl<R: Files> WatchedFile<'_, R> {
+    fn write_at(&mut self, at: u64, bytes: &[u8]) -> io::Result<()>
+        ensures remembered { OnErr result (IsTrue self.new.has_failed) }
+        ensures kept { OnOk result (self.new.has_failed ≡ self.old.has_failed) }
     {
-        match self.open()? {
-            Some(file) => read_from(file, at, buf),
-            None => Ok(0),
+        let written = self.file.write_at(at, bytes);
+        self.has_failed |= written.is_err();
+        written
+    }
+
+    fn sync(&mut self) -> io::Result<()>
+        ensures refused { IsTrue self.old.has_failed → IsErr result }
+        ensures remembered { OnErr result (IsTrue self.new.has_failed) }
+    {
+        if self.has_failed {
+            return Err(io::Error::from(ErrorKind::Other));
         }
-    }
-
-    fn write_at(&mut self, at: u64, bytes: &[u8]) -> io::Result<()> {
-        if self.open()?.is_none() {
-            self.opened = Some(File::create_new(self.files, self.path.as_str())?);
-        }
-        match &mut self.opened {
-            Some(file) => write_to(file, at, bytes),
-            None => Err(io::Error::from(ErrorKind::NotFound)),
-        }
-    }
-
-    fn sync(&mut self) -> io::Result<()> {
-        let Some(file) = self.open()? else {
-            return Ok(());
-        };
-        file.sync_all()?;
-        if !self.folder_is_synced {
-            sync_folder(self.files, folder_of(self.path.as_str()))?;
-            self.folder_is_synced = true;
-        }
-        Ok(())
-    }
-}
-
-// Opens a file that is there, for reading and writing, or for reading alone where it may not be written.
-fn open_existing<R: Files>(files: &R, path: &str) -> io::Result<Option<R::File>> {
-    let opened = OpenOptions::new().read(true).write(true).open(files, path);
-    let opened = match opened {
-        Err(error) if is_read_only(error.kind()) => File::open(files, path),
-        answer => answer,
-    };
-    match opened {
-        Ok(file) => Ok(Some(file)),
-        Err(error) if error.kind() == ErrorKind::NotFound => Ok(None),
-        Err(error) => Err(error),
-    }
-}
-
-fn is_read_only(kind: ErrorKind) -> bool {
-    kind == ErrorKind::PermissionDenied || kind == ErrorKind::ReadOnlyFilesystem
-}
-
-fn read_from<F: Read + Seek>(file: &mut F, at: u64, buf: &mut [u8]) -> io::Result<usize>
-    ensures { IfOk result (λ n. n ≤ length buf.old) }
-{
-    file.seek(SeekFrom::Start(at))?;
-    match StdSource::new(file).read(buf) {
-        Ok(count) => Ok(count),
-        Err(_) => Err(io::Error::from(ErrorKind::Other)),
-    }
-}
-
-fn write_to<F: Write + Seek>(file: &mut F, at: u64, bytes: &[u8]) -> io::Result<()> {
-    file.seek(SeekFrom::Start(at))?;
-    match write_all(&mut StdSink::new(file), bytes) {
-        Ok(()) => Ok(()),
-        Err(_) => Err(io::Error::from(ErrorKind::Other)),
-    }
-}
-
-// The folder that holds the file.
-fn folder_of(path: &str) -> &str {
-    match Path::new(path).parent() {
-        Some(folder) if !folder.as_str().is_empty() => folder.as_str(),
-        _ => ".",
+        let synced = self.file.sync();
+        self.has_failed = synced.is_err();
+        synced
     }
 }

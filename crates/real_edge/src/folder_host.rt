@@ -1,46 +1,138 @@
 //! A host whose tasks are processes of this machine.
 
-ghost use Rattle.std.specs.Prelude.{◌≡◌, ◌≢◌, ◌≤◌, ℕ, List, [], None, length, IfOk};
+ghost use Rattle.std.specs.Prelude.{◌≡◌, ◌≢◌, ◌≤◌, ◌<◌, ◌↔◌, ℕ, List, [], None, length, IfOk};
 
+use crate::children::Children;
 use crate::control::{ControlFolder, text};
-use crate::launch::spawn;
-use crate::sync::{make_durable, sync_folder};
+use crate::own_folders::OwnFolders;
+use crate::pauses::Pauses;
+use crate::sync::make_durable;
+use crate::{Life, tasks};
 use device_faults::{Failed, Faults};
-use jp_io::{Source, StdSource};
-use std::fs::File;
-use std::io::{ErrorKind, Seek, SeekFrom};
-use std::process::{Child, Processes};
-use std::rt::Files;
+use std::process::Processes;
+use std::rt::{Env, Files};
 use std::time::{Clock, Duration};
-use std::{fs, io, thread};
+use std::{io, thread};
 use task_host::{Host, Look, Made, Order, Started, Stream};
 
-/// How long a pause is, in milliseconds.
-const PAUSE: u64 = 250;
-
 /// A host whose tasks are processes of this machine. Each task has a control folder, whose files docs/HOSTS.md tells.
+///
+/// In the first life of a build a control folder that this host did not make is another build's. It is never taken for
+/// the task's: `make_dir` makes it anew, or fails where that one's task looks as if it ran; to the other calls there is
+/// no folder.
+///
+/// Why a task was not launched is said on standard error, since the build's log has only its code, -2.
 ///
 /// It tells contracts nothing but its faults: no contract can say what a folder or a process does.
 #[derive(Drop)]
 pub struct FolderHost<'a, R: Processes> {
     rt: &'a R,
-    // The task that was started last. It is not waited for; once it has ended the system is asked to forget it.
-    started: Option<Child<R::Started>>,
+    own: OwnFolders,
+    children: Children<R::Started>,
+    pauses: Pauses,
     faults: Faults,
 }
 
-impl<'a, R: Processes> FolderHost<'a, R> {
-    /// A host over the folders and processes of `rt`. No call has failed.
-    pub fn new(rt: &'a R) -> Self {
+impl<'a, R: Files + Env + AllocGlobal + Eprint + Clock + Processes> FolderHost<'a, R> {
+    ghost use Rattle.real_edge.specs.OwnFolders.{IsOwn};
+
+    /// A host over the folders and processes of `rt`, in this life of the build. No call has failed.
+    pub fn new(rt: &'a R, life: Life) -> Self
+        ensures faults { ⟦<FolderHost<'a, R> as Host>⟧.faults result ≡ 0 }
+        ensures own { (task : ℕ) → IsOwn result.own task ↔ (life ≡ Life.Later) }
+    {
         FolderHost {
             rt,
-            started: None,
+            own: OwnFolders::new(rt.alloc(), life),
+            children: Children::new(rt.alloc()),
+            pauses: Pauses::new(),
             faults: Faults::new(),
         }
     }
+
+    // Makes the control folder with its script, or finds that the build's own is there.
+    fn make(&mut self, order: &Order) -> io::Result<Made>
+        ensures made { IfOk result (λ made. made ≢ Made.Failed) }
+        ensures own { IfOk result (λ made. made ≡ Made.Exists → IsOwn self.old.own order.now.task) }
+        ensures listed { IfOk result (λ made. IsOwn self.new.own order.now.task) }
+        ensures calm { self.new.faults ≡ self.old.faults }
+    {
+        tasks::check_workspace(order)?;
+        let control = ControlFolder::of(self.rt.alloc(), order)?;
+        self.own.reserve()?;
+        make_durable(self.rt, control.parent.as_str())?;
+        if !self.own.contains(order.task) {
+            tasks::make_anew(self.rt, &control)?;
+        } else if !tasks::make(self.rt, &control)? {
+            return Ok(Made::Exists);
+        }
+        self.own.add(order.task);
+        tasks::write_script(self.rt, order, &control)?;
+        Ok(Made::Made)
+    }
+
+    fn launch(&mut self, order: &Order) -> io::Result<()>
+        ensures own { IfOk result (λ _. IsOwn self.old.own order.now.task) }
+        ensures calm { self.new.faults ≡ self.old.faults }
+    {
+        if !self.own.contains(order.task) {
+            return Err(io::Error::new(io::ErrorKind::NotFound, "its control folder was not made"));
+        }
+        self.children.reserve()?;
+        let child = tasks::launch(self.rt, order)?;
+        self.children.keep(child);
+        Ok(())
+    }
+
+    fn read_own(
+        &self,
+        order: &Order,
+        stream: Stream,
+        from: u64,
+        buf: &mut [u8],
+    ) -> io::Result<usize>
+        ensures room { IfOk result (λ n. n ≤ length buf.old) }
+        ensures own { IfOk result (λ n. 0 < n → IsOwn self.now.own order.now.task) }
+    {
+        if !self.own.contains(order.task) {
+            return Ok(0);
+        }
+        tasks::read(self.rt, order, stream, from, buf)
+    }
+
+    fn state(&self, order: &Order) -> io::Result<Look>
+        ensures told { IfOk result (λ state. state ≢ Look.Failed) }
+        ensures own { IfOk result (λ state. state ≢ Look.Absent → IsOwn self.now.own order.now.task) }
+    {
+        if !self.own.contains(order.task) {
+            return Ok(Look::Absent);
+        }
+        tasks::state(self.rt, order)
+    }
+
+    fn remove_own(&mut self, order: &Order) -> io::Result<()>
+        ensures { self.new.faults ≡ self.old.faults }
+    {
+        if !self.own.contains(order.task) {
+            return Ok(());
+        }
+        let control = ControlFolder::of(self.rt.alloc(), order)?;
+        tasks::remove(self.rt, control.path.as_str())?;
+        self.own.forget(order.task);
+        Ok(())
+    }
+
+    // Says why a task was not launched.
+    fn tell(&self, order: &Order, reason: &io::Error) {
+        let task = order.task;
+        let workspace = text(order.workspace.as_slice()).unwrap_or("a workspace");
+        let _ = eprintln!(self.rt;
+            "controller: task {task} in {workspace} was not launched: {reason}"
+        );
+    }
 }
 
-impl<R: Files + AllocGlobal + Clock + Processes> Host for FolderHost<'_, R> {
+impl<R: Files + Env + AllocGlobal + Eprint + Clock + Processes> Host for FolderHost<'_, R> {
     ghost honest = { λ _. ⊥ };
 
     ghost dirs = { λ _. [] };
@@ -58,10 +150,10 @@ impl<R: Files + AllocGlobal + Clock + Processes> Host for FolderHost<'_, R> {
     ghost nothing_before_launch = { λ _ _ honest _. absurd honest };
 
     fn make_dir(&mut self, order: &Order) -> Made {
-        match make_folder(self.rt, order) {
-            Ok(true) => Made::Made,
-            Ok(false) => Made::Exists,
-            Err(_) => {
+        match self.make(order) {
+            Ok(made) => made,
+            Err(reason) => {
+                self.tell(order, &reason);
                 self.faults.rise();
                 Made::Failed
             }
@@ -69,15 +161,14 @@ impl<R: Files + AllocGlobal + Clock + Processes> Host for FolderHost<'_, R> {
     }
 
     fn start(&mut self, order: &Order) -> Started {
-        if let Some(before) = &mut self.started {
-            let _ = before.try_wait();
-        }
-        match launch(self.rt, order) {
-            Ok(child) => {
-                self.started = Some(child);
+        self.children.reap();
+        match self.launch(order) {
+            Ok(()) => {
+                self.pauses = Pauses::new();
                 Started::Started
             }
-            Err(_) => {
+            Err(reason) => {
+                self.tell(order, &reason);
                 self.faults.rise();
                 Started::Failed
             }
@@ -85,7 +176,8 @@ impl<R: Files + AllocGlobal + Clock + Processes> Host for FolderHost<'_, R> {
     }
 
     fn look(&mut self, order: &Order) -> Look {
-        match state(self.rt, order) {
+        self.children.reap();
+        match self.state(order) {
             Ok(state) => state,
             Err(_) => {
                 self.faults.rise();
@@ -101,112 +193,27 @@ impl<R: Files + AllocGlobal + Clock + Processes> Host for FolderHost<'_, R> {
         from: u64,
         buf: &mut [u8],
     ) -> Result<usize, Failed> {
-        match read_from(self.rt, order, stream, from, buf) {
-            Ok(count) => Ok(count),
+        match self.read_own(order, stream, from, buf) {
+            Ok(count) => {
+                if count > 0 {
+                    self.pauses = Pauses::new();
+                }
+                Ok(count)
+            }
             Err(_) => Err(self.faults.rise()),
         }
     }
 
     fn pause(&mut self) {
-        thread::sleep(self.rt, Duration::from_millis(PAUSE));
+        self.children.reap();
+        thread::sleep(self.rt, Duration::from_millis(self.pauses.take()));
     }
 
     fn remove(&mut self, order: &Order) -> Result<(), Failed> {
-        match remove_folder(self.rt, order) {
+        self.children.reap_soon(self.rt);
+        match self.remove_own(order) {
             Ok(()) => Ok(()),
             Err(_) => Err(self.faults.rise()),
         }
-    }
-}
-
-// Makes the control folder with its script, or finds that it is there. What was made is on the disk before it answers:
-// after a power cut the folder still keeps the task from being started again.
-fn make_folder<R: Files + AllocGlobal>(rt: &R, order: &Order) -> io::Result<bool> {
-    let control = ControlFolder::of(rt.alloc(), order)?;
-    make_durable(rt, control.parent.as_str())?;
-    match fs::create_dir(rt, control.path.as_str()) {
-        Ok(()) => {}
-        Err(error) if error.kind() == ErrorKind::AlreadyExists => return Ok(false),
-        Err(error) => return Err(error),
-    }
-    let script = control.script(rt.alloc())?;
-    fs::write(rt, script, order.script.as_slice())?;
-    sync_folder(rt, control.parent.as_str())?;
-    Ok(true)
-}
-
-// Makes the log, which says from then on that the task was started, and starts its process. Where that fails, the log
-// goes again.
-fn launch<R: Files + AllocGlobal + Processes>(
-    rt: &R,
-    order: &Order,
-) -> io::Result<Child<R::Started>> {
-    let control = ControlFolder::of(rt.alloc(), order)?;
-    let log = control.log(rt.alloc())?;
-    fs::create_dir_all(rt, text(order.folder.as_slice())?)?;
-    File::create_new(rt, log.as_str())?;
-    let child = spawn(rt, rt.alloc(), order, &control);
-    if child.is_err() {
-        let _ = fs::remove_file(rt, log.as_str());
-    }
-    child
-}
-
-fn state<R: Files + AllocGlobal>(rt: &R, order: &Order) -> io::Result<Look>
-    ensures { IfOk result (λ state. state ≢ Look.Failed) }
-{
-    let control = ControlFolder::of(rt.alloc(), order)?;
-    let result = control.result(rt.alloc())?;
-    if !fs::exists(rt, control.path.as_str())? {
-        return Ok(Look::Absent);
-    }
-    if fs::exists(rt, result.as_str())? {
-        return Ok(Look::Exited(exit_code(rt, result.as_str())?));
-    }
-    if fs::exists(rt, control.log(rt.alloc())?)? {
-        return Ok(Look::Running);
-    }
-    Ok(Look::NotStarted)
-}
-
-fn exit_code<R: Files + AllocGlobal>(rt: &R, path: &str) -> io::Result<i32> {
-    let text = fs::read_to_string(rt, path)?;
-    match text.as_str().trim().parse::<i32>() {
-        Ok(code) => Ok(code),
-        Err(_) => Err(io::Error::from(ErrorKind::InvalidData)),
-    }
-}
-
-// A file that is not there yet has no bytes, as long as the control folder stands.
-fn read_from<R: Files + AllocGlobal>(
-    rt: &R,
-    order: &Order,
-    stream: Stream,
-    from: u64,
-    buf: &mut [u8],
-) -> io::Result<usize>
-    ensures { IfOk result (λ n. n ≤ length buf.old) }
-{
-    let control = ControlFolder::of(rt.alloc(), order)?;
-    let mut file = match fs::open(rt, control.stream(rt.alloc(), stream)?) {
-        Ok(file) => file,
-        Err(error) => {
-            let is_to_come = error.kind() == ErrorKind::NotFound
-                && fs::exists(rt, control.path.as_str())?;
-            return if is_to_come { Ok(0) } else { Err(error) };
-        }
-    };
-    file.seek(SeekFrom::Start(from))?;
-    match StdSource::new(file).read(buf) {
-        Ok(count) => Ok(count),
-        Err(_) => Err(io::Error::from(ErrorKind::Other)),
-    }
-}
-
-fn remove_folder<R: Files + AllocGlobal>(rt: &R, order: &Order) -> io::Result<()> {
-    let control = ControlFolder::of(rt.alloc(), order)?;
-    match fs::remove_dir_all(rt, control.path.as_str()) {
-        Err(error) if error.kind() == ErrorKind::NotFound => Ok(()),
-        answer => answer,
     }
 }

@@ -1,9 +1,9 @@
 //! The process of a task.
 
 use crate::control::{ControlFolder, text};
+use crate::programs::Programs;
 use std::alloc::{AllocError, Global};
 use std::io;
-use std::io::ErrorKind;
 use std::process::{Child, Command, Processes, Stdio};
 use task_host::Order;
 
@@ -11,7 +11,7 @@ use task_host::Order;
 ///
 /// The process gets no standard stream of this one: whoever reads the controller's output must not wait for a task. It
 /// is put in a session of its own by the program `setsid`, where the system has it, so that an interrupt of the
-/// controller leaves the task running. Where it has not, `sh` is started directly.
+/// controller leaves the task running. Where that cannot be started, the shell is started directly.
 ///
 /// # Errors
 ///
@@ -19,23 +19,20 @@ use task_host::Order;
 pub fn spawn<R: Processes>(
     processes: &R,
     alloc: Global,
+    programs: &Programs,
     order: &Order,
     control: &ControlFolder,
 ) -> io::Result<Child<R::Started>> {
-    let mut detached = Command::new(alloc, "setsid")?;
-    detached.arg("sh")?;
-    match run(processes, alloc, &mut detached, order, control) {
-        Err(error) if error.kind() == ErrorKind::NotFound => {
-            run(
-                processes,
-                alloc,
-                &mut Command::new(alloc, "sh")?,
-                order,
-                control,
-            )
+    let shell = programs.shell.as_str();
+    if let Some(setsid) = &programs.setsid {
+        let mut detached = Command::new(alloc, setsid.as_str())?;
+        detached.arg(shell)?;
+        if let Ok(child) = run(processes, alloc, &mut detached, order, control) {
+            return Ok(child);
         }
-        answer => answer,
     }
+    let mut attached = Command::new(alloc, shell)?;
+    run(processes, alloc, &mut attached, order, control)
 }
 
 // Gives the shell its words, and starts it.
@@ -59,8 +56,8 @@ fn run<R: Processes>(
     command.spawn(processes)
 }
 
-/// What the shell runs, with the control folder as its `$0`: the script, and then the exit code into a file that is
-/// whole from the moment it has its name.
+/// What the shell runs, with the control folder as its `$0`: the script, and then the exit code into a file that has its
+/// name once all of it was written.
 fn wrapper(alloc: Global, order: &Order) -> Result<String, AllocError> {
     let script = if order.script.as_slice().starts_with(b"#!") {
         r#"chmod 700 "$0/script.sh"; "$0/script.sh""#

@@ -5,21 +5,30 @@
 //! file, folder or process does no contract can say, so that is tested and not proved.
 //!
 //! ```text
-//! let mut host = FolderHost::new(&rt);
+//! let mut host = FolderHost::new(&rt, Life::First);
 //! host.make_dir(&order);   // makes WORKSPACE@tmp/durable-00000002 and its script.sh
 //! host.start(&order);      // starts `sh`, and does not wait
 //! host.look(&order);       // Look::Running, and at last Look::Exited(code)
 //! ```
 #![tactic(auto)]
 
+mod children;
 mod control;
+mod file_at_path;
 mod file_disk;
 mod folder_host;
 mod launch;
+mod life;
+mod own_folders;
+mod pauses;
+mod piece;
+mod programs;
 mod sync;
+mod tasks;
 
 pub use file_disk::FileDisk;
 pub use folder_host::FolderHost;
+pub use life::Life;
 
 #[cfg(test)]
 mod tests;

@@ -14,12 +14,13 @@ pub fn sync_folder(files: &impl Files, path: &str) -> io::Result<()> {
     fs::open(files, path)?.sync_all()
 }
 
-/// Makes a folder, and those above it that are missing. Each that is made is synced into the one that holds it, so that a
-/// power cut cannot lose it.
+/// Makes a folder, and those above it that are missing. Each, made or found, is synced into the one that holds it, so
+/// that a power cut cannot lose it: one that was found may have been made by another host just now.
 ///
 /// # Errors
 ///
-/// Those of making a folder and of the sync; and where there is no memory for a path.
+/// Those of making a folder and of the sync; and where there is no memory for a path. A folder that was found, in one
+/// that may not be read or cannot be synced at all, is taken for durable: no host can have made it there.
 pub fn make_durable<R: Files + AllocGlobal>(rt: &R, path: &str) -> io::Result<()> {
     let mut level = String::new(rt.alloc());
     for (index, part) in path.split('/').enumerate() {
@@ -37,9 +38,28 @@ pub fn make_durable<R: Files + AllocGlobal>(rt: &R, path: &str) -> io::Result<()
 
 // One folder in the one that holds it; no path is the working folder's.
 fn make_level(files: &impl Files, holder: &str, path: &str) -> io::Result<()> {
+    let holder = if holder.is_empty() { "." } else { holder };
     match fs::create_dir(files, path) {
-        Ok(()) => sync_folder(files, if holder.is_empty() { "." } else { holder }),
-        Err(error) if error.kind() == ErrorKind::AlreadyExists => Ok(()),
+        Ok(()) => sync_folder(files, holder),
+        Err(error) if error.kind() == ErrorKind::AlreadyExists => sync_found(files, holder),
         Err(error) => Err(error),
     }
+}
+
+// Syncs a folder in which nothing was made by this call.
+fn sync_found(files: &impl Files, path: &str) -> io::Result<()> {
+    match sync_folder(files, path) {
+        Err(error) if forbids_sync(error.kind()) => Ok(()),
+        answer => answer,
+    }
+}
+
+fn forbids_sync(kind: ErrorKind) -> bool {
+    matches!(
+        kind,
+        ErrorKind::PermissionDenied
+            | ErrorKind::ReadOnlyFilesystem
+            | ErrorKind::InvalidInput
+            | ErrorKind::Unsupported
+    )
 }

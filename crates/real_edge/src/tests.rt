@@ -1,11 +1,15 @@
 //! What real folders and processes do. Each test has a workspace or a file of its own name.
 
 use super::*;
+use crate::control::ControlFolder;
+use crate::launch::spawn;
+use crate::programs::{Programs, find};
 use device_faults::Failed;
 use jp_disk::Disk;
-use std::alloc::{AllocError, Global};
+use std::alloc::AllocError;
+use std::fs::Permissions;
+use std::os::unix::fs::PermissionsExt;
 use std::test::Fail;
-use std::time::{Clock, Duration};
 use std::{env, fs, io};
 use task_host::{Bytes, Host, Look, Made, Order, Pairs, Started, Stream};
 
@@ -30,7 +34,7 @@ fn order(rt: &HostRuntime, workspace: &str, script: &str) -> io::Result<Order> {
 
 // Makes the folder, starts the task, and looks until it has ended, at most ten seconds long.
 fn end_of(rt: &HostRuntime, order: &Order) -> Look {
-    let mut host = FolderHost::new(rt);
+    let mut host = FolderHost::new(rt, Life::First);
     if host.make_dir(order) != Made::Made || host.start(order) != Started::Started {
         return Look::Failed;
     }
@@ -52,7 +56,7 @@ fn written(
     from: u64,
 ) -> Result<Vec<u8>, AllocError> {
     let mut buf = [0u8; 256];
-    let count = FolderHost::new(rt).read(order, stream, from, &mut buf);
+    let count = FolderHost::new(rt, Life::Later).read(order, stream, from, &mut buf);
     Vec::from_slice(rt.alloc(), &buf[..count.unwrap_or(0)])
 }
 
@@ -73,7 +77,7 @@ fn missing_folders_are_made_and_those_that_are_there_stay(rt: HostRuntime) -> Re
 #[test]
 fn echo_through_the_shell(rt: HostRuntime) -> Result<(), Fail> {
     let order = order(&rt, "echo", "echo hi")?;
-    let mut host = FolderHost::new(&rt);
+    let mut host = FolderHost::new(&rt, Life::First);
     assert_eq!(rt; host.look(&order), Look::Absent);
     assert_eq!(rt; end_of(&rt, &order), Look::Exited(0));
     let log = written(&rt, &order, Stream::Log, 0)?;
@@ -93,7 +97,7 @@ fn echo_through_the_shell(rt: HostRuntime) -> Result<(), Fail> {
 #[test]
 fn a_folder_is_made_once_and_a_task_started_once(rt: HostRuntime) -> Result<(), Fail> {
     let order = order(&rt, "once", "true")?;
-    let mut host = FolderHost::new(&rt);
+    let mut host = FolderHost::new(&rt, Life::First);
     assert_eq!(rt; host.start(&order), Started::Failed, "no folder");
     assert_eq!(rt; host.make_dir(&order), Made::Made);
     assert_eq!(rt; host.look(&order), Look::NotStarted);
@@ -107,7 +111,7 @@ fn a_folder_is_made_once_and_a_task_started_once(rt: HostRuntime) -> Result<(), 
 #[test]
 fn a_result_written_by_hand(rt: HostRuntime) -> Result<(), Fail> {
     let order = order(&rt, "hand", "true")?;
-    let mut host = FolderHost::new(&rt);
+    let mut host = FolderHost::new(&rt, Life::First);
     assert_eq!(rt; host.make_dir(&order), Made::Made);
     fs::write(&rt, "hand@tmp/durable-00000002/jenkins-result.txt", "")?;
     assert_eq!(rt; host.look(&order), Look::Failed, "no number");
@@ -116,13 +120,145 @@ fn a_result_written_by_hand(rt: HostRuntime) -> Result<(), Fail> {
     Ok(())
 }
 
+// What a new host answers when it makes the folder and looks.
+fn answers(rt: &HostRuntime, life: Life, order: &Order) -> (Made, Look) {
+    let mut host = FolderHost::new(rt, life);
+    (host.make_dir(order), host.look(order))
+}
+
 #[test]
-fn a_workspace_that_is_not_utf8(rt: HostRuntime) -> Result<(), Fail> {
+fn a_workspace_that_no_folder_can_have(rt: HostRuntime) -> Result<(), Fail> {
+    let alloc = rt.alloc();
+    fs::write(&rt, "file", "")?;
+    let long = format!(in alloc; "{:x<252}", "job")?;
+    for name in ["workspace/..", "workspace/.", "file/demo", long.as_str()] {
+        let order = order(&rt, name, "true")?;
+        for life in [Life::First, Life::Later] {
+            assert_eq!(rt; answers(&rt, life, &order), (Made::Failed, Look::Absent));
+        }
+    }
     let mut order = order(&rt, "utf8", "true")?;
-    order.workspace = Bytes::from_slice(rt.alloc(), b"/tmp/\xff")?;
-    let mut host = FolderHost::new(&rt);
-    assert_eq!(rt; host.make_dir(&order), Made::Failed);
-    assert_eq!(rt; host.look(&order), Look::Failed);
+    order.workspace = Bytes::from_slice(alloc, b"/tmp/\xff")?;
+    assert_eq!(rt;
+        answers(&rt, Life::Later, &order),
+        (Made::Failed, Look::Failed)
+    );
+    Ok(())
+}
+
+#[test]
+fn a_folder_that_another_build_left_is_made_anew(rt: HostRuntime) -> Result<(), Fail> {
+    let order = order(&rt, "left", "true")?;
+    assert_eq!(rt; end_of(&rt, &order), Look::Exited(0), "the other build");
+    for left in ["a result", "no log"] {
+        let mut host = FolderHost::new(&rt, Life::First);
+        let made = [host.make_dir(&order), host.make_dir(&order)];
+        assert_eq!(rt; made, [Made::Made, Made::Exists], "it left {left}");
+        assert_eq!(rt; host.look(&order), Look::NotStarted);
+    }
+    let aside = fs::exists(&rt, "left@tmp/durable-00000002.old")?;
+    assert_eq!(rt; aside, false);
+    Ok(())
+}
+
+#[test]
+fn a_task_of_another_build_that_may_run_is_left_alone(rt: HostRuntime) -> Result<(), Fail> {
+    let order = order(&rt, "alone", "true")?;
+    let mut other = FolderHost::new(&rt, Life::First);
+    let mut host = FolderHost::new(&rt, Life::First);
+    let made = other.make_dir(&order);
+    fs::write(&rt, "alone@tmp/durable-00000002/jenkins-log.txt", "theirs")?;
+    assert_eq!(rt; [made, host.make_dir(&order)], [Made::Made, Made::Failed]);
+    assert_eq!(rt; host.start(&order), Started::Failed);
+    assert_eq!(rt; host.remove(&order), Ok(()));
+    assert_eq!(rt;
+        [host.look(&order), other.look(&order)],
+        [Look::Absent, Look::Running]
+    );
+    let mut buf = [0; 8];
+    let read = host.read(&order, Stream::Log, 0, &mut buf);
+    let theirs = other.read(&order, Stream::Log, 0, &mut buf);
+    assert_eq!(rt; [read, theirs], [Ok(0), Ok(6)]);
+    Ok(())
+}
+
+#[test]
+fn a_later_life_finds_the_folder_of_an_earlier_one(rt: HostRuntime) -> Result<(), Fail> {
+    let order = order(&rt, "later", "true")?;
+    let first = answers(&rt, Life::First, &order);
+    let later = answers(&rt, Life::Later, &order);
+    assert_eq!(rt; first, (Made::Made, Look::NotStarted));
+    assert_eq!(rt; later, (Made::Exists, Look::NotStarted));
+    Ok(())
+}
+
+// The order's step sets these variables.
+fn set_env(rt: &HostRuntime, order: &mut Order, env: &[(&str, &str)]) -> Result<(), AllocError> {
+    let alloc = rt.alloc();
+    let mut pairs = Vec::new(alloc);
+    for (name, value) in env {
+        let name = Bytes::from_slice(alloc, name.as_bytes())?;
+        pairs.push((name, Bytes::from_slice(alloc, value.as_bytes())?))?;
+    }
+    order.env = Pairs::of(pairs);
+    Ok(())
+}
+
+#[test]
+fn a_step_with_a_path_of_its_own(rt: HostRuntime) -> Result<(), Fail> {
+    let mut order = order(&rt, "path", "true")?;
+    fs::create_dir(&rt, "path")?;
+    fs::write(&rt, "path/setsid", "#!/bin/sh\nexit 1\n")?;
+    fs::set_permissions(&rt, "path/setsid", Permissions::from_mode(0o755))?;
+    set_env(&rt, &mut order, &[("PATH", ".:/usr/bin:/bin")])?;
+    assert_eq!(rt;
+        end_of(&rt, &order),
+        Look::Exited(0),
+        "its setsid is not run"
+    );
+    order.task = 3;
+    set_env(&rt, &mut order, &[("PATH", "/no/such/folder")])?;
+    let mut host = FolderHost::new(&rt, Life::First);
+    let made = host.make_dir(&order);
+    let started = host.start(&order);
+    assert_eq!(rt;
+        (made, started),
+        (Made::Made, Started::Started),
+        "the shell is found"
+    );
+    Ok(())
+}
+
+#[test]
+fn a_setsid_that_cannot_be_started(rt: HostRuntime) -> Result<(), Fail> {
+    let order = order(&rt, "unset", "true")?;
+    let mut host = FolderHost::new(&rt, Life::First);
+    let made = host.make_dir(&order);
+    fs::create_dir(&rt, "unset")?;
+    let control = ControlFolder::of(rt.alloc(), &order)?;
+    let mut programs = Programs::of_controller(&rt)?;
+    programs.setsid = Some(String::from_str(rt.alloc(), "/no/such/setsid")?);
+    spawn(&rt, rt.alloc(), &programs, &order, &control)?.wait()?;
+    assert_eq!(rt; (made, host.look(&order)), (Made::Made, Look::Exited(0)));
+    Ok(())
+}
+
+#[test]
+fn programs_are_found_by_absolute_folders(rt: HostRuntime) -> Result<(), Fail> {
+    let alloc = rt.alloc();
+    let here = env::current_dir(&rt)?;
+    for (folder, mode) in [("first", 0o644), ("second", 0o755)] {
+        fs::create_dir(&rt, folder)?;
+        let program = format!(in alloc; "{folder}/sh")?;
+        fs::write(&rt, program.as_str(), "")?;
+        fs::set_permissions(&rt, program.as_str(), Permissions::from_mode(mode))?;
+    }
+    let here = here.as_path();
+    let here = here.display();
+    let path = format!(in alloc; "second::{here}:{here}/first:{here}/second")?;
+    let found = find(&rt, path.as_str(), "sh")?.ok_or("a program")?;
+    assert!(rt; found.ends_with("/second/sh") && found.starts_with('/'));
+    assert!(rt; find(&rt, path.as_str(), "setsid")?.is_none());
     Ok(())
 }
 
@@ -163,10 +299,10 @@ fn a_killed_script_ends_with_the_signal(rt: HostRuntime) -> Result<(), Fail> {
 #[test]
 fn a_task_whose_shell_is_killed_runs_for_ever(rt: HostRuntime) -> Result<(), Fail> {
     let order = order(&rt, "shell", "kill -9 $PPID\nkill -9 $$\n")?;
-    let mut host = FolderHost::new(&rt);
+    let mut host = FolderHost::new(&rt, Life::First);
     assert_eq!(rt; host.make_dir(&order), Made::Made);
     assert_eq!(rt; host.start(&order), Started::Started);
-    for _ in 0..4 {
+    for _ in 0..10 {
         host.pause();
         assert_eq!(rt; host.look(&order), Look::Running);
     }
@@ -196,14 +332,8 @@ fn paths_with_blanks_quotes_and_newlines(rt: HostRuntime) -> Result<(), Fail> {
 
 #[test]
 fn the_script_sees_the_environment(rt: HostRuntime) -> Result<(), Fail> {
-    let alloc = rt.alloc();
     let mut order = order(&rt, "environment", "echo \"$NAME\"\n")?;
-    let mut pairs = Vec::new(alloc);
-    for value in ["first", "a b"] {
-        let name = Bytes::from_slice(alloc, b"NAME")?;
-        pairs.push((name, Bytes::from_slice(alloc, value.as_bytes())?))?;
-    }
-    order.env = Pairs::of(pairs);
+    set_env(&rt, &mut order, &[("NAME", "first"), ("NAME", "a b")])?;
     assert_eq!(rt; end_of(&rt, &order), Look::Exited(0));
     let log = written(&rt, &order, Stream::Log, 0)?;
     assert_eq!(rt; log.as_slice(), b"+ echo a b\na b\n".as_slice());
@@ -242,7 +372,24 @@ fn a_file_that_cannot_be_made(rt: HostRuntime) -> Result<(), Fail> {
     let mut disk = disk(&rt, "no such folder/program.dat")?;
     assert_eq!(rt; disk.len(), Ok(0));
     assert_eq!(rt; disk.write_at(0, b"x"), Err(Failed));
-    assert_eq!(rt; disk.sync(), Ok(()), "nothing was written");
+    assert_eq!(rt; disk.sync(), Err(Failed), "a write failed");
+    fs::create_dir(&rt, "no such folder")?;
+    assert_eq!(rt; disk.write_at(0, b"x"), Ok(()));
+    assert_eq!(rt; disk.sync(), Err(Failed), "it is remembered");
+    let mut again = self::disk(&rt, "no such folder/program.dat")?;
+    assert_eq!(rt; again.sync(), Ok(()), "another disk knows nothing of it");
+    Ok(())
+}
+
+#[test]
+fn a_sync_that_failed_fails_again(rt: HostRuntime) -> Result<(), Fail> {
+    fs::create_dir(&rt, "gone")?;
+    let mut disk = disk(&rt, "gone/program.dat")?;
+    assert_eq!(rt; disk.write_at(0, b"x"), Ok(()));
+    fs::remove_dir_all(&rt, "gone")?;
+    assert_eq!(rt; disk.sync(), Err(Failed));
+    fs::create_dir(&rt, "gone")?;
+    assert_eq!(rt; disk.sync(), Err(Failed));
     Ok(())
 }
 

@@ -1,0 +1,42 @@
+//! How long a host waits between two looks.
+
+ghost use Rattle.std.specs.Prelude.{◌≡◌, ◌≤◌, ◌<◌, ◌*◌, ℕ, min};
+
+use std::marker::Model;
+
+/// The longest pause, in milliseconds: a quarter of a second.
+const LONGEST: u64 = 250;
+
+/// How long the next pause is: a millisecond after a start or after output, then each time twice as long, up to a
+/// quarter of a second. Contracts see the milliseconds of the next one.
+#[derive(Drop)]
+pub struct Pauses {
+    next: u64,
+}
+
+impl Model for Pauses {
+    ghost Value = { ℕ };
+
+    ghost view = { λ pauses. pauses.next };
+
+    ghost invariant = { λ pauses. (0 < pauses.next) × (pauses.next ≤ 250) };
+}
+
+impl Pauses {
+    /// The shortest pause is next.
+    pub fn new() -> Self
+        ensures { result ≡ 1 }
+    {
+        Pauses { next: 1 }
+    }
+
+    /// The milliseconds of the pause that begins now.
+    pub fn take(&mut self) -> u64
+        ensures taken { result ≡ self.old }
+        ensures grows { self.new ≡ min (2 * self.old) 250 }
+    {
+        let now = self.next;
+        self.next = LONGEST.min(2 * now);
+        now
+    }
+}
