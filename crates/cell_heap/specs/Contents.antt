@@ -1,0 +1,30 @@
+-- What a cell is and holds.
+use Rattle.std.specs.Prelude.{ℕ, List, [], length, Option, Some, None}
+use Rattle.cell_heap.specs.ValueTypes.{Value, Key, Cell, Variable, TextCell, ListCell, MapCell, ClosureCell, ThrownCell}
+
+abbrev pub IsVariable : Option Cell → Type 0
+IsVariable (Some (Variable v)) = Unit {0}
+IsVariable _ = ⊥
+
+abbrev pub IsList : Option Cell → Type 0
+IsList (Some (ListCell vs)) = Unit {0}
+IsList _ = ⊥
+
+abbrev pub IsMap : Option Cell → Type 0
+IsMap (Some (MapCell es)) = Unit {0}
+IsMap _ = ⊥
+
+-- the entries of a list, and of a map; none of another cell
+abbrev pub values_in : Option Cell → List Value
+values_in (Some (ListCell vs)) = vs
+values_in _ = []
+
+abbrev pub pairs_in : Option Cell → List (Key × Value)
+pairs_in (Some (MapCell es)) = es
+pairs_in _ = []
+
+-- how many entries a list or a map has
+abbrev pub entry_count : Cell → ℕ
+entry_count (ListCell vs) = length vs
+entry_count (MapCell es) = length es
+entry_count _ = 0

@@ -1,0 +1,9 @@
+pub mod ChangesKept
+pub mod Contents
+pub mod Follows
+pub mod HeapKept
+pub mod Marks
+pub mod Refusals
+pub mod Region
+pub mod Soundness
+pub mod ValueTypes
