@@ -14,6 +14,7 @@
 //! What is proved of them stands in `proofs/`: every script has tokens or a lexical fault (`ScriptExistence`), and they
 //! are the only ones (`TokenLaws`) and in order (`TokenOrder`); a script has at most one first fault
 //! (`FirstFaultLaws`); the numbers of a tree are those below its size, each once, and name their parts (`NodeLaws`).
+//! The brackets of a script's tokens nest at most 128 deep (`BracketDepth`, `BracketDepthLaws`).
 //! `TokenExamples`, `CutOffExamples`, `GrammarExamples`, `FaultExamples`, `ScopeExamples` and `NumberExamples` work small
 //! scripts out.
 //! `StepLemmas`, `TreeNodeLaws` and `ScopeLaws` are for the proofs of lexer, numbering and scope check.
