@@ -117,7 +117,7 @@ impl<D: Disk> Journal<D> {
     {
         let mut bytes = zeros(alloc, entry.len as usize)?;
         read_exact(&mut self.disk, entry.at + 5, &mut bytes)?;
-        Ok(Bytes::from(bytes))
+        Ok(Bytes::from_vec(bytes))
     }
 
     /// Adds a record, and answers the new length of the journal. At `Ok` the record is durable: each crash from then

@@ -11,8 +11,8 @@ fn disk(
     fail_at: &[u64],
     stop_at: Option<u64>,
 ) -> Result<MemoryDisk, Fail> {
-    let bytes = Bytes::from(bytes.to_vec(alloc)?);
-    let fail_at = Numbers::from(fail_at.to_vec(alloc)?);
+    let bytes = Bytes::from_slice(alloc, bytes)?;
+    let fail_at = Numbers::from_slice(alloc, fail_at)?;
     Ok(MemoryDisk::new(bytes, fail_at, stop_at))
 }
 

@@ -5,11 +5,11 @@ use Rattle.std.proofs.lemmas.Bool.{cases_lt}
 use Rattle.std.proofs.lemmas.List.{places}
 use Rattle.jp_disk.specs.Images.{IsTornWrite, ImagesStep, IsOnlyImage, WritesNothing, after_write}
 use Rattle.jp_disk.specs.Moments.{TimePasses}
-use Rattle.device_faults.specs.Faults.{Rose, HasCause}
+use Rattle.device_faults.specs.Faults.{Rose, HasCause, counted}
 use Rattle.jp_disk.specs.Medium.{Medium, MayLeave, LeftSince, at_rest, after, after_all}
 use Rattle.jp_disk.specs.ImageLaws.{same_image, whole_write}
 use Rattle.jp_disk.specs.MediumLaws.{reads_image}
-use Rattle.jp_disk.specs.History.{History, medium, images_since, counted, IsOneCall}
+use Rattle.jp_disk.specs.History.{History, medium, images_since, IsOneCall}
 use Rattle.device_faults.specs.declared.faults.Failed.{Failed}
 use Rattle.jp_disk.specs.declared.call.Call.{Call}
 use Rattle.jp_disk.specs.declared.call.Call.TheVariants.{Write, Sync}

@@ -1,5 +1,6 @@
 -- All that happened to a disk in memory, and which of its calls fail.
-use Rattle.std.specs.Prelude.{◌≡◌, ◌⊎◌, ℕ, ◌+◌, ◌-◌, ◌^◌, ◌≤◌, min, max, Bool, false, List, [], ◌∷◌, ◌++◌, length, Contains, Option, IsSomeAnd, unwrap_or, if◌then◌else◌, drop}
+use Rattle.std.specs.Prelude.{◌≡◌, ◌⊎◌, ℕ, ◌≤◌, Bool, false, List, [], ◌∷◌, ◌++◌, length, Contains, Option, IsSomeAnd, unwrap_or, if◌then◌else◌, drop}
+use Rattle.device_faults.specs.Faults.{counted}
 use Rattle.jp_disk.specs.Medium.{Medium, at_rest, after_all, LeftSince, ranges_of}
 use Rattle.jp_disk.specs.declared.call.Call.{Call}
 
@@ -28,10 +29,6 @@ images_since h t image = LeftSince h.calls t (at_rest h.first) image
 -- a disk that no call was made of
 abbrev pub begun : List ℕ → List ℕ → Option ℕ → History
 begun bytes fail_at stop_at = record { first = bytes; calls = []; fail_at = fail_at; stop_at = stop_at; made = 0; faults = 0; refused = 0 }
-
--- one more, where 64 bits hold it
-abbrev pub counted : ℕ → ℕ
-counted n = max n (min (n + 1) (2 ^ 64 - 1))
 
 -- the call of this number is listed, or none is done from it on
 abbrev pub IsListed : List ℕ → Option ℕ → ℕ → Type 0

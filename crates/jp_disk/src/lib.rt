@@ -5,7 +5,7 @@
 //! `MemoryDisk` it meets them:
 //!
 //! ```text
-//! let mut disk = MemoryDisk::new(bytes, Numbers::from(Vec::new(alloc)), Some(4));
+//! let mut disk = MemoryDisk::new(bytes, Numbers::new(alloc), Some(4));
 //! disk.write_at(0, b"abc")?;      // call 1, pending
 //! disk.sync()?;                   // call 2: a crash now leaves what a read gives
 //! disk.write_at(1, b"xyz")?;      // call 3, pending: call 4 and each later one fails
@@ -17,16 +17,18 @@
 //! count of faults rises (`cause`).
 #![tactic(auto)]
 
-mod bytes;
 mod call;
 mod disk;
 mod memory;
 mod tear;
 
-pub use bytes::{Bytes, Numbers};
 pub use call::Call;
 pub use disk::Disk;
 pub use memory::MemoryDisk;
+pub use model_text::Bytes;
+
+/// Numbers of calls.
+pub type Numbers = model_text::Sequence<u64>;
 
 #[cfg(test)]
 mod tests;

@@ -50,12 +50,13 @@ impl MemoryDisk {
     pub fn new(bytes: Bytes, fail_at: Numbers, stop_at: Option<u64>) -> MemoryDisk
         ensures { result ≡ begun bytes fail_at stop_at }
     {
-        let alloc = bytes.allocator();
+        let bytes = bytes.into_vec();
+        let alloc = *bytes.allocator();
         MemoryDisk {
             alloc,
             first: None,
             synced: None,
-            bytes,
+            bytes: Bytes::from_vec(bytes),
             calls: Vec::new(alloc),
             settled: 0,
             fail_at,
@@ -129,6 +130,6 @@ impl MemoryDisk {
         if let Some(synced) = &synced {
             crash_image(&mut image, synced.as_slice(), &calls[settled..], choice);
         }
-        MemoryDisk::new(Bytes::from(image), Numbers::from(Vec::new(alloc)), None)
+        MemoryDisk::new(Bytes::from_vec(image), Numbers::new(alloc), None)
     }
 }

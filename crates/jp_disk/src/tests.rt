@@ -11,8 +11,8 @@ fn disk(
     fail_at: &[u64],
     stop_at: Option<u64>,
 ) -> Result<MemoryDisk, Fail> {
-    let bytes = Bytes::from(bytes.to_vec(alloc)?);
-    let fail_at = Numbers::from(fail_at.to_vec(alloc)?);
+    let bytes = Bytes::from_slice(alloc, bytes)?;
+    let fail_at = Numbers::from_slice(alloc, fail_at)?;
     Ok(MemoryDisk::new(bytes, fail_at, stop_at))
 }
 
@@ -37,7 +37,7 @@ fn listed_calls_fail_and_all_from_the_stop_on(rt: HostRuntime) -> Result<(), Fai
     let kept = format!(in rt.alloc(); "{:?}", disk.calls())?;
     assert!(rt;
         kept.as_str()
-            .starts_with("[Len { done: true }, Write { at: 1, bytes: Bytes")
+            .starts_with("[Len { done: true }, Write { at: 1, bytes: Sequence")
     );
     assert_eq!(rt; disk.calls().len(), 6);
     Ok(())

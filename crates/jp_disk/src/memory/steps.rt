@@ -2,7 +2,8 @@
 ghost use Rattle.std.specs.Prelude.{◌≡◌, ◌⊎◌, ◌≤◌, ◌↔◌, [], ◌∷◌, ◌++◌, List, ℕ, length, IfOk, OnOk, OnErr, IsOk, MatchResult, true, false, IsTrue, unwrap_or, is_ok};
 ghost use Rattle.jp_disk.specs.Images.{after_write};
 ghost use Rattle.jp_disk.specs.Medium.{IsQuiet};
-ghost use Rattle.jp_disk.specs.History.{medium, counted, IsListed, IsOneCall};
+ghost use Rattle.device_faults.specs.Faults.{counted};
+ghost use Rattle.jp_disk.specs.History.{medium, IsListed, IsOneCall};
 
 use crate::memory::MemoryDisk;
 use crate::{Bytes, Call};
@@ -49,9 +50,9 @@ impl MemoryDisk {
         keep_copy(self.alloc, &mut self.first, &self.bytes)?;
         keep_copy(self.alloc, &mut self.synced, &self.bytes)?;
         let next = overlay(self.alloc, self.bytes.as_slice(), at as usize, bytes)?;
-        let bytes = Bytes::from(bytes.to_vec(self.alloc)?);
+        let bytes = Bytes::from_slice(self.alloc, bytes)?;
         self.calls.push(Call::Write { at, bytes, done })?;
-        self.bytes = Bytes::from(next);
+        self.bytes = Bytes::from_vec(next);
         Ok(())
     }
 
@@ -139,7 +140,7 @@ fn keep_copy(alloc: Global, copy: &mut Option<Bytes>, bytes: &Bytes) -> Result<(
     ensures kept { OnOk result ((later : List ℕ) → unwrap_or copy.new later ≡ unwrap_or copy.old bytes.now) }
 {
     if copy.is_none() {
-        *copy = Some(Bytes::from(bytes.as_slice().to_vec(alloc)?));
+        *copy = Some(Bytes::from_slice(alloc, bytes.as_slice())?);
     }
     Ok(())
 }

@@ -17,4 +17,4 @@ returns-clause-payload g c ps k held is =
     let kept : length buf ≡ c.in_ok-bytes.bytes.len = c.read_exact.auto.buf ∙ c.deref_mut.ensures.len in
     let place : h.0 + 5 ≡ e.at + 5 = omega (arith, h.1) in
     h.2 ∙ ap (λ (l : List ℕ). Some l) (ap (λ (n : ℕ). take e.len (drop n file)) place ∙ ap (λ (n : ℕ). take n (drop (e.at + 5) file)) (sym size) ∙ sym bytes
-    ∙ sym (c.from.ensures ∙ take_at buf (drop (length buf) c.in_ok-bytes.bytes.items) c.in_ok-bytes.bytes.len kept))
+    ∙ sym (c.from_vec.ensures ∙ take_at buf (drop (length buf) c.in_ok-bytes.bytes.items) c.in_ok-bytes.bytes.len kept))
