@@ -5,6 +5,7 @@ use Rattle.model_syntax.specs.declared.place.Declared.{Declared}
 use Rattle.model_syntax.specs.declared.tree.Arguments.{Arguments}
 use Rattle.model_syntax.specs.declared.tree.Arm.{Arm}
 use Rattle.model_syntax.specs.declared.tree.Catch.{Catch}
+use Rattle.model_syntax.specs.declared.tree.Assignment.{Assignment}
 use Rattle.model_syntax.specs.declared.tree.Choice.{Choice}
 use Rattle.model_syntax.specs.declared.tree.Entry.{Entry}
 use Rattle.model_syntax.specs.declared.tree.NewClass.{NewClass}
@@ -28,7 +29,7 @@ pub data Form : Type 0 where
   built : Form
   other : Form
 
-abbrev form_step : Expr-F Choice Entry Expr Part Stmt Suffix Target Arguments Arm Catch Operand → Form
+abbrev form_step : Expr-F Assignment Choice Entry Expr Part Stmt Suffix Target Arguments Arm Catch Operand → Form
 form_step (Expr-F.GString ps) = text
 form_step (Expr-F.Group e) = group
 form_step (Expr-F.Prefixed ps e) = built

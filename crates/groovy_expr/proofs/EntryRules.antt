@@ -20,11 +20,11 @@ use Rattle.model_syntax.proofs.GrammarLemmas.{expr_begins, begins_expr}
 use Rattle.groovy_expr.specs.declared.refusal.Refusal.{Refusal}
 use Rattle.groovy_expr.specs.Answers.{Rule, Stops, Exact, Refused, Reads}
 use Rattle.groovy_expr.specs.Stops.{stops_expr, stops_primary, stops_closed, stops_part}
-use Rattle.groovy_expr.specs.Firsts.{begins_primary, begins_suffix, begins_part, SeesKey}
+use Rattle.groovy_expr.specs.Firsts.{begins_suffix, begins_part, SeesKey}
 use Rattle.groovy_expr.proofs.Calculus.{Tok, Sub, Never, Fill, Tail, Turns, IsByToken, by, tail_start, tail_both, tail_end, tail_fails, tail_sub, sub_fails, tok_bad, refused_here, passed, turn_ok, turn_bad}
 use Rattle.groovy_expr.proofs.Lists.{IsSeparated, last_item, next_item, item_fails, tail_push}
 use Rattle.groovy_expr.proofs.Steps.{Map, Joins, step_turn, step_tok, step_map}
-use Rattle.groovy_expr.proofs.FirstTokens.{fill_rank, gstring_first, suffix_first}
+use Rattle.groovy_expr.proofs.FirstTokens.{begins_primary, fill_rank, gstring_first, suffix_first}
 use Rattle.groovy_expr.proofs.CallRules.{nonempty}
 use Rattle.groovy_expr.proofs.TextRules.{part_first}
 use Rattle.groovy_expr.proofs.PrimaryRules.{Whole, primary_bad, closure_ok, closure_fails}

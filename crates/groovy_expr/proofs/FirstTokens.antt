@@ -1,6 +1,7 @@
 -- What rules begin with, and the shortest spelling of an expression.
-use Rattle.std.proofs.Common.{◌≡◌, ℕ, ◌+◌, Bool, true, List, [], ◌∷◌, refl, sym, ap, ◌∙◌, subst, Option, Some, pos}
+use Rattle.std.proofs.Common.{◌≡◌, ℕ, ◌+◌, Bool, true, false, List, [], ◌∷◌, refl, sym, ap, ◌∙◌, subst, Option, Some, pos}
 use Rattle.model_syntax.specs.declared.sign.Sign.TheVariants as sign
+use Rattle.model_syntax.specs.declared.word.Word.TheVariants as word
 use Rattle.model_syntax.specs.declared.token.TokenKind.{TokenKind}
 use Rattle.model_syntax.specs.declared.token.TokenKind.TheVariants as kind
 use Rattle.model_syntax.specs.declared.tree.Expr.{Expr}
@@ -12,8 +13,23 @@ use Rattle.model_syntax.specs.Stream.{Stream, Places}
 use Rattle.model_syntax.specs.Operators.{by_or, by_and, by_equality, by_order, by_range, by_sum, by_product, Rank, rank_whole, rank_chain, rank_pair, rank_terms, rank_unary}
 use Rattle.model_syntax.specs.Grammar.{IsExpr, whole, chain, pair_alone, terms, unary, choices_none, chain_end, terms_end, prefixes_none, Suffixes, suffixes_none, suffixes_property, suffixes_method, suffixes_index, dot, safe_dot, IsPrimary, primary_number, primary_text, primary_gstring, primary_true, primary_false, primary_null, primary_name, primary_call, primary_group, primary_no_list, primary_list, primary_no_map, primary_map, primary_closure, primary_new, primary_new_with, IsGString, gstring, IsClosure, closure_headed, closure_plain, IsCall, call_empty, call_some, call_closure}
 use Rattle.groovy_expr.specs.Answers.{Stops}
-use Rattle.groovy_expr.specs.Firsts.{begins_primary, begins_suffix, opens_call}
+use Rattle.groovy_expr.specs.Firsts.{begins_suffix, opens_call}
 use Rattle.groovy_expr.proofs.Calculus.{Fill}
+
+-- what a primary begins with
+abbrev pub begins_primary : Option TokenKind → Bool
+begins_primary (Some (kind.Name n)) = true
+begins_primary (Some (kind.Int v)) = true
+begins_primary (Some (kind.Text t)) = true
+begins_primary (Some kind.GStringOpen) = true
+begins_primary (Some (kind.Word word.True)) = true
+begins_primary (Some (kind.Word word.False)) = true
+begins_primary (Some (kind.Word word.Null)) = true
+begins_primary (Some (kind.Word word.New)) = true
+begins_primary (Some (kind.Sign sign.ParenOpen)) = true
+begins_primary (Some (kind.Sign sign.BracketOpen)) = true
+begins_primary (Some (kind.Sign sign.BraceOpen)) = true
+begins_primary t = false
 
 begun : (f : Option TokenKind → Bool) {x k : Option TokenKind} → f k ≡ true → x ≡ k → f x ≡ true
 begun f p e = ap f e ∙ p

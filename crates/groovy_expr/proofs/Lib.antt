@@ -29,3 +29,5 @@ pub mod StatementFors
 pub mod StatementTests
 pub mod StatementOthers
 pub mod ParserRules
+pub mod OneAnswer
+pub mod DepthLaws

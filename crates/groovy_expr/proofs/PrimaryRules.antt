@@ -16,10 +16,10 @@ use Rattle.model_syntax.specs.Grammar.{IsExpr, MayComma, no_comma, comma_behind,
 use Rattle.groovy_expr.specs.Answers.{Rule, Exact, Refused}
 use Rattle.groovy_expr.specs.Brackets.{BracketRest, rest_end, rest_comma, rest_more}
 use Rattle.groovy_expr.specs.Stops.{stops_expr, stops_primary, stops_closed}
-use Rattle.groovy_expr.specs.Firsts.{begins_primary, opens_call}
+use Rattle.groovy_expr.specs.Firsts.{opens_call}
 use Rattle.groovy_expr.proofs.Calculus.{Tok, Ret, Sub, Never, Tail, IsByToken, by, tail_both, tail_end, tail_fails, tail_sub, sub_fails, ret, tok_ok, tok_bad, refused_here, fill_ret, alike, Alt, fills_ret, stronger_ok, stronger_fails}
 use Rattle.groovy_expr.proofs.Steps.{Map, Joins, joins_tok, step_turn, step_tok, step_map, Take}
-use Rattle.groovy_expr.proofs.FirstTokens.{fill_primary, primary_first, gstring_first, closure_first}
+use Rattle.groovy_expr.proofs.FirstTokens.{begins_primary, fill_primary, primary_first, gstring_first, closure_first}
 use Rattle.groovy_expr.proofs.SuffixRules.{NameCall, no_call, to_call}
 
 module _ (P : Places) where

@@ -10,15 +10,19 @@ use Rattle.model_syntax.specs.declared.word.Word.TheVariants as word
 use Rattle.model_syntax.specs.declared.token.TokenKind.{TokenKind}
 use Rattle.model_syntax.specs.declared.token.TokenKind.TheVariants as kind
 use Rattle.model_syntax.specs.declared.tree.Access.TheVariants.{Direct, NullSafe}
+use Rattle.model_syntax.specs.declared.tree.Assignment.{Assignment}
+use Rattle.model_syntax.specs.declared.tree.Assignment.TheVariants as assignment
 use Rattle.model_syntax.specs.declared.tree.Expr.{Expr}
 use Rattle.model_syntax.specs.declared.tree.Expr.TheVariants as expr
+use Rattle.model_syntax.specs.declared.tree.Init.{Init}
+use Rattle.model_syntax.specs.declared.tree.Init.TheVariants as init
 use Rattle.model_syntax.specs.declared.tree.Stmt.{Stmt}
 use Rattle.model_syntax.specs.declared.tree.Stmt.TheVariants as stmt
 use Rattle.model_syntax.specs.declared.tree.Suffix.TheVariants.{Property, Index}
 use Rattle.model_syntax.specs.declared.tree.Target.TheVariants.{ToName}
 use Rattle.model_syntax.specs.Stream.{Stream, Places, Sees, SeesWord, SeesName, declared}
 use Rattle.model_syntax.specs.Lookahead.{is_name, begins_argument}
-use Rattle.model_syntax.specs.Operators.{rank_whole}
+use Rattle.model_syntax.specs.Operators.{rank_whole, for_steps}
 use Rattle.model_syntax.specs.Grammar.{SeesType, type_def, type_name, dot, safe_dot, no_break, IsExpr, primary_number, Suffixes, suffixes_none, suffixes_property, suffixes_index, IsWhole, whole_expr, target_name, IsAssign, assign_up, IsInit, init_declare, init_assign, IsEach, each_plain, each_typed, block, stmts_none, no_separator, body_block}
 use Rattle.model_syntax.proofs.GrammarLemmas.{just, begins_expr, assign_begins}
 use Rattle.groovy_expr.specs.Answers.{Rule, Stops, Agrees, Before, Stands, Inside, Exact, Refused}
@@ -30,7 +34,7 @@ use Rattle.groovy_expr.proofs.Calculus.{alike, Ret, Sub, Alt, Leads, leads_tok, 
 use Rattle.groovy_expr.proofs.StatementCalculus.{FirstIn, a_name, inside_token, long, exact_less, refused_less, IsRule, rule_ok, rule_bad}
 use Rattle.groovy_expr.proofs.StatementLookahead.{cut, cut_low, cut_high, name_expr}
 use Rattle.groovy_expr.proofs.StatementWhole.{Expression, Whole, name_is}
-use Rattle.groovy_expr.proofs.StatementSimple.{Assignment, assign_in, assign_second, update_begins, fill_expr}
+use Rattle.groovy_expr.proofs.StatementSimple.{Assigning, assign_in, assign_second, update_begins, fill_expr}
 use Rattle.groovy_expr.proofs.StatementBlocks.{Statement, Behind, Heads, heads_fails, heads_bad, heads_ok, behind_begins, is_close}
 use Rattle.groovy_expr.proofs.StatementIfs.{AnInit, StepsEnd, StepsUpdate, StepsTest, StepsLoop, EachLoop, stmt_by, stmt_body_stops}
 
@@ -103,11 +107,11 @@ type_along e (type_def w) = type_def (e ∙ w)
 type_along e (type_name w) = type_name (e ∙ w)
 
 -- no assignment begins with a type and a name
-no_typed_assign : {J : Stream} {P : Places} {n : List ℕ} {y : Stmt} {a b : ℕ} → SeesType J a → SeesName J (a + 1) n → IsAssign J P y a b → ⊥
+no_typed_assign : {J : Stream} {P : Places} {n : List ℕ} {y : Assignment} {a b : ℕ} → SeesType J a → SeesName J (a + 1) n → IsAssign J P y a b → ⊥
 no_typed_assign (type_def w) g r = false≢true (sym (ap begins_expr w) ∙ assign_begins r)
 no_typed_assign (type_name w) g r = assign_second r (ap is_name w) (ap begins_argument g)
 
--- the first statement of a `for` with steps
+-- the first part of a `for` with steps
 abbrev pub begins_init : Option TokenKind → Bool
 begins_init (Some (kind.Word word.Def)) = true
 begins_init t = begins_expr t
@@ -121,11 +125,11 @@ init_begins P J y a b (init_declare (type_def w) n s e) = ap begins_init w
 init_begins P J y a b (init_declare (type_name w) n s e) = ap begins_init w
 init_begins P J y a b (init_assign r) = expr_init (J a) (assign_begins r)
 
-abbrev pub declares : List ℕ → Places → ℕ → Expr → Stmt
-declares n P a e = stmt.Declare (declared n (P (a + 1))) (Some e)
+abbrev pub declares : List ℕ → Places → ℕ → Expr → Init
+declares n P a e = init.Declare (declared n (P (a + 1))) e
 
 -- a name `x`, and `x++`
-init_value : (J : Stream) (P : Places) {n : List ℕ} {a e : ℕ} → SeesType J a → SeesName J (a + 1) n → Stands J (a + 1 + 1) (kind.Sign sign.Assign ∷ kind.Int (pos 0) ∷ []) e → (y : Stmt) × IsInit J P y a e
+init_value : (J : Stream) (P : Places) {n : List ℕ} {a e : ℕ} → SeesType J a → SeesName J (a + 1) n → Stands J (a + 1 + 1) (kind.Sign sign.Assign ∷ kind.Int (pos 0) ∷ []) e → (y : Init) × IsInit J P y a e
 init_value J P {n} {a} {e} t g st = (declares n P a (expr.Number (pos 0)), subst (λ k. IsInit J P (declares n P a (expr.Number (pos 0))) a k) (sym st.1.1) (init_declare t g st.0 (whole_expr (rw st.1.0 refl) (just (primary_number st.1.0)))))
 
 module _ (K : Stream) (P : Places) {at : ℕ} where
@@ -140,7 +144,7 @@ module _ (K : Stream) (P : Places) {at : ℕ} where
     };
   }
     where
-      never : {J : Stream} {y : Stmt} {b : ℕ} → Agrees (at + 1) J K → IsInit J P y at b → ⊥
+      never : {J : Stream} {y : Init} {b : ℕ} → Agrees (at + 1) J K → IsInit J P y at b → ⊥
       never same (init_declare t n s e) = f _ (sym (same (at + 1) (le_refl (at + 1))) ∙ n)
       never {J} same (init_assign r) = false≢true (sym (ap begins_expr (same at (omega arith) ∙ h)) ∙ assign_begins r)
 
@@ -163,12 +167,12 @@ module _ (K : Stream) (P : Places) {at : ℕ} where
       };
     }
       where
-        never : {J : Stream} {y : Stmt} {b : ℕ} → Agrees (at + 1 + 1) J K → IsInit J P y at b → ⊥
+        never : {J : Stream} {y : Init} {b : ℕ} → Agrees (at + 1 + 1) J K → IsInit J P y at b → ⊥
         never same (init_declare u m s e) = f (sym (same (at + 1 + 1) (le_refl (at + 1 + 1))) ∙ s)
         never {J} same (init_assign r) = no_typed_assign (type_along (same at (omega arith)) t) (same (at + 1) (omega arith) ∙ g) r
 
     module _ (s : Sees K (at + 1 + 1) sign.Assign) where
-      init_is : {J : Stream} {y : Stmt} {b i : ℕ} → at + 1 + 1 ≤ i → Agrees i J K → IsInit J P y at b → (e : Expr) × IsWhole J P e (at + 1 + 1 + 1) b × (y ≡ declares n P at e)
+      init_is : {J : Stream} {y : Init} {b i : ℕ} → at + 1 + 1 ≤ i → Agrees i J K → IsInit J P y at b → (e : Expr) × IsWhole J P e (at + 1 + 1 + 1) b × (y ≡ declares n P at e)
       init_is le same (init_declare {n = m} {e = e} u k z w) = (e, w, ap (λ x. declares x P at e) (same_name m n (sym k ∙ same (at + 1) (omega arith) ∙ g)))
         where
           same_name : (n m : List ℕ) → Some (kind.Name n) ≡ Some (kind.Name m) → n ≡ m
@@ -196,33 +200,36 @@ module _ (K : Stream) (P : Places) {at : ℕ} where
 
   -- no type and name stand there
   module _ (f : SeesWord K at word.Def → ⊥) (h : is_name (K at) ≡ true → is_name (K (at + 1)) ≡ true → ⊥) where
-    init_assigns : {J : Stream} {y : Stmt} {b i : ℕ} → at ≤ i → (is_name (K at) ≡ true → at + 1 ≤ i) → Agrees i J K → IsInit J P y at b → IsAssign J P y at b
-    init_assigns le far same (init_assign r) = r
+    init_assigns : {J : Stream} {y : Init} {b i : ℕ} → at ≤ i → (is_name (K at) ≡ true → at + 1 ≤ i) → Agrees i J K → IsInit J P y at b → (u : Assignment) × IsAssign J P u at b × (y ≡ init.Assign u)
+    init_assigns le far same (init_assign r) = (_, r, refl)
     init_assigns le far same (init_declare (type_def w) n s e) = absurd (f (sym (same at le) ∙ w))
     init_assigns le far same (init_declare (type_name w) n s e) =
         let k : is_name (K at) ≡ true = ap is_name (sym (same at le) ∙ w) in
         absurd (h k (ap is_name (sym (same (at + 1) (far k)) ∙ n)))
 
-    pub init_assign_ok : {y : Stmt} {m : ℕ} → Exact (Assignment P) stops_simple K at y m → Exact (AnInit P) stops_simple K at y m
+    pub init_assign_ok : {y : Assignment} {m : ℕ} → Exact (Assigning P) stops_simple K at y m → Exact (AnInit P) stops_simple K at (init.Assign y) m
     init_assign_ok {y} {m} e = let lt = long begins_expr (λ J x a b r. assign_begins r) refl refl e in record {
       after = e.after;
       inside = e.inside;
       spelled = λ J same so. init_assign (e.spelled J same so);
-      only = λ J x b same r st. e.only J x b same (init_assigns e.after (λ k. omega arith) same r) st;
+      only = λ J x b same r st.
+          let q = init_assigns e.after (λ k. omega arith) same r in
+          let o = e.only J q.0 b same q.1 st in
+          (q.2 ∙ ap init.Assign o.0, o.1);
     }
 
-    pub init_assign_fails : {i : ℕ} → Refused (Assignment P) stops_simple K at i → Refused (AnInit P) stops_simple K at i
+    pub init_assign_fails : {i : ℕ} → Refused (Assigning P) stops_simple K at i → Refused (AnInit P) stops_simple K at i
     init_assign_fails {i} d = record {
       from = d.from;
       inside = d.inside;
-      never = λ J x b same r st. d.never J x b same (init_assigns d.from past_name same r) st;
-      viable = viable_more (alike _) (λ J e same so v. (v.0, init_assign v.1)) d.viable;
+      never = λ J x b same r st. let q = init_assigns d.from past_name same r in d.never J q.0 b same q.1 st;
+      viable = viable_more (alike _) (λ J e same so v. (init.Assign v.0, init_assign v.1)) d.viable;
     }
       where
         past_name : is_name (K at) ≡ true → at + 1 ≤ i
         past_name k =
             let m = name_is (K at) k in
-            goes_past at (kind.Sign sign.Increment ∷ []) refl (λ J same e st end. (stmt.Increment (ToName m.0), subst (λ z. IsAssign J P (stmt.Increment (ToName m.0)) at z) (sym st.1) (assign_up (target_name (same at (le_refl at) ∙ m.1)) st.0))) d
+            goes_past at (kind.Sign sign.Increment ∷ []) refl (λ J same e st end. (assignment.Increment (ToName m.0), subst (λ z. IsAssign J P (assignment.Increment (ToName m.0)) at z) (sym st.1) (assign_up (target_name (same at (le_refl at) ∙ m.1)) st.0))) d
 
 -- `for` with steps
 abbrev pub Steps : Places → Rule Stmt
@@ -243,10 +250,10 @@ semicolon_expr = refl
 test_leads : (P : Places) → Leads (StepsTest P) stops_simple stops_body
 test_leads P = leads_tok stops_simple stops_body (λ i. kind.Sign sign.Semicolon) (λ i. Sub (Expression P) (StepsUpdate P i)) (λ i. refl)
 
-update_leads : (P : Places) (i : Stmt) → Leads (StepsUpdate P i) stops_expr stops_body
-update_leads P i = leads_tok stops_expr stops_body (λ e. kind.Sign sign.Semicolon) (λ e. Sub (Assignment P) (StepsEnd P i e)) (λ e. refl)
+update_leads : (P : Places) (i : Init) → Leads (StepsUpdate P i) stops_expr stops_body
+update_leads P i = leads_tok stops_expr stops_body (λ e. kind.Sign sign.Semicolon) (λ e. Sub (Assigning P) (StepsEnd P i e)) (λ e. refl)
 
-end_leads : (P : Places) (i : Stmt) (e : Expr) → Leads (StepsEnd P i e) stops_simple stops_body
+end_leads : (P : Places) (i : Init) (e : Expr) → Leads (StepsEnd P i e) stops_simple stops_body
 end_leads P i e u J y a b r st = by_close (J a) (behind_begins P J r.0 a r.1 r.2)
   where
     by_close : (t : Option TokenKind) → is_close t ≡ true → stops_simple t ≡ true
@@ -256,24 +263,24 @@ end_leads P i e u J y a b r st = by_close (J a) (behind_begins P J r.0 a r.1 r.2
 body_leads : (f : List Stmt → Stmt) → Leads (λ ss. Ret (f ss)) stops_body stops_body
 body_leads f = leads_ret stops_body stops_body f (alike _)
 
-fill_assign : (P : Places) → Fill (Assignment P) stops_simple
+fill_assign : (P : Places) → Fill (Assigning P) stops_simple
 fill_assign P = record {
   tokens = kind.Name a_name ∷ kind.Sign sign.Increment ∷ [];
-  fills = λ J a e st so. (stmt.Increment (ToName a_name), subst (λ z. IsAssign J P (stmt.Increment (ToName a_name)) a z) (sym st.1.1) (assign_up (target_name st.0) st.1.0));
+  fills = λ J a e st so. (assignment.Increment (ToName a_name), subst (λ z. IsAssign J P (assignment.Increment (ToName a_name)) a z) (sym st.1.1) (assign_up (target_name st.0) st.1.0));
 }
 
-end_fills : (P : Places) (i : Stmt) (e : Expr) → Fills (StepsEnd P i e) stops_simple stops_body
+end_fills : (P : Places) (i : Init) (e : Expr) → Fills (StepsEnd P i e) stops_simple stops_body
 end_fills P i e = record {
   tokens = kind.Sign sign.ParenClose ∷ kind.Sign sign.BraceOpen ∷ kind.Sign sign.BraceClose ∷ [];
-  fills = λ u J a b st so. (stmt.ForSteps i e u [], ([], _, behind_head st.0 no_break (body_block (block st.1.0 (stmts_none no_separator) st.1.1.0)), (refl, st.1.1.1)));
+  fills = λ u J a b st so. (for_steps i e u [], ([], _, behind_head st.0 no_break (body_block (block st.1.0 (stmts_none no_separator) st.1.1.0)), (refl, st.1.1.1)));
   ends = λ J a b st so. ap stops_simple st.0;
 }
 
-update_fills : (P : Places) (i : Stmt) → Fills (StepsUpdate P i) stops_expr stops_body
+update_fills : (P : Places) (i : Init) → Fills (StepsUpdate P i) stops_expr stops_body
 update_fills P i = record {
   tokens = kind.Sign sign.Semicolon ∷ kind.Name a_name ∷ kind.Sign sign.Increment ∷ kind.Sign sign.ParenClose ∷ kind.Sign sign.BraceOpen ∷ kind.Sign sign.BraceClose ∷ [];
   fills = λ e J a b st so. (
-    stmt.ForSteps i e (stmt.Increment (ToName a_name)) [],
+    for_steps i e (assignment.Increment (ToName a_name)) [],
     (
       st.0,
       (
@@ -291,9 +298,9 @@ update_fills P i = record {
 abbrev rest_tokens : List TokenKind
 rest_tokens = kind.Sign sign.Semicolon ∷ kind.Int (pos 0) ∷ kind.Sign sign.Semicolon ∷ kind.Name a_name ∷ kind.Sign sign.Increment ∷ kind.Sign sign.ParenClose ∷ kind.Sign sign.BraceOpen ∷ kind.Sign sign.BraceClose ∷ []
 
-test_of : (P : Places) (i : Stmt) (J : Stream) (a b : ℕ) → Stands J a rest_tokens b → (y : Stmt) × StepsTest P i J y a b
+test_of : (P : Places) (i : Init) (J : Stream) (a b : ℕ) → Stands J a rest_tokens b → (y : Stmt) × StepsTest P i J y a b
 test_of P i J a b st = (
-  stmt.ForSteps i (expr.Number (pos 0)) (stmt.Increment (ToName a_name)) [],
+  for_steps i (expr.Number (pos 0)) (assignment.Increment (ToName a_name)) [],
   (
     st.0,
     (
@@ -324,7 +331,7 @@ module _ (K : Stream) (P : Places) {at : ℕ} where
   pub steps_init_fails : {i : ℕ} → Refused (AnInit P) stops_simple K at i → Refused (Steps P) stops_body K at i
   steps_init_fails f = rule_bad (steps_rule P) (sub_fails K (test_leads P) (test_fills P) f)
 
-  module _ {i : Stmt} {k : ℕ} (e : Exact (AnInit P) stops_simple K at i k) where
+  module _ {i : Init} {k : ℕ} (e : Exact (AnInit P) stops_simple K at i k) where
     pub steps_no_test : (Sees K k sign.Semicolon → ⊥) → Refused (Steps P) stops_body K at k
     steps_no_test h = rule_bad (steps_rule P) (sub_bad K (test_leads P) e (tok_bad stops_body K (fill_sub (fill_expr P stops_expr) (update_fills P i)) h))
 
@@ -337,15 +344,15 @@ module _ (K : Stream) (P : Places) {at : ℕ} where
         steps_no_update h = rule_bad (steps_rule P) (sub_bad K (test_leads P) e (tok_fails stops_body K s (sub_bad K (update_leads P i) d (tok_bad stops_body K (fill_sub (fill_assign P) (end_fills P i x)) h))))
 
         module _ (t : Sees K l sign.Semicolon) where
-          pub steps_update_fails : {j : ℕ} → Refused (Assignment P) stops_simple K (l + 1) j → Refused (Steps P) stops_body K at j
+          pub steps_update_fails : {j : ℕ} → Refused (Assigning P) stops_simple K (l + 1) j → Refused (Steps P) stops_body K at j
           steps_update_fails f = rule_bad (steps_rule P) (sub_bad K (test_leads P) e (tok_fails stops_body K s (sub_bad K (update_leads P i) d (tok_fails stops_body K t (sub_fails K (end_leads P i x) (end_fills P i x) f)))))
 
-          module _ {u : Stmt} {m : ℕ} (g : Exact (Assignment P) stops_simple K (l + 1) u m) where
+          module _ {u : Assignment} {m : ℕ} (g : Exact (Assigning P) stops_simple K (l + 1) u m) where
             pub steps_behind_fails : {j : ℕ} → Refused (Behind P) stops_body K m j → Refused (Steps P) stops_body K at j
-            steps_behind_fails f = rule_bad (steps_rule P) (sub_bad K (test_leads P) e (tok_fails stops_body K s (sub_bad K (update_leads P i) d (tok_fails stops_body K t (sub_bad K (end_leads P i x) g (sub_fails K (body_leads (stmt.ForSteps i x u)) (fills_ret (stmt.ForSteps i x u) (alike _)) f))))))
+            steps_behind_fails f = rule_bad (steps_rule P) (sub_bad K (test_leads P) e (tok_fails stops_body K s (sub_bad K (update_leads P i) d (tok_fails stops_body K t (sub_bad K (end_leads P i x) g (sub_fails K (body_leads (for_steps i x u)) (fills_ret (for_steps i x u) (alike _)) f))))))
 
-            pub steps_ok : {ss : List Stmt} {n : ℕ} → Exact (Behind P) stops_body K m ss n → Exact (Steps P) stops_body K at (stmt.ForSteps i x u ss) n
-            steps_ok f = rule_ok (steps_rule P) (sub_ok K (test_leads P) e (tok_ok stops_body K s (sub_ok K (update_leads P i) d (tok_ok stops_body K t (sub_ok K (end_leads P i x) g (sub_ok K (body_leads (stmt.ForSteps i x u)) f (ret stops_body K _ _)))))))
+            pub steps_ok : {ss : List Stmt} {n : ℕ} → Exact (Behind P) stops_body K m ss n → Exact (Steps P) stops_body K at (for_steps i x u ss) n
+            steps_ok f = rule_ok (steps_rule P) (sub_ok K (test_leads P) e (tok_ok stops_body K s (sub_ok K (update_leads P i) d (tok_ok stops_body K t (sub_ok K (end_leads P i x) g (sub_ok K (body_leads (for_steps i x u)) f (ret stops_body K _ _)))))))
 
 -- `for` through values
 abbrev pub Each : Places → Declared → Rule Stmt
@@ -447,18 +454,18 @@ head_once {J} {P} {d} {f} {a} (each_head_typed {n = n} t k w) (each_head_typed {
     same_name n m e = cc
 
 -- behind a name that is all of an expression stands the sign of an assignment
-assign_after_name : {J : Stream} {P : Places} {y : Stmt} {a b : ℕ} → IsAssign J P y a b → is_name (J a) ≡ true → stops_expr (J (a + 1)) ≡ true → is_update (J (a + 1)) ≡ true
+assign_after_name : {J : Stream} {P : Places} {y : Assignment} {a b : ℕ} → IsAssign J P y a b → is_name (J a) ≡ true → stops_expr (J (a + 1)) ≡ true → is_update (J (a + 1)) ≡ true
 assign_after_name {J} {P} {y} {a} r n st =
     let q = assign_in r in
     let o = name_expr q.2 (name_is (J a) n).1 st in
     ap (λ k. is_update (J k)) (sym o.1) ∙ update_begins q.3.2
 
 -- behind such a head no first statement of steps stands
-head_no_init : {J : Stream} {P : Places} {d : Declared} {y : Stmt} {a v b : ℕ} → EachHead J P d a v → IsInit J P y a b → ⊥
+head_no_init : {J : Stream} {P : Places} {d : Declared} {y : Init} {a v b : ℕ} → EachHead J P d a v → IsInit J P y a b → ⊥
 head_no_init (each_head_plain k w) (init_declare t n s e) = name_in n w
 head_no_init {J} {P} {d} {y} {a} (each_head_plain k w) (init_assign r) = assign_in_clash r k w
   where
-    assign_in_clash : {y : Stmt} {n : List ℕ} {b : ℕ} → IsAssign J P y a b → SeesName J a n → SeesWord J (a + 1) word.In → ⊥
+    assign_in_clash : {y : Assignment} {n : List ℕ} {b : ℕ} → IsAssign J P y a b → SeesName J a n → SeesWord J (a + 1) word.In → ⊥
     assign_in_clash r k w = no_update (J (a + 1)) w (assign_after_name r (ap is_name k) (ap stops_expr w))
       where
         no_update : (t : Option TokenKind) → t ≡ Some (kind.Word word.In) → is_update t ≡ true → ⊥

@@ -5,8 +5,8 @@ use Rattle.model_syntax.specs.declared.sign.Sign.TheVariants as sign
 use Rattle.model_syntax.specs.declared.token.TokenKind.{TokenKind}
 use Rattle.model_syntax.specs.declared.token.TokenKind.TheVariants as kind
 use Rattle.model_syntax.specs.declared.tree.Expr.{Expr}
-use Rattle.model_syntax.specs.declared.tree.Stmt.{Stmt}
-use Rattle.model_syntax.specs.declared.tree.Stmt.TheVariants as stmt
+use Rattle.model_syntax.specs.declared.tree.Assignment.{Assignment}
+use Rattle.model_syntax.specs.declared.tree.Assignment.TheVariants as assignment
 use Rattle.model_syntax.specs.declared.tree.Suffix.{Suffix}
 use Rattle.model_syntax.specs.declared.tree.Target.{Target}
 use Rattle.model_syntax.specs.declared.tree.Target.TheVariants.{ToProperty}
@@ -21,7 +21,7 @@ use Rattle.groovy_expr.specs.Firsts.{begins_suffix}
 use Rattle.groovy_expr.proofs.Calculus.{alike, viable_more, inside_both, shorter, before, split}
 use Rattle.groovy_expr.proofs.StatementCalculus.{FirstIn, a_name, long}
 use Rattle.groovy_expr.proofs.StatementTargets.{target_expr, suffixes_append, suffixed_is, first_suffix}
-use Rattle.groovy_expr.proofs.StatementSimple.{Update, Assignment, AssignEnd, update_begins, update_out}
+use Rattle.groovy_expr.proofs.StatementSimple.{Update, Assigning, AssignEnd, update_begins, update_out}
 use Rattle.groovy_expr.proofs.StatementFors.{past_suffix}
 
 abbrev pub Primary : Places → Rule Expr
@@ -73,7 +73,7 @@ suffixes_stop {J} [] r u = update_primary (J _) (ap (λ k. is_update (J k)) (sym
 suffixes_stop {J} (s ∷ ss) r u = suffix_primary (J _) (suffix_first r)
 
 -- an assignment is a primary with suffixes, and an update of what they write to
-pub record Operated (J : Stream) (P : Places) (y : Stmt) (a b : ℕ) : Type 0 where
+pub record Operated (J : Stream) (P : Places) (y : Assignment) (a b : ℕ) : Type 0 where
   pub primary : Expr
   pub suffixes : List Suffix
   pub middle : ℕ
@@ -82,10 +82,10 @@ pub record Operated (J : Stream) (P : Places) (y : Stmt) (a b : ℕ) : Type 0 wh
   pub are_suffixes : Suffixes J P suffixes middle last
   pub updates : AssignEnd P (suffixed primary suffixes) J y last b
 
-operated_target : {J : Stream} {P : Places} {t : Target} {y : Stmt} {a m b : ℕ} → IsTarget J P t a m → IsUpdate J P t y m b → Operated J P y a b
+operated_target : {J : Stream} {P : Places} {t : Target} {y : Assignment} {a m b : ℕ} → IsTarget J P t a m → IsUpdate J P t y m b → Operated J P y a b
 operated_target {J} {P} {t} {y} {a} {m} i u = let q = target_expr i in record { primary = q.0; suffixes = q.1; middle = q.2; last = m; is_primary = q.3; are_suffixes = q.4; updates = (t, q.5, u) }
 
-operated : {J : Stream} {P : Places} {y : Stmt} {a b : ℕ} → IsAssign J P y a b → Operated J P y a b
+operated : {J : Stream} {P : Places} {y : Assignment} {a b : ℕ} → IsAssign J P y a b → Operated J P y a b
 operated (assign_value t s o e) = operated_target t (update_value s o e)
 operated (assign_up t s) = operated_target t (update_up s)
 operated (assign_down t s) = operated_target t (update_down s)
@@ -95,14 +95,14 @@ pub record AssignLoop (K : Stream) (P : Places) (at : ℕ) (p : Expr) (done : Li
   pub after : at ≤ n
   pub inside : Inside K at n
   pub spelled : (J : Stream) → Before n J K → stops_primary (J n) ≡ true → (m : ℕ) × IsPrimary J P p at m × Suffixes J P done m n
-  pub only : (J : Stream) (y : Stmt) (b : ℕ) → Agrees n J K → IsAssign J P y at b → stops_simple (J b) ≡ true → (more : List Suffix) × (m : ℕ) × Suffixes J P more n m × AssignEnd P (suffixed p (done ++ more)) J y m b
+  pub only : (J : Stream) (y : Assignment) (b : ℕ) → Agrees n J K → IsAssign J P y at b → stops_simple (J b) ≡ true → (more : List Suffix) × (m : ℕ) × Suffixes J P more n m × AssignEnd P (suffixed p (done ++ more)) J y m b
 
 -- behind a primary and suffixes, `.x++` makes an assignment of any of them
 abbrev closing : List TokenKind
 closing = kind.Sign sign.Dot ∷ kind.Name a_name ∷ kind.Sign sign.Increment ∷ []
 
-closes_any : {J : Stream} {P : Places} {p : Expr} {ss : List Suffix} {a m n e : ℕ} → IsPrimary J P p a m → Suffixes J P ss m n → Stands J n closing e → (y : Stmt) × IsAssign J P y a e
-closes_any {J} {P} {p} {ss} {a} {m} {n} {e} i s st = (stmt.Increment (ToProperty (suffixed p ss) a_name), subst (λ k. IsAssign J P (stmt.Increment (ToProperty (suffixed p ss) a_name)) a k) (sym st.1.1.1) (assign_up (target_property i s st.0 st.1.0) st.1.1.0))
+closes_any : {J : Stream} {P : Places} {p : Expr} {ss : List Suffix} {a m n e : ℕ} → IsPrimary J P p a m → Suffixes J P ss m n → Stands J n closing e → (y : Assignment) × IsAssign J P y a e
+closes_any {J} {P} {p} {ss} {a} {m} {n} {e} i s st = (assignment.Increment (ToProperty (suffixed p ss) a_name), subst (λ k. IsAssign J P (assignment.Increment (ToProperty (suffixed p ss) a_name)) a k) (sym st.1.1.1) (assign_up (target_property i s st.0 st.1.0) st.1.1.0))
 
 module _ (K : Stream) (P : Places) {at : ℕ} where
   pub assign_primary : {p : Expr} {n : ℕ} → Exact (Primary P) stops_primary K at p n → AssignLoop K P at p [] n
@@ -116,7 +116,7 @@ module _ (K : Stream) (P : Places) {at : ℕ} where
         (q.suffixes, q.last, subst (λ k. Suffixes J P q.suffixes k q.last) o.1 q.are_suffixes, subst (λ x. AssignEnd P (suffixed x q.suffixes) J y q.last b) o.0 q.updates);
   }
 
-  pub assign_primary_fails : {i : ℕ} → Refused (Primary P) stops_primary K at i → Refused (Assignment P) stops_simple K at i
+  pub assign_primary_fails : {i : ℕ} → Refused (Primary P) stops_primary K at i → Refused (Assigning P) stops_simple K at i
   assign_primary_fails {i} f = record {
     from = f.from;
     inside = f.inside;
@@ -132,7 +132,7 @@ module _ (K : Stream) (P : Places) {at : ℕ} where
 
   module _ {p : Expr} (done : List Suffix) {n : ℕ} (g : AssignLoop K P at p done n) where
     module _ (h : begins_suffix (K n) ≡ true) where
-      one_more : {J : Stream} {y : Stmt} {b : ℕ} → J n ≡ K n → ((more : List Suffix) × (m : ℕ) × Suffixes J P more n m × AssignEnd P (suffixed p (done ++ more)) J y m b) → (s : Suffix) × (more : List Suffix) × (k : ℕ) × (m : ℕ) × Suffixes J P (s ∷ []) n k × Suffixes J P more k m × AssignEnd P (suffixed p (done ++ s ∷ more)) J y m b
+      one_more : {J : Stream} {y : Assignment} {b : ℕ} → J n ≡ K n → ((more : List Suffix) × (m : ℕ) × Suffixes J P more n m × AssignEnd P (suffixed p (done ++ more)) J y m b) → (s : Suffix) × (more : List Suffix) × (k : ℕ) × (m : ℕ) × Suffixes J P (s ∷ []) n k × Suffixes J P more k m × AssignEnd P (suffixed p (done ++ s ∷ more)) J y m b
       one_more {J} same ([], m, r, u) = absurd (update_no_suffix (J n) (ap (λ k. is_update (J k)) (sym (suffixes_end r)) ∙ update_begins u.2) (ap begins_suffix same ∙ h))
       one_more same (s ∷ more, m, r, u) = let q = first_suffix r in (s, more, q.0, m, q.1, q.2, u)
 
@@ -149,7 +149,7 @@ module _ (K : Stream) (P : Places) {at : ℕ} where
             (q.1, q.3, subst (λ k. Suffixes J P q.1 k q.3) o.1 q.5, subst (λ w. AssignEnd P (suffixed p w) J y q.3 b) (ap (λ w. done ++ w ∷ q.1) o.0 ∙ sym (append_assoc done (s ∷ []) q.1)) q.6);
       }
 
-      pub assign_suffix_fails : {i : ℕ} → Refused (OneSuffix P) stops_primary K n i → n < i → Refused (Assignment P) stops_simple K at i
+      pub assign_suffix_fails : {i : ℕ} → Refused (OneSuffix P) stops_primary K n i → n < i → Refused (Assigning P) stops_simple K at i
       assign_suffix_fails {i} f lt = let from = g.after in record {
         from = omega arith;
         inside = inside_both K at n i g.inside f.inside;
@@ -168,17 +168,17 @@ module _ (K : Stream) (P : Places) {at : ℕ} where
 
     -- no suffix goes on
     module _ (h : begins_suffix (K n) ≡ false) where
-      no_more : {J : Stream} {y : Stmt} {b : ℕ} → J n ≡ K n → ((more : List Suffix) × (m : ℕ) × Suffixes J P more n m × AssignEnd P (suffixed p (done ++ more)) J y m b) → AssignEnd P (suffixed p done) J y n b
+      no_more : {J : Stream} {y : Assignment} {b : ℕ} → J n ≡ K n → ((more : List Suffix) × (m : ℕ) × Suffixes J P more n m × AssignEnd P (suffixed p (done ++ more)) J y m b) → AssignEnd P (suffixed p done) J y n b
       no_more {J} {y} {b} same ([], m, r, u) = subst (λ k. AssignEnd P (suffixed p done) J y k b) (suffixes_end r) (subst (λ w. AssignEnd P (suffixed p w) J y m b) (append-nil done) u)
       no_more same (s ∷ more, m, r, u) = absurd (false≢true (sym h ∙ ap begins_suffix (sym same) ∙ suffix_first r))
 
-      viable_any : Viable (Assignment P) stops_simple K at n
+      viable_any : Viable (Assigning P) stops_simple K at n
       viable_any = record {
         closing = closing;
         closes = λ J e same st so. let q = g.spelled J same (ap stops_primary st.0) in closes_any q.1 q.2 st;
       }
 
-      pub assign_no_update : is_update (K n) ≡ false → Refused (Assignment P) stops_simple K at n
+      pub assign_no_update : is_update (K n) ≡ false → Refused (Assigning P) stops_simple K at n
       assign_no_update u = record {
         from = g.after;
         inside = g.inside;
@@ -188,7 +188,7 @@ module _ (K : Stream) (P : Places) {at : ℕ} where
         viable = viable_any;
       }
 
-      pub assign_no_target : target_of (suffixed p done) ≡ None → Refused (Assignment P) stops_simple K at n
+      pub assign_no_target : target_of (suffixed p done) ≡ None → Refused (Assigning P) stops_simple K at n
       assign_no_target t = record {
         from = g.after;
         inside = g.inside;
@@ -206,12 +206,12 @@ module _ (K : Stream) (P : Places) {at : ℕ} where
             some_same : {a b : Target} → Some a ≡ Some b → a ≡ b
             some_same e = cc
 
-        makes : {J : Stream} {y : Stmt} {i b : ℕ} → n ≤ i → Before i J K → IsUpdate J P t y n b → IsAssign J P y at b
+        makes : {J : Stream} {y : Assignment} {i b : ℕ} → n ≤ i → Before i J K → IsUpdate J P t y n b → IsAssign J P y at b
         makes {J} le same u =
             let q = g.spelled J (before n _ le same) (update_primary (J n) (update_begins u)) in
             update_out (suffixed_is q.1 done q.2 o) u
 
-        pub assign_ok : {y : Stmt} {m : ℕ} → Exact (Update P t) stops_simple K n y m → Exact (Assignment P) stops_simple K at y m
+        pub assign_ok : {y : Assignment} {m : ℕ} → Exact (Update P t) stops_simple K n y m → Exact (Assigning P) stops_simple K at y m
         assign_ok {y} {m} d = let from = g.after in let l = d.after in record {
           after = omega arith;
           inside = inside_both K at n m g.inside d.inside;
@@ -221,7 +221,7 @@ module _ (K : Stream) (P : Places) {at : ℕ} where
               d.only J x b same (subst (λ z. IsUpdate J P z x n b) (same_target q.1) q.2) st;
         }
 
-        pub assign_update_fails : {i : ℕ} → Refused (Update P t) stops_simple K n i → Refused (Assignment P) stops_simple K at i
+        pub assign_update_fails : {i : ℕ} → Refused (Update P t) stops_simple K n i → Refused (Assigning P) stops_simple K at i
         assign_update_fails {i} d = let from = g.after in let l = d.from in record {
           from = omega arith;
           inside = inside_both K at n i g.inside d.inside;
@@ -236,5 +236,5 @@ pub suffix_ahead : (K : Stream) (P : Places) {n m : ℕ} {s : Suffix} → Exact 
 suffix_ahead K P e = long begins_suffix (one_suffix_begins P) refl refl e
 
 -- a suffix that is refused
-pub suffix_refused : (K : Stream) (P : Places) {at : ℕ} {p : Expr} (done : List Suffix) {n : ℕ} → AssignLoop K P at p done n → begins_suffix (K n) ≡ true → {i : ℕ} → Refused (OneSuffix P) stops_primary K n i → Refused (Assignment P) stops_simple K at i
+pub suffix_refused : (K : Stream) (P : Places) {at : ℕ} {p : Expr} (done : List Suffix) {n : ℕ} → AssignLoop K P at p done n → begins_suffix (K n) ≡ true → {i : ℕ} → Refused (OneSuffix P) stops_primary K n i → Refused (Assigning P) stops_simple K at i
 suffix_refused K P done g h f = let l = past_suffix h f in assign_suffix_fails K P done g h f (omega arith)

@@ -7,12 +7,14 @@ use Rattle.model_syntax.specs.declared.word.Word.TheVariants as word
 use Rattle.model_syntax.specs.declared.token.TokenKind.{TokenKind}
 use Rattle.model_syntax.specs.declared.token.TokenKind.TheVariants as kind
 use Rattle.model_syntax.specs.declared.tree.Arm.{Arm}
+use Rattle.model_syntax.specs.declared.tree.Assignment.{Assignment}
 use Rattle.model_syntax.specs.declared.tree.Catch.{Catch}
 use Rattle.model_syntax.specs.declared.tree.Expr.{Expr}
+use Rattle.model_syntax.specs.declared.tree.Init.{Init}
 use Rattle.model_syntax.specs.declared.tree.Stmt.{Stmt}
 use Rattle.model_syntax.specs.declared.tree.Stmt.TheVariants as stmt
 use Rattle.model_syntax.specs.Stream.{Stream, Places, Sees, SeesWord}
-use Rattle.model_syntax.specs.Operators.{rank_whole}
+use Rattle.model_syntax.specs.Operators.{rank_whole, for_steps}
 use Rattle.model_syntax.specs.Grammar.{MayBreak, no_break, break, IsExpr, IsAssign, IsSimple, IsStmt, stmt_if, stmt_while, stmt_for_each, stmt_for_steps, stmt_try_catch, stmt_try_finally, stmt_simple, IsArm, arm, ElseIfs, no_else_if, else_if, MayElse, no_else, else_body, IsEach, IsInit, CatchList, no_catch, catch_more, IsFinally, MayFinally, IsBody, IsBlock}
 use Rattle.groovy_expr.specs.Answers.{Rule, Exact, Refused}
 use Rattle.groovy_expr.specs.Stops.{stops_simple, stops_body, stops_stmt}
@@ -20,7 +22,7 @@ use Rattle.groovy_expr.specs.Statements.{BehindHead, behind_head, IsGuarded, gua
 use Rattle.groovy_expr.proofs.Calculus.{Weaker, Tok, Ret, Sub, Alt, Leads, leads_ret, Fill, Fills, fills_ret, viable_more, inside_none, inside_more, inside_both, ret, tok_ok, tok_fails, tok_bad, sub_ok, sub_fails, moved, shorter, before, Tail, tail_end, tail_fails, Turns, turn_ok, turn_bad, IsByToken, by}
 use Rattle.groovy_expr.proofs.StatementCalculus.{exact_less, refused_less, IsRule, rule_ok, rule_bad}
 use Rattle.groovy_expr.proofs.StatementWhole.{Expression}
-use Rattle.groovy_expr.proofs.StatementSimple.{Assignment, Simple, fill_simple}
+use Rattle.groovy_expr.proofs.StatementSimple.{Assigning, Simple, fill_simple}
 use Rattle.groovy_expr.proofs.StatementBlocks.{Block, Body, Statement, AnArm, Guarded, Behind, Brk, brk_ok, brk_fails, begins_simple, simple_begin, body_begins}
 
 -- the statements behind their first words
@@ -41,16 +43,16 @@ abbrev pub EachLoop : Places → Rule Stmt
 EachLoop P J y a b = (d : Declared) × (e : Expr) × (m : ℕ) × IsEach J P d e a m × ((ss : List Stmt) × (n : ℕ) × BehindHead J P ss m n × Ret (stmt.ForEach d e ss) J y n b)
 
 -- `for (a; test; b)`
-abbrev pub AnInit : Places → Rule Stmt
+abbrev pub AnInit : Places → Rule Init
 AnInit P K = IsInit K P
 
-abbrev pub StepsEnd : Places → Stmt → Expr → Stmt → Rule Stmt
-StepsEnd P i e u = Sub (Behind P) (λ ss. Ret (stmt.ForSteps i e u ss))
+abbrev pub StepsEnd : Places → Init → Expr → Assignment → Rule Stmt
+StepsEnd P i e u = Sub (Behind P) (λ ss. Ret (for_steps i e u ss))
 
-abbrev pub StepsUpdate : Places → Stmt → Expr → Rule Stmt
-StepsUpdate P i e = Tok (kind.Sign sign.Semicolon) (Sub (Assignment P) (StepsEnd P i e))
+abbrev pub StepsUpdate : Places → Init → Expr → Rule Stmt
+StepsUpdate P i e = Tok (kind.Sign sign.Semicolon) (Sub (Assigning P) (StepsEnd P i e))
 
-abbrev pub StepsTest : Places → Stmt → Rule Stmt
+abbrev pub StepsTest : Places → Init → Rule Stmt
 StepsTest P i = Tok (kind.Sign sign.Semicolon) (Sub (Expression P) (StepsUpdate P i))
 
 abbrev pub StepsLoop : Places → Rule Stmt
@@ -122,7 +124,7 @@ module _ {P : Places} {J : Stream} {y : Stmt} {a b : ℕ} where
       each : {d : Declared} {e : Expr} {ss : List Stmt} {m n : ℕ} → SeesWord J a word.For → Sees J (a + 1) sign.ParenOpen → IsEach J P d e (a + 1 + 1) m → BehindHead J P ss m n → IsStmt J P (stmt.ForEach d e ss) a n
       each w o e (behind_head c k d) = stmt_for_each w o e c k d
 
-      steps : {i u : Stmt} {e : Expr} {ss : List Stmt} {k l m n : ℕ} → SeesWord J a word.For → Sees J (a + 1) sign.ParenOpen → IsInit J P i (a + 1 + 1) k → Sees J k sign.Semicolon → IsExpr J P rank_whole e (k + 1) l → Sees J l sign.Semicolon → IsAssign J P u (l + 1) m → BehindHead J P ss m n → IsStmt J P (stmt.ForSteps i e u ss) a n
+      steps : {i : Init} {u : Assignment} {e : Expr} {ss : List Stmt} {k l m n : ℕ} → SeesWord J a word.For → Sees J (a + 1) sign.ParenOpen → IsInit J P i (a + 1 + 1) k → Sees J k sign.Semicolon → IsExpr J P rank_whole e (k + 1) l → Sees J l sign.Semicolon → IsAssign J P u (l + 1) m → BehindHead J P ss m n → IsStmt J P (for_steps i e u ss) a n
       steps w o i s e t u (behind_head c k d) = stmt_for_steps w o i s e t u c k d
 
   try_leave : Tok (kind.Word word.Try) (Tries P) J y a b → IsStmt J P y a b

@@ -8,6 +8,7 @@ use Rattle.model_syntax.specs.declared.token.TokenKind.{TokenKind}
 use Rattle.model_syntax.specs.declared.token.TokenKind.TheVariants as kind
 use Rattle.model_syntax.specs.declared.tree.Arguments.{Arguments}
 use Rattle.model_syntax.specs.declared.tree.AssignSign.{AssignSign}
+use Rattle.model_syntax.specs.declared.tree.Assignment.{Assignment}
 use Rattle.model_syntax.specs.declared.tree.Expr.{Expr}
 use Rattle.model_syntax.specs.declared.tree.Expr.TheVariants as expr
 use Rattle.model_syntax.specs.declared.tree.Stmt.{Stmt}
@@ -26,7 +27,7 @@ use Rattle.groovy_expr.specs.Updates.{is_update}
 use Rattle.groovy_expr.proofs.Calculus.{NeverTo, alt_left, alt_left_bad, ret, sub_ok, sub_fails, fills_ret, alike}
 use Rattle.groovy_expr.proofs.StatementCalculus.{long}
 use Rattle.groovy_expr.proofs.StatementWhole.{Expression, Whole, calls, call_is, call_says, name_is, past_name, whole_of_call, whole_of_expr}
-use Rattle.groovy_expr.proofs.StatementSimple.{Simple, Update, Assignment, Evaluated, Evaluation, assign_second, whole_leads, evaluation_fails, evaluation_ok, evaluation_assign_ok, evaluation_assign_fails, evaluation_no_target, is_other, other_ok, other_fails, name_ok, name_fails}
+use Rattle.groovy_expr.proofs.StatementSimple.{Simple, Update, Assigned, Evaluated, Evaluation, assign_second, whole_leads, evaluation_fails, evaluation_ok, evaluation_assign_ok, evaluation_assign_fails, evaluation_no_target, is_other, other_ok, other_fails, name_ok, name_fails}
 use Rattle.groovy_expr.proofs.StatementFors.{Continues, goes_past, reaches}
 
 -- neither a call nor a type with a name and `=`
@@ -73,10 +74,10 @@ module _ (K : Stream) (P : Places) {at : ℕ} (o : is_open (K at) ≡ true) (f :
 
   -- a call without parentheses
   module _ (c : calls K at ≡ true) where
-    no_assign : {i : ℕ} → at + 1 ≤ i → NeverTo i (Assignment P) stops_simple K at
+    no_assign : {i : ℕ} → at + 1 ≤ i → NeverTo i (Assigned P) stops_simple K at
     no_assign le J y b same r st =
         let s = call_says (K at) (K (at + 1)) (K (at + 1 + 1)) c in
-        assign_second r (ap is_name (same at (omega arith)) ∙ s.0) (ap begins_argument (same (at + 1) le) ∙ s.1)
+        assign_second r.2 (ap is_name (same at (omega arith)) ∙ s.0) (ap begins_argument (same (at + 1) le) ∙ s.1)
 
     named : (k : is_name (K at) ≡ true) (J : Stream) → J at ≡ K at → SeesName J at (name_is (K at) k).0
     named k J same = same ∙ (name_is (K at) k).1
@@ -102,13 +103,13 @@ module _ (K : Stream) (P : Places) {at : ℕ} (o : is_open (K at) ≡ true) (f :
     other_call_ok {x} {m} e =
         let lt = long begins_expr (λ J y a b r. whole_begins r) refl refl e in
         open_ok lt (λ n k. reaches (at + 1) [] refl (paired k n) e)
-        (alt_left (Evaluated P) (Assignment P) (no_assign (omega arith)) (sub_ok K (whole_leads stmt.Evaluate) e (ret stops_simple K _ _)))
+        (alt_left (Evaluated P) (Assigned P) (no_assign (omega arith)) (sub_ok K (whole_leads stmt.Evaluate) e (ret stops_simple K _ _)))
 
     pub other_call_fails : {i : ℕ} → Refused (Whole P) stops_simple K at i → Refused (Simple P) stops_simple K at i
     other_call_fails {i} d =
         let le : at + 1 ≤ i = goes_past at [] refl (alone (call_says (K at) (K (at + 1)) (K (at + 1 + 1)) c).0) d in
         open_fails (λ k. le) (λ n k. goes_past (at + 1) [] refl (paired k n) d)
-        (alt_left_bad (Evaluated P) (Assignment P) (no_assign le) (sub_fails K (whole_leads stmt.Evaluate) (fills_ret stmt.Evaluate (alike _)) d))
+        (alt_left_bad (Evaluated P) (Assigned P) (no_assign le) (sub_fails K (whole_leads stmt.Evaluate) (fills_ret stmt.Evaluate (alike _)) d))
 
   -- an expression, and what may make it an assignment
   module _ (plain : is_name (K at) ≡ true → begins_argument (K (at + 1)) ≡ true → ⊥) where
@@ -129,7 +130,7 @@ module _ (K : Stream) (P : Places) {at : ℕ} (o : is_open (K at) ≡ true) (f :
         pub other_no_target : target_of x ≡ None → Refused (Simple P) stops_simple K at m
         other_no_target t = let lt = ahead in open_fails (λ k. omega arith) no_name (evaluation_no_target K P plain e u t)
 
-        pub other_update_ok : {t : Target} {y : Stmt} {n : ℕ} → target_of x ≡ Some t → Exact (Update P t) stops_simple K m y n → Exact (Simple P) stops_simple K at y n
+        pub other_update_ok : {t : Target} {y : Assignment} {n : ℕ} → target_of x ≡ Some t → Exact (Update P t) stops_simple K m y n → Exact (Simple P) stops_simple K at (stmt.Assign y) n
         other_update_ok h d = let lt = ahead in let le = d.after in open_ok (omega arith) no_name (evaluation_assign_ok K P plain e u h d)
 
         pub other_update_fails : {t : Target} {i : ℕ} → target_of x ≡ Some t → Refused (Update P t) stops_simple K m i → Refused (Simple P) stops_simple K at i

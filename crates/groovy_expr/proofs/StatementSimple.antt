@@ -8,6 +8,8 @@ use Rattle.model_syntax.specs.declared.word.Word.TheVariants as word
 use Rattle.model_syntax.specs.declared.token.TokenKind.{TokenKind}
 use Rattle.model_syntax.specs.declared.token.TokenKind.TheVariants as kind
 use Rattle.model_syntax.specs.declared.tree.AssignSign.{AssignSign}
+use Rattle.model_syntax.specs.declared.tree.Assignment.{Assignment}
+use Rattle.model_syntax.specs.declared.tree.Assignment.TheVariants as assignment
 use Rattle.model_syntax.specs.declared.tree.Expr.{Expr}
 use Rattle.model_syntax.specs.declared.tree.Expr.TheVariants as expr
 use Rattle.model_syntax.specs.declared.tree.Stmt.{Stmt}
@@ -28,11 +30,11 @@ use Rattle.groovy_expr.proofs.StatementLookahead.{name_expr}
 use Rattle.groovy_expr.proofs.StatementTargets.{target_expr, expr_target}
 use Rattle.groovy_expr.proofs.StatementWhole.{simple_expr, argument_stops, name_is, Expression, Whole, whole_expr_ok, whole_expr_fails, whole_typed}
 
-abbrev pub Update : Places → Target → Rule Stmt
+abbrev pub Update : Places → Target → Rule Assignment
 Update P t K = IsUpdate K P t
 
-abbrev pub Assignment : Places → Rule Stmt
-Assignment P K = IsAssign K P
+abbrev pub Assigning : Places → Rule Assignment
+Assigning P K = IsAssign K P
 
 abbrev pub Simple : Places → Rule Stmt
 Simple P K = IsSimple K P
@@ -83,7 +85,7 @@ update_no_argument (Some (kind.Sign sign.Increment)) e f = false≢true f
 update_no_argument (Some (kind.Sign sign.Decrement)) e f = false≢true f
 update_no_argument t e f = false≢true e
 
-pub update_begins : {J : Stream} {P : Places} {t : Target} {y : Stmt} {a b : ℕ} → IsUpdate J P t y a b → is_update (J a) ≡ true
+pub update_begins : {J : Stream} {P : Places} {t : Target} {y : Assignment} {a b : ℕ} → IsUpdate J P t y a b → is_update (J a) ≡ true
 update_begins (update_value {s = s} {o = o} k q e) = ap is_update k ∙ value_sign s o q
 update_begins (update_up k) = ap is_update k
 update_begins (update_down k) = ap is_update k
@@ -92,28 +94,28 @@ update_begins (update_down k) = ap is_update k
 same_sign : (s t : Sign) → Some (kind.Sign s) ≡ Some (kind.Sign t) → s ≡ t
 same_sign s t e = cc
 
-value_is : {J : Stream} {P : Places} {t : Target} {y : Stmt} {a b : ℕ} {s : Sign} {o : AssignSign} → IsUpdate J P t y a b → Sees J a s → assign_sign s ≡ Some o → (e : Expr) × IsWhole J P e (a + 1) b × (y ≡ stmt.Assign t o e)
+value_is : {J : Stream} {P : Places} {t : Target} {y : Assignment} {a b : ℕ} {s : Sign} {o : AssignSign} → IsUpdate J P t y a b → Sees J a s → assign_sign s ≡ Some o → (e : Expr) × IsWhole J P e (a + 1) b × (y ≡ assignment.Write t o e)
 value_is {J} {P} {t} {y} {a} {b} {s} {o} (update_value {s = s'} {o = o'} {e = e} k q i) h g =
     let z : s' ≡ s = same_sign s' s (sym k ∙ h) in
     let u : Some o' ≡ Some o = sym q ∙ ap assign_sign z ∙ g in
     let v : o' ≡ o = cc in
-    (e, i, ap (λ x. stmt.Assign t x e) v)
+    (e, i, ap (λ x. assignment.Write t x e) v)
 value_is {s = s} {o = o} (update_up k) h g = absurd (let z : None ≡ Some o = ap assign_sign (same_sign sign.Increment s (sym k ∙ h)) ∙ g in cc)
 value_is {s = s} {o = o} (update_down k) h g = absurd (let z : None ≡ Some o = ap assign_sign (same_sign sign.Decrement s (sym k ∙ h)) ∙ g in cc)
 
-up_is : {J : Stream} {P : Places} {t : Target} {y : Stmt} {a b : ℕ} → IsUpdate J P t y a b → Sees J a sign.Increment → (y ≡ stmt.Increment t) × (b ≡ a + 1)
+up_is : {J : Stream} {P : Places} {t : Target} {y : Assignment} {a b : ℕ} → IsUpdate J P t y a b → Sees J a sign.Increment → (y ≡ assignment.Increment t) × (b ≡ a + 1)
 up_is (update_up k) h = (refl, refl)
 up_is (update_value {s = s} {o = o} k q i) h = absurd (let z : None ≡ Some o = ap assign_sign (same_sign sign.Increment s (sym h ∙ k)) ∙ q in cc)
 up_is (update_down k) h = absurd cc
 
-down_is : {J : Stream} {P : Places} {t : Target} {y : Stmt} {a b : ℕ} → IsUpdate J P t y a b → Sees J a sign.Decrement → (y ≡ stmt.Decrement t) × (b ≡ a + 1)
+down_is : {J : Stream} {P : Places} {t : Target} {y : Assignment} {a b : ℕ} → IsUpdate J P t y a b → Sees J a sign.Decrement → (y ≡ assignment.Decrement t) × (b ≡ a + 1)
 down_is (update_down k) h = (refl, refl)
 down_is (update_value {s = s} {o = o} k q i) h = absurd (let z : None ≡ Some o = ap assign_sign (same_sign sign.Decrement s (sym h ∙ k)) ∙ q in cc)
 down_is (update_up k) h = absurd cc
 
 module _ (K : Stream) (P : Places) (t : Target) {at : ℕ} where
   module _ {s : Sign} {o : AssignSign} (h : Sees K at s) (g : assign_sign s ≡ Some o) where
-    pub update_value_ok : {e : Expr} {m : ℕ} → Exact (Whole P) stops_simple K (at + 1) e m → Exact (Update P t) stops_simple K at (stmt.Assign t o e) m
+    pub update_value_ok : {e : Expr} {m : ℕ} → Exact (Whole P) stops_simple K (at + 1) e m → Exact (Update P t) stops_simple K at (assignment.Write t o e) m
     update_value_ok {e} {m} x = let l = x.after in record {
       after = omega arith;
       inside = inside_more K (kind.Sign s) at m h x.inside;
@@ -121,7 +123,7 @@ module _ (K : Stream) (P : Places) (t : Target) {at : ℕ} where
       only = λ J y b same r st.
           let q = value_is r (same at (omega arith) ∙ h) g in
           let w = x.only J q.0 b same q.1 st in
-          (q.2 ∙ ap (stmt.Assign t o) w.0, w.1);
+          (q.2 ∙ ap (assignment.Write t o) w.0, w.1);
     }
 
     pub update_value_fails : {i : ℕ} → Refused (Whole P) stops_simple K (at + 1) i → Refused (Update P t) stops_simple K at i
@@ -129,10 +131,10 @@ module _ (K : Stream) (P : Places) (t : Target) {at : ℕ} where
       from = omega arith;
       inside = inside_more K (kind.Sign s) at i h f.inside;
       never = λ J y b same r st. let q = value_is r (same at (omega arith) ∙ h) g in f.never J q.0 b same q.1 st;
-      viable = viable_more (alike _) (λ J e same ok v. (stmt.Assign t o v.0, update_value (same at (omega arith) ∙ h) g v.1)) f.viable;
+      viable = viable_more (alike _) (λ J e same ok v. (assignment.Write t o v.0, update_value (same at (omega arith) ∙ h) g v.1)) f.viable;
     }
 
-  pub update_up_ok : Sees K at sign.Increment → Exact (Update P t) stops_simple K at (stmt.Increment t) (at + 1)
+  pub update_up_ok : Sees K at sign.Increment → Exact (Update P t) stops_simple K at (assignment.Increment t) (at + 1)
   update_up_ok h = record {
     after = omega arith;
     inside = inside_token K (kind.Sign sign.Increment) at h;
@@ -140,7 +142,7 @@ module _ (K : Stream) (P : Places) (t : Target) {at : ℕ} where
     only = λ J y b same r st. up_is r (same at (omega arith) ∙ h);
   }
 
-  pub update_down_ok : Sees K at sign.Decrement → Exact (Update P t) stops_simple K at (stmt.Decrement t) (at + 1)
+  pub update_down_ok : Sees K at sign.Decrement → Exact (Update P t) stops_simple K at (assignment.Decrement t) (at + 1)
   update_down_ok h = record {
     after = omega arith;
     inside = inside_token K (kind.Sign sign.Decrement) at h;
@@ -153,35 +155,35 @@ module _ (K : Stream) (P : Places) (t : Target) {at : ℕ} where
     from = omega arith;
     inside = inside_none K at;
     never = λ J y b same r st. false≢true (sym h ∙ ap is_update (sym (same at (omega arith))) ∙ update_begins r);
-    viable = record { closing = kind.Sign sign.Increment ∷ []; closes = λ J e same st ok. (stmt.Increment t, subst (λ z. IsUpdate J P t (stmt.Increment t) at z) (sym st.1) (update_up st.0)) };
+    viable = record { closing = kind.Sign sign.Increment ∷ []; closes = λ J e same st ok. (assignment.Increment t, subst (λ z. IsUpdate J P t (assignment.Increment t) at z) (sym st.1) (update_up st.0)) };
   }
 
 -- behind an expression: an update of what it writes to
-abbrev pub AssignEnd : Places → Expr → Rule Stmt
+abbrev pub AssignEnd : Places → Expr → Rule Assignment
 AssignEnd P e J y a b = (t : Target) × (target_of e ≡ Some t) × IsUpdate J P t y a b
 
 -- an assignment is an expression that writes to something, and an update of that
-pub assign_in : {P : Places} {J : Stream} {y : Stmt} {a b : ℕ} → IsAssign J P y a b → Sub (Expression P) (AssignEnd P) J y a b
+pub assign_in : {P : Places} {J : Stream} {y : Assignment} {a b : ℕ} → IsAssign J P y a b → Sub (Expression P) (AssignEnd P) J y a b
 assign_in (assign_value t s o e) = let q = target_expr t in (suffixed q.0 q.1, _, with_suffixes q.3 q.4, (_, q.5, update_value s o e))
 assign_in (assign_up t s) = let q = target_expr t in (suffixed q.0 q.1, _, with_suffixes q.3 q.4, (_, q.5, update_up s))
 assign_in (assign_down t s) = let q = target_expr t in (suffixed q.0 q.1, _, with_suffixes q.3 q.4, (_, q.5, update_down s))
 
-pub update_out : {P : Places} {J : Stream} {t : Target} {y : Stmt} {a m b : ℕ} → IsTarget J P t a m → IsUpdate J P t y m b → IsAssign J P y a b
+pub update_out : {P : Places} {J : Stream} {t : Target} {y : Assignment} {a m b : ℕ} → IsTarget J P t a m → IsUpdate J P t y m b → IsAssign J P y a b
 update_out t (update_value s o e) = assign_value t s o e
 update_out t (update_up s) = assign_up t s
 update_out t (update_down s) = assign_down t s
 
-assign_out : {P : Places} {J : Stream} {y : Stmt} {a b : ℕ} → Sub (Expression P) (AssignEnd P) J y a b → IsAssign J P y a b
+assign_out : {P : Places} {J : Stream} {y : Assignment} {a b : ℕ} → Sub (Expression P) (AssignEnd P) J y a b → IsAssign J P y a b
 assign_out r = update_out (expr_target r.2 r.3.1) r.3.2
 
-pub assign_rule : (P : Places) → IsRule (Assignment P) (Sub (Expression P) (AssignEnd P))
+pub assign_rule : (P : Places) → IsRule (Assigning P) (Sub (Expression P) (AssignEnd P))
 assign_rule P = record { enter = assign_in; leave = assign_out }
 
 pub assign_leads : (P : Places) → Leads (AssignEnd P) stops_expr stops_simple
 assign_leads P e J y a b r st = update_stops (J a) (update_begins r.2)
 
 -- no assignment begins with a name and an argument
-pub assign_second : {P : Places} {J : Stream} {y : Stmt} {a b : ℕ} → IsAssign J P y a b → is_name (J a) ≡ true → begins_argument (J (a + 1)) ≡ true → ⊥
+pub assign_second : {P : Places} {J : Stream} {y : Assignment} {a b : ℕ} → IsAssign J P y a b → is_name (J a) ≡ true → begins_argument (J (a + 1)) ≡ true → ⊥
 assign_second {P} {J} {y} {a} r n g =
     let q = assign_in r in
     let o = name_expr q.2 (name_is (J a) n).1 (argument_stops (J (a + 1)) g) in
@@ -192,7 +194,7 @@ some_same : {a b : Target} → Some a ≡ Some b → a ≡ b
 some_same e = cc
 
 module _ (K : Stream) (P : Places) (x : Expr) {m : ℕ} {t : Target} (h : target_of x ≡ Some t) where
-  pub end_ok : {y : Stmt} {n : ℕ} → Exact (Update P t) stops_simple K m y n → Exact (AssignEnd P x) stops_simple K m y n
+  pub end_ok : {y : Assignment} {n : ℕ} → Exact (Update P t) stops_simple K m y n → Exact (AssignEnd P x) stops_simple K m y n
   end_ok d = record {
     after = d.after;
     inside = d.inside;
@@ -212,11 +214,17 @@ module _ (K : Stream) (P : Places) (x : Expr) {m : ℕ} {t : Target} (h : target
 abbrev pub Evaluated : Places → Rule Stmt
 Evaluated P = Sub (Whole P) (λ e. Ret (stmt.Evaluate e))
 
+abbrev pub Assigned : Places → Rule Stmt
+Assigned P = Sub (Assigning P) (λ u. Ret (stmt.Assign u))
+
 abbrev pub Evaluation : Places → Rule Stmt
-Evaluation P = Alt (Evaluated P) (Assignment P)
+Evaluation P = Alt (Evaluated P) (Assigned P)
 
 pub whole_leads : (f : Expr → Stmt) → Leads (λ e. Ret (f e)) stops_simple stops_simple
 whole_leads f = leads_ret stops_simple stops_simple f (alike _)
+
+pub assigned_leads : Leads (λ u. Ret (stmt.Assign u)) stops_simple stops_simple
+assigned_leads = leads_ret stops_simple stops_simple stmt.Assign (alike _)
 
 pub expr_leads : (f : Expr → Stmt) → Leads (λ e. Ret (f e)) stops_expr stops_simple
 expr_leads f = leads_ret stops_expr stops_simple f simple_expr
@@ -225,16 +233,16 @@ module _ (K : Stream) (P : Places) {at : ℕ} where
   -- an expression, and what may make it an assignment
   module _ (plain : is_name (K at) ≡ true → begins_argument (K (at + 1)) ≡ true → ⊥) where
     pub evaluation_fails : {i : ℕ} → Refused (Expression P) stops_expr K at i → Refused (Evaluation P) stops_simple K at i
-    evaluation_fails f = alt_left_bad (Evaluated P) (Assignment P)
-        (λ J y b same r st. let q = assign_in r in f.never J q.0 q.1 same q.2 (assign_leads P q.0 J y q.1 b q.3 st))
+    evaluation_fails f = alt_left_bad (Evaluated P) (Assigned P)
+        (λ J y b same r st. let q = assign_in r.2 in f.never J q.0 q.1 same q.2 (assign_leads P q.0 J r.0 q.1 r.1 q.3 (assigned_leads r.0 J y r.1 b r.3 st)))
         (sub_fails K (whole_leads stmt.Evaluate) (fills_ret stmt.Evaluate (alike _)) (whole_expr_fails K P plain f))
 
     module _ {x : Expr} {m : ℕ} (e : Exact (Expression P) stops_expr K at x m) where
       pub evaluation_ok : is_update (K m) ≡ false → Exact (Evaluation P) stops_simple K at (stmt.Evaluate x) m
-      evaluation_ok u = alt_left (Evaluated P) (Assignment P)
+      evaluation_ok u = alt_left (Evaluated P) (Assigned P)
           (λ J y b same r st.
-          let q = assign_in r in
-          let o = e.only J q.0 q.1 same q.2 (assign_leads P q.0 J y q.1 b q.3 st) in
+          let q = assign_in r.2 in
+          let o = e.only J q.0 q.1 same q.2 (assign_leads P q.0 J r.0 q.1 r.1 q.3 (assigned_leads r.0 J y r.1 b r.3 st)) in
           false≢true (sym u ∙ sym (ap is_update (same m (le_refl m))) ∙ ap (λ k. is_update (J k)) (sym o.1) ∙ update_begins q.3.2))
           (sub_ok K (whole_leads stmt.Evaluate) (whole_expr_ok K P plain e) (ret stops_simple K _ _))
 
@@ -245,11 +253,11 @@ module _ (K : Stream) (P : Places) {at : ℕ} where
             let o = w.only J r.0 r.1 (λ k l. same k (le_trans l le)) r.2 (whole_leads stmt.Evaluate r.0 J y r.1 b r.3 st) in
             update_open (J m) (ap is_update (same m le) ∙ u) (ap (λ k. stops_simple (J k)) (sym (r.3.1 ∙ o.1)) ∙ st)
 
-        pub evaluation_assign_ok : {t : Target} {y : Stmt} {n : ℕ} → target_of x ≡ Some t → Exact (Update P t) stops_simple K m y n → Exact (Evaluation P) stops_simple K at y n
-        evaluation_assign_ok h d = alt_right (Evaluated P) (Assignment P) (no_evaluation d.after) (rule_ok (assign_rule P) (sub_ok K (assign_leads P) e (end_ok K P x h d)))
+        pub evaluation_assign_ok : {t : Target} {y : Assignment} {n : ℕ} → target_of x ≡ Some t → Exact (Update P t) stops_simple K m y n → Exact (Evaluation P) stops_simple K at (stmt.Assign y) n
+        evaluation_assign_ok h d = alt_right (Evaluated P) (Assigned P) (no_evaluation d.after) (sub_ok K assigned_leads (rule_ok (assign_rule P) (sub_ok K (assign_leads P) e (end_ok K P x h d))) (ret stops_simple K _ _))
 
         pub evaluation_assign_fails : {t : Target} {i : ℕ} → target_of x ≡ Some t → Refused (Update P t) stops_simple K m i → Refused (Evaluation P) stops_simple K at i
-        evaluation_assign_fails h f = alt_right_bad (Evaluated P) (Assignment P) (no_evaluation f.from) (rule_bad (assign_rule P) (sub_bad K (assign_leads P) e (end_fails K P x h f)))
+        evaluation_assign_fails h f = alt_right_bad (Evaluated P) (Assigned P) (no_evaluation f.from) (sub_fails K assigned_leads (fills_ret stmt.Assign (alike _)) (rule_bad (assign_rule P) (sub_bad K (assign_leads P) e (end_fails K P x h f))))
 
         pub evaluation_no_target : target_of x ≡ None → Refused (Evaluation P) stops_simple K at m
         evaluation_no_target h = record {
@@ -257,8 +265,8 @@ module _ (K : Stream) (P : Places) {at : ℕ} where
           inside = e.inside;
           never = λ J y b same r st. ⊎_elim (λ z. no_evaluation (le_refl m) J y b same z st)
               (λ z.
-              let q = assign_in z in
-              let o = e.only J q.0 q.1 same q.2 (assign_leads P q.0 J y q.1 b q.3 st) in
+              let q = assign_in z.2 in
+              let o = e.only J q.0 q.1 same q.2 (assign_leads P q.0 J z.0 q.1 z.1 q.3 (assigned_leads z.0 J y z.1 b z.3 st)) in
               no_some (sym h ∙ ap target_of (sym o.0) ∙ q.3.1)) r;
           viable = record {
             closing = [];
@@ -312,7 +320,7 @@ simple_enter : {P : Places} {J : Stream} {y : Stmt} {a b : ℕ} → IsSimple J P
 simple_enter (simple_def w n) = rw w (_, n, inl (refl, refl))
 simple_enter (simple_declare (type_def w) n s e) = rw w (_, n, inr (s, (_, _, e, (refl, refl))))
 simple_enter (simple_declare (type_name w) n s e) = rw w (inl (_, n, (s, (_, _, e, (refl, refl)))))
-simple_enter {P} {J} {y} {a} (simple_assign n r) = evaluation_by P (J a) (assign_begins r) n (inr r)
+simple_enter {P} {J} {y} {a} (simple_assign n r) = evaluation_by P (J a) (assign_begins r) n (inr (_, _, r, (refl, refl)))
 simple_enter {P} {J} {y} {a} (simple_evaluate n r) = evaluation_by P (J a) (whole_begins r) n (inl (_, _, r, (refl, refl)))
 simple_enter (simple_return w) = rw w (inl (refl, refl))
 simple_enter (simple_return_value w r) = rw w (inr (_, _, r, (refl, refl)))
@@ -322,7 +330,7 @@ simple_enter (simple_throw w r) = rw w (_, _, r, (refl, refl))
 
 module _ {P : Places} {J : Stream} {y : Stmt} {a b : ℕ} where
   evaluation_leave : (Sees J a sign.BraceOpen → ⊥) → Evaluation P J y a b → IsSimple J P y a b
-  evaluation_leave n r = ⊎_elim (λ z. moved (λ x k. IsSimple J P x a k) z.3 (simple_evaluate n z.2)) (λ z. simple_assign n z) r
+  evaluation_leave n r = ⊎_elim (λ z. moved (λ x k. IsSimple J P x a k) z.3 (simple_evaluate n z.2)) (λ z. moved (λ x k. IsSimple J P x a k) z.3 (simple_assign n z.2)) r
 
   declare_leave : (n : List ℕ) → SeesType J a → SeesName J (a + 1) n → Tok (kind.Sign sign.Assign) (Declares P (declared n (P (a + 1)))) J y (a + 1 + 1) b → IsSimple J P y a b
   declare_leave n t h r = moved (λ x k. IsSimple J P x a k) r.1.3 (simple_declare t h r.0 r.1.2)
@@ -384,7 +392,7 @@ module _ (K : Stream) (P : Places) {at : ℕ} where
     no_evaluation_here : {i : ℕ} → at + 1 + 1 ≤ i → NeverTo i (Evaluation P) stops_simple K at
     no_evaluation_here le J y b same r st = ⊎_elim
         (λ z. (whole_typed K P h g s).never J z.0 z.1 (λ k l. same k (le_trans l le)) z.2 (whole_leads stmt.Evaluate z.0 J y z.1 b z.3 st))
-        (λ z. assign_second z (ap is_name (same at (omega arith) ∙ h)) (ap begins_argument (same (at + 1) (omega arith) ∙ g)))
+        (λ z. assign_second z.2 (ap is_name (same at (omega arith) ∙ h)) (ap begins_argument (same (at + 1) (omega arith) ∙ g)))
         r
 
     pub typed_ok : {e : Expr} {m : ℕ} → Exact (Whole P) stops_simple K (at + 1 + 1 + 1) e m → Exact (Simple P) stops_simple K at (stmt.Declare (declared n (P (at + 1))) (Some e)) m

@@ -7,6 +7,7 @@ use Rattle.model_syntax.specs.declared.tree.Expr.TheVariants as expr
 use Rattle.model_syntax.specs.declared.tree.Arguments.{Arguments}
 use Rattle.model_syntax.specs.declared.tree.Arm.{Arm}
 use Rattle.model_syntax.specs.declared.tree.Catch.{Catch}
+use Rattle.model_syntax.specs.declared.tree.Assignment.{Assignment}
 use Rattle.model_syntax.specs.declared.tree.Choice.{Choice}
 use Rattle.model_syntax.specs.declared.tree.Entry.{Entry}
 use Rattle.model_syntax.specs.declared.tree.Part.{Part}
@@ -65,11 +66,11 @@ target_expr (target_property {e = e} {ss = ss} {n = n} p s d h) =
 target_expr (target_index {e = e} {i = i} {ss = ss} p s o x c) =
     (e, ss ++ Index i ∷ [], _, p, suffixes_append s (suffixes_index o x c suffixes_none), suffixed_target e ss (Index i) ∙ ap (behind (suffixed e ss)) (out-Index i))
 
-out-by : (e : Expr) (x : Expr-F Choice Entry Expr Part Stmt Suffix Target Arguments Arm Catch Operand) → roll-Expr x ≡ e → out-Expr e ≡ x
+out-by : (e : Expr) (x : Expr-F Assignment Choice Entry Expr Part Stmt Suffix Target Arguments Arm Catch Operand) → roll-Expr x ≡ e → out-Expr e ≡ x
 out-by e x r = ap out-Expr (sym r) ∙ out-roll-Expr x
 
 -- any other expression writes to nothing
-not_target : (e : Expr) {t : Target} (x : Expr-F Choice Entry Expr Part Stmt Suffix Target Arguments Arm Catch Operand) → roll-Expr x ≡ e → target_in x ≡ None → target_of e ≡ Some t → ⊥
+not_target : (e : Expr) {t : Target} (x : Expr-F Assignment Choice Entry Expr Part Stmt Suffix Target Arguments Arm Catch Operand) → roll-Expr x ≡ e → target_in x ≡ None → target_of e ≡ Some t → ⊥
 not_target e {t} x r n h = let z : None ≡ Some t = sym n ∙ ap target_in (sym (out-by e x r)) ∙ h in cc
 
 -- an expression that writes to something is a primary with suffixes

@@ -17,11 +17,11 @@ use Rattle.model_syntax.specs.Operators.{rank_whole, rank_unary, prefix_of, pref
 use Rattle.model_syntax.specs.Grammar.{SeesDot, dot, safe_dot, Prefixes, prefixes_none, prefixes_more, IsExpr, unary, Suffixes, suffixes_none, suffixes_property, suffixes_method, suffixes_index, IsPrimary, IsCall}
 use Rattle.groovy_expr.specs.Answers.{Rule, Stops, Inside, Exact, Refused}
 use Rattle.groovy_expr.specs.Stops.{stops_expr, stops_unary, stops_primary, stops_prefixes}
-use Rattle.groovy_expr.specs.Firsts.{begins_primary, begins_suffix, opens_call}
+use Rattle.groovy_expr.specs.Firsts.{begins_suffix, opens_call}
 use Rattle.groovy_expr.proofs.Calculus.{Tok, Ret, Sub, Perhaps, Begins, Weaker, Fill, Tail, Turns, as_rule, tail_both, tail_end, tail_fails, tail_sub, sub_fails, ret, tok_bad, perhaps_none, fill_ret, inside_more, inside_none, alike, Alt, fills_ret, tok_ok}
 use Rattle.groovy_expr.proofs.Lists.{IsMany, joins_many}
 use Rattle.groovy_expr.proofs.Steps.{Map, Joins, joins_tok, step_turn, step_tok, step_map, step_perhaps, step_right, Take, step_take, take_bad, same_name}
-use Rattle.groovy_expr.proofs.FirstTokens.{fill_primary, primary_first, suffix_first, call_first}
+use Rattle.groovy_expr.proofs.FirstTokens.{begins_primary, fill_primary, primary_first, suffix_first, call_first}
 
 -- signs before an operand
 abbrev pub IsPrefix : Option TokenKind → Type 0

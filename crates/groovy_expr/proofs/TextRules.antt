@@ -15,7 +15,7 @@ use Rattle.model_syntax.specs.Stream.{Stream, Places}
 use Rattle.model_syntax.specs.Operators.{suffixed}
 use Rattle.model_syntax.specs.Grammar.{Dotted, dotted_none, dotted_more, IsGString, gstring, Parts, parts_none, parts_plain, parts_braces, parts_path}
 use Rattle.groovy_expr.specs.Answers.{Rule, Stops, Exact, Refused}
-use Rattle.groovy_expr.specs.Stops.{stops_expr, stops_closed, stops_parts, stops_part, stops_dotted}
+use Rattle.groovy_expr.specs.Stops.{stops_expr, stops_closed, stops_parts, stops_part}
 use Rattle.groovy_expr.specs.Firsts.{begins_part}
 use Rattle.groovy_expr.proofs.Calculus.{Tok, Ret, Sub, Never, Fill, Weaker, Tail, IsByToken, by, as_rule, tail_both, tail_end, tail_fails, tail_sub, sub_fails, ret, tok_ok, tok_bad, refused_here, fill_ret, alike, fills_ret, stronger_ok, stronger_fails}
 use Rattle.groovy_expr.proofs.Lists.{IsMany}
@@ -36,13 +36,13 @@ dotted_cases J ys a b (dotted_more d n r) = inr (_, _, _, refl, (d, (_, n, (refl
 more_dotted : (J : Stream) (x : Suffix) (xs : List Suffix) (a m b : ℕ) → OneDotted J x a m → Dotted J xs m b → Dotted J (x ∷ xs) a b
 more_dotted J x xs a m b (d, (n, h, (q, e))) r = subst (λ z. Dotted J (z ∷ xs) a b) (sym q) (dotted_more d h (subst (λ k. Dotted J xs k b) e r))
 
-pub dotted_many : IsMany OneDotted Dotted (λ t. t ≡ Some (kind.Sign sign.Dot)) stops_closed stops_dotted
+pub dotted_many : IsMany OneDotted Dotted (λ t. t ≡ Some (kind.Sign sign.Dot)) stops_closed stops_part
 dotted_many = record {
   none = λ J a. dotted_none;
   more = more_dotted;
   cases = dotted_cases;
   begins = λ J y a b r. r.0;
-  never = λ t e h. false≢true (sym (ap stops_dotted e) ∙ h);
+  never = λ t e h. false≢true (sym (ap stops_part e) ∙ h);
   weaker = λ t e. refl;
   between = λ t e. refl;
 }
@@ -84,10 +84,6 @@ kind_part (kind.GStringPart u) t e p h = t u refl
 kind_part kind.ExpressionOpen t e p h = e refl
 kind_part kind.PathOpen t e p h = p refl
 kind_part k t e p h = false≢true h
-
-weaker_dotted : Weaker stops_part stops_dotted
-weaker_dotted (Some (kind.Sign sign.Dot)) e = e
-weaker_dotted t e = refl
 
 dot_between : (t : Option TokenKind) → t ≡ Some (kind.Sign sign.Dot) → stops_closed t ≡ true
 dot_between t e = refl
@@ -217,11 +213,11 @@ module _ (P : Places) where
         behind_path : Tail OnePart Dotted stops_part K at (path_of n) (at + 1 + 1)
         behind_path = tail_both (λ z. z) (tail_both (λ z. z) behind_dollar (step_take kind.Name (λ n. Map (path_of n) Dotted) same_name q)) (step_map (path_of n) Dotted)
 
-        pub path_ok : {ss : List Suffix} {m : ℕ} → Exact Dotted stops_dotted K (at + 1 + 1) ss m → Exact OnePart stops_part K at (path_of n ss) m
-        path_ok e = tail_end (path_of n) behind_path (stronger_ok weaker_dotted e)
+        pub path_ok : {ss : List Suffix} {m : ℕ} → Exact Dotted stops_part K (at + 1 + 1) ss m → Exact OnePart stops_part K at (path_of n ss) m
+        path_ok e = tail_end (path_of n) behind_path (e)
 
-        pub path_fails : {i : ℕ} → Refused Dotted stops_dotted K (at + 1 + 1) i → Refused OnePart stops_part K at i
-        path_fails r = tail_fails (path_of n) behind_path (stronger_fails weaker_dotted r)
+        pub path_fails : {i : ℕ} → Refused Dotted stops_part K (at + 1 + 1) i → Refused OnePart stops_part K at i
+        path_fails r = tail_fails (path_of n) behind_path (r)
 
   -- the whole text
   abbrev pub Quoted : List Part → Rule (List Part)

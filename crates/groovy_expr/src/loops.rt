@@ -13,7 +13,8 @@ use crate::reading::{is_name, name_at, sees, sees_word};
 use crate::refusal::Refusal;
 use crate::simple::read_whole;
 use crate::target::read_assign;
-use model_syntax::{Arm, Declared, Sign, Stmt, Token, Word};
+use crate::trees::for_steps;
+use model_syntax::{Arm, Declared, Init, Sign, Stmt, Token, Word};
 use sqlite_items::Boxed;
 use std::alloc::{AllocError, Global};
 
@@ -121,9 +122,8 @@ fn read_steps(alloc: Global, tokens: &[Token], at: usize) -> Result<(Stmt, usize
     }
     let (step, end) = read_assign(alloc, tokens, end + 1)?;
     let (body, last) = read_behind_head(alloc, tokens, end)?;
-    let first = Boxed::new(alloc, first)?;
     let step = Boxed::new(alloc, step)?;
-    Ok((Stmt::ForSteps(first, test, step, body), last))
+    Ok((for_steps(alloc, first, test, step, body)?, last))
 }
 
 /// Whether `def`, or a type and a name, stand here.
@@ -139,13 +139,14 @@ fn begins_declaration(tokens: &[Token], at: usize) -> bool
     }
 }
 
-/// The first statement of a loop with steps.
+/// The first part of a loop with steps.
 #[cycle(parser)]
-fn read_init(alloc: Global, tokens: &[Token], at: usize) -> Result<(Stmt, usize), Refusal>
+fn read_init(alloc: Global, tokens: &[Token], at: usize) -> Result<(Init, usize), Refusal>
     ensures { ReadsInit tokens.now at result }
 {
     if !begins_declaration(tokens, at) {
-        return read_assign(alloc, tokens, at);
+        let (assignment, end) = read_assign(alloc, tokens, at)?;
+        return Ok((Init::Assign(assignment), end));
     }
     let Some(name) = declared_at(tokens, at + 1)? else {
         return Err(Refusal::Fault(at + 1));
@@ -154,5 +155,5 @@ fn read_init(alloc: Global, tokens: &[Token], at: usize) -> Result<(Stmt, usize)
         return Err(Refusal::Fault(at + 1 + 1));
     }
     let (value, end) = read_whole(alloc, tokens, at + 1 + 1 + 1)?;
-    Ok((Stmt::Declare(name, Some(value)), end))
+    Ok((Init::Declare(name, value), end))
 }

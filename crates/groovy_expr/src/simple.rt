@@ -167,5 +167,6 @@ fn read_other(alloc: Global, tokens: &[Token], at: usize) -> Result<(Stmt, usize
     let Some(target) = to_target(value) else {
         return Err(Refusal::Fault(end));
     };
-    read_update(alloc, tokens, end, target)
+    let (assignment, end) = read_update(alloc, tokens, end, target)?;
+    Ok((Stmt::Assign(assignment), end))
 }

@@ -13,7 +13,7 @@ use crate::refusal::Refusal;
 use crate::simple::read_whole;
 use crate::suffixes::{begins_suffix, read_suffix};
 use crate::trees::suffixed;
-use model_syntax::{Access, AssignSign, Expr, Sign, Stmt, Suffix, Target, Token, TokenKind};
+use model_syntax::{Access, AssignSign, Assignment, Expr, Sign, Suffix, Target, Token, TokenKind};
 use sqlite_items::{Boxed, Items};
 use std::alloc::Global;
 
@@ -109,25 +109,29 @@ pub fn read_update(
     tokens: &[Token],
     at: usize,
     target: Target,
-) -> Result<(Stmt, usize), Refusal>
+) -> Result<(Assignment, usize), Refusal>
     ensures { ReadsUpdate tokens.now target at result }
 {
     if sees(tokens, at, Sign::Increment) {
-        return Ok((Stmt::Increment(target), at + 1));
+        return Ok((Assignment::Increment(target), at + 1));
     }
     if sees(tokens, at, Sign::Decrement) {
-        return Ok((Stmt::Decrement(target), at + 1));
+        return Ok((Assignment::Decrement(target), at + 1));
     }
     let Some(operator) = assign_sign_at(tokens, at) else {
         return Err(Refusal::Fault(at));
     };
     let (value, end) = read_whole(alloc, tokens, at + 1)?;
-    Ok((Stmt::Assign(target, operator, value), end))
+    Ok((Assignment::Write(target, operator, value), end))
 }
 
 /// An assignment, `++` or `--`.
 #[cycle(parser)]
-pub fn read_assign(alloc: Global, tokens: &[Token], at: usize) -> Result<(Stmt, usize), Refusal>
+pub fn read_assign(
+    alloc: Global,
+    tokens: &[Token],
+    at: usize,
+) -> Result<(Assignment, usize), Refusal>
     ensures { ReadsAssign tokens.now at result }
 {
     let (primary, next) = read_primary(alloc, tokens, at)?;

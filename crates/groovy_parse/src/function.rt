@@ -1,5 +1,6 @@
 //! Functions.
 ghost use Rattle.std.specs.Prelude.{◌≡◌, ◌<◌, length, MatchBool};
+ghost use Rattle.model_syntax.specs.BracketDepth.{IsShallow};
 ghost use Rattle.model_syntax.specs.Scripts.{SeesResult};
 ghost use Rattle.groovy_expr.specs.Answers.{kinds};
 ghost use Rattle.groovy_parse.specs.Readers.{IsTyped, ReadsParameter, ReadsParameters, ReadsFunction};
@@ -19,6 +20,7 @@ pub fn read_function(
 ) -> Result<(Function, usize), Refusal>
     requires begun { SeesResult (kinds tokens.now) at }
     requires within { at < length tokens.now }
+    requires shallow { IsShallow tokens.now }
     ensures { ReadsFunction tokens.now at result }
 {
     let Some(name) = declared_at(tokens, at + 1)? else {

@@ -1,5 +1,6 @@
 //! The functions and statements of a script, from its tokens.
 ghost use Rattle.std.specs.Prelude.{◌≡◌, ℕ, ◌<◌, length, MatchBool, IfOk, Err};
+ghost use Rattle.model_syntax.specs.BracketDepth.{IsShallow};
 ghost use Rattle.model_syntax.specs.FirstFault.{IsTree, SyntaxPlace};
 ghost use Rattle.groovy_expr.specs.declared.refusal.Refusal.{Refusal};
 ghost use Rattle.groovy_expr.specs.Answers.{kinds};
@@ -16,10 +17,14 @@ use std::alloc::Global;
 /// The tree of a list of tokens, or the place of its syntax fault: the first token with which no script goes on, or the
 /// number of tokens where they end too early.
 ///
+/// Each open bracket takes a part of the stack while it is read, and nothing else does: so the brackets of the tokens must
+/// nest at most 128 deep (`groovy_expr::is_shallow`), as those of a script do that the lexer has read.
+///
 /// # Errors
 ///
 /// `Fault` with that place exactly where they are no script, and `Memory` where the memory was refused.
 pub fn parse_tokens(alloc: Global, tokens: &[Token]) -> Result<Tree, Refusal>
+    requires shallow { IsShallow tokens.now }
     ensures found { IfOk result (λ tree. IsTree tokens.now tree) }
     ensures fault { (i : ℕ) → result ≡ Err (Refusal.Fault i) → SyntaxPlace tokens.now i }
 {
@@ -29,6 +34,7 @@ pub fn parse_tokens(alloc: Global, tokens: &[Token]) -> Result<Tree, Refusal>
 
 /// All functions and statements. The first may stand behind a newline, and each other one stands behind separators.
 fn read_tops(alloc: Global, tokens: &[Token]) -> Result<Items<Top>, Refusal>
+    requires shallow { IsShallow tokens.now }
     ensures { ReadsTops tokens.now result }
 {
     let mut all = Items::new(alloc);
@@ -49,6 +55,7 @@ fn read_tops(alloc: Global, tokens: &[Token]) -> Result<Items<Top>, Refusal>
 /// A function or a statement.
 fn read_top(alloc: Global, tokens: &[Token], at: usize) -> Result<(Top, usize), Refusal>
     requires within { at < length tokens.now }
+    requires shallow { IsShallow tokens.now }
     ensures { ReadsTop tokens.now at result }
 {
     if begins_function(tokens, at) {

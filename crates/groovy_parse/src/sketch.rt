@@ -4,8 +4,8 @@
 //! arguments in parentheses, `group(..)` is a pair of parentheses of the script, and statements have `; ` between them.
 
 use model_syntax::{
-    Access, Arguments, Arm, AssignSign, Catch, Caught, Choice, Declared, Entry, Expr, Function,
-    NewClass, Operand, Operator, Part, Prefix, Stmt, Suffix, Target, Top, Tree,
+    Access, Arguments, Arm, AssignSign, Assignment, Catch, Caught, Choice, Declared, Entry, Expr,
+    Function, NewClass, Operand, Operator, Part, Prefix, Stmt, Suffix, Target, Top, Tree,
 };
 use model_text::Text;
 use std::alloc::{AllocError, Global};
@@ -120,7 +120,9 @@ impl Sketch {
                 self.put(") ")?;
                 self.block(body.as_slice())
             }
-            Stmt::ForEach(_, _, _) | Stmt::ForSteps(_, _, _, _) => self.loop_statement(statement),
+            Stmt::ForEach(_, _, _)
+            | Stmt::ForDeclared(_, _, _, _, _)
+            | Stmt::ForSteps(_, _, _, _) => self.loop_statement(statement),
             Stmt::Try(body, catches, last) => {
                 self.put("try ")?;
                 self.block(body.as_slice())?;
@@ -146,17 +148,49 @@ impl Sketch {
                 self.put(") ")?;
                 self.block(body.as_slice())
             }
+            Stmt::ForDeclared(name, value, test, step, body) => {
+                self.put("for (def ")?;
+                self.name(&name.name)?;
+                self.put(" = ")?;
+                self.expression(value)?;
+                self.steps(test, step.get(), body.as_slice())
+            }
             Stmt::ForSteps(first, test, step, body) => {
                 self.put("for (")?;
-                self.statement(first.get())?;
-                self.put("; ")?;
-                self.expression(test)?;
-                self.put("; ")?;
-                self.statement(step.get())?;
-                self.put(") ")?;
-                self.block(body.as_slice())
+                self.assignment(first.get())?;
+                self.steps(test, step.get(), body.as_slice())
             }
             _ => Ok(()),
+        }
+    }
+
+    /// What stands behind the first part of a `for` with steps.
+    #[cycle(sketch)]
+    fn steps(&mut self, test: &Expr, step: &Assignment, body: &[Stmt]) -> Result<(), AllocError> {
+        self.put("; ")?;
+        self.expression(test)?;
+        self.put("; ")?;
+        self.assignment(step)?;
+        self.put(") ")?;
+        self.block(body)
+    }
+
+    #[cycle(sketch)]
+    fn assignment(&mut self, assignment: &Assignment) -> Result<(), AllocError> {
+        match assignment {
+            Assignment::Write(target, sign, value) => {
+                self.target(target)?;
+                self.put(assign_text(*sign))?;
+                self.expression(value)
+            }
+            Assignment::Increment(target) => {
+                self.target(target)?;
+                self.put("++")
+            }
+            Assignment::Decrement(target) => {
+                self.target(target)?;
+                self.put("--")
+            }
         }
     }
 
@@ -168,19 +202,7 @@ impl Sketch {
                 self.name(&name.name)?;
                 self.value(" = ", value)
             }
-            Stmt::Assign(target, sign, value) => {
-                self.target(target)?;
-                self.put(assign_text(*sign))?;
-                self.expression(value)
-            }
-            Stmt::Increment(target) => {
-                self.target(target)?;
-                self.put("++")
-            }
-            Stmt::Decrement(target) => {
-                self.target(target)?;
-                self.put("--")
-            }
+            Stmt::Assign(assignment) => self.assignment(assignment),
             Stmt::Evaluate(value) => self.expression(value),
             Stmt::Return(value) => {
                 self.put("return")?;

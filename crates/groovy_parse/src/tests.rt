@@ -1,8 +1,8 @@
 use crate::sketch::sketch_of_expression;
 use crate::{SCRIPT_LIMIT, parse, parse_tokens};
-use groovy_expr::{ExprRefusal, Parser, Refusal};
+use groovy_expr::{ExprRefusal, Parser, Refusal, is_shallow};
 use groovy_lex::lex;
-use model_syntax::{FaultKind, ScriptFault, ScriptRefusal};
+use model_syntax::{FaultKind, Place, ScriptFault, ScriptRefusal, Sign, Token, TokenKind};
 use std::alloc::{AllocError, Global};
 use std::test::Fail;
 
@@ -156,6 +156,9 @@ fn the_token_of_a_fault_is_told(rt: HostRuntime) -> Result<(), Fail> {
     let Ok(tokens) = lex(alloc, b"foo bar baz") else {
         return Err("no tokens".into());
     };
+    if !is_shallow(tokens.as_slice()) {
+        return Err("deep brackets".into());
+    }
     let refusal = parse_tokens(alloc, tokens.as_slice()).err();
     assert_eq!(rt; refusal, Some(Refusal::Fault(2)));
     Ok(())
@@ -177,8 +180,8 @@ fn expressions_are_read_one_behind_the_other_and_a_fault_is_told_again(
     let Ok(tokens) = lex(alloc, b"a + 1 'b' )") else {
         return Err("no tokens".into());
     };
-    if tokens.len() != 5 {
-        return Err("not five tokens".into());
+    if tokens.len() != 5 || !is_shallow(tokens.as_slice()) {
+        return Err("not five tokens, or deep brackets".into());
     }
     let mut parser = Parser::new(alloc, tokens.as_slice());
     assert_eq!(rt; next_sketch(alloc, &mut parser)?.as_str(), "(a + 1)");
@@ -195,12 +198,52 @@ fn an_expression_that_ends_too_early_has_its_fault_at_the_end(rt: HostRuntime) -
     let Ok(tokens) = lex(alloc, b"a * (b +") else {
         return Err("no tokens".into());
     };
-    if tokens.len() != 5 {
-        return Err("not five tokens".into());
+    if tokens.len() != 5 || !is_shallow(tokens.as_slice()) {
+        return Err("not five tokens, or deep brackets".into());
     }
     let mut parser = Parser::new(alloc, tokens.as_slice());
     let fault = Some(ExprRefusal::Fault { token: 5 });
     assert_eq!(rt; parser.expr().err(), fault);
     assert_eq!(rt; parser.expr().err(), fault);
+    Ok(())
+}
+
+#[test]
+fn the_token_that_may_not_follow_an_expression_is_its_fault(rt: HostRuntime) -> Result<(), Fail> {
+    let alloc = rt.alloc();
+    let scripts: [&[u8]; 2] = [b"1 (2)", b"1 { }"];
+    for script in scripts {
+        let Ok(tokens) = lex(alloc, script) else {
+            return Err("no tokens".into());
+        };
+        if tokens.len() > 4 || !is_shallow(tokens.as_slice()) {
+            return Err("more than four tokens, or deep brackets".into());
+        }
+        let mut parser = Parser::new(alloc, tokens.as_slice());
+        let fault = Some(ExprRefusal::Fault { token: 1 });
+        assert_eq!(rt; parser.expr().err(), fault, "{script:?}");
+    }
+    Ok(())
+}
+
+/// As many `(` as this, one behind the other.
+fn opened(alloc: Global, count: usize) -> Result<Vec<Token>, AllocError> {
+    let mut tokens = Vec::new(alloc);
+    for start in 0..count {
+        tokens.push(Token {
+            kind: TokenKind::Sign(Sign::ParenOpen),
+            start,
+            end: start + 1,
+            place: Place { line: 1, column: 1 },
+        })?;
+    }
+    Ok(tokens)
+}
+
+#[test]
+fn brackets_are_shallow_up_to_128(rt: HostRuntime) -> Result<(), Fail> {
+    let alloc = rt.alloc();
+    assert!(rt; is_shallow(&opened(alloc, 128)?));
+    assert!(rt; !is_shallow(&opened(alloc, 129)?));
     Ok(())
 }

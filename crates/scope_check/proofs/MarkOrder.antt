@@ -1,5 +1,5 @@
 -- The marks of a tree of the grammar stand in the order of its tokens.
-use Rattle.std.proofs.Common.{◌≡◌, ℕ, ◌+◌, ◌<◌, ◌≤◌, Option, Some, None, List, [], ◌∷◌, ◌++◌, map, length, refl, sym, ap, subst, ◌∙◌, arith, append-nil, append_assoc}
+use Rattle.std.proofs.Common.{◌≡◌, ℕ, ◌+◌, ◌≤◌, Option, Some, None, List, [], ◌∷◌, ◌++◌, map, length, refl, sym, ap, subst, ◌∙◌, arith, append-nil, append_assoc}
 use Rattle.std.proofs.lemmas.List.{map-append}
 use Rattle.model_syntax.specs.declared.place.Place.{Place}
 use Rattle.model_syntax.specs.declared.place.Declared.{Declared}
@@ -22,8 +22,8 @@ use Rattle.model_syntax.specs.declared.tree.Function.{Function}
 use Rattle.model_syntax.specs.declared.tree.Top.{Top}
 use Rattle.model_syntax.specs.declared.tree.Tree.{Tree}
 use Rattle.std.specs.Prelude.{option_map}
-use Rattle.model_syntax.specs.Stream.{Stream, Places, declared, kind_at}
-use Rattle.model_syntax.specs.Operators.{Chain, by_or, by_and, Pair, Terms, Rank, rank_whole, chosen, chained, joined, suffixed, prefixed, operand, with_closure}
+use Rattle.model_syntax.specs.Stream.{Stream, Places, declared}
+use Rattle.model_syntax.specs.Operators.{Chain, by_or, by_and, Terms, Rank, chosen, chained, joined, suffixed, prefixed, operand, with_closure}
 use Rattle.model_syntax.specs.Grammar.{MayBreak, no_break, break, MaySeparate, no_separator, separator_line, separator_sign, Separates, separates_line, separates_sign, Prefixes, prefixes_none, prefixes_more, NameList, names_last, names_more, Heads, heads_none, heads_names, heads_typed, Dotted, dotted_none, dotted_more, Catches, catches_plain, catches_exception, catches_throwable, MayComma, no_comma, comma_behind, IsExpr, whole, chain, pair_alone, pair, terms, unary, Choices, choices_none, choices_true, choices_set, ChainRest, chain_end, chain_more, TermsRest, terms_end, terms_more, Suffixes, suffixes_none, suffixes_property, suffixes_method, suffixes_index, IsCall, call_empty, call_some, call_closure, MayClose, no_closure, closure_behind, IsArguments, arguments_named, arguments_ordered, IsNamed, named_by_name, named_by_text, NamedList, named_last, named_more, ExprList, exprs_last, exprs_more, IsPrimary, primary_number, primary_text, primary_gstring, primary_true, primary_false, primary_null, primary_name, primary_call, primary_group, primary_no_list, primary_list, primary_no_map, primary_map, primary_closure, primary_new, primary_new_with, IsGString, gstring, Parts, parts_none, parts_plain, parts_braces, parts_path, IsEntry, entry_named, entry_number, entry_gstring, entry_group, EntryList, entries_last, entries_more, IsClosure, closure_headed, closure_plain, IsWhole, whole_call, whole_expr, IsTarget, target_name, target_property, target_index, IsAssign, assign_value, assign_up, assign_down, IsSimple, simple_def, simple_declare, simple_assign, simple_evaluate, simple_return, simple_return_value, simple_break, simple_continue, simple_throw, IsStmt, stmt_if, stmt_while, stmt_for_each, stmt_for_steps, stmt_try_catch, stmt_try_finally, stmt_simple, IsArm, arm, ElseIfs, no_else_if, else_if, MayElse, no_else, else_body, IsEach, each_plain, each_typed, IsInit, init_declare, init_assign, IsCatch, catch, CatchList, no_catch, catch_more, IsFinally, finally, MayFinally, no_finally, finally_behind, IsBody, body_block, body_simple, IsBlock, block, IsStmts, stmts_none, stmts_some, StmtsRest, stmts_end, stmts_more}
 use Rattle.model_syntax.specs.Scripts.{IsParameter, parameter_plain, parameter_typed, ParameterList, parameters_last, parameters_more, Parameters, no_parameters, some_parameters, IsFunction, function, IsTop, top_function, top_statement, TopsRest, tops_end, tops_more, Tops, tops_none, tops_some, IsScript}
 use Rattle.model_syntax.specs.Scopes.{Mark, Marks, all, loop, callable, heads, block_if_any, block_begins, loop_begins, callable_begins, scope_ends, declares, declares_it, declares_function, breaks, continues, choice_marks, entry_marks, expr_marks, part_marks, stmt_marks, suffix_marks, target_marks, arguments_marks, arm_marks, catch_marks, operand_marks, function_marks, top_marks, tree_marks}

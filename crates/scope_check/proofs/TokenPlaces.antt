@@ -1,5 +1,5 @@
 -- The places of the tokens of a script are in order.
-use Rattle.std.proofs.Common.{◌≡◌, ◌≢◌, ℕ, zero, suc, ◌+◌, ◌-◌, ◌<◌, ◌≤◌, ◌⊎◌, inl, inr, Bool, true, false, ◌&&◌, not, if◌then◌else◌, Option, Some, List, [], ◌∷◌, ◌++◌, map, length, refl, sym, ap, subst, ◌∙◌, arith, ⊎_elim}
+use Rattle.std.proofs.Common.{◌≡◌, ◌≢◌, ℕ, zero, suc, ◌+◌, ◌-◌, ◌<◌, ◌≤◌, inl, inr, Bool, true, false, ◌&&◌, not, if◌then◌else◌, Some, List, [], ◌∷◌, ◌++◌, length, refl, sym, ap, subst, ◌∙◌, arith, ⊎_elim}
 use Rattle.std.specs.Prelude.{min, ◌==◌}
 use Rattle.std.proofs.lemmas.List.{get_or_past, length-map}
 use Rattle.std.proofs.lemmas.Bool.{true≢false, cases_lt}
@@ -10,7 +10,7 @@ use Rattle.model_syntax.specs.declared.token.TokenKind.{TokenKind}
 use Rattle.model_syntax.specs.declared.tree.Tree.{Tree}
 use Rattle.model_syntax.specs.Source.{Source, past_end, byte_at}
 use Rattle.model_syntax.specs.Places.{line_at, column_at, place_at, is_inner}
-use Rattle.model_syntax.specs.Stream.{Places, place_of_token, places_of, kinds_of}
+use Rattle.model_syntax.specs.Stream.{places_of, kinds_of}
 use Rattle.model_syntax.specs.Tokens.{Lexed, InOrder, Raw, raw_none, raw_more}
 use Rattle.model_syntax.specs.FirstFault.{IsTree}
 use Rattle.model_syntax.specs.Scopes.{scope_fault}

@@ -3,9 +3,9 @@
 //!
 //! The one public call is [`check`]. It answers `Ok` exactly where the tree has no scope fault, and else the first fault
 //! in the order of the script, or that memory was refused. What a scope fault is stands in `model_syntax`'s
-//! `specs/Scopes`; `specs/Faults` has all of a tree, of which the first is the one with the least place
-//! (`proofs/TokenPlaces`). The call goes once through the tree ([`walk`]), as deep in calls as the tree is, and a name takes time
-//! in the logarithm of the number of names in its scope, whatever the names are ([`names`]).
+//! `specs/Scopes`; `specs/Faults` has all faults of a tree, and the first is the one with the least place
+//! (`proofs/TokenPlaces`). The call goes once through the tree ([`walk`]), as deep in calls as the tree is, and a name
+//! takes time in the logarithm of the number of names in its scope, whatever the names are ([`names`]).
 //!
 //! ```
 //! // `def x = 1`, and `def x = 2` in the second line

@@ -836,7 +836,14 @@ pub simple::read_other-returns : goal.simple::read_other-returns
 simple::read_other-returns t c =
     let u = sym c.is_update.ensures ∙ c.if-not-is_update.false in
     let t = sym c.to_target.ensures ∙ c.in-Some.is in
-    handed c.read_update.result c.read_update.ensures (λ x n e. other_update_ok (kinds c.args.tokens.now) (places_of c.args.tokens.now) c.requires c.if-sees.ensures c.if-is_typed.ensures (plain_is (kinds c.args.tokens.now) (sym c.is_call.ensures ∙ c.if-is_call.false) c.if-is_typed.ensures) c.in_ok-value.ensures u t e) (λ i f. other_update_fails (kinds c.args.tokens.now) (places_of c.args.tokens.now) c.requires c.if-sees.ensures c.if-is_typed.ensures (plain_is (kinds c.args.tokens.now) (sym c.is_call.ensures ∙ c.if-is_call.false) c.if-is_typed.ensures) c.in_ok-value.ensures u t f)
+    other_update_ok (kinds c.args.tokens.now) (places_of c.args.tokens.now) c.requires c.if-sees.ensures c.if-is_typed.ensures (plain_is (kinds c.args.tokens.now) (sym c.is_call.ensures ∙ c.if-is_call.false) c.if-is_typed.ensures) c.in_ok-value.ensures u t c.in_ok-assignment.ensures
+
+pub simple::read_other-returns-in_err-assignment : goal.simple::read_other-returns-in_err-assignment
+simple::read_other-returns-in_err-assignment t c =
+    let u = sym c.is_update.ensures ∙ c.if-not-is_update.false in
+    let t = sym c.to_target.ensures ∙ c.in-Some.is in
+    let p = err_from_is_err_and c.from_residual-in_err-assignment.result c.from_residual-in_err-assignment.ensures.1 in
+    rw (p.1, p.2) (passed c.in_err-assignment.field-0.0 c.in_err-assignment.ensures (λ i f. other_update_fails (kinds c.args.tokens.now) (places_of c.args.tokens.now) c.requires c.if-sees.ensures c.if-is_typed.ensures (plain_is (kinds c.args.tokens.now) (sym c.is_call.ensures ∙ c.if-is_call.false) c.if-is_typed.ensures) c.in_ok-value.ensures u t f))
 
 pub target::read_update-returns-then-sees : goal.target::read_update-returns-then-sees
 target::read_update-returns-then-sees t c = update_up_ok (kinds c.args.tokens.now) (places_of c.args.tokens.now) c.args.target c.if-sees.ensures.0
@@ -949,10 +956,15 @@ loops::read_steps-returns-in_err-body t c =
     rw (p.1, p.2) (passed c.in_err-body.field-0.0 c.in_err-body.ensures (λ i f. steps_behind_fails (kinds c.args.tokens.now) (places_of c.args.tokens.now) c.in_ok-first.ensures c.if-not-sees.ensures.0 c.in_ok-test.ensures c.if-not-sees-2.ensures.0 c.in_ok-step.ensures f))
 
 pub loops::read_steps-returns : goal.loops::read_steps-returns
-loops::read_steps-returns t c = rw (c.in_ok-first-2.ensures, c.in_ok-step-2.ensures) (steps_ok (kinds c.args.tokens.now) (places_of c.args.tokens.now) c.in_ok-first.ensures c.if-not-sees.ensures.0 c.in_ok-test.ensures c.if-not-sees-2.ensures.0 c.in_ok-step.ensures c.in_ok-body.ensures)
+loops::read_steps-returns t c = rw (c.in_ok-for_steps.ensures, c.in_ok-step-2.ensures) (steps_ok (kinds c.args.tokens.now) (places_of c.args.tokens.now) c.in_ok-first.ensures c.if-not-sees.ensures.0 c.in_ok-test.ensures c.if-not-sees-2.ensures.0 c.in_ok-step.ensures c.in_ok-body.ensures)
 
 pub loops::read_init-returns-then-not-begins_declaration : goal.loops::read_init-returns-then-not-begins_declaration
-loops::read_init-returns-then-not-begins_declaration t c = handed c.read_assign.result c.read_assign.ensures (λ x n e. init_assign_ok (kinds c.args.tokens.now) (places_of c.args.tokens.now) (not_def c.if-not-begins_declaration.ensures) (not_both c.if-not-begins_declaration.ensures) e) (λ i f. init_assign_fails (kinds c.args.tokens.now) (places_of c.args.tokens.now) (not_def c.if-not-begins_declaration.ensures) (not_both c.if-not-begins_declaration.ensures) f)
+loops::read_init-returns-then-not-begins_declaration t c = init_assign_ok (kinds c.args.tokens.now) (places_of c.args.tokens.now) (not_def c.if-not-begins_declaration.ensures) (not_both c.if-not-begins_declaration.ensures) c.in_ok-assignment.ensures
+
+pub loops::read_init-returns-in_err-assignment : goal.loops::read_init-returns-in_err-assignment
+loops::read_init-returns-in_err-assignment t c =
+    let p = err_from_is_err_and c.from_residual.result c.from_residual.ensures.1 in
+    rw (p.1, p.2) (passed c.in_err-assignment.field-0.0 c.in_err-assignment.ensures (λ i f. init_assign_fails (kinds c.args.tokens.now) (places_of c.args.tokens.now) (not_def c.if-not-begins_declaration.ensures) (not_both c.if-not-begins_declaration.ensures) f))
 
 pub loops::read_init-returns-in_default : goal.loops::read_init-returns-in_default
 loops::read_init-returns-in_default t c =
