@@ -14,34 +14,21 @@ use Rattle.model_syntax.specs.Places.{place_at}
 use Rattle.model_syntax.specs.Spelling.{sign_text, Spells, spells_sign, spells_word, spells_name, spells_number}
 use Rattle.model_syntax.specs.TextForms.{Form, quotes, is_double, Opens}
 use Rattle.model_syntax.specs.OpenBrackets.{Open, text, depth, is_opening, after_sign, IsCode}
-use Rattle.model_syntax.specs.Reading.{goes, fails, token, BeginsLine, Blank, AfterFits, name_stands, word_stands, sign_stands, number_stands, sign_too_deep, number_bad, lexeme, BeginsExpression, TextFails, text_whole, text_opens, text_fails, text_begins, Begins, begins_blank, begins_newline, begins_line, begins_comment, begins_lexeme, begins_text, code_blank, code_lexeme, code_text, Reads, reads_code}
+use Rattle.model_syntax.specs.Reading.{goes, fails, token, BeginsLine, AfterFits, name_stands, word_stands, sign_stands, number_stands, sign_too_deep, number_bad, lexeme, BeginsExpression, begins_braces, begins_path, TextFails, text_whole, text_opens, text_fails, text_begins, Begins, begins_blank, begins_newline, begins_line, begins_comment, begins_lexeme, begins_text, code_lexeme, code_text, Reads, reads_code}
 use Rattle.model_syntax.proofs.SpellingLemmas.{FirstIs, first_is, word_first, name_first, number_first}
-use Rattle.model_syntax.proofs.ScriptExistence.{quotes_some}
 use Rattle.model_syntax.proofs.TextLemmas.{quote_first, quote_cases}
-use Rattle.groovy_lex.specs.declared.step.Step.{Step}
-use Rattle.groovy_lex.specs.declared.step.Step.TheVariants as step
+use Rattle.groovy_lex.specs.declared.contents.Expression.{Expression}
+use Rattle.groovy_lex.specs.declared.contents.Expression.TheVariants.{Braces, Path}
 use Rattle.groovy_lex.specs.Names.{IsNameKind, IsNameAt}
 use Rattle.groovy_lex.specs.Numbers.{IsNumberAt, IsBadNumberAt}
 use Rattle.groovy_lex.specs.Signs.{IsSignAt}
 use Rattle.groovy_lex.specs.Contents.{IsContent}
 use Rattle.groovy_lex.specs.Turns.{IsOther}
-use Rattle.groovy_lex.specs.Steps.{outcome, IsPast, Does, DoesTo}
+use Rattle.groovy_lex.specs.Stops.{BeginsBy}
 
 -- A token that was put behind the others, with its place.
 pub token_behind : (B : Source) (k : TokenKind) (a b : ℕ) (p : Place) (old new : List Token) → p ≡ place_at B a → new ≡ old ++ record { kind = k; start = a; end = b; place = p } ∷ [] → new ≡ old ++ token B k a b ∷ []
 token_behind B k a b p old new e h = h ∙ ap (λ (z : Place). old ++ record { kind = k; start = a; end = b; place = z } ∷ []) e
-
--- One token was read.
-pub one_token : (B : Source) (n : ℕ) (s u : List Open) (k : TokenKind) (a m : ℕ) (p : Place) (old new : List Token) → Reads B s a (goes (token B k a m ∷ []) u m) → p ≡ place_at B a → new ≡ old ++ record { kind = k; start = a; end = m; place = p } ∷ [] → a < m → m ≤ n → DoesTo B n s u a old new m
-one_token B n s u k a m p old new r e h l i = record { found = token B k a m ∷ []; reads = r; longer = token_behind B k a m p old new e h; forward = l; inside = i }
-
--- No token was read.
-pub no_token : (B : Source) (n : ℕ) (s : List Open) (a m : ℕ) (ts : List Token) → Reads B s a (goes [] s m) → a < m → m ≤ n → DoesTo B n s s a ts ts m
-no_token B n s a m ts r l i = record { found = []; reads = r; longer = sym (append-nil ts); forward = l; inside = i }
-
-pub blank_does : (B : Source) (n : ℕ) (s : List Open) (a : ℕ) (ts : List Token) (x : Step) → IsCode s → Blank B s a (outcome [] s x) → IsPast a n x → Does B n s s a ts ts x
-blank_does B n s a ts (step.Goes m) c b p = no_token B n s a m ts (reads_code c (code_blank b)) p.0 p.1
-blank_does B n s a ts (step.Fails k q) c b p = (reads_code c (code_blank b), refl)
 
 -- Names and words.
 pub name_reads : (B : Source) (s : List Open) (a b : ℕ) (k : TokenKind) → IsCode s → IsNameAt B a b k → Reads B s a (goes (token B k a b ∷ []) s b)
@@ -73,14 +60,10 @@ text_reads B s f t a n b c o i q = reads_code c (code_text (text_begins o i.cont
 pub opening_reads : (B : Source) (s : List Open) (f : Form) (t : List ℕ) (a n b : ℕ) → IsCode s → Opens B f a → IsContent B f (a + length (quotes f)) n t b → is_double f ≡ true → BeginsExpression B s b → Reads B s a (goes (token B kind.GStringOpen a (a + length (quotes f)) ∷ []) (text f a ∷ s) (a + length (quotes f)))
 opening_reads B s f t a n b c o i d e = reads_code c (code_text (text_begins o i.content (text_opens d e)))
 
-pub opening_does : (B : Source) (n : ℕ) (s u : List Open) (f : Form) (t : List ℕ) (a b m : ℕ) (old new : List Token) → IsCode s → Opens B f a → IsContent B f (a + length (quotes f)) n t b → is_double f ≡ true → BeginsExpression B s b → u ≡ text f a ∷ s → new ≡ old ++ token B kind.GStringOpen a (a + length (quotes f)) ∷ [] → m ≡ a + length (quotes f) → DoesTo B n s u a old new m
-opening_does B n s u f t a b m old new c o i d e v h l = record {
-  found = token B kind.GStringOpen a (a + length (quotes f)) ∷ [];
-  reads = subst (λ z. Reads B s a (goes (token B kind.GStringOpen a (a + length (quotes f)) ∷ []) z m)) (sym v) (subst (λ z. Reads B s a (goes (token B kind.GStringOpen a (a + length (quotes f)) ∷ []) (text f a ∷ s) z)) (sym l) (opening_reads B s f t a n b c o i d e));
-  longer = h;
-  forward = omega (arith, l, quotes_some f);
-  inside = omega (arith, l, i.forward, i.inside);
-}
+-- An expression that begins in one of its ways.
+pub expression_begins : {B : Source} {s : List Open} {p : ℕ} (e : Expression) → BeginsBy B s p e → BeginsExpression B s p
+expression_begins Braces b = begins_braces b.0 b.1
+expression_begins Path b = begins_path b.0 b.1
 
 pub text_fails_reads : (B : Source) (s : List Open) (f : Form) (t : List ℕ) (a n b : ℕ) (k : FaultKind) (p : ℕ) → IsCode s → Opens B f a → IsContent B f (a + length (quotes f)) n t b → TextFails B s f a b k p → Reads B s a (fails k p)
 text_fails_reads B s f t a n b k p c o i e = reads_code c (code_text (text_begins o i.content (text_fails e)))

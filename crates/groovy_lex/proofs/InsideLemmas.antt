@@ -1,5 +1,5 @@
 -- What the lexer found in a text with expressions, as what stands there.
-use Rattle.std.proofs.Common.{◌≡◌, ℕ, ◌+◌, ◌<◌, ◌≤◌, List, [], ◌∷◌, ◌++◌, length, sym, ap, subst, ◌∙◌, arith, true, append_assoc}
+use Rattle.std.proofs.Common.{◌≡◌, ℕ, ◌+◌, ◌<◌, ◌≤◌, List, [], ◌∷◌, ◌++◌, length, refl, sym, ap, subst, ◌∙◌, arith, true, append_assoc}
 use Rattle.std.specs.Prelude.{codes}
 use Rattle.model_syntax.specs.declared.fault.FaultKind.{FaultKind}
 use Rattle.model_syntax.specs.declared.sign.Sign.TheVariants.{Dot}
@@ -16,7 +16,6 @@ use Rattle.model_syntax.proofs.SpellingLemmas.{either, in_range}
 use Rattle.groovy_lex.specs.Names.{IsNameAt}
 use Rattle.groovy_lex.specs.Contents.{IsContent}
 use Rattle.groovy_lex.specs.Paths.{IsOn, IsPath}
-use Rattle.groovy_lex.specs.Steps.{DoesTo}
 
 -- What is open around a text has as many brackets.
 around : (s : List Open) (f : Form) (o : ℕ) → s ≡ text f o ∷ closed s → depth s ≡ depth (closed s)
@@ -37,41 +36,22 @@ inside_reads B s f o a x e i = subst (λ z. Reads B z a x) (sym e) (reads_text i
 pub inside_fails : (B : Source) (s : List Open) (f : Form) (o a : ℕ) (k : FaultKind) (q : ℕ) → s ≡ text f o ∷ closed s → TextFails B s f o a k q → Reads B s a (fails k q)
 inside_fails B s f o a k q e t = inside_reads B s f o a (fails k q) e (in_fault (fails_around (around s f o e) t))
 
-pub closing_does : (B : Source) (n : ℕ) (s u : List Open) (f : Form) (o a m : ℕ) (old new : List Token) → s ≡ text f o ∷ closed s → Spelled B (quotes f) a → u ≡ closed s → new ≡ old ++ token B kind.GStringClose a (a + length (quotes f)) ∷ [] → m ≡ a + length (quotes f) → 0 < length (quotes f) → m ≤ n → DoesTo B n s u a old new m
-closing_does B n s u f o a m old new e q v h l g i = record {
-  found = token B kind.GStringClose a (a + length (quotes f)) ∷ [];
-  reads = inside_reads B s f o a _ e (subst (λ z. InText B (closed s) f o a (goes (token B kind.GStringClose a (a + length (quotes f)) ∷ []) z m)) (sym v) (subst (λ z. InText B (closed s) f o a (goes (token B kind.GStringClose a (a + length (quotes f)) ∷ []) (closed s) z)) (sym l) (in_closing q)));
-  longer = h;
-  forward = omega (arith, l, g);
-  inside = i;
-}
+pub closing_reads : (B : Source) (s u : List Open) (f : Form) (o a : ℕ) → s ≡ text f o ∷ closed s → Spelled B (quotes f) a → u ≡ closed s → Reads B s a (goes (token B kind.GStringClose a (a + length (quotes f)) ∷ []) u (a + length (quotes f)))
+closing_reads B s u f o a e q v = subst (λ z. Reads B s a (goes (token B kind.GStringClose a (a + length (quotes f)) ∷ []) z (a + length (quotes f)))) (sym v) (inside_reads B s f o a _ e (in_closing q))
 
-pub braces_does : (B : Source) (n : ℕ) (s u : List Open) (f : Form) (o a : ℕ) (old new : List Token) → s ≡ text f o ∷ closed s → is_double f ≡ true → Spelled B (codes "${") a → depth s < 128 → u ≡ expression ∷ s → new ≡ old ++ token B kind.ExpressionOpen a (a + 2) ∷ [] → a + 2 ≤ n → DoesTo B n s u a old new (a + 2)
-braces_does B n s u f o a old new e d q l v h i = record {
-  found = token B kind.ExpressionOpen a (a + 2) ∷ [];
-  reads = inside_reads B s f o a _ e (subst (λ z. InText B (closed s) f o a (goes (token B kind.ExpressionOpen a (a + 2) ∷ []) z (a + 2))) (sym (v ∙ ap (λ z. expression ∷ z) e)) (in_braces d q (omega (arith, l, around s f o e))));
-  longer = h;
-  forward = omega arith;
-  inside = i;
-}
+pub braces_reads : (B : Source) (s u : List Open) (f : Form) (o a : ℕ) → s ≡ text f o ∷ closed s → is_double f ≡ true → Spelled B (codes "${") a → depth s < 128 → u ≡ expression ∷ s → Reads B s a (goes (token B kind.ExpressionOpen a (a + 2) ∷ []) u (a + 2))
+braces_reads B s u f o a e d q l v = subst (λ z. Reads B s a (goes (token B kind.ExpressionOpen a (a + 2) ∷ []) z (a + 2))) (sym (v ∙ ap (λ z. expression ∷ z) e)) (inside_reads B s f o a _ e (in_braces d q (omega (arith, l, around s f o e))))
 
-pub path_does : (B : Source) (n : ℕ) (s : List Open) (f : Form) (o a m : ℕ) (old new : List Token) → s ≡ text f o ∷ closed s → is_double f ≡ true → B a ≡ 36 → IsPath B n (a + 1) (old ++ token B kind.PathOpen a (a + 1) ∷ []) new m → DoesTo B n s s a old new m
-path_does B n s f o a m old new e d q p = record {
-  found = token B kind.PathOpen a (a + 1) ∷ p.found;
-  reads = inside_reads B s f o a _ e (subst (λ z. InText B (closed s) f o a (goes (token B kind.PathOpen a (a + 1) ∷ p.found) z m)) (sym e) (in_path d q p.path));
-  longer = p.longer ∙ append_assoc old (token B kind.PathOpen a (a + 1) ∷ []) p.found;
-  forward = omega (arith, p.forward);
-  inside = p.inside;
-}
+pub path_reads : (B : Source) (s : List Open) (f : Form) (o a : ℕ) → s ≡ text f o ∷ closed s → is_double f ≡ true → B a ≡ 36 → (ts : List Token) (m : ℕ) → Path B ts (a + 1) m → Reads B s a (goes (token B kind.PathOpen a (a + 1) ∷ ts) s m)
+path_reads B s f o a e d q ts m p = subst (λ z. Reads B s a (goes (token B kind.PathOpen a (a + 1) ∷ ts) z m)) (sym e) (inside_reads B s f o a _ e (in_path d q p))
 
-pub part_does : (B : Source) (n : ℕ) (s : List Open) (f : Form) (o a m : ℕ) (t : List ℕ) (old new : List Token) → s ≡ text f o ∷ closed s → IsContent B f a n t m → a < m → new ≡ old ++ part B t a m → DoesTo B n s s a old new m
-part_does B n s f o a m t old new e i l h = record {
-  found = part B t a m;
-  reads = inside_reads B s f o a _ e (subst (λ z. InText B (closed s) f o a (goes (part B t a m) z m)) (sym e) (in_part l i.content i.stops));
-  longer = h;
-  forward = l;
-  inside = i.inside;
-}
+pub part_reads : (B : Source) (n : ℕ) (s : List Open) (f : Form) (o a m : ℕ) (t : List ℕ) → s ≡ text f o ∷ closed s → IsContent B f a n t m → a < m → Reads B s a (goes (part B t a m) s m)
+part_reads B n s f o a m t e i l = subst (λ z. Reads B s a (goes (part B t a m) z m)) (sym e) (inside_reads B s f o a _ e (in_part l i.content i.stops))
+
+-- A part that stands for something is a token.
+pub part_some : (B : Source) (t : List ℕ) (a b : ℕ) → (t ≡ [] → ⊥) → part B t a b ≡ token B (kind.GStringPart t) a b ∷ []
+part_some B [] a b n = absurd (n refl)
+part_some B (c ∷ t) a b n = refl
 
 -- The names that were read so far, put before those that follow.
 abbrev pub SoFar : Source → ℕ → List Token → List Token → ℕ → Type 0

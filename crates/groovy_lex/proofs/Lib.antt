@@ -10,5 +10,6 @@ mod ContentLemmas
 mod EscapeLemmas
 mod CodeLemmas
 mod InsideLemmas
+mod FoundLemmas
 mod LayoutLemmas
 mod RawLemmas

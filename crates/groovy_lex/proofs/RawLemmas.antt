@@ -9,7 +9,9 @@ use Rattle.model_syntax.specs.Reading.{Reads, reads_code, reads_text, code_nothi
 use Rattle.model_syntax.specs.Newlines.{kept}
 use Rattle.model_syntax.specs.Tokens.{Lexed, LexicalFault, begins_before, InOrder}
 use Rattle.model_syntax.proofs.TokenLaws.{lexed-only, lexical_fault-only, lexed_or_fault}
+use Rattle.model_syntax.specs.BracketDepth.{IsShallow}
 use Rattle.model_syntax.proofs.TokenOrder.{lexed-order, lexical_fault-order}
+use Rattle.model_syntax.proofs.BracketDepthLaws.{lexed-shallow, lexical_fault-shallow}
 use Rattle.groovy_lex.specs.declared.raw.LexicalFault.{LexicalFault as Found}
 use Rattle.groovy_lex.specs.Raws.{StopsWith, IsRead, IsEndFault}
 use Rattle.groovy_lex.specs.Refusals.{OnlyFault}
@@ -37,8 +39,11 @@ only_by bytes raw tokens r e others l = lexed-only l (lexed_by bytes raw tokens 
 pub order_by : (bytes : List ℕ) (raw tokens : List Token) → IsRead bytes raw None → tokens ≡ kept false raw → InOrder 0 tokens
 order_by bytes raw tokens r e = lexed-order (lexed_by bytes raw tokens r e)
 
+pub shallow_by : (bytes : List ℕ) (raw tokens : List Token) → IsRead bytes raw None → tokens ≡ kept false raw → IsShallow tokens
+shallow_by bytes raw tokens r e = lexed-shallow (lexed_by bytes raw tokens r e)
+
 pub fault_by : (bytes : List ℕ) (raw begun before : List Token) (f : Found) → IsRead bytes raw (Some f) → begun ≡ filter (begins_before f.at) raw → before ≡ kept false begun → OnlyFault bytes f.kind f.at before
-fault_by bytes raw begun before f r b e = record { fault = found; no_tokens = λ ts l. lexed_or_fault l found; only = λ k p ts g. lexical_fault-only g found; order = lexical_fault-order found }
+fault_by bytes raw begun before f r b e = record { fault = found; no_tokens = λ ts l. lexed_or_fault l found; only = λ k p ts g. lexical_fault-only g found; order = lexical_fault-order found; shallow = lexical_fault-shallow found }
   where
     found : LexicalFault bytes f.kind f.at before
     found = record { raw = raw; open_there = r.open_there; there = r.there; reads = r.reads; fault = r.stops; newlines = e ∙ ap (kept false) b }

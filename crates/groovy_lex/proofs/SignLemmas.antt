@@ -1,5 +1,5 @@
 -- Which sign stands at a place.
-use Rattle.std.proofs.Common.{◌≡◌, ℕ, ◌+◌, ◌≤◌, ◌⊎◌, inl, inr, ⊎_elim, List, [], ◌∷◌, length, refl, sym, ap, subst, ◌∙◌, arith, Bool, true, false, Option, Some, None, ◌==◌, ◌&&◌}
+use Rattle.std.proofs.Common.{◌≡◌, ℕ, ◌+◌, ◌≤◌, inl, inr, List, [], ◌∷◌, length, refl, sym, ap, subst, ◌∙◌, arith, Bool, true, false, Option, Some, None, ◌==◌, ◌&&◌}
 use Rattle.std.specs.Prelude.{if◌then◌else◌}
 use Rattle.std.proofs.lemmas.Bool.{eqb-true}
 use Rattle.model_syntax.specs.declared.sign.Sign.{Sign}
@@ -10,7 +10,7 @@ use Rattle.std.proofs.lemmas.Bool.Decides.{nat_tests}
 use Rattle.model_syntax.proofs.SpellingLemmas.{both}
 use Rattle.model_syntax.proofs.StepLemmas.{is_pair, longest_sign}
 use Rattle.groovy_lex.proofs.SpelledLemmas.{AreBytes, spelled_inside}
-use Rattle.groovy_lex.specs.Signs.{assign_sign, pair_sign, punctuation_sign, single_sign, IsSignAt}
+use Rattle.groovy_lex.specs.Signs.{pair_sign, single_sign, IsSignAt}
 
 -- What a table of signs gives is what its rows give.
 Two : ℕ → ℕ → Option Sign → Type 0
@@ -43,76 +43,64 @@ one_row b n y o t r = by (b == n) refl
     by true d x e = let l : y ≡ x = cc in ap sign_text (sym l) ∙ t ∙ ap (λ z. z ∷ []) (sym (eqb-true b n d))
     by false d x e = r x e
 
-assign_sign-two : (b c : ℕ) → Two b c (assign_sign b c)
-unfolding assign_sign
-assign_sign-two b c = two_row b c 43 61 sign.PlusAssign _ refl (two_row b c 45 61 sign.MinusAssign _ refl (two_row b c 42 61 sign.TimesAssign _ refl (two_row b c 37 61 sign.ModAssign _ refl (two_row b c 61 61 sign.Equal _ refl (two_row b c 33 61 sign.NotEqual _ refl (two_row b c 60 61 sign.LessEqual _ refl (two_row b c 62 61 sign.GreaterEqual _ refl (two_none b c))))))))
-
 pair_sign-two : (b c : ℕ) → Two b c (pair_sign b c)
 unfolding pair_sign
-pair_sign-two b c = two_row b c 63 58 sign.Elvis _ refl (two_row b c 63 46 sign.SafeDot _ refl (two_row b c 46 46 sign.Range _ refl (two_row b c 45 62 sign.Arrow _ refl (two_row b c 43 43 sign.Increment _ refl (two_row b c 45 45 sign.Decrement _ refl (two_row b c 124 124 sign.Or _ refl (two_row b c 38 38 sign.And _ refl (two_none b c))))))))
-
-punctuation_sign-one : (b : ℕ) → One b (punctuation_sign b)
-unfolding punctuation_sign
-punctuation_sign-one b = one_row b 40 sign.ParenOpen _ refl (one_row b 41 sign.ParenClose _ refl (one_row b 91 sign.BracketOpen _ refl (one_row b 93 sign.BracketClose _ refl (one_row b 123 sign.BraceOpen _ refl (one_row b 125 sign.BraceClose _ refl (one_row b 44 sign.Comma _ refl (one_row b 59 sign.Semicolon _ refl (one_row b 58 sign.Colon _ refl (one_none b)))))))))
+pair_sign-two b c = two_row b c 43 61 sign.PlusAssign _ refl (two_row b c 45 61 sign.MinusAssign _ refl (two_row b c 42 61 sign.TimesAssign _ refl (two_row b c 37 61 sign.ModAssign _ refl (two_row b c 61 61 sign.Equal _ refl (two_row b c 33 61 sign.NotEqual _ refl (two_row b c 60 61 sign.LessEqual _ refl (two_row b c 62 61 sign.GreaterEqual _ refl (two_row b c 63 58 sign.Elvis _ refl (two_row b c 63 46 sign.SafeDot _ refl (two_row b c 46 46 sign.Range _ refl (two_row b c 45 62 sign.Arrow _ refl (two_row b c 43 43 sign.Increment _ refl (two_row b c 45 45 sign.Decrement _ refl (two_row b c 124 124 sign.Or _ refl (two_row b c 38 38 sign.And _ refl (two_none b c))))))))))))))))
 
 single_sign-one : (b : ℕ) → One b (single_sign b)
 unfolding single_sign
-single_sign-one b = one_row b 63 sign.Question _ refl (one_row b 46 sign.Dot _ refl (one_row b 61 sign.Assign _ refl (one_row b 60 sign.Less _ refl (one_row b 62 sign.Greater _ refl (one_row b 43 sign.Plus _ refl (one_row b 45 sign.Minus _ refl (one_row b 42 sign.Times _ refl (one_row b 37 sign.Mod _ refl (one_row b 33 sign.Not _ refl (one_none b))))))))))
+single_sign-one b = one_row b 40 sign.ParenOpen _ refl (one_row b 41 sign.ParenClose _ refl (one_row b 91 sign.BracketOpen _ refl (one_row b 93 sign.BracketClose _ refl (one_row b 123 sign.BraceOpen _ refl (one_row b 125 sign.BraceClose _ refl (one_row b 44 sign.Comma _ refl (one_row b 59 sign.Semicolon _ refl (one_row b 58 sign.Colon _ refl (one_row b 63 sign.Question _ refl (one_row b 46 sign.Dot _ refl (one_row b 61 sign.Assign _ refl (one_row b 60 sign.Less _ refl (one_row b 62 sign.Greater _ refl (one_row b 43 sign.Plus _ refl (one_row b 45 sign.Minus _ refl (one_row b 42 sign.Times _ refl (one_row b 37 sign.Mod _ refl (one_row b 33 sign.Not _ refl (one_none b)))))))))))))))))))
 
 -- Where no table has a sign none stands.
 missed : {x : Sign} (o p : Option Sign) → o ≡ None → o ≡ p → p ≡ Some x → ⊥
 missed {x = x} o p n e s = let k : None ≡ Some x = sym n ∙ e ∙ s in cc
 
-pub no_sign : (B : Source) (a : ℕ) → assign_sign (B a) (B (a + 1)) ≡ None → pair_sign (B a) (B (a + 1)) ≡ None → punctuation_sign (B a) ≡ None → single_sign (B a) ≡ None → (x : Sign) → Spelled B (sign_text x) a → ⊥
-unfolding assign_sign pair_sign punctuation_sign single_sign
-no_sign B a i p q s sign.ParenOpen r = missed _ (punctuation_sign 40) q (ap punctuation_sign r.0) refl
-no_sign B a i p q s sign.ParenClose r = missed _ (punctuation_sign 41) q (ap punctuation_sign r.0) refl
-no_sign B a i p q s sign.BracketOpen r = missed _ (punctuation_sign 91) q (ap punctuation_sign r.0) refl
-no_sign B a i p q s sign.BracketClose r = missed _ (punctuation_sign 93) q (ap punctuation_sign r.0) refl
-no_sign B a i p q s sign.BraceOpen r = missed _ (punctuation_sign 123) q (ap punctuation_sign r.0) refl
-no_sign B a i p q s sign.BraceClose r = missed _ (punctuation_sign 125) q (ap punctuation_sign r.0) refl
-no_sign B a i p q s sign.Comma r = missed _ (punctuation_sign 44) q (ap punctuation_sign r.0) refl
-no_sign B a i p q s sign.Semicolon r = missed _ (punctuation_sign 59) q (ap punctuation_sign r.0) refl
-no_sign B a i p q s sign.Colon r = missed _ (punctuation_sign 58) q (ap punctuation_sign r.0) refl
-no_sign B a i p q s sign.Question r = missed _ (single_sign 63) s (ap single_sign r.0) refl
-no_sign B a i p q s sign.Elvis r = missed _ (pair_sign 63 58) p (ap (λ z. pair_sign z (B (a + 1))) r.0 ∙ ap (pair_sign 63) r.1.0) refl
-no_sign B a i p q s sign.Dot r = missed _ (single_sign 46) s (ap single_sign r.0) refl
-no_sign B a i p q s sign.SafeDot r = missed _ (pair_sign 63 46) p (ap (λ z. pair_sign z (B (a + 1))) r.0 ∙ ap (pair_sign 63) r.1.0) refl
-no_sign B a i p q s sign.Range r = missed _ (pair_sign 46 46) p (ap (λ z. pair_sign z (B (a + 1))) r.0 ∙ ap (pair_sign 46) r.1.0) refl
-no_sign B a i p q s sign.Arrow r = missed _ (pair_sign 45 62) p (ap (λ z. pair_sign z (B (a + 1))) r.0 ∙ ap (pair_sign 45) r.1.0) refl
-no_sign B a i p q s sign.Assign r = missed _ (single_sign 61) s (ap single_sign r.0) refl
-no_sign B a i p q s sign.PlusAssign r = missed _ (assign_sign 43 61) i (ap (λ z. assign_sign z (B (a + 1))) r.0 ∙ ap (assign_sign 43) r.1.0) refl
-no_sign B a i p q s sign.MinusAssign r = missed _ (assign_sign 45 61) i (ap (λ z. assign_sign z (B (a + 1))) r.0 ∙ ap (assign_sign 45) r.1.0) refl
-no_sign B a i p q s sign.TimesAssign r = missed _ (assign_sign 42 61) i (ap (λ z. assign_sign z (B (a + 1))) r.0 ∙ ap (assign_sign 42) r.1.0) refl
-no_sign B a i p q s sign.ModAssign r = missed _ (assign_sign 37 61) i (ap (λ z. assign_sign z (B (a + 1))) r.0 ∙ ap (assign_sign 37) r.1.0) refl
-no_sign B a i p q s sign.Increment r = missed _ (pair_sign 43 43) p (ap (λ z. pair_sign z (B (a + 1))) r.0 ∙ ap (pair_sign 43) r.1.0) refl
-no_sign B a i p q s sign.Decrement r = missed _ (pair_sign 45 45) p (ap (λ z. pair_sign z (B (a + 1))) r.0 ∙ ap (pair_sign 45) r.1.0) refl
-no_sign B a i p q s sign.Or r = missed _ (pair_sign 124 124) p (ap (λ z. pair_sign z (B (a + 1))) r.0 ∙ ap (pair_sign 124) r.1.0) refl
-no_sign B a i p q s sign.And r = missed _ (pair_sign 38 38) p (ap (λ z. pair_sign z (B (a + 1))) r.0 ∙ ap (pair_sign 38) r.1.0) refl
-no_sign B a i p q s sign.Equal r = missed _ (assign_sign 61 61) i (ap (λ z. assign_sign z (B (a + 1))) r.0 ∙ ap (assign_sign 61) r.1.0) refl
-no_sign B a i p q s sign.NotEqual r = missed _ (assign_sign 33 61) i (ap (λ z. assign_sign z (B (a + 1))) r.0 ∙ ap (assign_sign 33) r.1.0) refl
-no_sign B a i p q s sign.Less r = missed _ (single_sign 60) s (ap single_sign r.0) refl
-no_sign B a i p q s sign.LessEqual r = missed _ (assign_sign 60 61) i (ap (λ z. assign_sign z (B (a + 1))) r.0 ∙ ap (assign_sign 60) r.1.0) refl
-no_sign B a i p q s sign.Greater r = missed _ (single_sign 62) s (ap single_sign r.0) refl
-no_sign B a i p q s sign.GreaterEqual r = missed _ (assign_sign 62 61) i (ap (λ z. assign_sign z (B (a + 1))) r.0 ∙ ap (assign_sign 62) r.1.0) refl
-no_sign B a i p q s sign.Plus r = missed _ (single_sign 43) s (ap single_sign r.0) refl
-no_sign B a i p q s sign.Minus r = missed _ (single_sign 45) s (ap single_sign r.0) refl
-no_sign B a i p q s sign.Times r = missed _ (single_sign 42) s (ap single_sign r.0) refl
-no_sign B a i p q s sign.Mod r = missed _ (single_sign 37) s (ap single_sign r.0) refl
-no_sign B a i p q s sign.Not r = missed _ (single_sign 33) s (ap single_sign r.0) refl
+pub no_sign : (B : Source) (a : ℕ) → pair_sign (B a) (B (a + 1)) ≡ None → single_sign (B a) ≡ None → (x : Sign) → Spelled B (sign_text x) a → ⊥
+unfolding pair_sign single_sign
+no_sign B a p s sign.ParenOpen r = missed _ (single_sign 40) s (ap single_sign r.0) refl
+no_sign B a p s sign.ParenClose r = missed _ (single_sign 41) s (ap single_sign r.0) refl
+no_sign B a p s sign.BracketOpen r = missed _ (single_sign 91) s (ap single_sign r.0) refl
+no_sign B a p s sign.BracketClose r = missed _ (single_sign 93) s (ap single_sign r.0) refl
+no_sign B a p s sign.BraceOpen r = missed _ (single_sign 123) s (ap single_sign r.0) refl
+no_sign B a p s sign.BraceClose r = missed _ (single_sign 125) s (ap single_sign r.0) refl
+no_sign B a p s sign.Comma r = missed _ (single_sign 44) s (ap single_sign r.0) refl
+no_sign B a p s sign.Semicolon r = missed _ (single_sign 59) s (ap single_sign r.0) refl
+no_sign B a p s sign.Colon r = missed _ (single_sign 58) s (ap single_sign r.0) refl
+no_sign B a p s sign.Question r = missed _ (single_sign 63) s (ap single_sign r.0) refl
+no_sign B a p s sign.Elvis r = missed _ (pair_sign 63 58) p (ap (λ z. pair_sign z (B (a + 1))) r.0 ∙ ap (pair_sign 63) r.1.0) refl
+no_sign B a p s sign.Dot r = missed _ (single_sign 46) s (ap single_sign r.0) refl
+no_sign B a p s sign.SafeDot r = missed _ (pair_sign 63 46) p (ap (λ z. pair_sign z (B (a + 1))) r.0 ∙ ap (pair_sign 63) r.1.0) refl
+no_sign B a p s sign.Range r = missed _ (pair_sign 46 46) p (ap (λ z. pair_sign z (B (a + 1))) r.0 ∙ ap (pair_sign 46) r.1.0) refl
+no_sign B a p s sign.Arrow r = missed _ (pair_sign 45 62) p (ap (λ z. pair_sign z (B (a + 1))) r.0 ∙ ap (pair_sign 45) r.1.0) refl
+no_sign B a p s sign.Assign r = missed _ (single_sign 61) s (ap single_sign r.0) refl
+no_sign B a p s sign.PlusAssign r = missed _ (pair_sign 43 61) p (ap (λ z. pair_sign z (B (a + 1))) r.0 ∙ ap (pair_sign 43) r.1.0) refl
+no_sign B a p s sign.MinusAssign r = missed _ (pair_sign 45 61) p (ap (λ z. pair_sign z (B (a + 1))) r.0 ∙ ap (pair_sign 45) r.1.0) refl
+no_sign B a p s sign.TimesAssign r = missed _ (pair_sign 42 61) p (ap (λ z. pair_sign z (B (a + 1))) r.0 ∙ ap (pair_sign 42) r.1.0) refl
+no_sign B a p s sign.ModAssign r = missed _ (pair_sign 37 61) p (ap (λ z. pair_sign z (B (a + 1))) r.0 ∙ ap (pair_sign 37) r.1.0) refl
+no_sign B a p s sign.Increment r = missed _ (pair_sign 43 43) p (ap (λ z. pair_sign z (B (a + 1))) r.0 ∙ ap (pair_sign 43) r.1.0) refl
+no_sign B a p s sign.Decrement r = missed _ (pair_sign 45 45) p (ap (λ z. pair_sign z (B (a + 1))) r.0 ∙ ap (pair_sign 45) r.1.0) refl
+no_sign B a p s sign.Or r = missed _ (pair_sign 124 124) p (ap (λ z. pair_sign z (B (a + 1))) r.0 ∙ ap (pair_sign 124) r.1.0) refl
+no_sign B a p s sign.And r = missed _ (pair_sign 38 38) p (ap (λ z. pair_sign z (B (a + 1))) r.0 ∙ ap (pair_sign 38) r.1.0) refl
+no_sign B a p s sign.Equal r = missed _ (pair_sign 61 61) p (ap (λ z. pair_sign z (B (a + 1))) r.0 ∙ ap (pair_sign 61) r.1.0) refl
+no_sign B a p s sign.NotEqual r = missed _ (pair_sign 33 61) p (ap (λ z. pair_sign z (B (a + 1))) r.0 ∙ ap (pair_sign 33) r.1.0) refl
+no_sign B a p s sign.Less r = missed _ (single_sign 60) s (ap single_sign r.0) refl
+no_sign B a p s sign.LessEqual r = missed _ (pair_sign 60 61) p (ap (λ z. pair_sign z (B (a + 1))) r.0 ∙ ap (pair_sign 60) r.1.0) refl
+no_sign B a p s sign.Greater r = missed _ (single_sign 62) s (ap single_sign r.0) refl
+no_sign B a p s sign.GreaterEqual r = missed _ (pair_sign 62 61) p (ap (λ z. pair_sign z (B (a + 1))) r.0 ∙ ap (pair_sign 62) r.1.0) refl
+no_sign B a p s sign.Plus r = missed _ (single_sign 43) s (ap single_sign r.0) refl
+no_sign B a p s sign.Minus r = missed _ (single_sign 45) s (ap single_sign r.0) refl
+no_sign B a p s sign.Times r = missed _ (single_sign 42) s (ap single_sign r.0) refl
+no_sign B a p s sign.Mod r = missed _ (single_sign 37) s (ap single_sign r.0) refl
+no_sign B a p s sign.Not r = missed _ (single_sign 33) s (ap single_sign r.0) refl
 
--- Where neither table of two bytes has a sign the two bytes are none.
-missing : {C : Type 0} {x : Sign} (o p : Option Sign) → o ≡ None → o ≡ p → p ≡ Some x → C
-missing o p n e s = absurd (missed o p n e s)
-
-pub no_pair : (b c : ℕ) → assign_sign b c ≡ None → pair_sign b c ≡ None → is_pair b c ≡ false
-unfolding is_pair assign_sign pair_sign
-no_pair b c i p = grind (arith, nat_tests)
+pub no_pair : (b c : ℕ) → pair_sign b c ≡ None → is_pair b c ≡ false
+unfolding is_pair pair_sign
+no_pair b c p = grind (arith, nat_tests)
 
 -- A sign of two bytes that stands is the longest, and so is one of one byte where no sign of two bytes stands.
-pub pair_at : (B : Source) (a : ℕ) (x : Sign) → (assign_sign (B a) (B (a + 1)) ≡ Some x) ⊎ (pair_sign (B a) (B (a + 1)) ≡ Some x) → IsSignAt B a (a + 2) x
+pub pair_stands : (B : Source) (a : ℕ) (x : Sign) → pair_sign (B a) (B (a + 1)) ≡ Some x → IsSignAt B a (a + 2) x
 unfolding Two
-pair_at B a x e = by (⊎_elim (λ k. assign_sign-two (B a) (B (a + 1)) x k) (λ k. pair_sign-two (B a) (B (a + 1)) x k) e)
+pair_stands B a x e = by (pair_sign-two (B a) (B (a + 1)) x e)
   where
     by : sign_text x ≡ B a ∷ B (a + 1) ∷ [] → IsSignAt B a (a + 2) x
     by t =
@@ -120,15 +108,15 @@ pair_at B a x e = by (⊎_elim (λ k. assign_sign-two (B a) (B (a + 1)) x k) (λ
         let s : Spelled B (sign_text x) a = subst (λ z. Spelled B z a) (sym t) (refl, (refl, tt)) in
         record { fits = record { spells = spells_sign x; stands = s; longest = longest_sign B x a s (inl n) }; ends = omega (arith, n) }
 
-pub single_at : (B : Source) (a : ℕ) (x : Sign) → assign_sign (B a) (B (a + 1)) ≡ None → pair_sign (B a) (B (a + 1)) ≡ None → (punctuation_sign (B a) ≡ Some x) ⊎ (single_sign (B a) ≡ Some x) → IsSignAt B a (a + 1) x
+pub single_stands : (B : Source) (a : ℕ) (x : Sign) → pair_sign (B a) (B (a + 1)) ≡ None → single_sign (B a) ≡ Some x → IsSignAt B a (a + 1) x
 unfolding One
-single_at B a x i p e = by (⊎_elim (λ k. punctuation_sign-one (B a) x k) (λ k. single_sign-one (B a) x k) e)
+single_stands B a x p e = by (single_sign-one (B a) x e)
   where
     by : sign_text x ≡ B a ∷ [] → IsSignAt B a (a + 1) x
     by t =
         let n : length (sign_text x) ≡ 1 = ap length t in
         let s : Spelled B (sign_text x) a = subst (λ z. Spelled B z a) (sym t) (refl, tt) in
-        record { fits = record { spells = spells_sign x; stands = s; longest = longest_sign B x a s (inr (no_pair (B a) (B (a + 1)) i p)) }; ends = omega (arith, n) }
+        record { fits = record { spells = spells_sign x; stands = s; longest = longest_sign B x a s (inr (no_pair (B a) (B (a + 1)) p)) }; ends = omega (arith, n) }
 
 -- The bytes of signs.
 sign_bytes_low : (x : Sign) → AreBytes (sign_text x)
@@ -167,6 +155,15 @@ sign_bytes_low sign.Minus = (omega arith, tt)
 sign_bytes_low sign.Times = (omega arith, tt)
 sign_bytes_low sign.Mod = (omega arith, tt)
 sign_bytes_low sign.Not = (omega arith, tt)
+
+-- Behind the last byte stands no second one.
+pub pair_none : (b : ℕ) → pair_sign b 256 ≡ None
+unfolding Two
+pair_none b = by (pair_sign b 256) refl
+  where
+    by : (o : Option Sign) → pair_sign b 256 ≡ o → o ≡ None
+    by None e = refl
+    by (Some x) e = absurd (let c : ⊥ = omega (arith, (subst AreBytes (pair_sign-two b 256 x e) (sign_bytes_low x)).1.0) in c)
 
 -- A sign that stands ends within the script.
 pub sign_past : (bytes : List ℕ) (a b : ℕ) (x : Sign) → a ≤ length bytes → IsSignAt (byte_at bytes) a b x → b ≤ length bytes

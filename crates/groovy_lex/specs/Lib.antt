@@ -1,4 +1,5 @@
 pub mod OpenStack
+pub mod Comments
 pub mod Steps
 pub mod Names
 pub mod Words

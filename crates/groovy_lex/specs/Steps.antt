@@ -1,21 +1,23 @@
--- What a step of the lexer says.
-use Rattle.std.specs.Prelude.{◌≡◌, ℕ, ◌<◌, ◌≤◌, List, ◌++◌}
+-- What the lexer finds at a place, and what a step of it does.
+use Rattle.std.specs.Prelude.{◌≡◌, ℕ, ◌+◌, ◌<◌, ◌≤◌, true, List, [], ◌∷◌, ◌++◌}
+use Rattle.model_syntax.specs.declared.token.TokenKind.TheVariants.{PathOpen}
 use Rattle.model_syntax.specs.declared.token.Token.{Token}
 use Rattle.model_syntax.specs.Source.{Source}
+use Rattle.model_syntax.specs.Spelling.{is_letter}
 use Rattle.model_syntax.specs.OpenBrackets.{Open}
-use Rattle.model_syntax.specs.Reading.{Outcome, goes, fails, Reads}
+use Rattle.model_syntax.specs.Reading.{goes, fails, token, Path, Reads}
+use Rattle.groovy_lex.specs.declared.found.Found.{Found}
+use Rattle.groovy_lex.specs.declared.found.Found.TheVariants as found
 use Rattle.groovy_lex.specs.declared.step.Step.{Step}
 use Rattle.groovy_lex.specs.declared.step.Step.TheVariants.{Goes, Fails}
 
--- A step with these tokens, behind which this is open.
-abbrev pub outcome : List Token → List Open → Step → Outcome
-outcome ts s (Goes m) = goes ts s m
-outcome ts s (Fails k p) = fails k p
-
--- A step from one place, of a script with this many bytes, ends behind that place and within the script.
-abbrev pub IsPast : ℕ → ℕ → Step → Type 0
-IsPast a n (Goes m) = (a < m) × (m ≤ n)
-IsPast a n (Fails k p) = Unit {0}
+-- This stands at the place of a script of n bytes, where `s` is open, and `u` is open behind it. Behind a `$` the names
+-- are still to be read.
+abbrev pub IsFound : Source → ℕ → List Open → List Open → ℕ → Found → Type 0
+IsFound B n s u a (found.Blank m) = Reads B s a (goes [] u m) × (a < m) × (m ≤ n)
+IsFound B n s u a (found.Token k m) = Reads B s a (goes (token B k a m ∷ []) u m) × (a < m) × (m ≤ n)
+IsFound B n s u a found.Path = (is_letter (B (a + 1)) ≡ true) × ((ts : List Token) (m : ℕ) → Path B ts (a + 1) m → Reads B s a (goes (token B PathOpen a (a + 1) ∷ ts) u m))
+IsFound B n s u a (found.Fails k p) = Reads B s a (fails k p)
 
 -- What stands at the place was read up to a next place: its tokens went behind those before.
 pub record DoesTo (B : Source) (n : ℕ) (s u : List Open) (a : ℕ) (old new : List Token) (m : ℕ) : Type 0 where

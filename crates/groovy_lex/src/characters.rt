@@ -25,7 +25,7 @@ pub(crate) fn character_end(src: &[u8], at: usize) -> Option<usize>
     ensures stands { MatchOption result (NoCharacter (byte_at src.now) at) (λ end. (c : ℕ) × Character (byte_at src.now) c at end) }
     ensures past { IfSome result (λ end. (at < end) × (end ≤ length src.now)) }
 {
-    if byte(src, at) < 128 {
+    if byte(src, at) < 0x80 {
         return Some(at + 1);
     }
     'widths: for width in 2..5 {

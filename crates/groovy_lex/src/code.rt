@@ -1,124 +1,66 @@
 //! What stands outside of texts.
-ghost use Rattle.std.specs.Prelude.{◌≡◌, ℕ, ◌+◌, ◌<◌, ◌≤◌, ◌⊎◌, [], ◌∷◌, ◌++◌, List, length, true, false, MatchBool, MatchOption, IfOk};
+ghost use Rattle.std.specs.Prelude.{◌≡◌, ℕ, ◌+◌, ◌-◌, ◌^◌, ◌<◌, ◌≤◌, ◌⊎◌, ◌∷◌, List, length, true, false, MatchBool, MatchOption, IfOk};
 ghost use Rattle.std.specs.Char.{is_ascii_digit};
 ghost use Rattle.model_syntax.specs.declared.token.TokenKind.TheVariants.{GStringOpen};
-ghost use Rattle.model_syntax.specs.Source.{byte_at};
-ghost use Rattle.model_syntax.specs.Places.{place_at};
+ghost use Rattle.model_syntax.specs.Source.{Source, byte_at};
 ghost use Rattle.model_syntax.specs.Spelling.{is_letter};
 ghost use Rattle.model_syntax.specs.TextForms.{quotes, Opens};
 ghost use Rattle.model_syntax.specs.OpenBrackets.{Open, depth, after_sign, is_opening, closed, text, IsCode};
-ghost use Rattle.model_syntax.specs.Reading.{is_blank, BeginsLine, Begins, Nothing, token, fails};
+ghost use Rattle.model_syntax.specs.Reading.{BeginsLine, Begins, Nothing, fails};
+ghost use Rattle.groovy_lex.specs.declared.found.Found.TheVariants.{Token};
 ghost use Rattle.groovy_lex.specs.OpenStack.{form_of, open_of, IsBracket};
 ghost use Rattle.groovy_lex.specs.Signs.{IsSignAt};
-ghost use Rattle.groovy_lex.specs.Steps.{Does};
+ghost use Rattle.groovy_lex.specs.Steps.{IsFound};
 ghost use Rattle.groovy_lex.specs.Turns.{Turns, IsOther};
 
 use crate::characters::character_end;
 use crate::comments::{block_comment, line_comment};
 use crate::contents::{Stop, content, stop_at};
-use crate::names::{is_digit, is_letter, name_at};
+use crate::found::Found;
+use crate::names::{is_letter, name_at};
 use crate::numbers::number_at;
-use crate::open::{OpenStack, Opened, TextForm};
+use crate::open::{MOST_BRACKETS, OpenStack, Opened, TextForm};
 use crate::place::mark_end;
 use crate::signs::sign_at;
 use crate::source::{byte, stands_pair};
-use crate::step::Step;
-use model_syntax::{FaultKind, Place, Sign, Token, TokenKind, Tokens};
+use model_syntax::{FaultKind, Sign, TokenKind};
 use std::alloc::{AllocError, Global};
 
-/// Whether the byte is a space, a tab or a CR.
-fn is_blank(byte: u16) -> bool
-    ensures { result ≡ is_blank byte }
-{
-    byte == 32 || byte == 9 || byte == 13
-}
-
-/// Whether a comment to the line's end begins: `//`, or `#!` at the very start of the script.
-fn begins_line(src: &[u8], at: usize) -> bool
-    requires { at < length src.now }
-    ensures means { MatchBool result (BeginsLine (byte_at src.now) at) (BeginsLine (byte_at src.now) at → ⊥) }
-{
-    stands_pair(src, at, 47, 47) || (at == mark_end(src) && stands_pair(src, at, 35, 33))
-}
-
 /// A newline: a token where it may end a statement, and a fault in a text that holds none.
-fn newline_step(
-    src: &[u8],
-    stack: &OpenStack,
-    at: usize,
-    place: Place,
-    tokens: &mut Tokens,
-) -> Result<Step, AllocError>
-    requires inside { at < length src.now }
-    requires place { place ≡ place_at (byte_at src.now) at }
+fn newline_step(stack: &OpenStack, at: usize) -> Found
+    requires small { at < 2 ^ 64 - 1 }
     requires code { IsCode stack.now }
-    requires newline { byte_at src.now at ≡ 10 }
-    ensures does { IfOk result (λ step. Does (byte_at src.now) (length src.now) stack.now stack.now at tokens.old tokens.new step) }
+    ensures { (B : Source) (n : ℕ) → B at ≡ 10 → at < n → IsFound B n stack.now stack.now at result }
 {
     if let Some(opening) = stack.line_text() {
-        return Ok(Step::Fails(FaultKind::UnendedText, opening));
+        return Found::Fails(FaultKind::UnendedText, opening);
     }
-    if !stack.ends_statements() {
-        return Ok(Step::Goes(at + 1));
+    if stack.ends_statements() {
+        return Found::Token(TokenKind::Newline, at + 1);
     }
-    tokens.push(Token {
-        kind: TokenKind::Newline,
-        start: at,
-        end: at + 1,
-        place,
-    })?;
-    Ok(Step::Goes(at + 1))
+    Found::Blank(at + 1)
 }
 
 /// A name or a word.
-fn name_step(
-    alloc: Global,
-    src: &[u8],
-    stack: &OpenStack,
-    at: usize,
-    place: Place,
-    tokens: &mut Tokens,
-) -> Result<Step, AllocError>
+fn name_step(alloc: Global, src: &[u8], at: usize) -> Result<Found, AllocError>
     requires inside { at < length src.now }
-    requires place { place ≡ place_at (byte_at src.now) at }
-    requires code { IsCode stack.now }
     requires letter { is_letter (byte_at src.now at) ≡ true }
-    ensures does { IfOk result (λ step. Does (byte_at src.now) (length src.now) stack.now stack.now at tokens.old tokens.new step) }
+    ensures { IfOk result (λ found. (s : List Open) → IsCode s → IsFound (byte_at src.now) (length src.now) s s at found) }
 {
     let (kind, end) = name_at(alloc, src, at)?;
-    tokens.push(Token {
-        kind,
-        start: at,
-        end,
-        place,
-    })?;
-    Ok(Step::Goes(end))
+    Ok(Found::Token(kind, end))
 }
 
 /// A number.
-fn number_step(
-    src: &[u8],
-    stack: &OpenStack,
-    at: usize,
-    place: Place,
-    tokens: &mut Tokens,
-) -> Result<Step, AllocError>
+fn number_step(src: &[u8], at: usize) -> Found
     requires inside { at < length src.now }
-    requires place { place ≡ place_at (byte_at src.now) at }
-    requires code { IsCode stack.now }
     requires digit { is_ascii_digit (byte_at src.now at) ≡ true }
-    ensures does { IfOk result (λ step. Does (byte_at src.now) (length src.now) stack.now stack.now at tokens.old tokens.new step) }
+    ensures { (s : List Open) → IsCode s → IsFound (byte_at src.now) (length src.now) s s at result }
 {
-    let Some((value, end)) = number_at(src, at) else {
-        return Ok(Step::Fails(FaultKind::BadNumber, at));
-    };
-    tokens.push(Token {
-        kind: TokenKind::Int(value),
-        start: at,
-        end,
-        place,
-    })?;
-    Ok(Step::Goes(end))
+    match number_at(src, at) {
+        Some((value, end)) => Found::Token(TokenKind::Int(value), end),
+        None => Found::Fails(FaultKind::BadNumber, at),
+    }
 }
 
 /// The bracket that a sign opens.
@@ -138,9 +80,7 @@ fn is_closing(sign: Sign) -> bool
     ensures { MatchBool result ((s : List Open) → after_sign sign s ≡ closed s) (is_opening sign ≡ false → (s : List Open) → after_sign sign s ≡ s) }
 {
     match sign {
-        Sign::ParenClose => true,
-        Sign::BracketClose => true,
-        Sign::BraceClose => true,
+        Sign::ParenClose | Sign::BracketClose | Sign::BraceClose => true,
         _ => false,
     }
 }
@@ -151,7 +91,7 @@ fn turn(stack: &mut OpenStack, sign: Sign) -> Result<bool, AllocError>
     ensures { IfOk result (λ taken. Turns sign stack.old stack.new taken) }
 {
     if let Some(bracket) = bracket_of(sign) {
-        if stack.depth() >= 128 {
+        if stack.depth() >= MOST_BRACKETS {
             return Ok(false);
         }
         stack.open_bracket(bracket)?;
@@ -168,28 +108,18 @@ fn sign_step(
     src: &[u8],
     stack: &mut OpenStack,
     at: usize,
-    place: Place,
-    tokens: &mut Tokens,
     sign: Sign,
     end: usize,
-) -> Result<Step, AllocError>
-    requires place { place ≡ place_at (byte_at src.now) at }
+) -> Result<Found, AllocError>
     requires code { IsCode stack.old }
     requires sign { IsSignAt (byte_at src.now) at end sign }
-    requires forward { at < end }
-    requires inside { end ≤ length src.now }
-    ensures does { IfOk result (λ step. Does (byte_at src.now) (length src.now) stack.old stack.new at tokens.old tokens.new step) }
+    requires past { (at < end) × (end ≤ length src.now) }
+    ensures { IfOk result (λ found. IsFound (byte_at src.now) (length src.now) stack.old stack.new at found) }
 {
     if !turn(stack, sign)? {
-        return Ok(Step::Fails(FaultKind::NestingOver128, at));
+        return Ok(Found::Fails(FaultKind::NestingOver128, at));
     }
-    tokens.push(Token {
-        kind: TokenKind::Sign(sign),
-        start: at,
-        end,
-        place,
-    })?;
-    Ok(Step::Goes(end))
+    Ok(Found::Token(TokenKind::Sign(sign), end))
 }
 
 /// The form of the text that opens here: three quotes open a triple text.
@@ -200,39 +130,15 @@ fn form_at(src: &[u8], at: usize) -> TextForm
 {
     let quote = byte(src, at);
     if stands_pair(src, at + 1, quote, quote) {
-        if quote == 39 {
+        if quote == b'\'' {
             return TextForm::TripleSingle;
         }
         return TextForm::TripleDouble;
     }
-    if quote == 39 {
+    if quote == b'\'' {
         return TextForm::Single;
     }
     TextForm::Double
-}
-
-/// The opening of a text with expressions.
-fn opening_step(
-    src: &[u8],
-    stack: &mut OpenStack,
-    form: TextForm,
-    at: usize,
-    place: Place,
-    tokens: &mut Tokens,
-) -> Result<(), AllocError>
-    requires place { place ≡ place_at (byte_at src.now) at }
-    requires inside { at + length (quotes (form_of form)) ≤ length src.now }
-    ensures pushed { IfOk result (λ _. tokens.new ≡ tokens.old ++ token (byte_at src.now) GStringOpen at (at + length (quotes (form_of form))) ∷ []) }
-    ensures opened { IfOk result (λ _. stack.new ≡ text (form_of form) at ∷ stack.old) }
-{
-    stack.open_text(form, at)?;
-    tokens.push(Token {
-        kind: TokenKind::GStringOpen,
-        start: at,
-        end: at + form.quotes_len(),
-        place,
-    })?;
-    Ok(())
 }
 
 /// A text. One without expressions is one token; of one with expressions it is the opening.
@@ -241,39 +147,34 @@ fn text_step(
     src: &[u8],
     stack: &mut OpenStack,
     at: usize,
-    place: Place,
-    tokens: &mut Tokens,
-) -> Result<Step, AllocError>
+) -> Result<Found, AllocError>
     requires inside { at < length src.now }
-    requires place { place ≡ place_at (byte_at src.now) at }
     requires code { IsCode stack.old }
     requires quote { (byte_at src.now at ≡ 39) ⊎ (byte_at src.now at ≡ 34) }
-    ensures does { IfOk result (λ step. Does (byte_at src.now) (length src.now) stack.old stack.new at tokens.old tokens.new step) }
+    ensures { IfOk result (λ found. IsFound (byte_at src.now) (length src.now) stack.old stack.new at found) }
 {
     let form = form_at(src, at);
     let from = at + form.quotes_len();
-    let (text, stop) = content(alloc, src, form, from)?;
+    let (plain, stop) = content(alloc, src, form, from)?;
     match stop_at(src, stack, form, at, stop) {
-        Stop::Fails(kind, fault) => Ok(Step::Fails(kind, fault)),
+        Stop::Fails(kind, fault) => Ok(Found::Fails(kind, fault)),
         Stop::Closes => {
             let end = stop + form.quotes_len();
-            tokens.push(Token {
-                kind: TokenKind::Text(text),
-                start: at,
-                end,
-                place,
-            })?;
-            Ok(Step::Goes(end))
+            Ok(Found::Token(TokenKind::Text(plain), end))
         }
-        Stop::Braces => {
-            opening_step(src, stack, form, at, place, tokens)?;
-            Ok(Step::Goes(from))
-        }
-        Stop::Path => {
-            opening_step(src, stack, form, at, place, tokens)?;
-            Ok(Step::Goes(from))
+        Stop::Begins(_) => {
+            stack.open_text(form, at)?;
+            Ok(Found::Token(TokenKind::GStringOpen, from))
         }
     }
+}
+
+/// Whether a comment to the line's end begins: `//`, or `#!` at the very start of the script.
+fn begins_line(src: &[u8], at: usize) -> bool
+    requires { at < length src.now }
+    ensures { MatchBool result (BeginsLine (byte_at src.now) at × (at + 2 ≤ length src.now)) (BeginsLine (byte_at src.now) at → ⊥) }
+{
+    stands_pair(src, at, b'/', b'/') || (at == mark_end(src) && stands_pair(src, at, b'#', b'!'))
 }
 
 /// What is wrong where nothing of the language stands: a character of no token, or a byte of no character.
@@ -289,28 +190,21 @@ fn nothing_kind(src: &[u8], at: usize) -> FaultKind
 }
 
 /// A comment, a sign, or nothing of the language.
-fn other_step(
-    src: &[u8],
-    stack: &mut OpenStack,
-    at: usize,
-    place: Place,
-    tokens: &mut Tokens,
-) -> Result<Step, AllocError>
+fn other_step(src: &[u8], stack: &mut OpenStack, at: usize) -> Result<Found, AllocError>
     requires inside { at < length src.now }
-    requires place { place ≡ place_at (byte_at src.now) at }
     requires code { IsCode stack.old }
     requires other { IsOther (byte_at src.now at) }
-    ensures does { IfOk result (λ step. Does (byte_at src.now) (length src.now) stack.old stack.new at tokens.old tokens.new step) }
+    ensures { IfOk result (λ found. IsFound (byte_at src.now) (length src.now) stack.old stack.new at found) }
 {
     if begins_line(src, at) {
         return Ok(line_comment(src, at));
     }
-    if stands_pair(src, at, 47, 42) {
+    if stands_pair(src, at, b'/', b'*') {
         return Ok(block_comment(src, at));
     }
     match sign_at(src, at) {
-        Some((sign, end)) => sign_step(src, stack, at, place, tokens, sign, end),
-        None => Ok(Step::Fails(nothing_kind(src, at), at)),
+        Some((sign, end)) => sign_step(src, stack, at, sign, end),
+        None => Ok(Found::Fails(nothing_kind(src, at), at)),
     }
 }
 
@@ -321,29 +215,17 @@ pub(crate) fn code_step(
     src: &[u8],
     stack: &mut OpenStack,
     at: usize,
-    place: Place,
-    tokens: &mut Tokens,
-) -> Result<Step, AllocError>
+) -> Result<Found, AllocError>
     requires inside { at < length src.now }
-    requires place { place ≡ place_at (byte_at src.now) at }
     requires code { IsCode stack.old }
-    ensures does { IfOk result (λ step. Does (byte_at src.now) (length src.now) stack.old stack.new at tokens.old tokens.new step) }
+    ensures { IfOk result (λ found. IsFound (byte_at src.now) (length src.now) stack.old stack.new at found) }
 {
-    let first = byte(src, at);
-    if is_blank(first) {
-        return Ok(Step::Goes(at + 1));
+    match byte(src, at) {
+        b' ' | b'\t' | b'\r' => Ok(Found::Blank(at + 1)),
+        b'\n' => Ok(newline_step(stack, at)),
+        b'\'' | b'"' => text_step(alloc, src, stack, at),
+        b'0'..=b'9' => Ok(number_step(src, at)),
+        first if is_letter(first) => name_step(alloc, src, at),
+        _ => other_step(src, stack, at),
     }
-    if first == 10 {
-        return newline_step(src, stack, at, place, tokens);
-    }
-    if is_letter(first) {
-        return name_step(alloc, src, stack, at, place, tokens);
-    }
-    if is_digit(first) {
-        return number_step(src, stack, at, place, tokens);
-    }
-    if first == 39 || first == 34 {
-        return text_step(alloc, src, stack, at, place, tokens);
-    }
-    other_step(src, stack, at, place, tokens)
 }

@@ -1,26 +1,47 @@
-//! Comments (Groovy): `//`, or `#!` at the start of the script, to the line's end, and `/*` up to the first `*/`.
-ghost use Rattle.std.specs.Prelude.{◌≡◌, ℕ, ◌+◌, ◌≤◌, ◌⊎◌, [], List, length, codes};
+//! Comments: `//`, or `#!` at the start of the script, to the line's end, and `/*` up to the first `*/`.
+ghost use Rattle.std.specs.Prelude.{◌+◌, ◌<◌, ◌≤◌, ◌⊎◌, List, length, codes, MatchBool};
 ghost use Rattle.model_syntax.specs.Source.{byte_at, Spelled, NoCharacter, Passed};
-ghost use Rattle.model_syntax.specs.OpenBrackets.{Open};
-ghost use Rattle.model_syntax.specs.Reading.{BeginsLine, Blank};
-ghost use Rattle.groovy_lex.specs.Steps.{outcome, IsPast};
+ghost use Rattle.model_syntax.specs.OpenBrackets.{Open, IsCode};
+ghost use Rattle.model_syntax.specs.Reading.{BeginsLine};
+ghost use Rattle.groovy_lex.specs.Comments.{Ends};
+ghost use Rattle.groovy_lex.specs.Steps.{IsFound};
 
 use crate::characters::character_end;
-use crate::source::{PAST_END, byte, stands_pair};
-use crate::step::Step;
+use crate::found::Found;
+use crate::source::{is_at, stands_pair};
 use model_syntax::FaultKind;
 
-/// The end of a line: its newline, the script's end, or the first byte that is of no character.
-fn line_end(src: &[u8], from: usize) -> usize
+/// The kinds of comments, by what ends them.
+#[derive(Clone, Copy, PartialEq, Eq, Debug)]
+enum Comment {
+    /// Up to a newline.
+    Line,
+    /// Up to `*/`.
+    Block,
+}
+
+/// Whether the comment ends at the place.
+fn ends(src: &[u8], at: usize, comment: Comment) -> bool
+    requires { at < length src.now }
+    ensures { MatchBool result (Ends (byte_at src.now) comment at) (Ends (byte_at src.now) comment at → ⊥) }
+{
+    match comment {
+        Comment::Line => is_at(src, at, b'\n'),
+        Comment::Block => stands_pair(src, at, b'*', b'/'),
+    }
+}
+
+/// The first place at which a comment ends, or the script, or a byte stands that is of no character.
+fn comment_end(src: &[u8], from: usize, comment: Comment) -> usize
     requires { from ≤ length src.now }
-    ensures passed { Passed (byte_at src.now) (λ k. byte_at src.now k ≡ 10) from result }
-    ensures stops { (byte_at src.now result ≡ 10) ⊎ NoCharacter (byte_at src.now) result }
+    ensures passed { Passed (byte_at src.now) (Ends (byte_at src.now) comment) from result }
+    ensures stops { Ends (byte_at src.now) comment result ⊎ NoCharacter (byte_at src.now) result }
     ensures later { from ≤ result }
     ensures inside { result ≤ length src.now }
 {
     let mut at = from;
     'characters: while at < src.len() {
-        if byte(src, at) == 10 {
+        if ends(src, at, comment) {
             return at;
         }
         match character_end(src, at) {
@@ -32,54 +53,30 @@ fn line_end(src: &[u8], from: usize) -> usize
 }
 
 /// A comment to the line's end. The newline is not of the comment.
-pub(crate) fn line_comment(src: &[u8], at: usize) -> Step
+pub(crate) fn line_comment(src: &[u8], at: usize) -> Found
     requires begins { BeginsLine (byte_at src.now) at }
     requires inside { at + 2 ≤ length src.now }
-    ensures blank { (s : List Open) → Blank (byte_at src.now) s at (outcome [] s result) }
-    ensures past { IsPast at (length src.now) result }
+    ensures { (s : List Open) → IsCode s → IsFound (byte_at src.now) (length src.now) s s at result }
 {
-    let end = line_end(src, at + 2);
-    let stop = byte(src, end);
-    if stop == 10 || stop == PAST_END {
-        return Step::Goes(end);
+    let end = comment_end(src, at + 2, Comment::Line);
+    if end == src.len() || is_at(src, end, b'\n') {
+        return Found::Blank(end);
     }
-    Step::Fails(FaultKind::NotUtf8, end)
-}
-
-/// The first `*/`, the script's end, or the first byte that is of no character.
-fn comment_end(src: &[u8], from: usize) -> usize
-    requires { from ≤ length src.now }
-    ensures passed { Passed (byte_at src.now) (Spelled (byte_at src.now) (codes "*/")) from result }
-    ensures stops { Spelled (byte_at src.now) (codes "*/") result ⊎ NoCharacter (byte_at src.now) result }
-    ensures later { from ≤ result }
-    ensures inside { result ≤ length src.now }
-{
-    let mut at = from;
-    'characters: while at < src.len() {
-        if stands_pair(src, at, 42, 47) {
-            return at;
-        }
-        match character_end(src, at) {
-            Some(end) => at = end,
-            None => return at,
-        }
-    }
-    at
+    Found::Fails(FaultKind::NotUtf8, end)
 }
 
 /// A comment up to its `*/`.
-pub(crate) fn block_comment(src: &[u8], at: usize) -> Step
+pub(crate) fn block_comment(src: &[u8], at: usize) -> Found
     requires begins { Spelled (byte_at src.now) (codes "/*") at }
     requires inside { at + 2 ≤ length src.now }
-    ensures blank { (s : List Open) → Blank (byte_at src.now) s at (outcome [] s result) }
-    ensures past { IsPast at (length src.now) result }
+    ensures { (s : List Open) → IsCode s → IsFound (byte_at src.now) (length src.now) s s at result }
 {
-    let end = comment_end(src, at + 2);
+    let end = comment_end(src, at + 2, Comment::Block);
     if end == src.len() {
-        return Step::Fails(FaultKind::UnendedComment, at);
+        return Found::Fails(FaultKind::UnendedComment, at);
     }
-    if stands_pair(src, end, 42, 47) {
-        return Step::Goes(end + 2);
+    if stands_pair(src, end, b'*', b'/') {
+        return Found::Blank(end + 2);
     }
-    Step::Fails(FaultKind::NotUtf8, end)
+    Found::Fails(FaultKind::NotUtf8, end)
 }

@@ -11,9 +11,9 @@ ghost use Rattle.groovy_lex.specs.Stops.{IsStop};
 
 use crate::characters::character_end;
 use crate::escapes::{closes, escape_front, take_character};
-use crate::names::is_letter;
-use crate::open::{OpenStack, TextForm};
-use crate::source::byte;
+use crate::names::letter_at;
+use crate::open::{MOST_BRACKETS, OpenStack, TextForm};
+use crate::source::is_at;
 use model_syntax::FaultKind;
 use model_text::Text;
 use std::alloc::{AllocError, Global};
@@ -43,31 +43,38 @@ pub(crate) fn content(
     Ok((text, at))
 }
 
+/// How an expression begins in a text.
+#[derive(Clone, Copy, PartialEq, Eq, Debug)]
+pub(crate) enum Expression {
+    /// `${`
+    Braces,
+    /// `$` and a letter.
+    Path,
+}
+
 /// What stands in a text where no character goes on.
 #[derive(Clone, Copy, PartialEq, Eq, Debug)]
 pub(crate) enum Stop {
     /// Its closing quotes.
     Closes,
-    /// `${`
-    Braces,
-    /// `$` and a letter.
-    Path,
+    /// An expression.
+    Begins(Expression),
     /// The fault of this kind, at this place.
     Fails(FaultKind, usize),
 }
 
-/// Whether the byte is a `$` that begins an expression or is refused.
-fn is_dollar(form: TextForm, byte: u16) -> bool
-    ensures { MatchBool result ((byte ≡ 36) × (is_double (form_of form) ≡ true)) ((byte ≡ 36) × (is_double (form_of form) ≡ true) → ⊥) }
+/// Whether a `$` stands at the place that begins an expression or is refused.
+fn is_dollar(src: &[u8], form: TextForm, at: usize) -> bool
+    ensures { MatchBool result ((byte_at src.now at ≡ 36) × (is_double (form_of form) ≡ true) × (at < length src.now)) ((byte_at src.now at ≡ 36) × (is_double (form_of form) ≡ true) → ⊥) }
 {
-    byte == 36 && form.is_double()
+    is_at(src, at, b'$') && form.is_double()
 }
 
-/// Whether the byte is a newline and the text holds none.
-fn ends_line(form: TextForm, byte: u16) -> bool
-    ensures { MatchBool result ((byte ≡ 10) × (is_triple (form_of form) ≡ false)) ((byte ≡ 10) × (is_triple (form_of form) ≡ false) → ⊥) }
+/// Whether a newline stands at the place and the text holds none.
+fn ends_line(src: &[u8], form: TextForm, at: usize) -> bool
+    ensures { MatchBool result ((byte_at src.now at ≡ 10) × (is_triple (form_of form) ≡ false)) ((byte_at src.now at ≡ 10) × (is_triple (form_of form) ≡ false) → ⊥) }
 {
-    byte == 10 && !form.is_triple()
+    is_at(src, at, b'\n') && !form.is_triple()
 }
 
 /// The fault of what goes on from `at` up to `end` and is not over there: the end of the script leaves the text without an
@@ -93,15 +100,14 @@ fn dollar_stop(src: &[u8], stack: &OpenStack, form: TextForm, opening: usize, at
     requires double { is_double (form_of form) ≡ true }
     ensures { IsStop (byte_at src.now) stack.now (form_of form) opening at result }
 {
-    let next = byte(src, at + 1);
-    if next == 123 {
-        if stack.depth() < 128 {
-            return Stop::Braces;
+    if is_at(src, at + 1, b'{') {
+        if stack.depth() < MOST_BRACKETS {
+            return Stop::Begins(Expression::Braces);
         }
         return Stop::Fails(FaultKind::NestingOver128, at);
     }
-    if is_letter(next) {
-        return Stop::Path;
+    if letter_at(src, at + 1) {
+        return Stop::Begins(Expression::Path);
     }
     broken_stop(src, opening, at, at + 1)
 }
@@ -121,14 +127,13 @@ pub(crate) fn stop_at(
     if closes(src, form, at) {
         return Stop::Closes;
     }
-    let byte = byte(src, at);
-    if is_dollar(form, byte) {
+    if is_dollar(src, form, at) {
         return dollar_stop(src, stack, form, opening, at);
     }
-    if ends_line(form, byte) {
+    if ends_line(src, form, at) {
         return Stop::Fails(FaultKind::UnendedText, opening);
     }
-    if byte == 92 {
+    if is_at(src, at, b'\\') {
         let end = escape_front(src, at);
         return broken_stop(src, opening, at, end);
     }

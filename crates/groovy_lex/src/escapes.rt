@@ -1,4 +1,4 @@
-//! The characters of a text, and what they stand for (Groovy).
+//! The characters of a text, and what they stand for.
 ghost use Rattle.std.specs.Prelude.{◌≡◌, ℕ, ◌+◌, ◌-◌, ◌^◌, ◌<◌, ◌≤◌, ◌≢◌, ◌++◌, length, encode_utf8, MatchBool, MatchOption, IfOk};
 ghost use Rattle.std.specs.Char.{IsScalar, digit_value};
 ghost use Rattle.std.specs.Str.Parse.{AllDigits, digits_value};
@@ -9,7 +9,7 @@ ghost use Rattle.groovy_lex.specs.Contents.{four, Takes};
 
 use crate::characters::character_end;
 use crate::open::TextForm;
-use crate::source::byte;
+use crate::source::{byte, is_at, peek, stands_pair};
 use model_text::Text;
 use std::alloc::AllocError;
 
@@ -19,65 +19,56 @@ pub(crate) fn closes(src: &[u8], form: TextForm, at: usize) -> bool
     ensures { MatchBool result (Spelled (byte_at src.now) (quotes (form_of form)) at) (Spelled (byte_at src.now) (quotes (form_of form)) at → ⊥) }
 {
     let quote = form.quote();
-    if byte(src, at) != quote {
+    if !is_at(src, at, quote) {
         return false;
     }
     if !form.is_triple() {
         return true;
     }
-    byte(src, at + 1) == quote && byte(src, at + 2) == quote
+    stands_pair(src, at + 1, quote, quote)
 }
 
 /// Whether the byte stands for itself in a text of this form, where it begins a character.
-fn is_plain(form: TextForm, byte: u16) -> bool
+fn is_plain(form: TextForm, byte: u8) -> bool
     ensures { result ≡ is_plain (form_of form) byte }
 {
-    let ends = byte == 10 || byte == form.quote();
-    byte != 92 && ((form.is_triple() || !ends) && !(form.is_double() && byte == 36))
+    let ends = byte == b'\n' || byte == form.quote();
+    byte != b'\\' && ((form.is_triple() || !ends) && !(form.is_double() && byte == b'$'))
 }
 
 /// What a backslash and this byte stand for.
-fn escape_of(byte: u16) -> Option<u8>
+fn escape_of(byte: u8) -> Option<u8>
     ensures { result ≡ escape byte }
 {
-    if byte == 110 {
-        return Some(10);
+    match byte {
+        b'n' => Some(b'\n'),
+        b't' => Some(b'\t'),
+        b'r' => Some(b'\r'),
+        b'b' => Some(b'\x08'),
+        b'f' => Some(b'\x0C'),
+        b'\\' | b'\'' | b'"' | b'$' => Some(byte),
+        _ => None,
     }
-    if byte == 116 {
-        return Some(9);
-    }
-    if byte == 114 {
-        return Some(13);
-    }
-    if byte == 98 {
-        return Some(8);
-    }
-    if byte == 102 {
-        return Some(12);
-    }
-    if byte == 92 {
-        return Some(92);
-    }
-    if byte == 39 {
-        return Some(39);
-    }
-    if byte == 34 {
-        return Some(34);
-    }
-    if byte == 36 {
-        return Some(36);
-    }
-    None
 }
 
-/// The value of a hexadecimal digit.
-fn hexadecimal(byte: u16) -> Option<u32>
-    ensures { MatchOption result (digit_value byte < 16 → ⊥) (λ digit. (digit ≡ digit_value byte) × (digit < 16)) }
+/// What a backslash and the byte at a place stand for.
+fn escape_at(src: &[u8], at: usize) -> Option<u8>
+    ensures { result ≡ escape (byte_at src.now at) }
 {
-    if byte > 255 {
-        return None;
+    match peek(src, at) {
+        Some(byte) => escape_of(byte),
+        None => None,
     }
-    char::from(byte as u8).to_digit(16)
+}
+
+/// The value of the hexadecimal digit at a place.
+fn hexadecimal_at(src: &[u8], at: usize) -> Option<u32>
+    ensures { MatchOption result (digit_value (byte_at src.now at) < 16 → ⊥) (λ digit. (digit ≡ digit_value (byte_at src.now at)) × (digit < 16) × (at < length src.now)) }
+{
+    match peek(src, at) {
+        Some(byte) => char::from(byte).to_digit(16),
+        None => None,
+    }
 }
 
 /// The number of the four hexadecimal digits that stand at a place.
@@ -85,10 +76,10 @@ fn four_digits(src: &[u8], at: usize) -> Option<u32>
     requires { at < 2 ^ 64 - 4 }
     ensures { MatchOption result (AllDigits 16 (four (byte_at src.now) at) → ⊥) (λ code. AllDigits 16 (four (byte_at src.now) at) × (code ≡ digits_value 16 (four (byte_at src.now) at))) }
 {
-    let first = hexadecimal(byte(src, at))?;
-    let second = hexadecimal(byte(src, at + 1))?;
-    let third = hexadecimal(byte(src, at + 2))?;
-    let fourth = hexadecimal(byte(src, at + 3))?;
+    let first = hexadecimal_at(src, at)?;
+    let second = hexadecimal_at(src, at + 1)?;
+    let third = hexadecimal_at(src, at + 2)?;
+    let fourth = hexadecimal_at(src, at + 3)?;
     Some(((first * 16 + second) * 16 + third) * 16 + fourth)
 }
 
@@ -113,12 +104,12 @@ pub(crate) fn escape_front(src: &[u8], at: usize) -> usize
     ensures furthest { (f : Form) (q : ℕ) → Begun (byte_at src.now) f at q → q ≤ result }
     ensures inside { result ≤ length src.now }
 {
-    if byte(src, at + 1) != 117 {
+    if !is_at(src, at + 1, b'u') {
         return at + 1;
     }
     let mut end = at + 2;
     'digits: while end < at + 5 {
-        match hexadecimal(byte(src, end)) {
+        match hexadecimal_at(src, end) {
             Some(_) => end += 1,
             None => return end,
         }
@@ -146,15 +137,14 @@ fn take_escape(
     requires backslash { byte_at src.now at ≡ 92 }
     ensures takes { IfOk result (λ end. Takes (byte_at src.now) (form_of form) at (length src.now) text.old text.new end) }
 {
-    let next = byte(src, at + 1);
-    if next == 10 {
+    if is_at(src, at + 1, b'\n') {
         return Ok(Some(at + 2));
     }
-    if let Some(byte) = escape_of(next) {
+    if let Some(byte) = escape_at(src, at + 1) {
         text.push(byte)?;
         return Ok(Some(at + 2));
     }
-    if next != 117 {
+    if !is_at(src, at + 1, b'u') {
         return Ok(None);
     }
     match unicode(src, at + 2) {
@@ -201,7 +191,7 @@ pub(crate) fn take_character(
     requires { at < length src.now }
     ensures takes { IfOk result (λ end. Takes (byte_at src.now) (form_of form) at (length src.now) text.old text.new end) }
 {
-    if byte(src, at) == 92 {
+    if byte(src, at) == b'\\' {
         take_escape(src, form, at, text)
     } else {
         take_plain(src, form, at, text)

@@ -2,6 +2,7 @@
 ghost use Rattle.std.specs.Prelude.{◌≡◌, List, IfOk, IfErr};
 ghost use Rattle.model_syntax.specs.declared.token.Token.{Token};
 ghost use Rattle.model_syntax.specs.Tokens.{Lexed, InOrder};
+ghost use Rattle.model_syntax.specs.BracketDepth.{IsShallow};
 ghost use Rattle.groovy_lex.specs.Refusals.{IsRefusal};
 
 use crate::newlines::{kept_tokens, tokens_before};
@@ -33,15 +34,16 @@ impl From<AllocError> for LexRefusal {
     }
 }
 
-/// The tokens of a script (Groovy), in its order, in time linear in its length.
+/// The tokens of a script, in its order. It goes over the script once or twice.
 ///
-/// Each has its bytes, from `start` up to `end`, and the line and the column of its first byte. A script that has no
-/// tokens has one lexical fault: `Fault` tells it, with the tokens that begin before it. `Memory` comes only where the
-/// memory was refused.
+/// Each has its bytes, from `start` up to `end`, and the line and the column of its first byte. Their brackets nest at
+/// most 128 deep. A script that has no tokens has one lexical fault: `Fault` tells it, with the tokens that begin before
+/// it, of which the same holds. `Memory` comes only where the memory was refused.
 pub fn lex(alloc: Global, src: &[u8]) -> Result<Tokens, LexRefusal>
     ensures found { IfOk result (λ tokens. Lexed src.now tokens) }
     ensures only { IfOk result (λ tokens. (others : List Token) → Lexed src.now others → others ≡ tokens) }
     ensures order { IfOk result (λ tokens. InOrder 0 tokens) }
+    ensures shallow { IfOk result (λ tokens. IsShallow tokens) }
     ensures fault { IfErr result (λ refusal. IsRefusal src.now refusal) }
 {
     let raw = raw_tokens(alloc, src)?;

@@ -1,61 +1,60 @@
 //! Names, words and digits.
-ghost use Rattle.std.specs.Prelude.{◌≡◌, ℕ, ◌+◌, ◌-◌, ◌<◌, ◌≤◌, length, take, drop, true, false, IfOk};
-ghost use Rattle.std.specs.Char.{is_ascii_digit};
+ghost use Rattle.std.specs.Prelude.{◌≡◌, ℕ, ◌+◌, ◌-◌, ◌<◌, ◌≤◌, length, take, drop, true, false, IsTrue, IfOk};
 ghost use Rattle.model_syntax.specs.Source.{byte_at};
-ghost use Rattle.model_syntax.specs.Spelling.{is_letter, is_name_byte};
-ghost use Rattle.groovy_lex.specs.Names.{Run, IsNameKind, IsNameAt};
+ghost use Rattle.model_syntax.specs.Spelling.{is_letter};
+ghost use Rattle.groovy_lex.specs.Names.{is_in, Run, IsNameKind, IsNameAt};
 
-use crate::source::byte;
+use crate::source::{byte, peek};
 use crate::words::word_of;
 use model_syntax::TokenKind;
 use model_text::Text;
 use std::alloc::{AllocError, Global};
 
 /// Whether a name begins with this byte: a letter of ASCII, or `_`.
-pub(crate) fn is_letter(byte: u16) -> bool
+pub(crate) fn is_letter(byte: u8) -> bool
     ensures { result ≡ is_letter byte }
 {
-    (65 <= byte && byte <= 90) || (97 <= byte && byte <= 122) || byte == 95
+    byte.is_ascii_alphabetic() || byte == b'_'
 }
 
-/// Whether the byte is a digit.
-pub(crate) fn is_digit(byte: u16) -> bool
-    ensures { result ≡ is_ascii_digit byte }
+/// Whether a letter or `_` stands at the place.
+pub(crate) fn letter_at(src: &[u8], at: usize) -> bool
+    ensures value { result ≡ is_letter (byte_at src.now at) }
+    ensures inside { IsTrue result → at < length src.now }
 {
-    48 <= byte && byte <= 57
-}
-
-fn is_name_byte(byte: u16) -> bool
-    ensures { result ≡ is_name_byte byte }
-{
-    is_letter(byte) || is_digit(byte)
-}
-
-/// The place behind the letters, digits and `_` that stand from a place on.
-fn name_end(src: &[u8], from: usize) -> usize
-    requires { from ≤ length src.now }
-    ensures run { Run is_name_byte (byte_at src.now) from result }
-    ensures inside { result ≤ length src.now }
-{
-    let mut at = from;
-    'bytes: while at < src.len() {
-        if !is_name_byte(byte(src, at)) {
-            return at;
-        }
-        at += 1;
+    match peek(src, at) {
+        Some(byte) => is_letter(byte),
+        None => false,
     }
-    at
 }
 
-/// The place behind the digits that stand from a place on.
-pub(crate) fn digits_end(src: &[u8], from: usize) -> usize
+/// The bytes of which names and numbers are made.
+#[derive(Clone, Copy, PartialEq, Eq, Debug)]
+pub(crate) enum Class {
+    /// The digits.
+    Digit,
+    /// The digits, the letters and `_`.
+    Name,
+}
+
+fn is_in(class: Class, byte: u8) -> bool
+    ensures { result ≡ is_in class byte }
+{
+    match class {
+        Class::Digit => byte.is_ascii_digit(),
+        Class::Name => is_letter(byte) || byte.is_ascii_digit(),
+    }
+}
+
+/// The place behind the bytes of this class that stand from a place on.
+pub(crate) fn run_end(src: &[u8], from: usize, class: Class) -> usize
     requires { from ≤ length src.now }
-    ensures run { Run is_ascii_digit (byte_at src.now) from result }
+    ensures run { Run (is_in class) (byte_at src.now) from result }
     ensures inside { result ≤ length src.now }
 {
     let mut at = from;
     'bytes: while at < src.len() {
-        if !is_digit(byte(src, at)) {
+        if !is_in(class, byte(src, at)) {
             return at;
         }
         at += 1;
@@ -87,7 +86,7 @@ pub(crate) fn name_at(
     ensures fits { IfOk result (λ name. IsNameAt (byte_at src.now) at name.1 name.0) }
     ensures past { IfOk result (λ name. (at < name.1) × (name.1 ≤ length src.now)) }
 {
-    let end = name_end(src, at);
+    let end = run_end(src, at, Class::Name);
     let kind = name_kind(alloc, &src[at..end])?;
     Ok((kind, end))
 }

@@ -1,4 +1,4 @@
-//! Which newlines are tokens (Groovy).
+//! Which newlines are tokens.
 ghost use Rattle.std.specs.Prelude.{◌≡◌, ◌&&◌, not, filter, false, IfOk};
 ghost use Rattle.model_syntax.specs.Newlines.{sign_goes_on, goes_on_after, goes_on_with, is_newline, kept};
 ghost use Rattle.model_syntax.specs.Tokens.{begins_before};
@@ -38,11 +38,8 @@ fn goes_on_with(kind: &TokenKind) -> bool
     ensures { result ≡ goes_on_with kind.now }
 {
     match kind {
-        TokenKind::Sign(Sign::Dot) => true,
-        TokenKind::Sign(Sign::SafeDot) => true,
-        TokenKind::Word(Word::Else) => true,
-        TokenKind::Word(Word::Catch) => true,
-        TokenKind::Word(Word::Finally) => true,
+        TokenKind::Sign(Sign::Dot | Sign::SafeDot) => true,
+        TokenKind::Word(Word::Else | Word::Catch | Word::Finally) => true,
         _ => false,
     }
 }

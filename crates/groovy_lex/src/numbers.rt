@@ -1,12 +1,15 @@
-//! Whole numbers (Groovy), from 0 to 2147483647.
+//! Whole numbers, from 0 to 2147483647.
 ghost use Rattle.std.specs.Prelude.{◌≡◌, ℕ, ◌+◌, ◌<◌, ◌≤◌, length, All, true, pos, MatchBool, MatchOption, IfSome};
 ghost use Rattle.std.specs.Char.{is_ascii_digit};
 ghost use Rattle.std.specs.Str.Parse.{digits_value};
 ghost use Rattle.model_syntax.specs.Source.{byte_at};
 ghost use Rattle.groovy_lex.specs.Numbers.{IsNumberAt, IsBadNumberAt};
 
-use crate::names::{digits_end, is_digit, is_letter};
-use crate::source::byte;
+use crate::names::{Class, letter_at, run_end};
+use crate::source::{byte, is_at, peek};
+
+/// The largest number of 32 bits with a sign.
+const LARGEST: u64 = 2147483647;
 
 /// The number of these digits, and `None` where it is above 2147483647.
 fn number_of(digits: &[u8]) -> Option<i32>
@@ -15,8 +18,8 @@ fn number_of(digits: &[u8]) -> Option<i32>
 {
     let mut value: u64 = 0;
     'digits: for digit in digits {
-        value = 10 * value + u64::from(*digit - 48);
-        if value > 2147483647 {
+        value = 10 * value + u64::from(*digit - b'0');
+        if value > LARGEST {
             return None;
         }
     }
@@ -28,7 +31,17 @@ fn leads_zero(src: &[u8], at: usize, end: usize) -> bool
     requires { at < length src.now }
     ensures { MatchBool result ((byte_at src.now at ≡ 48) × (at + 1 < end)) ((byte_at src.now at ≡ 48) × (at + 1 < end) → ⊥) }
 {
-    byte(src, at) == 48 && at + 1 < end
+    byte(src, at) == b'0' && at + 1 < end
+}
+
+/// Whether a digit stands at the place.
+fn digit_at(src: &[u8], at: usize) -> bool
+    ensures { result ≡ is_ascii_digit (byte_at src.now at) }
+{
+    match peek(src, at) {
+        Some(byte) => byte.is_ascii_digit(),
+        None => false,
+    }
 }
 
 /// Whether a dot and a digit stand at the place.
@@ -36,7 +49,7 @@ fn has_fraction(src: &[u8], at: usize) -> bool
     requires { at ≤ length src.now }
     ensures { MatchBool result ((byte_at src.now at ≡ 46) × (is_ascii_digit (byte_at src.now (at + 1)) ≡ true)) ((byte_at src.now at ≡ 46) × (is_ascii_digit (byte_at src.now (at + 1)) ≡ true) → ⊥) }
 {
-    byte(src, at) == 46 && is_digit(byte(src, at + 1))
+    is_at(src, at, b'.') && digit_at(src, at + 1)
 }
 
 /// The number that stands at a place, and the place behind it; `None` where it is refused.
@@ -46,11 +59,11 @@ pub(crate) fn number_at(src: &[u8], at: usize) -> Option<(i32, usize)>
     ensures fits { MatchOption result (IsBadNumberAt (byte_at src.now) at) (λ number. IsNumberAt (byte_at src.now) at number.1 number.0) }
     ensures past { IfSome result (λ number. (at < number.1) × (number.1 ≤ length src.now)) }
 {
-    let end = digits_end(src, at);
+    let end = run_end(src, at, Class::Digit);
     if leads_zero(src, at, end) {
         return None;
     }
-    if is_letter(byte(src, end)) {
+    if letter_at(src, end) {
         return None;
     }
     if has_fraction(src, end) {

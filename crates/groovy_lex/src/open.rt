@@ -18,14 +18,12 @@ pub(crate) enum TextForm {
 
 impl TextForm {
     /// The byte of its quotes.
-    pub(crate) fn quote(self) -> u16
+    pub(crate) fn quote(self) -> u8
         ensures { result ≡ quote (form_of self) }
     {
         match self {
-            TextForm::Single => 39,
-            TextForm::TripleSingle => 39,
-            TextForm::Double => 34,
-            TextForm::TripleDouble => 34,
+            TextForm::Single | TextForm::TripleSingle => b'\'',
+            TextForm::Double | TextForm::TripleDouble => b'"',
         }
     }
 
@@ -34,10 +32,8 @@ impl TextForm {
         ensures { result ≡ is_triple (form_of self) }
     {
         match self {
-            TextForm::Single => false,
-            TextForm::TripleSingle => true,
-            TextForm::Double => false,
-            TextForm::TripleDouble => true,
+            TextForm::TripleSingle | TextForm::TripleDouble => true,
+            TextForm::Single | TextForm::Double => false,
         }
     }
 
@@ -46,10 +42,8 @@ impl TextForm {
         ensures { result ≡ is_double (form_of self) }
     {
         match self {
-            TextForm::Single => false,
-            TextForm::TripleSingle => false,
-            TextForm::Double => true,
-            TextForm::TripleDouble => true,
+            TextForm::Double | TextForm::TripleDouble => true,
+            TextForm::Single | TextForm::TripleSingle => false,
         }
     }
 
@@ -60,6 +54,9 @@ impl TextForm {
         if self.is_triple() { 3 } else { 1 }
     }
 }
+
+/// The most brackets that may be open at one place: this product's own limit.
+pub(crate) const MOST_BRACKETS: usize = 128;
 
 /// Something that is open.
 #[derive(Clone, Copy, PartialEq, Eq, Debug)]
@@ -205,10 +202,7 @@ fn text_at_end(items: &[Opened]) -> Option<(TextForm, usize)>
     }
     match items[items.len() - 1] {
         Opened::Text(form, opening) => Some((form, opening)),
-        Opened::Paren => None,
-        Opened::Bracket => None,
-        Opened::Brace => None,
-        Opened::Expression => None,
+        Opened::Paren | Opened::Bracket | Opened::Brace | Opened::Expression => None,
     }
 }
 
@@ -221,9 +215,6 @@ fn ends_at(items: &[Opened]) -> bool
     }
     match items[items.len() - 1] {
         Opened::Brace => true,
-        Opened::Paren => false,
-        Opened::Bracket => false,
-        Opened::Expression => false,
-        Opened::Text(_, _) => false,
+        Opened::Paren | Opened::Bracket | Opened::Expression | Opened::Text(_, _) => false,
     }
 }

@@ -1,9 +1,9 @@
 //! Lines and columns.
-ghost use Rattle.std.specs.Prelude.{◌≡◌, ◌+◌, ◌<◌, ◌≤◌, length};
+ghost use Rattle.std.specs.Prelude.{◌≡◌, ◌+◌, ◌<◌, ◌≤◌, length, MatchBool};
 ghost use Rattle.model_syntax.specs.Source.{byte_at};
 ghost use Rattle.model_syntax.specs.Places.{is_inner, mark_end, place_at};
 
-use crate::source::byte;
+use crate::source::{is_at, peek, stands_pair};
 use model_syntax::Place;
 
 /// The place behind a byte order mark, and 0 where the script begins with none.
@@ -11,10 +11,20 @@ pub(crate) fn mark_end(src: &[u8]) -> usize
     ensures value { result ≡ mark_end (byte_at src.now) }
     ensures inside { result ≤ length src.now }
 {
-    if byte(src, 0) == 239 && byte(src, 1) == 187 && byte(src, 2) == 191 {
+    if is_at(src, 0, 0xEF) && stands_pair(src, 1, 0xBB, 0xBF) {
         3
     } else {
         0
+    }
+}
+
+/// Whether the byte is a later one of a character, as UTF-8 has it.
+fn continues_character(src: &[u8], at: usize) -> bool
+    ensures { MatchBool result ((128 ≤ byte_at src.now at) × (byte_at src.now at < 192)) (128 ≤ byte_at src.now at → 192 ≤ byte_at src.now at) }
+{
+    match peek(src, at) {
+        Some(byte) => 0x80 <= byte && byte < 0xC0,
+        None => false,
     }
 }
 
@@ -22,8 +32,7 @@ pub(crate) fn mark_end(src: &[u8]) -> usize
 fn is_inner(src: &[u8], at: usize) -> bool
     ensures { result ≡ is_inner (byte_at src.now) at }
 {
-    let byte = byte(src, at);
-    at < mark_end(src) || (128 <= byte && byte < 192)
+    at < mark_end(src) || continues_character(src, at)
 }
 
 /// The line and the column of the next byte, from those of this one.
@@ -31,7 +40,7 @@ fn next_place(src: &[u8], at: usize, place: Place) -> Place
     requires { place ≡ place_at (byte_at src.now) at }
     ensures { result ≡ place_at (byte_at src.now) (at + 1) }
 {
-    if byte(src, at) == 10 {
+    if is_at(src, at, b'\n') {
         return Place {
             line: place.line.saturating_add(1),
             column: 1,

@@ -6,10 +6,10 @@ use Rattle.groovy_lex.proofs.CharacterLemmas.{ascii_at, utf8_character, no_chara
 use Rattle.groovy_lex.proofs.characters.character_end.Goals as goal
 
 pub returns-then-byte-lt128-clause-stands : goal.returns-then-byte-lt128-clause-stands
-returns-then-byte-lt128-clause-stands c = ascii_at (byte_at c.args.src.now) c.args.at (omega (arith, c.byte.ensures.value))
+returns-then-byte-lt128-clause-stands c = ascii_at (byte_at c.args.src.now) c.args.at (omega (arith, c.byte.ensures))
 
 pub returns-then-is_utf8-clause-stands : goal.returns-then-is_utf8-clause-stands
-returns-then-is_utf8-clause-stands c = utf8_character c.args.src.now c.args.at c.widths.width c.widths.auto.width c.if-is_utf8.ensures.0 (omega (arith, c.byte.ensures.value)) c.if-is_utf8.ensures.1 c.widths.invariant
+returns-then-is_utf8-clause-stands c = utf8_character c.args.src.now c.args.at c.widths.width c.widths.auto.width c.if-is_utf8.ensures.0 (omega (arith, c.byte.ensures)) c.if-is_utf8.ensures.1 c.widths.invariant
 
 pub widths-preserved : goal.widths-preserved
 widths-preserved c = λ k h l i u. ⊎_elim
@@ -18,4 +18,4 @@ widths-preserved c = λ k h l i u. ⊎_elim
     (cases_lt k c.widths.width)
 
 pub returns-clause-stands : goal.returns-clause-stands
-returns-clause-stands c = no_character c.args.src.now c.args.at c.requires (omega (arith, c.byte.ensures.value)) (λ k h l. c.widths.invariant k h (omega (arith, l)))
+returns-clause-stands c = no_character c.args.src.now c.args.at c.requires (omega (arith, c.byte.ensures)) (λ k h l. c.widths.invariant k h (omega (arith, l)))

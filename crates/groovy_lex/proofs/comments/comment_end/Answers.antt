@@ -9,7 +9,7 @@ pub characters-init : goal.characters-init
 characters-init c = record { passed = passed_none; later = omega arith; inside = omega arith }
 
 pub characters-preserved : goal.characters-preserved
-characters-preserved c = record { passed = passed_behind c.characters.invariant.passed (λ s. c.if-stands_pair.ensures.means (s.0, s.1.0)) c.in-Some.ensures.stands.1; later = omega (arith, c.in-Some.ensures.past.0); inside = c.in-Some.ensures.past.1 }
+characters-preserved c = record { passed = passed_behind c.characters.invariant.passed c.if-ends.ensures c.in-Some.ensures.stands.1; later = omega (arith, c.in-Some.ensures.past.0); inside = c.in-Some.ensures.past.1 }
 
 pub returns-clause-stops : goal.returns-clause-stops
 returns-clause-stops c = inr (end_no_character (byte_at c.args.src.now) c.characters.at (get_or_past c.args.src.now c.characters.at 256 c.characters-test.false))

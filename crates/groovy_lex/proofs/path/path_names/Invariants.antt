@@ -4,7 +4,7 @@ use Rattle.model_syntax.specs.Source.{byte_at}
 use Rattle.model_syntax.specs.Places.{place_at}
 use Rattle.model_syntax.specs.Spelling.{is_letter}
 use Rattle.model_syntax.specs.Reading.{Path}
-use Rattle.groovy_lex.proofs.inside.path_step.Given as goal
+use Rattle.groovy_lex.proofs.path.path_names.Given as goal
 
 abbrev pub invariant-names : goal.invariant-names
 invariant-names l = record {
