@@ -1,6 +1,20 @@
+ghost use Rattle.std.specs.Prelude.{All, IfOk};
+ghost use Rattle.cell_heap.specs.Soundness.{ValueBelow};
+
 use crate::{CellRefusal, Heap};
 use model_values::{Cell, Entries, Key, Value, Values};
+use std::alloc::{AllocError, Global};
 use std::test::Fail;
+
+fn nulls(alloc: Global, count: usize) -> Result<Values, AllocError>
+    ensures { IfOk result (All (ValueBelow 0)) }
+{
+    let mut values = Values::new(alloc);
+    for _ in 0..count {
+        values.push(Value::Null)?;
+    }
+    Ok(values)
+}
 
 #[test]
 fn new_and_written_cells_are_changed_since_the_mark(rt: HostRuntime) -> Result<(), Fail> {
@@ -33,8 +47,7 @@ fn reserved_cells_are_made(rt: HostRuntime) -> Result<(), Fail> {
 #[test]
 fn a_list_of_65536_entries_takes_no_more(rt: HostRuntime) -> Result<(), Fail> {
     let mut heap = Heap::new(rt.alloc());
-    let values = Vec::from_elem(rt.alloc(), Value::Null, 65536)?;
-    heap.new_cell(Cell::List(Values::from_vec(values)))?;
+    heap.new_cell(Cell::List(nulls(rt.alloc(), 65536)?))?;
     assert_eq!(rt; heap.list_push(0, Value::Null), Err(CellRefusal::Entries));
     Ok(())
 }
