@@ -11,7 +11,7 @@ use std::fs::Permissions;
 use std::os::unix::fs::PermissionsExt;
 use std::test::Fail;
 use std::{env, fs, io};
-use task_host::{Bytes, Host, Look, Made, Order, Pairs, Started, Stream};
+use task_host::{Bytes, Host, Look, Made, Order, Pair, Pairs, Started, Stream, Text};
 
 // An order of task 2 with this script, whose workspace has this name in this test's folder.
 fn order(rt: &HostRuntime, workspace: &str, script: &str) -> io::Result<Order> {
@@ -24,7 +24,7 @@ fn order(rt: &HostRuntime, workspace: &str, script: &str) -> io::Result<Order> {
         executor: 0,
         workspace: Bytes::from_slice(alloc, workspace.as_bytes())?,
         folder: Bytes::from_slice(alloc, workspace.as_bytes())?,
-        env: Pairs::of(Vec::new(alloc)),
+        env: Pairs::new(alloc),
         script: Bytes::from_slice(alloc, script.as_bytes())?,
         keep_out: false,
         kept_log: 0,
@@ -195,12 +195,12 @@ fn a_later_life_finds_the_folder_of_an_earlier_one(rt: HostRuntime) -> Result<()
 // The order's step sets these variables.
 fn set_env(rt: &HostRuntime, order: &mut Order, env: &[(&str, &str)]) -> Result<(), AllocError> {
     let alloc = rt.alloc();
-    let mut pairs = Vec::new(alloc);
+    order.env = Pairs::new(alloc);
     for (name, value) in env {
-        let name = Bytes::from_slice(alloc, name.as_bytes())?;
-        pairs.push((name, Bytes::from_slice(alloc, value.as_bytes())?))?;
+        let name = Text::from_str(alloc, name)?;
+        let value = Text::from_str(alloc, value)?;
+        order.env.push(Pair { name, value })?;
     }
-    order.env = Pairs::of(pairs);
     Ok(())
 }
 
