@@ -11,3 +11,4 @@ pub mod SoundSteps
 pub mod SoundStepForms
 pub mod SoundBranches
 pub mod SoundForms
+pub mod SoundEntries
