@@ -1,0 +1,197 @@
+-- What the combinators of evaluation keep: sound states, later and later, and frames that fit.
+use Rattle.std.proofs.Common.{arith, ◌≡◌, ◌≤◌, ◌<◌, ◌+◌, refl, sym, ap, subst, ◌∙◌, ℕ, zero, suc, Bool, true, false, List, [], ◌∷◌, length, Option, Some, None}
+use Rattle.std.specs.Prelude.{pos, slice_get}
+use Rattle.std.specs.List.{AllByRecursion as All}
+use Rattle.model_syntax.specs.declared.node.NodeForm.{NodeForm}
+use Rattle.model_syntax.specs.declared.node.NodeForm.TheVariants as form
+use Rattle.model_values.specs.Cells.{Answer, Gives, Throws, Meets}
+use Rattle.model_values.specs.Fitting.{There, HasVariable, HasText, HasClosure, HasThrowable, CellsFit}
+use Rattle.model_values.specs.Later.{CellsLater, Grows, AnswerGrows, Given}
+use Rattle.model_values.specs.Truth.{truth}
+use Rattle.model_values.proofs.LaterLaws.{later_itself, later_on, there_later, text_later, closure_later, throwable_later, variable_later, variables_later, all_weaker}
+use Rattle.model_values.specs.declared.value.Value.{Value}
+use Rattle.model_values.specs.declared.value.Value.TheVariants.{Null, Bool as Truth, Int as Whole, Cell as InCell}
+use Rattle.model_values.specs.declared.limit.LimitKind.{LimitKind}
+use Rattle.model_values.specs.declared.cell.Cell.{Cell}
+use Rattle.model_values.specs.declared.cell.Binding.{Binding}
+use Rattle.model_run.specs.declared.ending.Ending.{Ending}
+use Rattle.model_run.specs.declared.ending.Ending.TheVariants.{Normal, Thrown, Returned, Broke, Continued, Declared, Answered}
+use Rattle.model_run.specs.declared.ending.Branch.{Branch}
+use Rattle.model_run.specs.declared.ending.Asked.{Asked}
+use Rattle.model_run.specs.declared.ending.Asked.TheVariants.{ForRequest, ForBranches}
+use Rattle.model_run.specs.declared.frame.Frame.{Frame}
+use Rattle.model_run.specs.State.{Setting, Common, World, Reply, State, Env, Result, Ended, Waits, Limited, Unfinished, with_world, through, changed, seeing, choose, unless_limit, guarded, on_value, on_throw, put_cells, answered, operating, may_count, counted, tick, reply_to, awaiting}
+use Rattle.model_run.specs.Around.{ended, limits, cells, deciding}
+use Rattle.model_run.specs.FrameTable.{Sort, Any, Up_to, Flag, Flow_node, A_closure, A_throwable, Text_or_null, is_declaration}
+use Rattle.model_run.specs.Nesting.{Sorts, FrameFits}
+use Rattle.model_run.specs.Scoping.{names_for}
+use Rattle.model_run.specs.Fitting.{EnvFits, closure_rule, IsFlowNode, Later}
+use Rattle.model_run.proofs.LaterLaws.{frame_wider, env_later}
+use Rattle.run_laws.specs.Soundness.{seen, Sits, BranchFits, AskedFits, declares_as, EndFits, Sound, At, Holds, Goes}
+
+pub later_self : (u : Common) → Later u u
+later_self u = record { cells = later_itself u.cells; nodes = omega arith }
+
+pub later_then : (u v w : Common) → Later u v → Later v w → Later u w
+later_then u v w a b = record { cells = later_on u.cells v.cells w.cells a.cells b.cells; nodes = omega (arith, a.nodes, b.nodes) }
+
+module _ (u v : Common) (later : Later u v) where
+  pub there_then : (x : Value) → There u.cells x → There v.cells x
+  there_then = there_later u.cells v.cells later.cells
+
+  pub all_there_then : (xs : List Value) → All (There u.cells) xs → All (There v.cells) xs
+  all_there_then xs h = all_weaker _ _ there_then xs h
+
+  pub node_then : (n : ℕ) → IsFlowNode u.nodes n → IsFlowNode v.nodes n
+  node_then n h = (h.0, let lt : n < length u.nodes + 2 = h.1 in omega (arith, later.nodes))
+
+  pub seen_then : (s : Sort) (x : Value) → seen u s x → seen v s x
+  seen_then Any x h = there_then x h
+  seen_then (Up_to n) (Whole (pos m)) h = tt
+  seen_then Flag (Truth b) h = tt
+  seen_then Flow_node (Whole (pos n)) h = node_then n h
+  seen_then A_closure (InCell c) h = closure_later u.cells v.cells later.cells c h
+  seen_then A_throwable (InCell c) h = throwable_later u.cells v.cells later.cells c h
+  seen_then Text_or_null Null h = tt
+  seen_then Text_or_null (InCell c) h = text_later u.cells v.cells later.cells c h
+  seen_then s x h = absurd h
+
+  pub sits_then : (root : _) (f : Frame) → Sits root u f → Sits root v f
+  sits_then root f h = record { fits = frame_wider (seen u) (seen v) seen_then root f h.fits; names = env_later u v later _ f.env h.names }
+
+pub end_then : (u v : Common) → Later u v → (f : NodeForm) (e : Ending) → EndFits f u e → EndFits f v e
+end_then u v l f (Normal x) h = (there_then u v l x h.0, h.1)
+end_then u v l f (Thrown c) h = throwable_later u.cells v.cells l.cells c h
+end_then u v l f (Returned x) h = there_then u v l x h
+end_then u v l f Broke h = tt
+end_then u v l f Continued h = tt
+end_then u v l f (Declared b) h = (h.0, variable_later u.cells v.cells l.cells b.cell h.1)
+end_then u v l f (Answered x) h = h
+
+module _ (g : Setting) where
+  pub at_self : (u : Common) (s : State) → At g u s → At g s.world.shared s
+  at_self u s at = record { later = later_self s.world.shared; sound = at.sound; alone = at.alone }
+
+  pub at_then : (u v : Common) → Later u v → (s : State) → At g v s → At g u s
+  at_then u v l s at = record { later = later_then u v s.world.shared l at.later; sound = at.sound; alone = at.alone }
+
+  -- what begins behind a later state begins behind an earlier one
+  pub holds_then : (f : NodeForm) (u v : Common) → Later u v → (r : Result) → Holds g f v r → Holds g f u r
+  holds_then f u v l (Ended e s) h = (at_then u v l s h.0, h.1)
+  holds_then f u v l (Waits asked path s) h = (at_then u v l s h.0, h.1, h.2)
+  holds_then f u v l (Limited k s) h = tt
+  holds_then f u v l Unfinished h = tt
+
+  -- go on from a state as from the beginning
+  pub from_here : (f : NodeForm) (u : Common) (go : State → Result) (s : State) → At g u s → Goes g f s.world.shared go → Holds g f u (go s)
+  from_here f u go s at h = holds_then f u s.world.shared at.later (go s) (h s (at_self u s at))
+
+  -- nodes that are no declarations end alike
+  pub end_as : (f f' : NodeForm) (u : Common) (e : Ending) → is_declaration f ≡ false → is_declaration f' ≡ false → EndFits f u e → EndFits f' u e
+  end_as f f' u (Normal v) plain plain' h = (h.0, plain')
+  end_as f f' u (Thrown c) plain plain' h = h
+  end_as f f' u (Returned v) plain plain' h = h
+  end_as f f' u Broke plain plain' h = tt
+  end_as f f' u Continued plain plain' h = tt
+  end_as f f' u (Declared b) plain plain' h = absurd (never f plain b.name h.0)
+    where
+      never : (f : NodeForm) → is_declaration f ≡ false → (y : List ℕ) → declares_as f y → ⊥
+      never (form.Declare x) plain y d = absurd (cc)
+      never f plain y d = d
+  end_as f f' u (Answered x) plain plain' h = h
+
+  pub holds_as : (f f' : NodeForm) (u : Common) (r : Result) → is_declaration f ≡ false → is_declaration f' ≡ false → Holds g f u r → Holds g f' u r
+  holds_as f f' u (Ended e s) plain plain' h = (h.0, end_as f f' s.world.shared e plain plain' h.1)
+  holds_as f f' u (Waits asked path s) plain plain' h = h
+  holds_as f f' u (Limited k s) plain plain' h = tt
+  holds_as f f' u Unfinished plain plain' h = tt
+
+  -- A change that leaves a sound world sound, and later.
+  pub record Moves (h : World → World) (w : World) : Type 0 where
+    pub later : Later w.shared (h w).shared
+    pub cells : CellsFit (closure_rule g.script) (h w).shared.cells
+    pub binding : All (λ b. HasVariable (slice_get (h w).shared.cells b.cell)) (h w).shared.binding
+    pub head : IsFlowNode (h w).shared.nodes (h w).own.head
+
+  pub at_moved : (u : Common) (h : World → World) (s : State) → At g u s → Moves h s.world → At g u (with_world (h s.world) s)
+  at_moved u h s at m = record {
+    later = later_then u s.world.shared (h s.world).shared at.later m.later;
+    sound = record { setting = (at.sound).setting; cells = m.cells; binding = m.binding; head = m.head };
+    alone = at.alone;
+  }
+
+  -- a change of nothing that soundness speaks of
+  pub moves_aside : (h : World → World) (w : World) → Sound g w → (h w).shared.cells ≡ w.shared.cells → (h w).shared.binding ≡ w.shared.binding → (h w).shared.nodes ≡ w.shared.nodes → (h w).own.head ≡ w.own.head → Moves h w
+  moves_aside h w sound c b n o = record {
+    later = record { cells = subst (CellsLater w.shared.cells) (sym c) (later_itself w.shared.cells); nodes = omega (arith, ap length n) };
+    cells = subst (CellsFit (closure_rule g.script)) (sym c) sound.cells;
+    binding = subst (λ cs. All (λ x. HasVariable (slice_get cs x.cell)) (h w).shared.binding) (sym c) (subst (λ bs. All (λ x. HasVariable (slice_get w.shared.cells x.cell)) bs) (sym b) sound.binding);
+    head = subst (λ ns. IsFlowNode ns (h w).own.head) (sym n) (subst (IsFlowNode w.shared.nodes) (sym o) sound.head);
+  }
+
+  module _ (f : NodeForm) (u : Common) where
+    pub change_goes : (h : World → World) → ((w : World) → Sound g w → Moves h w) → (go : State → Result) → Goes g f u go → Goes g f u (changed h go)
+    change_goes h moves go k s at = k _ (at_moved u h s at (moves s.world at.sound))
+
+    pub unless_goes : (o : Option LimitKind) (go : State → Result) → Goes g f u go → Goes g f u (unless_limit o go)
+    unless_goes (Some k) go h s at = tt
+    unless_goes None go h s at = h s at
+
+    pub guard_goes : (limit : World → Option LimitKind) (h : World → World) → ((w : World) → Sound g w → Moves h w) → (go : State → Result) → Goes g f u go → Goes g f u (guarded limit h go)
+    guard_goes limit h moves go k s at = unless_goes (limit s.world) (changed h go) (change_goes h moves go k) s at
+
+    pub tick_goes : (go : State → Result) → Goes g f u go → Goes g f u (tick go)
+    tick_goes go k = guard_goes may_count counted (λ w sound. moves_aside counted w sound refl refl refl refl) go k
+
+    pub choose_goes : (b : Bool) (x y : State → Result) → Goes g f u x → Goes g f u y → Goes g f u (choose b x y)
+    choose_goes true x y h k s at = h s at
+    choose_goes false x y h k s at = k s at
+
+    pub decide_goes : (v : Value) (x y : State → Result) → Goes g f u x → Goes g f u y → Goes g f u (deciding v x y)
+    decide_goes v x y h k s at = choose_goes (truth (cells s.world) v) x y h k s at
+
+    -- a value, by what comes next
+    abbrev pub GoesWith : (Value → State → Result) → Type 0
+    GoesWith go = (v : Value) (s : State) → At g u s → There s.world.shared.cells v → Holds g f u (go v s)
+
+    pub end_goes : is_declaration f ≡ false → GoesWith ended
+    end_goes plain v s at there = (at, (there, plain))
+
+    pub null_goes : is_declaration f ≡ false → Goes g f u (ended Null)
+    null_goes plain s at = (at, (tt, plain))
+
+    pub value_goes : (go : Value → State → Result) → GoesWith go → (e : Ending) (s : State) → At g u s → EndFits form.Block s.world.shared e → Holds g f u (on_value go e s)
+    value_goes go k (Normal v) s at h = k v s at h.0
+    value_goes go k (Thrown c) s at h = (at, h)
+    value_goes go k (Returned v) s at h = (at, h)
+    value_goes go k Broke s at h = (at, tt)
+    value_goes go k Continued s at h = (at, tt)
+    value_goes go k (Declared b) s at h = absurd h.0
+    value_goes go k (Answered x) s at h = absurd h
+
+    -- an operation on values, whose answer is of a sort
+    pub answer_goes : (l : _) (sort : List Cell → Value → Type 0) (x : Answer) (s : State) → At g u s → (given : Type 0) → given → AnswerGrows l (closure_rule g.script) (cells s.world) given sort x → (go : Value → State → Result)
+        → ((v : Value) (t : State) → At g u t → Later s.world.shared t.world.shared → sort t.world.shared.cells v → Holds g f u (go v t)) → Holds g f u (answered x go s)
+    answer_goes l sort (Gives h v) s at given is grown go k =
+        let fit : CellsFit (closure_rule g.script) h × sort h v = grown.fits is in
+        let l1 : Later s.world.shared (put_cells h s.world).shared = record { cells = grown.later; nodes = omega arith } in
+        k v (with_world (put_cells h s.world) s) (at_moved u (put_cells h) s at (record { later = l1; cells = fit.0; binding = variables_later (cells s.world) h grown.later s.world.shared.binding (at.sound).binding; head = (at.sound).head })) l1 fit.1
+    answer_goes l sort (Throws h c) s at given is grown go k =
+        let fit : CellsFit (closure_rule g.script) h × HasThrowable (slice_get h c) = grown.fits is in
+        let l1 : Later s.world.shared (put_cells h s.world).shared = record { cells = grown.later; nodes = omega arith } in
+        (at_moved u (put_cells h) s at (record { later = l1; cells = fit.0; binding = variables_later (cells s.world) h grown.later s.world.shared.binding (at.sound).binding; head = (at.sound).head }), fit.1)
+    answer_goes l sort (Meets m) s at given is grown go k = tt
+
+  -- a part under a frame
+  pub through_goes : (f f' : NodeForm) (u : Common) (x : Frame) → Sits g.script u x → (go : Ending → State → Result) → ((e : Ending) (s : State) → At g u s → EndFits f' s.world.shared e → Holds g f u (go e s)) → (r : Result) → Holds g f' u r → Holds g f u (through x go r)
+  unfolding through
+  through_goes f f' u x sits go k (Ended e s) h = k e s h.0 h.1
+  through_goes f f' u x sits go k (Waits asked path s) h = (h.0, h.1, (sits_then u s.world.shared (h.0).later g.script x sits, h.2))
+  through_goes f f' u x sits go k (Limited l s) h = tt
+  through_goes f f' u x sits go k Unfinished h = tt
+
+  -- a wait under a frame
+  pub wait_goes : (f : NodeForm) (u : Common) (x : Frame) → Sits g.script u x → (go : Ending → State → Result) (asked : Asked) (s : State) → At g u s → AskedFits g.script s.world.shared asked → Holds g f u (through x go (awaiting asked s))
+  unfolding through
+  wait_goes f u x sits go asked s at fits =
+      subst (λ rs. Holds g f u (through x go (reply_to asked s rs))) (sym at.alone) (at, fits, (sits_then u s.world.shared at.later g.script x sits, tt))

@@ -1,0 +1,14 @@
+pub mod NodeLaws
+pub mod Flow
+pub mod Sources
+pub mod SoundStatements
+pub mod SoundAssignments
+pub mod SoundExpressions
+pub mod SoundGathering
+pub mod SoundCalls
+pub mod Binding
+pub mod SoundSteps
+pub mod SoundStepForms
+pub mod SoundBranches
+pub mod SoundForms
+pub mod SoundEntries

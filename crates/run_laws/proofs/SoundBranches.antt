@@ -1,0 +1,243 @@
+-- The step `parallel`, the ends of branches, and each step as it begins: sound from a sound state on.
+use Rattle.std.proofs.Common.{arith, ◌≡◌, ◌≤◌, ◌<◌, ◌+◌, ◌-◌, refl, sym, ap, subst, ◌∙◌, ℕ, zero, suc, Bool, true, false, List, [], ◌∷◌, ◌++◌, length, length-append, Option, Some, None}
+use Rattle.std.specs.Prelude.{slice_get, codes, map, nat_lt, unwrap_or, if◌then◌else◌}
+use Rattle.std.specs.List.{AllByRecursion as All}
+use Rattle.indexmap.specs.IndexMap.{insert_all}
+use Rattle.model_syntax.specs.declared.node.NodeForm.{NodeForm}
+use Rattle.model_syntax.specs.declared.node.NodeForm.TheVariants as form
+use Rattle.model_values.specs.Cells.{new_map}
+use Rattle.model_values.specs.Keys.{same_key}
+use Rattle.model_values.specs.Kinds.{Kind, kind, null, flag, number, text, items, pairs, closure, thrown}
+use Rattle.model_values.specs.TextOf.{key_text}
+use Rattle.model_values.specs.Fitting.{There, HasVariable, HasMap, HasClosure, HasThrowable, IsIn, CellFits, CellsFit}
+use Rattle.model_values.specs.Later.{Given as GivenValues}
+use Rattle.model_values.proofs.CellGrowth.{Before, all_append, all_get, new_map_grows, map_is_there, map_there}
+use Rattle.model_values.proofs.OperatorGrowth.{all_inserts}
+use Rattle.model_values.proofs.KindFacts.{KindFits, kind_fits}
+use Rattle.model_values.proofs.LaterLaws.{throwable_later, variables_later, all_weaker}
+use Rattle.model_values.specs.declared.value.Value.{Value}
+use Rattle.model_values.specs.declared.value.Value.TheVariants.{Null, Bool as Truth, Int as Whole, Cell as InCell}
+use Rattle.model_values.specs.declared.value.Outcome.{Outcome}
+use Rattle.model_values.specs.declared.value.Outcome.TheVariants.{Value as ValueOutcome, Thrown as ThrownOutcome}
+use Rattle.model_values.specs.declared.key.Key.{Key}
+use Rattle.model_values.specs.declared.cell.Cell.{Cell}
+use Rattle.model_values.specs.declared.cell.Cell.TheVariants.{Variable, Text as TextCell, List as ListCell, Map as MapCell, Closure as ClosureCell, Thrown as ThrownCell}
+use Rattle.model_values.specs.declared.cell.Binding.{Binding}
+use Rattle.model_run.specs.declared.callee.Callee.{Callee}
+use Rattle.model_run.specs.declared.step.Step.{Step}
+use Rattle.model_run.specs.declared.step.Step.TheVariants as step
+use Rattle.model_run.specs.declared.wait.BranchEnd.{BranchEnd}
+use Rattle.model_run.specs.declared.wait.Answer.{Answer as Reply_answer}
+use Rattle.model_run.specs.declared.wait.Answer.TheVariants.{Begin, Granted as GrantedAnswer, Done, Decided as DecidedAnswer, Joined}
+use Rattle.model_run.specs.declared.result.BuildResult.TheVariants.{Unstable}
+use Rattle.model_values.specs.declared.throwable.Class.TheVariants.{Abort, IllegalArgument}
+use Rattle.model_run.specs.declared.frame.FrameKind.TheVariants as kind
+use Rattle.model_run.specs.declared.ending.Branch.{Branch}
+use Rattle.model_run.specs.declared.ending.Asked.TheVariants.{ForBranches}
+use Rattle.model_run.specs.declared.ending.Ending.{Ending}
+use Rattle.model_run.specs.declared.ending.Ending.TheVariants.{Normal, Thrown, Returned, Broke, Continued, Declared, Answered}
+use Rattle.model_run.specs.State.{Setting, Common, World, State, Env, Result, Ended, Limited, with_world, through, changed, seeing, operating, on_throw, awaiting}
+use Rattle.model_run.specs.Around.{Around, Shape, frame, ended, cells, limits, whole}
+use Rattle.model_run.specs.Callables.{closure_in, closure_of, calling}
+use Rattle.model_run.specs.FlowNodes.{next_node, atom, block, end_body, end_block, end_branches, logging, noted_limit, noted_branch, branch_body, branch_label, body_line, branch_name, pipeline}
+use Rattle.model_run.specs.StepTable.{Given, given, Bound, Binds, Refuses, Stops_at, bind_step, text_given, is_true}
+use Rattle.model_run.specs.Steps.{text_or_empty, throwing, worsened, sh_in, place_of, input_asks, with_callee, branches_of, branch_entries, branches_given, values_of, outcome_value, is_thrown, earlier, first_failure, thrown_by, joined_as, joined_branches, after_parallel, fork, no_branches, fork_or_none, begin_branches, parallel, branch_failed, after_branch, atom_step, block_step, bound_step, begin_step, kept_text, named_result, tries_given, overrides_of}
+use Rattle.model_run.specs.FrameTable.{is_declaration, calls_step, frame_row}
+use Rattle.model_run.specs.Scoping.{Names}
+use Rattle.model_run.specs.Fitting.{EnvFits, closure_rule, IsFlowNode, OutcomeFits, Later}
+use Rattle.model_run.proofs.LaterLaws.{env_later}
+use Rattle.run_laws.specs.Soundness.{Shaped, BranchFits, AskedFits, EndFits, Sound, At, Holds, Goes}
+use Rattle.run_laws.proofs.Binding.{GivenThere, BodyThere, BoundThere, ThereIf, given_there, bound_there}
+use Rattle.run_laws.proofs.Flow.{answer_goes, all_there_then, later_self, later_then, there_then, node_then, at_self, holds_then, from_here, end_goes, null_goes, end_then, end_as, Moves, at_moved, wait_goes}
+use Rattle.run_laws.proofs.Sources.{Place, Sources, sits_here}
+use Rattle.run_laws.proofs.SoundAssignments.{before_of, operate_goes}
+use Rattle.run_laws.proofs.SoundSteps.{more_nodes, new_node, branch_moves, noting_goes, end_body_goes, end_block_goes, end_branches_goes, atom_goes, block_goes, logging_goes, aside_goes, throwing_goes, ending_goes}
+use Rattle.run_laws.proofs.SoundStepForms.{guard_here, closure_there, stage_goes, catch_error_goes, retry_goes, with_env_goes, node_goes, dir_in_goes, sh_in_goes, input_asks_goes}
+
+-- closures of the script
+record IsClosure (g : Setting) (u : Common) (c : Callee) : Type 0 where
+  rule : closure_rule g.script c.node c.env
+  variables : All (λ x. HasVariable (slice_get u.cells x.cell)) c.env
+
+abbrev ClosureIf : Setting → Common → Option Callee → Type 0
+ClosureIf g u None = Unit {0}
+ClosureIf g u (Some c) = IsClosure g u c
+
+closure_in_is : (g : Setting) (u : Common) (o : Option Cell) (c : ℕ) → slice_get u.cells c ≡ o → CellsFit (closure_rule g.script) u.cells → ClosureIf g u (closure_in o)
+closure_in_is g u (Some (ClosureCell k env)) c e fit = let h : CellFits (closure_rule g.script) u.cells (ClosureCell k env) = all_get (CellFits (closure_rule g.script) u.cells) u.cells c (ClosureCell k env) e fit in record { rule = h.0; variables = h.1 }
+closure_in_is g u (Some (Variable v)) c e fit = tt
+closure_in_is g u (Some (TextCell t)) c e fit = tt
+closure_in_is g u (Some (ListCell vs)) c e fit = tt
+closure_in_is g u (Some (MapCell es)) c e fit = tt
+closure_in_is g u (Some (ThrownCell d m)) c e fit = tt
+closure_in_is g u None c e fit = tt
+
+closure_is : (g : Setting) (w : World) (v : Value) → Sound g w → ClosureIf g w.shared (closure_of w v)
+closure_is g w (InCell c) sound = closure_in_is g w.shared (slice_get (cells w) c) c refl sound.cells
+closure_is g w Null sound = tt
+closure_is g w (Truth b) sound = tt
+closure_is g w (Whole z) sound = tt
+
+abbrev Branches : Setting → Common → List (List ℕ × Callee) → Type 0
+Branches g u bs = All (λ b. IsClosure g u b.1) bs
+
+with_callee_is : (g : Setting) (u : Common) (name : List ℕ) (o : Option Callee) (rest : List (List ℕ × Callee)) → ClosureIf g u o → Branches g u rest → Branches g u (with_callee name o rest)
+with_callee_is g u name None rest h r = r
+with_callee_is g u name (Some c) rest h r = (h, r)
+
+branches_are : (g : Setting) (w : World) → Sound g w → (es : List (Key × Value)) → Branches g w.shared (branches_of w es)
+branches_are g w sound [] = tt
+branches_are g w sound (e ∷ es) = with_callee_is g w.shared (key_text e.0) (closure_of w e.1) (branches_of w es) (closure_is g w e.1 sound) (branches_are g w sound es)
+
+entries_are : (g : Setting) (w : World) → Sound g w → (k : Kind) → Branches g w.shared (branch_entries w k)
+entries_are g w sound (pairs c es) = branches_are g w sound es
+entries_are g w sound k = tt
+
+given_are : (g : Setting) (w : World) → Sound g w → (o : Option Value) → Branches g w.shared (branches_given w o)
+given_are g w sound None = tt
+given_are g w sound (Some v) = entries_are g w sound (kind (cells w) v)
+
+branches_then : (g : Setting) (u v : Common) → Later u v → (bs : List (List ℕ × Callee)) → Branches g u bs → Branches g v bs
+branches_then g u v l bs h = all_weaker _ _ (λ b c. record { rule = c.rule; variables = variables_later u.cells v.cells l.cells (b.1).env c.variables }) bs h
+
+branch_then : (g : Setting) (u v : Common) → Later u v → (bs : List Branch) → All (BranchFits g.script u) bs → All (BranchFits g.script v) bs
+branch_then g u v l bs h = all_weaker _ _ (λ b c. record { closure = c.closure; variables = variables_later u.cells v.cells l.cells b.env c.variables; head = node_then u v l b.head c.head }) bs h
+
+-- what branches ended with is there
+abbrev pub OutcomesFit : Common → List BranchEnd → Type 0
+OutcomesFit u ends = All (λ b. OutcomeFits u b.end.outcome) ends
+
+outcome_then : (u v : Common) → Later u v → (o : Outcome) → OutcomeFits u o → OutcomeFits v o
+outcome_then u v l (ValueOutcome x) h = there_then u v l x h
+outcome_then u v l (ThrownOutcome c) h = throwable_later u.cells v.cells l.cells c h
+
+pub outcomes_then : (u v : Common) → Later u v → (ends : List BranchEnd) → OutcomesFit u ends → OutcomesFit v ends
+outcomes_then u v l ends h = all_weaker _ _ (λ b. outcome_then u v l b.end.outcome) ends h
+
+abbrev EndIf : Common → Option BranchEnd → Type 0
+EndIf u None = Unit {0}
+EndIf u (Some b) = OutcomeFits u b.end.outcome
+
+earlier_one : (u : Common) (t : Bool) (b d : BranchEnd) → OutcomeFits u b.end.outcome → OutcomeFits u d.end.outcome → EndIf u (if t then Some b else Some d)
+earlier_one u true b d x y = x
+earlier_one u false b d x y = y
+
+earlier_fits : (u : Common) (b : BranchEnd) (o : Option BranchEnd) → OutcomeFits u b.end.outcome → EndIf u o → EndIf u (earlier b o)
+earlier_fits u b None x y = x
+earlier_fits u b (Some d) x y = earlier_one u (nat_lt b.end.place d.end.place) b d x y
+
+failure_if : (u : Common) (t : Bool) (b : BranchEnd) (rest : Option BranchEnd) → OutcomeFits u b.end.outcome → EndIf u rest → EndIf u (if t then earlier b rest else rest)
+failure_if u true b rest x y = earlier_fits u b rest x y
+failure_if u false b rest x y = y
+
+failure_fits : (u : Common) (ends : List BranchEnd) → OutcomesFit u ends → EndIf u (first_failure ends)
+failure_fits u [] h = tt
+failure_fits u (b ∷ bs) h = failure_if u (is_thrown b.end.outcome) b (first_failure bs) h.0 (failure_fits u bs h.1)
+
+value_there : (u : Common) (o : Outcome) → OutcomeFits u o → There u.cells (outcome_value o)
+value_there u (ValueOutcome v) h = h
+value_there u (ThrownOutcome c) h = tt
+
+values_there : (u : Common) (ends : List BranchEnd) → OutcomesFit u ends → All (λ e. There u.cells e.1) (values_of ends)
+values_there u [] h = tt
+values_there u (b ∷ bs) h = (value_there u b.end.outcome h.0, values_there u bs h.1)
+
+thrown_fits : (u : Common) (o : Outcome) → OutcomeFits u o → EndFits form.Block u (thrown_by o)
+thrown_fits u (ThrownOutcome c) h = h
+thrown_fits u (ValueOutcome v) h = (h, refl)
+
+module _ (g : Setting) (f : NodeForm) (plain : is_declaration f ≡ false) where
+  joined_as_goes : (u : Common) (ends : List BranchEnd) → OutcomesFit u ends → (o : Option BranchEnd) → EndIf u o → Goes g f u (joined_as ends o)
+  joined_as_goes u ends h (Some b) one = ending_goes g f plain u (thrown_by b.end.outcome) (thrown_fits u b.end.outcome one)
+  joined_as_goes u ends h None one = λ s at.
+      let b : Before = record { l = limits s.world; rule = closure_rule g.script; h = cells s.world; given = CellsFit (closure_rule g.script) (cells s.world) × All (λ e. There (cells s.world) e.1) (values_of ends); fit = λ x. x.0 } in
+      answer_goes g f u (limits s.world) There (new_map (limits s.world) (cells s.world) (insert_all same_key [] (values_of ends))) s at (CellsFit (closure_rule g.script) (cells s.world) × All (λ e. There (cells s.world) e.1) (values_of ends))
+      ((at.sound).cells, values_there s.world.shared ends (outcomes_then u s.world.shared at.later ends h))
+      (map_is_there b (new_map (limits s.world) (cells s.world) (insert_all same_key [] (values_of ends))) (new_map_grows b (insert_all same_key [] (values_of ends)) (λ x. all_inserts (There (cells s.world)) [] (values_of ends) tt x.1))) ended (λ v t q l is. (q, (is, plain)))
+
+  -- behind the wait for branches
+  pub joined_goes : (u : Common) (start : ℕ) (ends : List BranchEnd) → OutcomesFit u ends → Goes g f u (joined_branches start (Joined ends))
+  joined_goes u start ends h = end_branches_goes g f u (codes "parallel") start (map (λ b. b.end.node) ends) (joined_as ends (first_failure ends)) (joined_as_goes u ends h (first_failure ends) (failure_fits u ends h))
+
+  -- the end of a branch
+  failed_goes : (u : Common) (start : ℕ) (e : Ending) → EndFits form.Block u e → Goes g f u (branch_failed start e)
+  failed_goes u start (Thrown c) h = λ s at. logging_goes g f u (codes "Failed in branch " ++ branch_name start s.world.shared.nodes) (Ended (Thrown c)) (ending_goes g f plain u (Thrown c) h) s at
+  failed_goes u start (Normal v) h = ending_goes g f plain u (Normal v) h
+  failed_goes u start (Returned v) h = ending_goes g f plain u (Returned v) h
+  failed_goes u start Broke h = ending_goes g f plain u Broke h
+  failed_goes u start Continued h = ending_goes g f plain u Continued h
+  failed_goes u start (Declared b) h = ending_goes g f plain u (Declared b) h
+  failed_goes u start (Answered x) h = ending_goes g f plain u (Answered x) h
+
+  pub branch_end_goes : (u : Common) (start : ℕ) (e : Ending) (s : State) → At g u s → EndFits form.Block s.world.shared e → Holds g f u (after_branch start e s)
+  branch_end_goes u start e s at h = from_here g f u (after_branch start e) s at (end_body_goes g f s.world.shared start (branch_failed start e) (failed_goes s.world.shared start e h))
+
+  no_branches_goes : (u : Common) (start : ℕ) → Goes g f u (no_branches start)
+  no_branches_goes u start = logging_goes g f u (codes "No branches to run") _ (end_block_goes g f u (codes "parallel") start _
+      (operate_goes g f u [] tt (IsIn HasMap) map_there (λ w. new_map (limits w) (cells w) []) (λ w. new_map_grows (before_of g w []) [] (λ x. tt)) ended (end_goes g f u plain)))
+
+module _ (g : Setting) (shaped : Shaped g.script) (k : ℕ) (sh : Shape) (xs : Names) (place : Place g k sh xs) (a : Around) (src : Sources g shaped k sh xs place a) (plain : is_declaration sh.form ≡ false) (env : Env) where
+  fork_goes : calls_step step.Parallel sh.form ≡ true → (u : Common) → EnvFits u.cells xs env → (start : ℕ) → IsFlowNode u.nodes start → (bs : List Branch) → All (BranchFits g.script u) bs → Goes g sh.form u (fork_or_none k env start bs)
+  fork_goes cs u fit start flow [] h = no_branches_goes g sh.form plain u start
+  fork_goes cs u fit start flow (b ∷ bs) h = λ s at. wait_goes g sh.form u (frame kind.ParallelWait k 0 env (whole start ∷ [])) (sits_here g shaped k sh xs place u kind.ParallelWait 0 env (whole start ∷ []) cs (omega arith) (flow, tt) fit)
+      (after_parallel start) (ForBranches (b ∷ bs)) s at (branch_then g u s.world.shared at.later (b ∷ bs) h)
+
+  begin_goes : calls_step step.Parallel sh.form ≡ true → (bs : List (List ℕ × Callee)) (u : Common) → EnvFits u.cells xs env → (start : ℕ) → IsFlowNode u.nodes start → (done : List Branch) → All (BranchFits g.script u) done → Branches g u bs → Goes g sh.form u (begin_branches k env start done bs)
+  begin_goes cs [] u fit start flow done h r = fork_goes cs u fit start flow done h
+  begin_goes cs (b ∷ bs) u fit start flow done h r = λ s at.
+      let m : Moves g (noted_branch b.0) s.world = branch_moves g b.0 s.world at.sound in
+      let at1 : At g u (with_world (noted_branch b.0 s.world) s) = at_moved g u (noted_branch b.0) s at m in
+      let v : Common = (noted_branch b.0 s.world).shared in
+      let c : IsClosure g (noted_branch b.0 s.world).shared b.1 = (branches_then g u (noted_branch b.0 s.world).shared at1.later (b ∷ bs) r).0 in
+      let one : Branch = record { name = b.0; closure = (b.1).node; env = (b.1).env; head = next_node s.world } in
+      guard_here g sh.form u (noted_limit (body_line (branch_label b.0)) s.world) (noted_branch b.0) (begin_branches k env start (done ++ (record { name = b.0; closure = (b.1).node; env = (b.1).env; head = next_node s.world }) ∷ []) bs) s
+      (holds_then g sh.form u (noted_branch b.0 s.world).shared at1.later _ (begin_goes cs bs (noted_branch b.0 s.world).shared (env_later u (noted_branch b.0 s.world).shared at1.later xs env fit) start (node_then u (noted_branch b.0 s.world).shared at1.later start flow)
+      (done ++ (record { name = b.0; closure = (b.1).node; env = (b.1).env; head = next_node s.world }) ∷ [])
+      (all_append (BranchFits g.script (noted_branch b.0 s.world).shared) done ((record { name = b.0; closure = (b.1).node; env = (b.1).env; head = next_node s.world }) ∷ []) (branch_then g u (noted_branch b.0 s.world).shared at1.later done h) (record { closure = c.rule; variables = c.variables; head = new_node s.world.shared.nodes _ }, tt))
+      (branches_then g u (noted_branch b.0 s.world).shared at1.later (b ∷ bs) r).1 (with_world (noted_branch b.0 s.world) s) (at_self g u (with_world (noted_branch b.0 s.world) s) at1)))
+
+  parallel_goes : calls_step step.Parallel sh.form ≡ true → (u : Common) → EnvFits u.cells xs env → (args : Given) → Goes g sh.form u (parallel k env args)
+  parallel_goes cs u fit args = block_goes g sh.form u (codes "parallel") _ (λ s at. from_here g sh.form u (begin_branches k env s.world.own.head [] (branches_given s.world (given (codes "branches") args))) s at
+      (begin_goes cs (branches_given s.world (given (codes "branches") args)) s.world.shared (env_later u s.world.shared at.later xs env fit) s.world.own.head (at.sound).head [] tt (given_are g s.world at.sound (given (codes "branches") args))))
+
+  -- Which step the node calls.
+  abbrev pub CallsIt : Step → Type 0
+  CallsIt step.Println = Unit {0}
+  CallsIt step.Echo = Unit {0}
+  CallsIt step.Error = Unit {0}
+  CallsIt step.MakeUnstable = Unit {0}
+  CallsIt s = calls_step s sh.form ≡ true
+
+  -- a step without a body
+  atom_step_goes : (s : Step) → CallsIt s → (u : Common) → EnvFits u.cells xs env → (w : World) (args : Given) → Goes g sh.form u (atom_step k env w args s)
+  atom_step_goes step.Println cs u fit w args = logging_goes g sh.form u (text_or_empty w (codes "value") args) (ended Null) (null_goes g sh.form u plain)
+  atom_step_goes step.Echo cs u fit w args = atom_goes g sh.form u (codes "echo") _ (logging_goes g sh.form u (text_or_empty w (codes "message") args) (ended Null) (null_goes g sh.form u plain))
+  atom_step_goes step.Error cs u fit w args = atom_goes g sh.form u (codes "error") _ (throwing_goes g sh.form u Abort (text_or_empty w (codes "message") args))
+  atom_step_goes step.MakeUnstable cs u fit w args = atom_goes g sh.form u (codes "unstable") _ (logging_goes g sh.form u (codes "WARNING: " ++ text_or_empty w (codes "message") args) (changed (worsened Unstable) (ended Null)) (aside_goes g sh.form u (worsened Unstable) (λ w. refl) (λ w. refl) (λ w. refl) (λ w. refl) (ended Null) (null_goes g sh.form u plain)))
+  atom_step_goes step.Sh cs u fit w args = atom_goes g sh.form u (codes "sh") (seeing (λ v. sh_in k env (text_or_empty w (codes "script") args) (is_true (cells w) (given (codes "returnStatus") args)) (is_true (cells w) (given (codes "returnStdout") args)) v (place_of v)))
+      (λ s at. sh_in_goes g shaped k sh xs place a src plain env cs u fit (text_or_empty w (codes "script") args) (is_true (cells w) (given (codes "returnStatus") args)) (is_true (cells w) (given (codes "returnStdout") args)) s at (place_of s.world))
+  atom_step_goes step.Input cs u fit w args = atom_goes g sh.form u (codes "input") _ (logging_goes g sh.form u (text_or_empty w (codes "message") args) _ (logging_goes g sh.form u (unwrap_or (text_given w (codes "ok") args) (codes "Proceed") ++ codes " or Abort") _
+      (λ s at. input_asks_goes g shaped k sh xs place a src plain env cs u fit (text_given w (codes "id") args) s at)))
+  atom_step_goes step.Parallel cs u fit w args = parallel_goes cs u fit args
+  atom_step_goes s cs u fit w args = null_goes g sh.form u plain
+
+  -- a step with a body
+  block_step_goes : (s : Step) → CallsIt s → (u : Common) → EnvFits u.cells xs env → (w : World) (args : Given) (f : Value) → u ≡ w.shared → GivenThere u.cells args → IsIn HasClosure u.cells f → Goes g sh.form u (block_step a k env w args f s)
+  block_step_goes step.Stage cs u fit w args f e there is = stage_goes g shaped k sh xs place a src plain env cs u fit (text_or_empty w (codes "name") args) f
+  block_step_goes step.CatchError cs u fit w args f e there is = catch_error_goes g shaped k sh xs place a src plain env cs u fit (given (codes "message") args) (given_there u.cells (codes "message") args there) _ f
+  block_step_goes step.Retry cs u fit w args f e there is = retry_goes g shaped k sh xs place a src plain env cs u fit (tries_given (cells w) (given (codes "count") args)) f (closure_there u.cells f is)
+  block_step_goes step.Node cs u fit w args f e there is = node_goes g shaped k sh xs place a src plain env cs u fit _ f is
+  block_step_goes step.Dir cs u fit w args f e there is = block_goes g sh.form u (codes "dir") _ (λ s at. dir_in_goes g shaped k sh xs place a src plain env cs u fit (text_or_empty w (codes "path") args) f s at (place_of s.world))
+  block_step_goes step.WithEnv cs u fit w args f e there is = with_env_goes g shaped k sh xs place a src plain env cs u fit (overrides_of (cells w) (given (codes "overrides") args)) f
+  block_step_goes s cs u fit w args f e there is = null_goes g sh.form u plain
+
+  bound_goes : (s : Step) → CallsIt s → (w : World) → EnvFits w.shared.cells xs env → (b : Bound) → BoundThere w.shared.cells b → Goes g sh.form w.shared (bound_step a k env s w b)
+  bound_goes s cs w fit (Binds args None) there = atom_step_goes s cs w.shared fit w args
+  bound_goes s cs w fit (Binds args (Some f)) there = block_step_goes s cs w.shared fit w args f refl there.0 there.1
+  bound_goes s cs w fit (Refuses message) there = throwing_goes g sh.form w.shared IllegalArgument message
+  bound_goes s cs w fit (Stops_at limit) there = λ t at. tt
+
+  -- a step whose arguments have been evaluated
+  pub begin_step_goes : (s : Step) → CallsIt s → (u : Common) → EnvFits u.cells xs env → (args : List Value) → All (There u.cells) args → Goes g sh.form u (begin_step a k env s args)
+  begin_step_goes s cs u fit args there t at = from_here g sh.form u (bound_step a k env s t.world (bind_step t.world s args)) t at
+      (bound_goes s cs t.world (env_later u t.world.shared at.later xs env fit) (bind_step t.world s args) (bound_there (closure_rule g.script) t.world s (at.sound).cells args (all_there_then u t.world.shared at.later args there)))

@@ -1,0 +1,111 @@
+-- An evaluation that begins in a sound state goes to a later one, ends with what is there, and waits inside frames that fit
+-- (this product's own).
+use Rattle.std.specs.Prelude.{◌≡◌, ◌<◌, ℕ, zero, suc, Bool, true, false, List, [], ◌∷◌, length, Option, Some, None, slice_get, pos}
+use Rattle.std.specs.List.{AllByRecursion as All}
+use Rattle.model_syntax.specs.declared.node.NodeForm.{NodeForm}
+use Rattle.model_syntax.specs.declared.node.NodeForm.TheVariants as form
+use Rattle.model_values.specs.Fitting.{There, HasVariable, HasText, HasClosure, HasThrowable, CellsFit}
+use Rattle.model_values.specs.declared.value.Value.{Value}
+use Rattle.model_values.specs.declared.value.Value.TheVariants.{Null, Bool as Truth, Int as Whole, Cell as InCell}
+use Rattle.model_run.specs.declared.ending.Ending.{Ending}
+use Rattle.model_run.specs.declared.ending.Ending.TheVariants.{Normal, Thrown, Returned, Broke, Continued, Declared, Answered}
+use Rattle.model_run.specs.declared.ending.Branch.{Branch}
+use Rattle.model_run.specs.declared.ending.Asked.{Asked}
+use Rattle.model_run.specs.declared.ending.Asked.TheVariants.{ForRequest, ForBranches}
+use Rattle.model_run.specs.declared.frame.Frame.{Frame}
+use Rattle.model_run.specs.Terms.{Term, nodes_of}
+use Rattle.model_run.specs.State.{Setting, Common, World, State, Env, Result, Ended, Waits, Limited, Unfinished}
+use Rattle.model_run.specs.Around.{Shape, form_at, arity}
+use Rattle.model_run.specs.FrameTable.{Sort, Any, Up_to, Flag, Flow_node, A_closure, A_throwable, Text_or_null, is_block, is_target_form, is_declaration, is_closure_form, same_form}
+use Rattle.model_run.specs.Nesting.{Sorts, FrameFits, shape_at}
+use Rattle.model_run.specs.Scoping.{Names, names_at, names_for}
+use Rattle.model_run.specs.Fitting.{EnvFits, closure_rule, IsFlowNode, Later}
+
+-- The nodes of a script stand as those of a tree do, as far as names depend on it.
+abbrev pub may_declare : NodeForm → ℕ → Bool
+may_declare form.ForSteps zero = true
+may_declare form.ForSteps (suc i) = false
+may_declare f i = is_block f
+
+abbrev pub is_target : NodeForm → Bool
+is_target (form.ToName x) = true
+is_target (form.ToProperty p) = true
+is_target form.ToIndex = true
+is_target f = false
+
+abbrev pub is_operand : NodeForm → Bool
+is_operand (form.Operand o) = true
+is_operand f = false
+
+-- declarations stand in rows of statements and first in the head of a `for` alone; a target is one; and behind the first operand
+-- stand operands
+pub record Shaped (root : Term) : Type 0 where
+  pub declares : (k i : ℕ) → is_declaration (form_at (shape_at root k).parts i) ≡ true → may_declare (shape_at root k).form i ≡ true
+  pub targets : (k : ℕ) → is_target_form (shape_at root k).form ≡ true → is_target (form_at (shape_at root k).parts 0) ≡ true
+  pub operands : (k i : ℕ) → same_form form.Joined (shape_at root k).form ≡ true → suc i < arity (shape_at root k) → is_operand (form_at (shape_at root k).parts (suc i)) ≡ true
+
+-- What a value of each sort is in a state; numbers of any size.
+abbrev pub seen : Common → Sorts
+seen u Any v = There u.cells v
+seen u (Up_to n) (Whole (pos m)) = Unit {0}
+seen u Flag (Truth b) = Unit {0}
+seen u Flow_node (Whole (pos n)) = IsFlowNode u.nodes n
+seen u A_closure (InCell c) = HasClosure (slice_get u.cells c)
+seen u A_throwable (InCell c) = HasThrowable (slice_get u.cells c)
+seen u Text_or_null Null = Unit {0}
+seen u Text_or_null (InCell c) = HasText (slice_get u.cells c)
+seen u s v = ⊥
+
+-- A frame that fits, with its variables.
+pub record Sits (root : Term) (u : Common) (f : Frame) : Type 0 where
+  pub fits : FrameFits (seen u) root f
+  pub names : EnvFits u.cells (names_for root f) f.env
+
+-- A branch begins with a closure of the script, behind a flow node.
+pub record BranchFits (root : Term) (u : Common) (b : Branch) : Type 0 where
+  pub closure : closure_rule root b.closure b.env
+  pub variables : All (λ x. HasVariable (slice_get u.cells x.cell)) b.env
+  pub head : IsFlowNode u.nodes b.head
+
+abbrev pub AskedFits : Term → Common → Asked → Type 0
+AskedFits root u (ForRequest r) = Unit {0}
+AskedFits root u (ForBranches bs) = All (BranchFits root u) bs
+
+-- A node of this form ends with what is there; a declaration alone declares, and under its name.
+abbrev pub declares_as : NodeForm → List ℕ → Type 0
+declares_as (form.Declare x) y = x ≡ y
+declares_as f y = ⊥
+
+abbrev pub EndFits : NodeForm → Common → Ending → Type 0
+EndFits f u (Normal v) = There u.cells v × (is_declaration f ≡ false)
+EndFits f u (Thrown c) = HasThrowable (slice_get u.cells c)
+EndFits f u (Returned v) = There u.cells v
+EndFits f u Broke = Unit {0}
+EndFits f u Continued = Unit {0}
+EndFits f u (Declared b) = declares_as f b.name × HasVariable (slice_get u.cells b.cell)
+EndFits f u (Answered x) = ⊥
+
+module _ (g : Setting) where
+  -- A sound world, as far as an evaluation depends on it: cells and binding variables name what is there, and so does the thread its
+  -- last flow node.
+  pub record Sound (w : World) : Type 0 where
+    pub setting : w.setting ≡ g
+    pub cells : CellsFit (closure_rule g.script) w.shared.cells
+    pub binding : All (λ b. HasVariable (slice_get w.shared.cells b.cell)) w.shared.binding
+    pub head : IsFlowNode w.shared.nodes w.own.head
+
+  -- a sound state, later than u, in which no answer is still to come
+  pub record At (u : Common) (s : State) : Type 0 where
+    pub later : Later u s.world.shared
+    pub sound : Sound s.world
+    pub alone : s.replies ≡ []
+
+  -- what a node of form f comes to that begins behind u
+  abbrev pub Holds : NodeForm → Common → Result → Type 0
+  Holds f u (Ended e s) = At u s × EndFits f s.world.shared e
+  Holds f u (Waits asked path s) = At u s × AskedFits g.script s.world.shared asked × All (Sits g.script s.world.shared) path
+  Holds f u (Limited k s) = Unit {0}
+  Holds f u Unfinished = Unit {0}
+
+  abbrev pub Goes : NodeForm → Common → (State → Result) → Type 0
+  Goes f u go = (s : State) → At u s → Holds f u (go s)

@@ -1,0 +1,5 @@
+//! Laws of evaluation and of worlds that the interpreter, the check of images and the build stand on: an evaluation that begins
+//! in a sound state goes to a later sound state, ends with what is there, and waits inside frames that fit.
+//!
+//! The crate has no code. `specs/` says what is proved, `proofs/` proves it over the definitions of `model_run`.
+#![tactic(auto)]
