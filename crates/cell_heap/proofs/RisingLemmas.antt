@@ -59,10 +59,10 @@ not_below x xs y ys a e lt =
 same_heads : (x : ℕ) (xs : List ℕ) (y : ℕ) (ys : List ℕ) → Rises (x ∷ xs) → Rises (y ∷ ys) → ((v : ℕ) → sum_by (is_one v) (x ∷ xs) ≡ sum_by (is_one v) (y ∷ ys)) → x ≡ y
 same_heads x xs y ys h k e =
     elim (cases_lt x y) [
-      inl lt ↦ absurd (not_below x xs y ys (rises-head y ys k) (e x) lt)
-    | inr ge ↦ elim (cases_lt y x) [
-        inl lt ↦ absurd (not_below y ys x xs (rises-head x xs h) (sym (e y)) lt)
-      | inr le ↦ omega (arith, ge, le)
+      | inl lt ↦ absurd (not_below x xs y ys (rises-head y ys k) (e x) lt)
+      | inr ge ↦ elim (cases_lt y x) [
+        | inl lt ↦ absurd (not_below y ys x xs (rises-head x xs h) (sym (e y)) lt)
+        | inr le ↦ omega (arith, ge, le)
       ]
     ]
 

@@ -35,7 +35,7 @@ AreSound-set h i c all new = subst (λ (n : ℕ). All (IsSoundIn n) (set h i c))
 pub AreSound-push : (h : List Cell) (c : Cell) → AreSound h → IsSoundIn (length h) c → AreSound (h ++ c ∷ [])
 AreSound-push h c all new =
     let more : (d : Cell) → IsSoundIn (length h) d → IsSoundIn (length h + 1) d
-        = λ d s. record { below = CellBelow-more (length h) (length h + 1) d (omega arith) s.below; small = s.small } in
+    = λ d s. record { below = CellBelow-more (length h) (length h + 1) d (omega arith) s.below; small = s.small } in
     subst (λ (n : ℕ). All (IsSoundIn n) (h ++ c ∷ [])) (sym (length_push h c))
     (All-push (IsSoundIn (length h + 1)) h c (All-weaker (IsSoundIn (length h)) (IsSoundIn (length h + 1)) more h all) (more c new))
 

@@ -57,7 +57,10 @@ fn maps_take_and_give_back_entries(rt: HostRuntime) -> Result<(), Fail> {
     let mut heap = Heap::new(rt.alloc());
     heap.new_cell(Cell::Map(Entries::new(rt.alloc())))?;
     assert_eq!(rt; heap.map_put(0, Key::Int(3), Value::Null), Ok(None));
-    assert_eq!(rt; heap.map_put(0, Key::Int(3), Value::Int(1)), Ok(Some(Value::Null)));
+    assert_eq!(rt;
+        heap.map_put(0, Key::Int(3), Value::Int(1)),
+        Ok(Some(Value::Null))
+    );
     assert_eq!(rt; heap.bytes(), 48);
     assert_eq!(rt; heap.map_remove(0, &Key::Int(3)), Some(Value::Int(1)));
     assert_eq!(rt; heap.map_remove(0, &Key::Int(3)), None);

@@ -1,7 +1,7 @@
 -- The arguments that a step is bound to are there, and its body is a closure.
 use Rattle.std.proofs.Common.{◌≡◌, refl, sym, ap, subst, ℕ, Bool, true, false, List, [], ◌∷◌, ◌++◌, Option, Some, None}
 use Rattle.std.specs.Prelude.{slice_get, map, if◌then◌else◌, option_and_then}
-use Rattle.std.specs.List.{AllByRecursion as All}
+use Rattle.std.specs.List.{AllByRecursion as AllAre}
 use Rattle.std.specs.Map.{lookup}
 use Rattle.model_values.specs.Kinds.{Kind, null, flag, number, text, items, pairs, closure, thrown, cell_kind, kind}
 use Rattle.model_values.specs.TextOf.{key_text}
@@ -22,7 +22,7 @@ use Rattle.model_run.specs.StepTable.{is_closure, Given, given, Bound, Binds, Re
 
 -- what is given is there
 abbrev pub GivenThere : List Cell → Given → Type 0
-GivenThere h args = All (λ p. There h p.1) args
+GivenThere h args = AllAre (λ p. There h p.1) args
 
 abbrev pub BodyThere : List Cell → Option Value → Type 0
 BodyThere h None = Unit {0}
@@ -78,7 +78,7 @@ module _ (w : World) (s : Step) (args : Given) (there : GivenThere (cells w) arg
   known_there body is (Some name) = tt
   known_there body is None = fit_there body is (all_fit w (parameters s) args)
 
-map_there : (h : List Cell) (es : List (Key × Value)) → All (λ e. There h e.1) es → GivenThere h (map (λ e. (key_text e.0, e.1)) es)
+map_there : (h : List Cell) (es : List (Key × Value)) → AllAre (λ e. There h e.1) es → GivenThere h (map (λ e. (key_text e.0, e.1)) es)
 map_there h [] a = tt
 map_there h (e ∷ es) a = (a.0, map_there h es a.1)
 
@@ -86,24 +86,24 @@ named_there : (rule : ℕ → List Binding → Type 0) (h : List Cell) (s : Step
 named_there rule h s v fit is false (pairs c es) e = map_there h es (all_get (CellFits rule h) h c (MapCell es) e fit)
 named_there rule h s v fit is b k e = (is, tt)
 
-rest_there : (rule : ℕ → List Binding → Type 0) (w : World) (s : Step) → CellsFit rule (cells w) → (vs : List Value) (body : Option Value) → All (There (cells w)) vs → BodyThere (cells w) body → BoundThere (cells w) (bind_rest w s vs body)
+rest_there : (rule : ℕ → List Binding → Type 0) (w : World) (s : Step) → CellsFit rule (cells w) → (vs : List Value) (body : Option Value) → AllAre (There (cells w)) vs → BodyThere (cells w) body → BoundThere (cells w) (bind_rest w s vs body)
 rest_there rule w s fit [] body a is = known_there w s [] tt body is (unknown (parameters s) [])
 rest_there rule w s fit (v ∷ []) body a is = known_there w s (named_or_main s v (takes_map s) (kind (cells w) v)) (named_there rule (cells w) s v fit a.0 (takes_map s) (kind (cells w) v) (kind_fits (cells w) v)) body is (unknown (parameters s) (named_or_main s v (takes_map s) (kind (cells w) v)))
 rest_there rule w s fit (v ∷ u ∷ vs) body a is = tt
 
 abbrev SplitThere : List Cell → List Value × Option Value → Type 0
-SplitThere h p = All (There h) p.0 × BodyThere h p.1
+SplitThere h p = AllAre (There h) p.0 × BodyThere h p.1
 
 last_there : (h : List Cell) (v : Value) → There h v → (b : Bool) → is_closure (kind h v) ≡ b → SplitThere h (if b then ([], Some v) else (v ∷ [], None))
 last_there h v t true e = (tt, closure_is h v e)
 last_there h v t false e = ((t, tt), tt)
 
-split_there : (h : List Cell) (vs : List Value) → All (There h) vs → SplitThere h (split_last h vs)
+split_there : (h : List Cell) (vs : List Value) → AllAre (There h) vs → SplitThere h (split_last h vs)
 split_there h [] a = (tt, tt)
 split_there h (v ∷ []) a = last_there h v a.0 (is_closure (kind h v)) refl
 split_there h (v ∷ u ∷ vs) a = ((a.0, (split_there h (u ∷ vs) a.1).0), (split_there h (u ∷ vs) a.1).1)
 
-pub bound_there : (rule : ℕ → List Binding → Type 0) (w : World) (s : Step) → CellsFit rule (cells w) → (args : List Value) → All (There (cells w)) args → BoundThere (cells w) (bind_step w s args)
+pub bound_there : (rule : ℕ → List Binding → Type 0) (w : World) (s : Step) → CellsFit rule (cells w) → (args : List Value) → AllAre (There (cells w)) args → BoundThere (cells w) (bind_step w s args)
 bound_there rule w s fit args a = rest_there rule w s fit (split_last (cells w) args).0 (split_last (cells w) args).1 (split_there (cells w) args a).0 (split_there (cells w) args a).1
 
 -- an argument that is given

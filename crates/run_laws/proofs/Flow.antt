@@ -1,7 +1,7 @@
 -- What the combinators of evaluation keep: sound states, later and later, and frames that fit.
 use Rattle.std.proofs.Common.{arith, ◌≡◌, ◌≤◌, ◌<◌, ◌+◌, refl, sym, ap, subst, ◌∙◌, ℕ, zero, suc, Bool, true, false, List, [], ◌∷◌, length, Option, Some, None}
 use Rattle.std.specs.Prelude.{pos, slice_get}
-use Rattle.std.specs.List.{AllByRecursion as All}
+use Rattle.std.specs.List.{AllByRecursion as AllAre}
 use Rattle.model_syntax.specs.declared.node.NodeForm.{NodeForm}
 use Rattle.model_syntax.specs.declared.node.NodeForm.TheVariants as form
 use Rattle.model_values.specs.Cells.{Answer, Gives, Throws, Meets}
@@ -39,7 +39,7 @@ module _ (u v : Common) (later : Later u v) where
   pub there_then : (x : Value) → There u.cells x → There v.cells x
   there_then = there_later u.cells v.cells later.cells
 
-  pub all_there_then : (xs : List Value) → All (There u.cells) xs → All (There v.cells) xs
+  pub all_there_then : (xs : List Value) → AllAre (There u.cells) xs → AllAre (There v.cells) xs
   all_there_then xs h = all_weaker _ _ there_then xs h
 
   pub node_then : (n : ℕ) → IsFlowNode u.nodes n → IsFlowNode v.nodes n
@@ -110,7 +110,7 @@ module _ (g : Setting) where
   pub record Moves (h : World → World) (w : World) : Type 0 where
     pub later : Later w.shared (h w).shared
     pub cells : CellsFit (closure_rule g.script) (h w).shared.cells
-    pub binding : All (λ b. HasVariable (slice_get (h w).shared.cells b.cell)) (h w).shared.binding
+    pub binding : AllAre (λ b. HasVariable (slice_get (h w).shared.cells b.cell)) (h w).shared.binding
     pub head : IsFlowNode (h w).shared.nodes (h w).own.head
 
   pub at_moved : (u : Common) (h : World → World) (s : State) → At g u s → Moves h s.world → At g u (with_world (h s.world) s)
@@ -125,7 +125,7 @@ module _ (g : Setting) where
   moves_aside h w sound c b n o = record {
     later = record { cells = subst (CellsLater w.shared.cells) (sym c) (later_itself w.shared.cells); nodes = omega (arith, ap length n) };
     cells = subst (CellsFit (closure_rule g.script)) (sym c) sound.cells;
-    binding = subst (λ cs. All (λ x. HasVariable (slice_get cs x.cell)) (h w).shared.binding) (sym c) (subst (λ bs. All (λ x. HasVariable (slice_get w.shared.cells x.cell)) bs) (sym b) sound.binding);
+    binding = subst (λ cs. AllAre (λ x. HasVariable (slice_get cs x.cell)) (h w).shared.binding) (sym c) (subst (λ bs. AllAre (λ x. HasVariable (slice_get w.shared.cells x.cell)) bs) (sym b) sound.binding);
     head = subst (λ ns. IsFlowNode ns (h w).own.head) (sym n) (subst (IsFlowNode w.shared.nodes) (sym o) sound.head);
   }
 

@@ -1,7 +1,7 @@
 -- Assignments, and `++` and `--`: sound from a sound state on.
 use Rattle.std.proofs.Common.{arith, ◌≡◌, ◌≤◌, ◌<◌, ◌+◌, ◌-◌, refl, sym, ap, subst, ◌∙◌, ℕ, zero, suc, Bool, true, false, List, [], ◌∷◌, ◌++◌, length, length-append, Option, Some, None}
 use Rattle.std.specs.Prelude.{slice_get, nat_eq, nat_lt, ◌&&◌, if◌then◌else◌}
-use Rattle.std.specs.List.{AllByRecursion as All}
+use Rattle.std.specs.List.{AllByRecursion as AllAre}
 use Rattle.std.specs.Ordering.{is_lt, nat_cmp}
 use Rattle.std.specs.Cmp.Lexicographic.{slice_cmp}
 use Rattle.std.proofs.lemmas.Bool.{eqb-true}
@@ -59,7 +59,7 @@ abbrev FoundVariable : List Cell → Option ℕ → Type 0
 FoundVariable h None = Unit {0}
 FoundVariable h (Some c) = HasVariable (slice_get h c)
 
-look_found : (h : List Cell) (x : List ℕ) (env : Env) → All (λ b. HasVariable (slice_get h b.cell)) env → FoundVariable h (look x env)
+look_found : (h : List Cell) (x : List ℕ) (env : Env) → AllAre (λ b. HasVariable (slice_get h b.cell)) env → FoundVariable h (look x env)
 look_found h x [] all = tt
 look_found h x (b ∷ bs) all = one (same_text b.name x) (look_found h x bs all.1)
   where
@@ -74,11 +74,11 @@ first_found h None p a b = b
 pub meant_found : (g : Setting) (x : List ℕ) (ys : Names) (env : Env) (w : World) → Sound g w → EnvFits w.shared.cells ys env → FoundVariable w.shared.cells (meant x env w)
 meant_found g x ys env w sound fit = first_found w.shared.cells _ _ (look_found w.shared.cells x env fit.variables) (look_found w.shared.cells x w.shared.binding sound.binding)
 
-binding_with : (h : List Cell) (x : List ℕ) (c : ℕ) (bs : List Binding) → HasVariable (slice_get h c) → All (λ b. HasVariable (slice_get h b.cell)) bs → All (λ b. HasVariable (slice_get h b.cell)) (with_binding x c bs)
+binding_with : (h : List Cell) (x : List ℕ) (c : ℕ) (bs : List Binding) → HasVariable (slice_get h c) → AllAre (λ b. HasVariable (slice_get h b.cell)) bs → AllAre (λ b. HasVariable (slice_get h b.cell)) (with_binding x c bs)
 binding_with h x c [] has all = (has, tt)
 binding_with h x c (b ∷ bs) has all = one (is_lt (slice_cmp nat_cmp x b.name)) (binding_with h x c bs has all.1)
   where
-    one : (t : Bool) → All (λ b. HasVariable (slice_get h b.cell)) (with_binding x c bs) → All (λ b. HasVariable (slice_get h b.cell)) (if t then record { name = x; cell = c } ∷ b ∷ bs else b ∷ with_binding x c bs)
+    one : (t : Bool) → AllAre (λ b. HasVariable (slice_get h b.cell)) (with_binding x c bs) → AllAre (λ b. HasVariable (slice_get h b.cell)) (if t then record { name = x; cell = c } ∷ b ∷ bs else b ∷ with_binding x c bs)
     one true more = (has, all)
     one false more = (all.0, more)
 
@@ -116,7 +116,7 @@ module _ (g : Setting) where
   write_goes f u x env v there go k' s at = write_cell_goes f u x v there go k' (meant x env s.world) s at
 
   -- an operation on values that are there gives what is there
-  pub operate_goes : (f : NodeForm) (u : Common) (vs : List Value) → All (There u.cells) vs → (sort : List Cell → Value → Type 0) → ((h : List Cell) (v : Value) → sort h v → There h v) → (op : World → Answer)
+  pub operate_goes : (f : NodeForm) (u : Common) (vs : List Value) → AllAre (There u.cells) vs → (sort : List Cell → Value → Type 0) → ((h : List Cell) (v : Value) → sort h v → There h v) → (op : World → Answer)
       → ((w : World) → AnswerGrows (limits w) (closure_rule g.script) (cells w) (Given (closure_rule g.script) (cells w) vs) sort (op w)) → (go : Value → State → Result) → GoesWith g f u go → Goes g f u (operating op go)
   operate_goes f u vs there sort wide op grows go k' s at =
       answer_goes g f u (limits s.world) sort (op s.world) s at (Given (closure_rule g.script) (cells s.world) vs) ((at.sound).cells, all_there_then u s.world.shared at.later vs there) (grows s.world) go
@@ -130,7 +130,7 @@ module _ (g : Setting) where
   number_is h v t = absurd t
 
   -- a target is read, and is written
-  module _ (f : NodeForm) (plain : is_declaration f ≡ false) (u : Common) (ys : Names) (env : Env) (fit : EnvFits u.cells ys env) (place : List Value) (there : All (There u.cells) place) where
+  module _ (f : NodeForm) (plain : is_declaration f ≡ false) (u : Common) (ys : Names) (env : Env) (fit : EnvFits u.cells ys env) (place : List Value) (there : AllAre (There u.cells) place) where
     at_place : (i : ℕ) → There u.cells (value_at i place)
     at_place i = all_index (There u.cells) place i Null there tt
 
@@ -148,7 +148,7 @@ module _ (g : Setting) where
     write_counted_goes (form.ToName x) v is = write_target_goes (form.ToName x) v is
     write_counted_goes t v is = tick_goes g f u _ (write_target_goes t v is)
 
-  module _ (f : NodeForm) (plain : is_declaration f ≡ false) (u : Common) (ys : Names) (env : Env) (fit : EnvFits u.cells ys env) (place : List Value) (there : All (There u.cells) place) where
+  module _ (f : NodeForm) (plain : is_declaration f ≡ false) (u : Common) (ys : Names) (env : Env) (fit : EnvFits u.cells ys env) (place : List Value) (there : AllAre (There u.cells) place) where
     write_with : (t : NodeForm) → GoesWith g f u (write_target t place env)
     write_with t v s at is = from_here g f u (write_target t place env v) s at (write_target_goes f plain s.world.shared ys env (env_later u s.world.shared at.later ys env fit) place (all_there_then u s.world.shared at.later place there) t v is)
 
@@ -166,7 +166,7 @@ module _ (g : Setting) where
         write_behind s at t v s1 at1 is1 = from_here g f s.world.shared (write_target t place env v) s1 at1
             (write_target_goes f plain s1.world.shared ys env (env_later s.world.shared s1.world.shared at1.later ys env (env_later u s.world.shared at.later ys env fit)) place (all_there_then s.world.shared s1.world.shared at1.later place (all_there_then u s.world.shared at.later place there)) t v is1)
 
-  pub assigned_goes : (f : NodeForm) → is_declaration f ≡ false → (sh : Shape) (u : Common) (ys : Names) (env : Env) → EnvFits u.cells ys env → (kept : List Value) → All (There u.cells) kept → (e : Ending) (s : State) → At g u s → EndFits form.Block s.world.shared e → Holds g f u (after_assigned sh kept env e s)
+  pub assigned_goes : (f : NodeForm) → is_declaration f ≡ false → (sh : Shape) (u : Common) (ys : Names) (env : Env) → EnvFits u.cells ys env → (kept : List Value) → AllAre (There u.cells) kept → (e : Ending) (s : State) → At g u s → EndFits form.Block s.world.shared e → Holds g f u (after_assigned sh kept env e s)
   assigned_goes f plain sh u ys env fit kept there = value_goes g f u _ (λ v s at is. from_here g f u (assign_by (operator_in sh.form) (form_at sh.parts 0) kept env v) s at
       (assign_by_goes f plain s.world.shared ys env (env_later u s.world.shared at.later ys env fit) kept (all_there_then u s.world.shared at.later kept there) (operator_in sh.form) (form_at sh.parts 0) v is))
 
@@ -189,13 +189,13 @@ target_within form.Decrement e i xs = refl
 target_within f e i xs = absurd (cc)
 
 -- values that are there are of any sort
-pub any_seen : (u : Common) (n : ℕ) (vs : List Value) → length vs ≡ n → All (There u.cells) vs → ValuesFit (seen u) No_more (any_values n) vs
+pub any_seen : (u : Common) (n : ℕ) (vs : List Value) → length vs ≡ n → AllAre (There u.cells) vs → ValuesFit (seen u) No_more (any_values n) vs
 any_seen u zero [] e h = tt
 any_seen u zero (v ∷ vs) e h = absurd (omega (arith, e))
 any_seen u (suc n) [] e h = absurd (omega (arith, e))
 any_seen u (suc n) (v ∷ vs) e h = (h.0, any_seen u n vs (omega (arith, e)) h.1)
 
-pub any_there : (u : Common) (n : ℕ) (vs : List Value) → ValuesFit (seen u) No_more (any_values n) vs → All (There u.cells) vs
+pub any_there : (u : Common) (n : ℕ) (vs : List Value) → ValuesFit (seen u) No_more (any_values n) vs → AllAre (There u.cells) vs
 any_there u zero [] h = tt
 any_there u zero (v ∷ vs) h = absurd h
 any_there u (suc n) [] h = absurd h
@@ -214,18 +214,18 @@ module _ (g : Setting) (shaped : Shaped g.script) (k : ℕ) (sh : Shape) (xs : N
   abbrev target : NodeForm
   target = form_at sh.parts 0
 
-  assign_value_goes : is_assignment sh.form ≡ true → (u : Common) (env : Env) → EnvFits u.cells xs env → (kept : List Value) → length kept ≡ place_size (form_at sh.parts 0) + operator_count (operator_in sh.form) → All (There u.cells) kept → Goes g sh.form u (assign_value a k sh env kept)
+  assign_value_goes : is_assignment sh.form ≡ true → (u : Common) (env : Env) → EnvFits u.cells xs env → (kept : List Value) → length kept ≡ place_size (form_at sh.parts 0) + operator_count (operator_in sh.form) → AllAre (There u.cells) kept → Goes g sh.form u (assign_value a k sh env kept)
   assign_value_goes asg u env fit kept count there s at =
       through_goes g sh.form form.Block u (frame kind.AssignValue k 0 env kept) (sits_here g shaped k sh xs place u kind.AssignValue 0 env kept asg (omega arith) (any_seen u _ kept count there) fit) (after_assigned sh kept env)
       (assigned_goes g sh.form plain sh u xs env fit kept there) (a.part First 1 env s) (part_goes g shaped k sh xs place a src quiet u env fit 1 (within 1) s at)
 
-  assign_at_goes : is_assignment sh.form ≡ true → (o : Option Op) → operator_in sh.form ≡ o → (u : Common) (env : Env) → EnvFits u.cells xs env → (kept : List Value) → length kept ≡ place_size (form_at sh.parts 0) → All (There u.cells) kept → Goes g sh.form u (assign_at a k sh env kept o)
+  assign_at_goes : is_assignment sh.form ≡ true → (o : Option Op) → operator_in sh.form ≡ o → (u : Common) (env : Env) → EnvFits u.cells xs env → (kept : List Value) → length kept ≡ place_size (form_at sh.parts 0) → AllAre (There u.cells) kept → Goes g sh.form u (assign_at a k sh env kept o)
   assign_at_goes asg None e u env fit kept count there = assign_value_goes asg u env fit kept (omega (arith, count, ap operator_count e)) there
   assign_at_goes asg (Some op) e u env fit kept count there = read_target_goes g sh.form plain u xs env fit kept there (form_at sh.parts 0) _ (λ old s at is.
       from_here g sh.form u (assign_value a k sh env (kept ++ old ∷ [])) s at (assign_value_goes asg s.world.shared env (env_later u s.world.shared at.later xs env fit) (kept ++ old ∷ []) (omega (arith, count, ap operator_count e, length-append kept (old ∷ [])))
       (all_append (There s.world.shared.cells) kept (old ∷ []) (all_there_then u s.world.shared at.later kept there) (is, tt))))
 
-  pub at_target_goes : (f : NodeForm) → sh.form ≡ f → (u : Common) (env : Env) → EnvFits u.cells xs env → (kept : List Value) → length kept ≡ place_size (form_at sh.parts 0) → All (There u.cells) kept → Goes g sh.form u (at_target a k sh env kept f)
+  pub at_target_goes : (f : NodeForm) → sh.form ≡ f → (u : Common) (env : Env) → EnvFits u.cells xs env → (kept : List Value) → length kept ≡ place_size (form_at sh.parts 0) → AllAre (There u.cells) kept → Goes g sh.form u (at_target a k sh env kept f)
   at_target_goes (form.Assign sign) is u env fit kept count there = assign_at_goes (ap is_assignment is) (sign_operator sign) (ap operator_in is) u env fit kept count there
   at_target_goes form.Increment is u env fit kept count there = step_by_goes g sh.form plain u xs env fit kept there (λ w v. incremented (limits w) (cells w) v) (λ w v. increments (limits w) (closure_rule g.script) (cells w) v) (form_at sh.parts 0)
   at_target_goes f is u env fit kept count there = step_by_goes g sh.form plain u xs env fit kept there (λ w v. decremented (limits w) (cells w) v) (λ w v. decrements (limits w) (closure_rule g.script) (cells w) v) (form_at sh.parts 0)

@@ -1,7 +1,7 @@
 -- The step `parallel`, the ends of branches, and each step as it begins: sound from a sound state on.
 use Rattle.std.proofs.Common.{arith, ◌≡◌, ◌≤◌, ◌<◌, ◌+◌, ◌-◌, refl, sym, ap, subst, ◌∙◌, ℕ, zero, suc, Bool, true, false, List, [], ◌∷◌, ◌++◌, length, length-append, Option, Some, None}
 use Rattle.std.specs.Prelude.{slice_get, codes, map, nat_lt, unwrap_or, if◌then◌else◌}
-use Rattle.std.specs.List.{AllByRecursion as All}
+use Rattle.std.specs.List.{AllByRecursion as AllAre}
 use Rattle.indexmap.specs.IndexMap.{insert_all}
 use Rattle.model_syntax.specs.declared.node.NodeForm.{NodeForm}
 use Rattle.model_syntax.specs.declared.node.NodeForm.TheVariants as form
@@ -57,7 +57,7 @@ use Rattle.run_laws.proofs.SoundStepForms.{guard_here, closure_there, stage_goes
 -- closures of the script
 record IsClosure (g : Setting) (u : Common) (c : Callee) : Type 0 where
   rule : closure_rule g.script c.node c.env
-  variables : All (λ x. HasVariable (slice_get u.cells x.cell)) c.env
+  variables : AllAre (λ x. HasVariable (slice_get u.cells x.cell)) c.env
 
 abbrev ClosureIf : Setting → Common → Option Callee → Type 0
 ClosureIf g u None = Unit {0}
@@ -79,7 +79,7 @@ closure_is g w (Truth b) sound = tt
 closure_is g w (Whole z) sound = tt
 
 abbrev Branches : Setting → Common → List (List ℕ × Callee) → Type 0
-Branches g u bs = All (λ b. IsClosure g u b.1) bs
+Branches g u bs = AllAre (λ b. IsClosure g u b.1) bs
 
 with_callee_is : (g : Setting) (u : Common) (name : List ℕ) (o : Option Callee) (rest : List (List ℕ × Callee)) → ClosureIf g u o → Branches g u rest → Branches g u (with_callee name o rest)
 with_callee_is g u name None rest h r = r
@@ -100,12 +100,12 @@ given_are g w sound (Some v) = entries_are g w sound (kind (cells w) v)
 branches_then : (g : Setting) (u v : Common) → Later u v → (bs : List (List ℕ × Callee)) → Branches g u bs → Branches g v bs
 branches_then g u v l bs h = all_weaker _ _ (λ b c. record { rule = c.rule; variables = variables_later u.cells v.cells l.cells (b.1).env c.variables }) bs h
 
-branch_then : (g : Setting) (u v : Common) → Later u v → (bs : List Branch) → All (BranchFits g.script u) bs → All (BranchFits g.script v) bs
+branch_then : (g : Setting) (u v : Common) → Later u v → (bs : List Branch) → AllAre (BranchFits g.script u) bs → AllAre (BranchFits g.script v) bs
 branch_then g u v l bs h = all_weaker _ _ (λ b c. record { closure = c.closure; variables = variables_later u.cells v.cells l.cells b.env c.variables; head = node_then u v l b.head c.head }) bs h
 
 -- what branches ended with is there
 abbrev pub OutcomesFit : Common → List BranchEnd → Type 0
-OutcomesFit u ends = All (λ b. OutcomeFits u b.end.outcome) ends
+OutcomesFit u ends = AllAre (λ b. OutcomeFits u b.end.outcome) ends
 
 outcome_then : (u v : Common) → Later u v → (o : Outcome) → OutcomeFits u o → OutcomeFits v o
 outcome_then u v l (ValueOutcome x) h = there_then u v l x h
@@ -138,7 +138,7 @@ value_there : (u : Common) (o : Outcome) → OutcomeFits u o → There u.cells (
 value_there u (ValueOutcome v) h = h
 value_there u (ThrownOutcome c) h = tt
 
-values_there : (u : Common) (ends : List BranchEnd) → OutcomesFit u ends → All (λ e. There u.cells e.1) (values_of ends)
+values_there : (u : Common) (ends : List BranchEnd) → OutcomesFit u ends → AllAre (λ e. There u.cells e.1) (values_of ends)
 values_there u [] h = tt
 values_there u (b ∷ bs) h = (value_there u b.end.outcome h.0, values_there u bs h.1)
 
@@ -150,8 +150,8 @@ module _ (g : Setting) (f : NodeForm) (plain : is_declaration f ≡ false) where
   joined_as_goes : (u : Common) (ends : List BranchEnd) → OutcomesFit u ends → (o : Option BranchEnd) → EndIf u o → Goes g f u (joined_as ends o)
   joined_as_goes u ends h (Some b) one = ending_goes g f plain u (thrown_by b.end.outcome) (thrown_fits u b.end.outcome one)
   joined_as_goes u ends h None one = λ s at.
-      let b : Before = record { l = limits s.world; rule = closure_rule g.script; h = cells s.world; given = CellsFit (closure_rule g.script) (cells s.world) × All (λ e. There (cells s.world) e.1) (values_of ends); fit = λ x. x.0 } in
-      answer_goes g f u (limits s.world) There (new_map (limits s.world) (cells s.world) (insert_all same_key [] (values_of ends))) s at (CellsFit (closure_rule g.script) (cells s.world) × All (λ e. There (cells s.world) e.1) (values_of ends))
+      let b : Before = record { l = limits s.world; rule = closure_rule g.script; h = cells s.world; given = CellsFit (closure_rule g.script) (cells s.world) × AllAre (λ e. There (cells s.world) e.1) (values_of ends); fit = λ x. x.0 } in
+      answer_goes g f u (limits s.world) There (new_map (limits s.world) (cells s.world) (insert_all same_key [] (values_of ends))) s at (CellsFit (closure_rule g.script) (cells s.world) × AllAre (λ e. There (cells s.world) e.1) (values_of ends))
       ((at.sound).cells, values_there s.world.shared ends (outcomes_then u s.world.shared at.later ends h))
       (map_is_there b (new_map (limits s.world) (cells s.world) (insert_all same_key [] (values_of ends))) (new_map_grows b (insert_all same_key [] (values_of ends)) (λ x. all_inserts (There (cells s.world)) [] (values_of ends) tt x.1))) ended (λ v t q l is. (q, (is, plain)))
 
@@ -177,12 +177,12 @@ module _ (g : Setting) (f : NodeForm) (plain : is_declaration f ≡ false) where
       (operate_goes g f u [] tt (IsIn HasMap) map_there (λ w. new_map (limits w) (cells w) []) (λ w. new_map_grows (before_of g w []) [] (λ x. tt)) ended (end_goes g f u plain)))
 
 module _ (g : Setting) (shaped : Shaped g.script) (k : ℕ) (sh : Shape) (xs : Names) (place : Place g k sh xs) (a : Around) (src : Sources g shaped k sh xs place a) (plain : is_declaration sh.form ≡ false) (env : Env) where
-  fork_goes : calls_step step.Parallel sh.form ≡ true → (u : Common) → EnvFits u.cells xs env → (start : ℕ) → IsFlowNode u.nodes start → (bs : List Branch) → All (BranchFits g.script u) bs → Goes g sh.form u (fork_or_none k env start bs)
+  fork_goes : calls_step step.Parallel sh.form ≡ true → (u : Common) → EnvFits u.cells xs env → (start : ℕ) → IsFlowNode u.nodes start → (bs : List Branch) → AllAre (BranchFits g.script u) bs → Goes g sh.form u (fork_or_none k env start bs)
   fork_goes cs u fit start flow [] h = no_branches_goes g sh.form plain u start
   fork_goes cs u fit start flow (b ∷ bs) h = λ s at. wait_goes g sh.form u (frame kind.ParallelWait k 0 env (whole start ∷ [])) (sits_here g shaped k sh xs place u kind.ParallelWait 0 env (whole start ∷ []) cs (omega arith) (flow, tt) fit)
       (after_parallel start) (ForBranches (b ∷ bs)) s at (branch_then g u s.world.shared at.later (b ∷ bs) h)
 
-  begin_goes : calls_step step.Parallel sh.form ≡ true → (bs : List (List ℕ × Callee)) (u : Common) → EnvFits u.cells xs env → (start : ℕ) → IsFlowNode u.nodes start → (done : List Branch) → All (BranchFits g.script u) done → Branches g u bs → Goes g sh.form u (begin_branches k env start done bs)
+  begin_goes : calls_step step.Parallel sh.form ≡ true → (bs : List (List ℕ × Callee)) (u : Common) → EnvFits u.cells xs env → (start : ℕ) → IsFlowNode u.nodes start → (done : List Branch) → AllAre (BranchFits g.script u) done → Branches g u bs → Goes g sh.form u (begin_branches k env start done bs)
   begin_goes cs [] u fit start flow done h r = fork_goes cs u fit start flow done h
   begin_goes cs (b ∷ bs) u fit start flow done h r = λ s at.
       let m : Moves g (noted_branch b.0) s.world = branch_moves g b.0 s.world at.sound in
@@ -238,6 +238,6 @@ module _ (g : Setting) (shaped : Shaped g.script) (k : ℕ) (sh : Shape) (xs : N
   bound_goes s cs w fit (Stops_at limit) there = λ t at. tt
 
   -- a step whose arguments have been evaluated
-  pub begin_step_goes : (s : Step) → CallsIt s → (u : Common) → EnvFits u.cells xs env → (args : List Value) → All (There u.cells) args → Goes g sh.form u (begin_step a k env s args)
+  pub begin_step_goes : (s : Step) → CallsIt s → (u : Common) → EnvFits u.cells xs env → (args : List Value) → AllAre (There u.cells) args → Goes g sh.form u (begin_step a k env s args)
   begin_step_goes s cs u fit args there t at = from_here g sh.form u (bound_step a k env s t.world (bind_step t.world s args)) t at
       (bound_goes s cs t.world (env_later u t.world.shared at.later xs env fit) (bind_step t.world s args) (bound_there (closure_rule g.script) t.world s (at.sound).cells args (all_there_then u t.world.shared at.later args there)))

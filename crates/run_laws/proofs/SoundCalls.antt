@@ -1,7 +1,7 @@
 -- Calls, but for steps: sound from a sound state on.
 use Rattle.std.proofs.Common.{arith, ◌≡◌, ◌≤◌, ◌<◌, ◌+◌, ◌-◌, refl, sym, ap, subst, ◌∙◌, ℕ, zero, suc, Bool, true, false, List, [], ◌∷◌, ◌++◌, length, length-append, Option, Some, None}
 use Rattle.std.specs.Prelude.{slice_get, take, drop, codes, unwrap_or, option_and_then, if◌then◌else◌}
-use Rattle.std.specs.List.{AllByRecursion as All}
+use Rattle.std.specs.List.{AllByRecursion as AllAre}
 use Rattle.model_syntax.specs.declared.node.NodeForm.{NodeForm}
 use Rattle.model_syntax.specs.declared.node.NodeForm.TheVariants as form
 use Rattle.model_syntax.specs.declared.tree.Access.{Access}
@@ -126,17 +126,17 @@ binding_fits g x w sound (Some c) = closure_fits g w (variable w c) sound
 binding_fits g x w sound None = tt
 
 -- what a walk keeps is there
-held_there : (P : Value → Type 0) (m : Method) (args element kept : List Value) → All P args → All P element → All P kept → All P (held_in_turn m args element kept)
+held_there : (P : Value → Type 0) (m : Method) (args element kept : List Value) → AllAre P args → AllAre P element → AllAre P kept → AllAre P (held_in_turn m args element kept)
 held_there P Find args element kept a e k = a
 held_there P FindAll args element kept a e k = all_append P element kept e k
 held_there P Collect args element kept a e k = k
 held_there P m args element kept a e k = tt
 
-further_seen : (u : Common) (vs : List Value) → All (There u.cells) vs → FurtherFit (seen u) Any_more vs
+further_seen : (u : Common) (vs : List Value) → AllAre (There u.cells) vs → FurtherFit (seen u) Any_more vs
 further_seen u [] h = tt
 further_seen u (v ∷ vs) h = (h.0, further_seen u vs h.1)
 
-held_seen : (u : Common) (m : Method) (args element kept : List Value) → OneOrTwo args → OneOrTwo element → All (There u.cells) (held_in_turn m args element kept) → ValuesFit (seen u) (walk_further m) (walk_values m) (held_in_turn m args element kept)
+held_seen : (u : Common) (m : Method) (args element kept : List Value) → OneOrTwo args → OneOrTwo element → AllAre (There u.cells) (held_in_turn m args element kept) → ValuesFit (seen u) (walk_further m) (walk_values m) (held_in_turn m args element kept)
 held_seen u Find [] element kept p q h = absurd p
 held_seen u Find (v ∷ []) element kept p q h = (h.0, tt)
 held_seen u Find (v ∷ w ∷ []) element kept p q h = (h.0, (h.1.0, refl))
@@ -146,25 +146,25 @@ held_seen u FindAll args (v ∷ vs) kept p q h = (h.0, further_seen u (vs ++ kep
 held_seen u Collect args element kept p q h = further_seen u kept h
 held_seen u m args element kept p q h = tt
 
-all_take : (P : Value → Type 0) (n : ℕ) (vs : List Value) → All P vs → All P (take n vs)
+all_take : (P : Value → Type 0) (n : ℕ) (vs : List Value) → AllAre P vs → AllAre P (take n vs)
 all_take P zero vs h = tt
 all_take P (suc n) [] h = tt
 all_take P (suc n) (v ∷ vs) h = (h.0, all_take P n vs h.1)
 
-all_drop : (P : Value → Type 0) (n : ℕ) (vs : List Value) → All P vs → All P (drop n vs)
+all_drop : (P : Value → Type 0) (n : ℕ) (vs : List Value) → AllAre P vs → AllAre P (drop n vs)
 all_drop P zero vs h = h
 all_drop P (suc n) [] h = tt
 all_drop P (suc n) (v ∷ vs) h = all_drop P n vs h.1
 
-arguments_there : (P : Value → Type 0) (m : Method) (held : List Value) → All P held → All P (held_arguments m held)
+arguments_there : (P : Value → Type 0) (m : Method) (held : List Value) → AllAre P held → AllAre P (held_arguments m held)
 arguments_there P Find held h = h
 arguments_there P m held h = tt
 
-element_there : (P : Value → Type 0) (m : Method) (n : ℕ) (held : List Value) → All P held → All P (held_element m n held)
+element_there : (P : Value → Type 0) (m : Method) (n : ℕ) (held : List Value) → AllAre P held → AllAre P (held_element m n held)
 element_there P FindAll n held h = all_take P n held h
 element_there P m n held h = tt
 
-kept_there : (P : Value → Type 0) (m : Method) (n : ℕ) (held : List Value) → All P held → All P (held_kept m n held)
+kept_there : (P : Value → Type 0) (m : Method) (n : ℕ) (held : List Value) → AllAre P held → AllAre P (held_kept m n held)
 kept_there P Find n held h = tt
 kept_there P FindAll n held h = all_drop P n held h
 kept_there P m n held h = h
@@ -181,7 +181,7 @@ module _ (g : Setting) where
   calling_goes f plain u None s at fit go k' = null_goes g f u plain s at
 
 module _ (g : Setting) (shaped : Shaped g.script) (k : ℕ) (sh : Shape) (xs : Names) (place : Place g k sh xs) (a : Around) (src : Sources g shaped k sh xs place a) (plain : is_declaration sh.form ≡ false) where
-  pub enter_goes : (u : Common) (args : List Value) (c : Callee) → All (There u.cells) args → CalleeFits g.script u c.node c.env → Goes g sh.form u (enter a args c)
+  pub enter_goes : (u : Common) (args : List Value) (c : Callee) → AllAre (There u.cells) args → CalleeFits g.script u c.node c.env → Goes g sh.form u (enter a args c)
   enter_goes u args c there fit = tick_goes g sh.form u (a.call c.node args c.env) (λ s at. holds_as g form.Block sh.form u _ refl plain (src.call u c.node args c.env fit there s at))
 
   -- a walk
@@ -197,28 +197,28 @@ module _ (g : Setting) (shaped : Shaped g.script) (k : ℕ) (sh : Shape) (xs : N
     walked_goes u env fit i on f ton tf s at given sure (Ends answer) grown =
         answer_goes g sh.form u (limits s.world) There answer s at given sure grown ended (λ v t q l is1. (q, (is1, plain)))
 
-    pub walk_end_goes : (u : Common) (env : Env) → EnvFits u.cells xs env → (i : ℕ) (on f : Value) (held : List Value) → There u.cells on → There u.cells f → All (There u.cells) held → (e : Ending) (s : State) → At g u s → EndFits form.Block s.world.shared e → Holds g sh.form u (after_walk_turn a env (walk_method sh.form) i on f held e s)
+    pub walk_end_goes : (u : Common) (env : Env) → EnvFits u.cells xs env → (i : ℕ) (on f : Value) (held : List Value) → There u.cells on → There u.cells f → AllAre (There u.cells) held → (e : Ending) (s : State) → At g u s → EndFits form.Block s.world.shared e → Holds g sh.form u (after_walk_turn a env (walk_method sh.form) i on f held e s)
     walk_end_goes u env fit i on f held ton tf there = value_goes g sh.form u _ (λ v s at is1.
-        let held1 : All (There (cells s.world)) held = all_there_then u s.world.shared at.later held there in
+        let held1 : AllAre (There (cells s.world)) held = all_there_then u s.world.shared at.later held there in
         let n : ℕ = element_size (kind (cells s.world) on) in
         walked_goes u env fit i on f ton tf s at (Given (closure_rule g.script) (cells s.world) (v ∷ held)) ((at.sound).cells, (is1, held1)) (walk_after s.world (walk_method sh.form) on held v)
         (after_grows (before_of g s.world (v ∷ held)) (walk_method sh.form) (held_arguments (walk_method sh.form) held) (held_element (walk_method sh.form) (element_size (kind (cells s.world) on)) held) v (held_kept (walk_method sh.form) (element_size (kind (cells s.world) on)) held)
         (λ x. arguments_there (There (cells s.world)) (walk_method sh.form) held x.1.1) (λ x. element_there (There (cells s.world)) (walk_method sh.form) (element_size (kind (cells s.world) on)) held x.1.1) (λ x. x.1.0) (λ x. kept_there (There (cells s.world)) (walk_method sh.form) (element_size (kind (cells s.world) on)) held x.1.1)))
 
     module _ (wa : is_walk sh.form ≡ true) where
-      walk_turn_goes : (u : Common) (env : Env) → EnvFits u.cells xs env → (i : ℕ) (on f : Value) (kept : List Value) → There u.cells on → There u.cells f → All (There u.cells) kept → (c : Callee) (s : State) → At g u s → CalleeFits g.script s.world.shared c.node c.env → seen s.world.shared A_closure f
+      walk_turn_goes : (u : Common) (env : Env) → EnvFits u.cells xs env → (i : ℕ) (on f : Value) (kept : List Value) → There u.cells on → There u.cells f → AllAre (There u.cells) kept → (c : Callee) (s : State) → At g u s → CalleeFits g.script s.world.shared c.node c.env → seen s.world.shared A_closure f
           → (t : Element) → ElementFits t → TurnGrows (limits s.world) (closure_rule g.script) (cells s.world) (Given (closure_rule g.script) (cells s.world) (on ∷ [])) t → Holds g sh.form u (walk_turn a k env (walk_method sh.form) i on f kept c t s)
       walk_turn_goes u env fit i on f kept ton tf tk c s at callee fseen Past sized grown =
           operate_goes g sh.form u (on ∷ kept) (ton, tk) There (same g) (λ w. at_end (limits w) (cells w) (walk_method sh.form) on kept) (λ w. walk_ends (limits w) (closure_rule g.script) (cells w) (walk_method sh.form) on kept) ended (end_goes g sh.form u plain) s at
       walk_turn_goes u env fit i on f kept ton tf tk c s at callee fseen (Stops limit) sized grown = tick_goes g sh.form u (Limited limit) (λ t q. tt) s at
       walk_turn_goes u env fit i on f kept ton tf tk c s at callee fseen (Turns h args element) sized grown =
-          let fits : CellsFit (closure_rule g.script) h × (All (There h) args × All (There h) element) = grown.fits ((at.sound).cells, (there_then u s.world.shared at.later on ton, tt)) in
+          let fits : CellsFit (closure_rule g.script) h × (AllAre (There h) args × AllAre (There h) element) = grown.fits ((at.sound).cells, (there_then u s.world.shared at.later on ton, tt)) in
           let v : Common = (begun_turn h s.world).shared in
           let l1 : Later s.world.shared (begun_turn h s.world).shared = record { cells = grown.later; nodes = omega arith } in
           let s1 : State = with_world (begun_turn h s.world) s in
           let at1 : At g u (with_world (begun_turn h s.world) s) = at_moved g u (begun_turn h) s at (record { later = l1; cells = fits.0; binding = variables_later (cells s.world) h grown.later s.world.shared.binding (at.sound).binding; head = (at.sound).head }) in
           let held : List Value = held_in_turn (walk_method sh.form) args element kept in
-          let there : All (There h) (held_in_turn (walk_method sh.form) args element kept) = held_there (There h) (walk_method sh.form) args element kept (fits.1).0 (fits.1).1 (all_there_then u (begun_turn h s.world).shared at1.later kept tk) in
+          let there : AllAre (There h) (held_in_turn (walk_method sh.form) args element kept) = held_there (There h) (walk_method sh.form) args element kept (fits.1).0 (fits.1).1 (all_there_then u (begun_turn h s.world).shared at1.later kept tk) in
           let ton1 : There h on = there_then u (begun_turn h s.world).shared at1.later on ton in
           let tf1 : There h f = there_then u (begun_turn h s.world).shared at1.later f tf in
           let fit1 : EnvFits h xs env = env_later u (begun_turn h s.world).shared at1.later xs env fit in
@@ -228,7 +228,7 @@ module _ (g : Setting) (shaped : Shaped g.script) (k : ℕ) (sh : Shape) (xs : N
           (after_walk_turn a env (walk_method sh.form) i on f (held_in_turn (walk_method sh.form) args element kept)) (walk_end_goes (begun_turn h s.world).shared env fit1 i on f (held_in_turn (walk_method sh.form) args element kept) ton1 tf1 there)
           (a.call c.node args c.env (with_world (begun_turn h s.world) s)) (src.call (begun_turn h s.world).shared c.node args c.env (callee_then g.script s.world.shared (begun_turn h s.world).shared l1 c.node c.env callee) (fits.1).0 (with_world (begun_turn h s.world) s) (at_self g u (with_world (begun_turn h s.world) s) at1))))
 
-      pub walk_goes : (u : Common) (env : Env) → EnvFits u.cells xs env → (i : ℕ) (on f : Value) (kept : List Value) → There u.cells on → There u.cells f → All (There u.cells) kept → Goes g sh.form u (walk a k env (walk_method sh.form) i on f kept)
+      pub walk_goes : (u : Common) (env : Env) → EnvFits u.cells xs env → (i : ℕ) (on f : Value) (kept : List Value) → There u.cells on → There u.cells f → AllAre (There u.cells) kept → Goes g sh.form u (walk a k env (walk_method sh.form) i on f kept)
       walk_goes u env fit i on f kept ton tf tk s at = calling_goes g sh.form plain u (closure_of s.world f) s at (closure_fits g s.world f at.sound)
           (λ c. walk_turn a k env (walk_method sh.form) i on f kept c (turn (limits s.world) (cells s.world) on (takes_two s.world c) i))
           (λ c e callee. walk_turn_goes u env fit i on f kept ton tf tk c s at callee (closure_seen s.world f c e) (turn (limits s.world) (cells s.world) on (takes_two s.world c) i)

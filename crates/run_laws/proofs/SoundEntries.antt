@@ -2,7 +2,7 @@
 use Rattle.std.proofs.Common.{arith, ◌≡◌, ◌≤◌, ◌<◌, ◌+◌, ◌-◌, refl, sym, ap, subst, ◌∙◌, ℕ, zero, suc, Bool, true, false, List, [], ◌∷◌, ◌++◌, length, length-append, append_assoc, Option, Some, None}
 use Rattle.std.specs.Prelude.{slice_get, drop, codes, is_some, map, reverse, nat_eq, if◌then◌else◌}
 use Rattle.std.proofs.lemmas.Bool.{eqb-true}
-use Rattle.std.specs.List.{AllByRecursion as All}
+use Rattle.std.specs.List.{AllByRecursion as AllAre}
 use Rattle.model_syntax.specs.declared.node.NodeForm.{NodeForm}
 use Rattle.model_syntax.specs.declared.node.NodeForm.TheVariants as form
 use Rattle.model_values.specs.Cells.{Gives, new_cell, new_text, with_new}
@@ -57,7 +57,7 @@ called_count : (w : World) (o : Option ℕ) → length (called_value w o) ≡ (i
 called_count w None = refl
 called_count w (Some c) = refl
 
-called_there : (g : Setting) (w : World) → Sound g w → (o : Option ℕ) → All (There (cells w)) (called_value w o)
+called_there : (g : Setting) (w : World) → Sound g w → (o : Option ℕ) → AllAre (There (cells w)) (called_value w o)
 called_there g w sound None = tt
 called_there g w sound (Some c) = (content_there (closure_rule g.script) (cells w) (slice_get (cells w) c) c refl sound.cells, tt)
 
@@ -70,7 +70,7 @@ module _ (g : Setting) (real : Real g.script [] g.script) (shaped : Shaped g.scr
   Is f = sh.form ≡ f
 
   -- several values, from these on
-  gathering_goes : (ga : gathers sh.form ≡ true) → is_declaration sh.form ≡ false → (env : Env) (u : Common) → EnvFits u.cells xs env → (vs : List Value) → length vs ≡ count_before sh.form env → All (There u.cells) vs → Goes g sh.form u (gather_all a k sh env (arity sh) vs)
+  gathering_goes : (ga : gathers sh.form ≡ true) → is_declaration sh.form ≡ false → (env : Env) (u : Common) → EnvFits u.cells xs env → (vs : List Value) → length vs ≡ count_before sh.form env → AllAre (There u.cells) vs → Goes g sh.form u (gather_all a k sh env (arity sh) vs)
   gathering_goes ga plain env u fit vs count there =
       let z : 0 ≡ arity sh - arity sh = omega arith in
       gather_goes g shaped k sh xs place a src ga env (λ v fit1 ws n h. gathered_goes g real shaped k sh xs place a src plain env sh.form refl v fit1 ws h) (arity sh) (omega arith) u fit vs (count ∙ ap (count_of sh env) z) there
@@ -161,7 +161,7 @@ module _ (g : Setting) (real : Real g.script [] g.script) (shaped : Shaped g.scr
   suffix_goes form.Index is u env fit v there plain = indexed_goes g shaped k sh xs place a src is u env fit v there
   suffix_goes f is u env fit v there plain = null_goes g sh.form u plain
 
-  walk_or_none : (access : Access) (name : List ℕ) → Is (form.Method access name) → (u : Common) (env : Env) → EnvFits u.cells xs env → (i : ℕ) (kept : List Value) → There u.cells (value_at 0 kept) → There u.cells (value_at 1 kept) → All (There u.cells) (drop 2 kept) → (b : Bool) → walks (walk_method sh.form) ≡ b → Goes g sh.form u (choose b (walk a k env (walk_method sh.form) i (value_at 0 kept) (value_at 1 kept) (drop 2 kept)) (ended Null))
+  walk_or_none : (access : Access) (name : List ℕ) → Is (form.Method access name) → (u : Common) (env : Env) → EnvFits u.cells xs env → (i : ℕ) (kept : List Value) → There u.cells (value_at 0 kept) → There u.cells (value_at 1 kept) → AllAre (There u.cells) (drop 2 kept) → (b : Bool) → walks (walk_method sh.form) ≡ b → Goes g sh.form u (choose b (walk a k env (walk_method sh.form) i (value_at 0 kept) (value_at 1 kept) (drop 2 kept)) (ended Null))
   walk_or_none access name is u env fit i kept h0 h1 h2 true e = λ s at. walk_goes g shaped k sh xs place a src (ap is_declaration is) access name is (both _ _ (ap is_method is) e) u env fit i (value_at 0 kept) (value_at 1 kept) (drop 2 kept) h0 h1 h2 s at
   walk_or_none access name is u env fit i kept h0 h1 h2 false e = λ s at. null_goes g sh.form u (ap is_declaration is) s at
 

@@ -1,7 +1,7 @@
 -- Each form of node: sound from a sound state on.
 use Rattle.std.proofs.Common.{arith, ◌≡◌, ◌≤◌, ◌<◌, ◌+◌, ◌-◌, refl, sym, ap, subst, ◌∙◌, ℕ, zero, suc, Bool, true, false, List, [], ◌∷◌, ◌++◌, length, Option, Some, None}
 use Rattle.std.specs.Prelude.{slice_get, codes, unwrap_or}
-use Rattle.std.specs.List.{AllByRecursion as All}
+use Rattle.std.specs.List.{AllByRecursion as AllAre}
 use Rattle.model_syntax.specs.declared.node.NodeForm.{NodeForm}
 use Rattle.model_syntax.specs.declared.node.NodeForm.TheVariants as form
 use Rattle.model_syntax.specs.declared.tree.Access.{Access}
@@ -64,7 +64,7 @@ function_there g w f sound None h = binding_there g w.shared f (binding_closure 
 
 module _ (g : Setting) (real : Real g.script [] g.script) (shaped : Shaped g.script) (k : ℕ) (sh : Shape) (xs : Names) (place : Place g k sh xs) (a : Around) (src : Sources g shaped k sh xs place a) (plain : is_declaration sh.form ≡ false) (env : Env) where
   -- what a method call comes to, at the state from which it was computed
-  called_goes : (u : Common) → EnvFits u.cells xs env → (s : State) → At g u s → (on : Value) (args : List Value) → There u.cells on → All (There u.cells) args → (x : Called) → CalledGrows (limits s.world) (closure_rule g.script) (cells s.world) (Given (closure_rule g.script) (cells s.world) (on ∷ args)) x
+  called_goes : (u : Common) → EnvFits u.cells xs env → (s : State) → At g u s → (on : Value) (args : List Value) → There u.cells on → AllAre (There u.cells) args → (x : Called) → CalledGrows (limits s.world) (closure_rule g.script) (cells s.world) (Given (closure_rule g.script) (cells s.world) (on ∷ args)) x
       → ((m : Method) (c : ℕ) → x ≡ Walks m c → HasClosure (slice_get s.world.shared.cells c) → Goes g sh.form s.world.shared (walk a k env (walk_method sh.form) 0 on (InCell c) [])) → Holds g sh.form u (called a k sh env s.world on args x s)
   called_goes u fit s at on args ton targs (Done answer n) grown walked =
       let at1 : At g u (with_world (raised n (counted s.world)) s) = at_moved g u (λ w. raised n (counted w)) s at (moves_aside g (λ w. raised n (counted w)) s.world at.sound refl refl refl refl) in
@@ -80,12 +80,12 @@ module _ (g : Setting) (real : Real g.script [] g.script) (shaped : Shaped g.scr
     walks_so : (s : State) (on : Value) (args : List Value) (m : Method) (c : ℕ) → method_call (limits s.world) (cells s.world) on f args (suc s.world.shared.count) ≡ Walks m c → is_walk sh.form ≡ true
     walks_so s on args m c e = ap is_walk is ∙ method_walks (limits s.world) (cells s.world) on f (method_named f) args (suc s.world.shared.count) m c e
 
-    call_on_goes : (u : Common) → EnvFits u.cells xs env → (on : Value) (args : List Value) → There u.cells on → All (There u.cells) args → (s : State) → At g u s → (b : Bool) → Holds g sh.form u (call_on a k sh env f on args s.world b s)
+    call_on_goes : (u : Common) → EnvFits u.cells xs env → (on : Value) (args : List Value) → There u.cells on → AllAre (There u.cells) args → (s : State) → At g u s → (b : Bool) → Holds g sh.form u (call_on a k sh env f on args s.world b s)
     call_on_goes u fit on args ton targs s at true = tick_goes g sh.form u (ended Null) (null_goes g sh.form u plain) s at
     call_on_goes u fit on args ton targs s at false = called_goes u fit s at on args ton targs (method_call (limits s.world) (cells s.world) on f args (suc s.world.shared.count)) (methods (limits s.world) (closure_rule g.script) (cells s.world) on f args (suc s.world.shared.count))
         (λ m c e has. walk_goes g shaped k sh xs place a src plain access f is (walks_so s on args m c e) s.world.shared env (env_later u s.world.shared at.later xs env fit) 0 on (InCell c) [] (there_then u s.world.shared at.later on ton) (cell_there HasClosure (λ h. h) s.world.shared.cells c has) tt)
 
-    pub method_goes : (u : Common) → EnvFits u.cells xs env → (vs : List Value) → All (There u.cells) vs → Goes g sh.form u (method_step a k sh env access f vs)
+    pub method_goes : (u : Common) → EnvFits u.cells xs env → (vs : List Value) → AllAre (There u.cells) vs → Goes g sh.form u (method_step a k sh env access f vs)
     method_goes u fit [] there = null_goes g sh.form u plain
     method_goes u fit (on ∷ args) there = λ s at. call_on_goes u fit on args there.0 there.1 s at (is_null access (kind (cells s.world) on))
 
@@ -106,16 +106,16 @@ module _ (g : Setting) (real : Real g.script [] g.script) (shaped : Shaped g.scr
     calls_it step.Input e = ap (calls_step step.Input) is ∙ ap (same_step step.Input) e
     calls_it step.Parallel e = ap (calls_step step.Parallel) is ∙ ap (same_step step.Parallel) e
 
-    meant_goes : (u : Common) → EnvFits u.cells xs env → (args : List Value) → All (There u.cells) args → (w : World) (m : Meant) → MeantThere g u f m → Goes g sh.form u (call_meant a k sh env f args w m)
+    meant_goes : (u : Common) → EnvFits u.cells xs env → (args : List Value) → AllAre (There u.cells) args → (w : World) (m : Meant) → MeantThere g u f m → Goes g sh.form u (call_meant a k sh env f args w m)
     meant_goes u fit args there w (Callee_of c) h = enter_goes g shaped k sh xs place a src plain u args c there h
     meant_goes u fit args there w (Step_of s) h = tick_goes g sh.form u (begin_step a k env s args) (begin_step_goes g shaped k sh xs place a src plain env s (calls_it s h) u fit args there)
     meant_goes u fit args there w Nothing h = tick_goes g sh.form u _ (operate_goes g sh.form u [] tt (λ h v. ⊥) (λ h v bad. absurd bad) (λ w. unknown_step (limits w) (cells w) f) (λ w. unknown_step_grows (before_of g w []) (λ h v. ⊥) f) ended (end_goes g sh.form u plain))
 
-    call_name_goes : (u : Common) → EnvFits u.cells xs env → (args : List Value) → All (There u.cells) args → Goes g sh.form u (call_name a k sh env f args)
+    call_name_goes : (u : Common) → EnvFits u.cells xs env → (args : List Value) → AllAre (There u.cells) args → Goes g sh.form u (call_name a k sh env f args)
     call_name_goes u fit args there s at = from_here g sh.form u (call_meant a k sh env f args s.world (meant_function f s.world (function_named f s.world))) s at
         (meant_goes s.world.shared (env_later u s.world.shared at.later xs env fit) args (all_there_then u s.world.shared at.later args there) s.world (meant_function f s.world (function_named f s.world)) (function_there g s.world f at.sound (function_named f s.world) (function_fits g real f s.world at.sound)))
 
-    call_value_goes : (u : Common) → EnvFits u.cells xs env → (vs : List Value) → All (There u.cells) vs → Goes g sh.form u (call_value a k sh env vs)
+    call_value_goes : (u : Common) → EnvFits u.cells xs env → (vs : List Value) → AllAre (There u.cells) vs → Goes g sh.form u (call_value a k sh env vs)
     call_value_goes u fit [] there = null_goes g sh.form u plain
     call_value_goes u fit (v ∷ args) there = λ s at. called_goes u fit s at v args there.0 there.1 (method_call (limits s.world) (cells s.world) v (codes "call") args (suc s.world.shared.count)) (methods (limits s.world) (closure_rule g.script) (cells s.world) v (codes "call") args (suc s.world.shared.count))
         (λ m c e has. absurd (never s v args m c e))
@@ -123,12 +123,12 @@ module _ (g : Setting) (real : Real g.script [] g.script) (shaped : Shaped g.scr
         never : (s : State) (v : Value) (args : List Value) (m : Method) (c : ℕ) → method_call (limits s.world) (cells s.world) v (codes "call") args (suc s.world.shared.count) ≡ Walks m c → ⊥
         never s v args m c e = let w : walks (unwrap_or (method_named (codes "call")) ToString) ≡ true = method_walks (limits s.world) (cells s.world) v (codes "call") (method_named (codes "call")) args (suc s.world.shared.count) m c e in absurd (cc)
 
-    pub call_goes : (u : Common) → EnvFits u.cells xs env → (vs : List Value) → All (There u.cells) vs → (o : Option ℕ) → Goes g sh.form u (call_by o a k sh env f vs)
+    pub call_goes : (u : Common) → EnvFits u.cells xs env → (vs : List Value) → AllAre (There u.cells) vs → (o : Option ℕ) → Goes g sh.form u (call_by o a k sh env f vs)
     call_goes u fit vs there None = call_name_goes u fit vs there
     call_goes u fit vs there (Some c) = call_value_goes u fit vs there
 
   -- what a node does with all the values that it gathers
-  pub gathered_goes : (f : NodeForm) → sh.form ≡ f → (u : Common) → EnvFits u.cells xs env → (vs : List Value) → All (There u.cells) vs → Goes g sh.form u (gathered a k env sh f vs)
+  pub gathered_goes : (f : NodeForm) → sh.form ≡ f → (u : Common) → EnvFits u.cells xs env → (vs : List Value) → AllAre (There u.cells) vs → Goes g sh.form u (gathered a k env sh f vs)
   gathered_goes (form.Call f) is u fit vs there = call_goes f is u fit vs there (look f env)
   gathered_goes (form.Method access f) is u fit vs there = method_goes access f is u fit vs there
   gathered_goes form.Map is u fit vs there = map_goes g sh.form plain u vs there sh

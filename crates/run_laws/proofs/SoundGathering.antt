@@ -1,7 +1,7 @@
 -- Several values from left to right: sound from a sound state on.
 use Rattle.std.proofs.Common.{arith, ◌≡◌, ◌≤◌, ◌<◌, ◌+◌, ◌-◌, refl, sym, ap, subst, ◌∙◌, ℕ, zero, suc, Bool, true, false, List, [], ◌∷◌, ◌++◌, length, length-append, Option, Some, None}
 use Rattle.std.specs.Prelude.{slice_get, not, ◌&&◌, take, drop, zip}
-use Rattle.std.specs.List.{AllByRecursion as All}
+use Rattle.std.specs.List.{AllByRecursion as AllAre}
 use Rattle.indexmap.specs.IndexMap.{insert_all, insert_entry}
 use Rattle.model_syntax.specs.declared.node.NodeForm.{NodeForm}
 use Rattle.model_syntax.specs.declared.node.NodeForm.TheVariants as form
@@ -70,17 +70,17 @@ gathers_within (form.New c) e i xs = refl
 gathers_within f e i xs = absurd (cc)
 
 -- lists of values that are there
-all_take : (P : Value → Type 0) (n : ℕ) (vs : List Value) → All P vs → All P (take n vs)
+all_take : (P : Value → Type 0) (n : ℕ) (vs : List Value) → AllAre P vs → AllAre P (take n vs)
 all_take P zero vs h = tt
 all_take P (suc n) [] h = tt
 all_take P (suc n) (v ∷ vs) h = (h.0, all_take P n vs h.1)
 
-pub all_drop : (P : Value → Type 0) (n : ℕ) (vs : List Value) → All P vs → All P (drop n vs)
+pub all_drop : (P : Value → Type 0) (n : ℕ) (vs : List Value) → AllAre P vs → AllAre P (drop n vs)
 all_drop P zero vs h = h
 all_drop P (suc n) [] h = tt
 all_drop P (suc n) (v ∷ vs) h = all_drop P n vs h.1
 
-all_zip : (P : Value → Type 0) (ks : List Key) (vs : List Value) → All P vs → All (λ e. P e.1) (zip ks vs)
+all_zip : (P : Value → Type 0) (ks : List Key) (vs : List Value) → AllAre P vs → AllAre (λ e. P e.1) (zip ks vs)
 all_zip P [] vs h = tt
 all_zip P (k ∷ ks) [] h = tt
 all_zip P (k ∷ ks) (v ∷ vs) h = (h.0, all_zip P ks vs h.1)
@@ -106,23 +106,23 @@ and_false false = refl
 -- the entries of a map, or none
 abbrev EntriesThere : (Value → Type 0) → Option (List (Key × Value)) → Type 0
 EntriesThere P None = Unit {0}
-EntriesThere P (Some es) = All (λ e. P e.1) es
+EntriesThere P (Some es) = AllAre (λ e. P e.1) es
 
-and_there : (P : Value → Type 0) (go : List (Key × Value) → Option (List (Key × Value))) → ((es : List (Key × Value)) → All (λ e. P e.1) es → EntriesThere P (go es)) → (o : Option (List (Key × Value))) → EntriesThere P o → EntriesThere P (and_entries go o)
+and_there : (P : Value → Type 0) (go : List (Key × Value) → Option (List (Key × Value))) → ((es : List (Key × Value)) → AllAre (λ e. P e.1) es → EntriesThere P (go es)) → (o : Option (List (Key × Value))) → EntriesThere P o → EntriesThere P (and_entries go o)
 and_there P go k None h = tt
 and_there P go k (Some es) h = k es h
 
-put_there : (P : Value → Type 0) (o : Option Key) (v : Value) (es : List (Key × Value)) → P v → All (λ e. P e.1) es → EntriesThere P (put_entry o v es)
+put_there : (P : Value → Type 0) (o : Option Key) (v : Value) (es : List (Key × Value)) → P v → AllAre (λ e. P e.1) es → EntriesThere P (put_entry o v es)
 put_there P None v es p h = tt
 put_there P (Some key) v es p h = all_insert P key v es h p
 
-entries_there : (P : Value → Type 0) (h : List Cell) (fs : List NodeForm) (vs : List Value) (es : List (Key × Value)) → All P vs → All (λ e. P e.1) es → EntriesThere P (entries_of h fs vs es)
+entries_there : (P : Value → Type 0) (h : List Cell) (fs : List NodeForm) (vs : List Value) (es : List (Key × Value)) → AllAre P vs → AllAre (λ e. P e.1) es → EntriesThere P (entries_of h fs vs es)
 entries_there P h (form.NamedEntry t ∷ fs) (v ∷ vs) es p q = entries_there P h fs vs (insert_entry same_key es (TextKey t) v) p.1 (all_insert P (TextKey t) v es q p.0)
 entries_there P h (form.NumberedEntry z ∷ fs) (v ∷ vs) es p q = entries_there P h fs vs (insert_entry same_key es (IntKey z) v) p.1 (all_insert P (IntKey z) v es q p.0)
 entries_there P h (form.ComputedEntry ∷ fs) (key ∷ v ∷ vs) es p q = and_there P (entries_of h fs vs) (λ fs1 r. entries_there P h fs vs fs1 (p.1).1 r) (put_entry (key_of (kind h key)) v es) (put_there P (key_of (kind h key)) v es (p.1).0 q)
 entries_there P h fs vs es p q = q
 
-module _ (g : Setting) (f : NodeForm) (plain : is_declaration f ≡ false) (u : Common) (vs : List Value) (there : All (There u.cells) vs) where
+module _ (g : Setting) (f : NodeForm) (plain : is_declaration f ≡ false) (u : Common) (vs : List Value) (there : AllAre (There u.cells) vs) where
   pub list_goes : Goes g f u (list_of vs)
   list_goes = tick_goes g f u _ (operate_goes g f u vs there (IsIn HasList) list_there (λ w. new_list (limits w) (cells w) vs) (λ w. new_lists (limits w) (closure_rule g.script) (cells w) vs) ended (end_goes g f u plain))
 
@@ -151,14 +151,14 @@ module _ (g : Setting) (shaped : Shaped g.script) (k : ℕ) (sh : Shape) (xs : N
 
   -- what is done with all values
   abbrev pub Done : Type 0
-  Done = (u : Common) → EnvFits u.cells xs env → (vs : List Value) → length vs ≡ count_of sh env (arity sh) → All (There u.cells) vs → Goes g sh.form u (gathered a k env sh sh.form vs)
+  Done = (u : Common) → EnvFits u.cells xs env → (vs : List Value) → length vs ≡ count_of sh env (arity sh) → AllAre (There u.cells) vs → Goes g sh.form u (gathered a k env sh sh.form vs)
 
   abbrev gathering : ℕ → List Value → State → Result
   gathering m vs = gather a k sh env (gathered a k env sh sh.form) m vs
 
   -- with so many values, where m parts still come
   abbrev Next : ℕ → Type 0
-  Next m = (u : Common) → EnvFits u.cells xs env → (vs : List Value) → length vs ≡ count_of sh env (arity sh - m) → All (There u.cells) vs → Goes g sh.form u (gathering m vs)
+  Next m = (u : Common) → EnvFits u.cells xs env → (vs : List Value) → length vs ≡ count_of sh env (arity sh - m) → AllAre (There u.cells) vs → Goes g sh.form u (gathering m vs)
 
   counted_behind : (m : ℕ) → suc m ≤ arity sh → count_of sh env (arity sh - m) ≡ count_behind sh m (count_of sh env (arity sh - suc m))
   counted_behind m le =
@@ -166,7 +166,7 @@ module _ (g : Setting) (shaped : Shaped g.script) (k : ℕ) (sh : Shape) (xs : N
       let j : arity sh - suc (arity sh - suc m) ≡ m = omega arith in
       ap (count_of sh env) e ∙ ap (λ j. count_behind sh j (count_of sh env (arity sh - suc m))) j
 
-  keep_goes : (b : Bool) (m : ℕ) (u : Common) → EnvFits u.cells xs env → (vs : List Value) → All (There u.cells) vs → Next m → count_closed b (length (named_keys sh.parts)) (length vs) ≡ count_of sh env (arity sh - m) → Goes g sh.form u (keep_by b sh vs (gathering m))
+  keep_goes : (b : Bool) (m : ℕ) (u : Common) → EnvFits u.cells xs env → (vs : List Value) → AllAre (There u.cells) vs → Next m → count_closed b (length (named_keys sh.parts)) (length vs) ≡ count_of sh env (arity sh - m) → Goes g sh.form u (keep_by b sh vs (gathering m))
   keep_goes true m u fit vs there next count =
       let n : ℕ = length vs - length (named_keys sh.parts) in
       operate_goes g sh.form u vs there (IsIn HasMap) map_there (λ w. new_map (limits w) (cells w) (insert_all same_key [] (zip (named_keys sh.parts) (drop (length vs - length (named_keys sh.parts)) vs))))
@@ -179,7 +179,7 @@ module _ (g : Setting) (shaped : Shaped g.script) (k : ℕ) (sh : Shape) (xs : N
       (all_append (There s.world.shared.cells) (take (length vs - length (named_keys sh.parts)) vs) (map ∷ []) (all_take (There s.world.shared.cells) (length vs - length (named_keys sh.parts)) vs (all_there_then u s.world.shared at.later vs there)) (is, tt))))
   keep_goes false m u fit vs there next count = next u fit vs count there
 
-  pub gathered_end : (m : ℕ) → suc m ≤ arity sh → (u : Common) → EnvFits u.cells xs env → (vs : List Value) → All (There u.cells) vs → is_plain (form_at sh.parts (arity sh - suc m)) ≡ false → length vs ≡ count_of sh env (arity sh - suc m) + key_count (form_at sh.parts (arity sh - suc m)) → Next m
+  pub gathered_end : (m : ℕ) → suc m ≤ arity sh → (u : Common) → EnvFits u.cells xs env → (vs : List Value) → AllAre (There u.cells) vs → is_plain (form_at sh.parts (arity sh - suc m)) ≡ false → length vs ≡ count_of sh env (arity sh - suc m) + key_count (form_at sh.parts (arity sh - suc m)) → Next m
       → (e : Ending) (s : State) → At g u s → EndFits form.Block s.world.shared e → Holds g sh.form u (after_gathered sh m vs (gathering m) e s)
   gathered_end m le u fit vs there value count next =
       let one : count_of sh env (arity sh - suc m) + key_count (form_at sh.parts (arity sh - suc m)) + 1 ≡ count_with (form_at sh.parts (arity sh - suc m)) (count_of sh env (arity sh - suc m)) = count_one_more (form_at sh.parts (arity sh - suc m)) value (count_of sh env (arity sh - suc m)) in
@@ -188,17 +188,17 @@ module _ (g : Setting) (shaped : Shaped g.script) (k : ℕ) (sh : Shape) (xs : N
       from_here g sh.form u (keep sh m vs v (gathering m)) s at (keep_goes (closes_named sh m) m s.world.shared (env_later u s.world.shared at.later xs env fit) (vs ++ v ∷ [])
       (all_append (There s.world.shared.cells) vs (v ∷ []) (all_there_then u s.world.shared at.later vs there) (is, tt)) next (ap (count_closed (closes_named sh m) (length (named_keys sh.parts))) more ∙ sym (counted_behind m le))))
 
-  value_frame : (m : ℕ) → suc m ≤ arity sh → (u : Common) → EnvFits u.cells xs env → (vs : List Value) → All (There u.cells) vs → (e : Entry) (p : NodeForm) → form_at sh.parts (arity sh - suc m) ≡ p → is_plain p ≡ false → length vs ≡ count_of sh env (arity sh - suc m) + key_count p → Next m → Goes g form.Block u (a.part e (arity sh - suc m) env) → Goes g sh.form u (gather_value a k sh env m vs (gathering m) e)
+  value_frame : (m : ℕ) → suc m ≤ arity sh → (u : Common) → EnvFits u.cells xs env → (vs : List Value) → AllAre (There u.cells) vs → (e : Entry) (p : NodeForm) → form_at sh.parts (arity sh - suc m) ≡ p → is_plain p ≡ false → length vs ≡ count_of sh env (arity sh - suc m) + key_count p → Next m → Goes g form.Block u (a.part e (arity sh - suc m) env) → Goes g sh.form u (gather_value a k sh env m vs (gathering m) e)
   value_frame m le u fit vs there e p is value count next part s at =
       let c : length vs ≡ count_of sh env (arity sh - suc m) + key_count (form_at sh.parts (arity sh - suc m)) = count ∙ ap (λ q. count_of sh env (arity sh - suc m) + key_count q) (sym is) in
       through_goes g sh.form form.Block u (frame kind.Gathered k m env vs) (sits_here g shaped k sh xs place u kind.Gathered m env vs (both _ _ ga (ap (λ q. not (is_plain q)) is ∙ ap not value)) (omega arith) (any_seen u _ vs c there) fit)
       (after_gathered sh m vs (gathering m)) (gathered_end m le u fit vs there (ap is_plain is ∙ value) c next) (a.part e (arity sh - suc m) env s) (part s at)
 
-  entry_value : (m : ℕ) → suc m ≤ arity sh → (u : Common) → EnvFits u.cells xs env → (vs : List Value) → All (There u.cells) vs → (j : ℕ) (p : NodeForm) → form_at sh.parts (arity sh - suc m) ≡ p → has_inner p ≡ true → names_within p j xs ≡ xs → is_plain p ≡ false → length vs ≡ count_of sh env (arity sh - suc m) + key_count p → Next m → Goes g sh.form u (gather_value a k sh env m vs (gathering m) (Inside j))
+  entry_value : (m : ℕ) → suc m ≤ arity sh → (u : Common) → EnvFits u.cells xs env → (vs : List Value) → AllAre (There u.cells) vs → (j : ℕ) (p : NodeForm) → form_at sh.parts (arity sh - suc m) ≡ p → has_inner p ≡ true → names_within p j xs ≡ xs → is_plain p ≡ false → length vs ≡ count_of sh env (arity sh - suc m) + key_count p → Next m → Goes g sh.form u (gather_value a k sh env m vs (gathering m) (Inside j))
   entry_value m le u fit vs there j p is inside names value count next = value_frame m le u fit vs there (Inside j) p is value count next
       (inner_goes g shaped k sh xs place a src quiet u (arity sh - suc m) j p env is inside (within (arity sh - suc m)) (subst (λ zs. EnvFits u.cells zs env) (sym names) fit))
 
-  pub key_end : (m : ℕ) → suc m ≤ arity sh → (u : Common) → EnvFits u.cells xs env → (vs : List Value) → All (There u.cells) vs → form_at sh.parts (arity sh - suc m) ≡ form.ComputedEntry → length vs ≡ count_of sh env (arity sh - suc m) → Next m
+  pub key_end : (m : ℕ) → suc m ≤ arity sh → (u : Common) → EnvFits u.cells xs env → (vs : List Value) → AllAre (There u.cells) vs → form_at sh.parts (arity sh - suc m) ≡ form.ComputedEntry → length vs ≡ count_of sh env (arity sh - suc m) → Next m
       → (e : Ending) (s : State) → At g u s → EndFits form.Block s.world.shared e → Holds g sh.form u (after_key a k sh env m vs (gathering m) e s)
   key_end m le u fit vs there is count next = value_goes g sh.form u _ (λ key s at isk. from_here g sh.form u (gather_value a k sh env m (vs ++ key ∷ []) (gathering m) (Inside 1)) s at
       (entry_value m le s.world.shared (env_later u s.world.shared at.later xs env fit) (vs ++ key ∷ []) (all_append (There s.world.shared.cells) vs (key ∷ []) (all_there_then u s.world.shared at.later vs there) (isk, tt)) 1 form.ComputedEntry is refl refl refl (omega (arith, count, longer vs key)) next))
@@ -207,7 +207,7 @@ module _ (g : Setting) (shaped : Shaped g.script) (k : ℕ) (sh : Shape) (xs : N
   plain_count m t is n =
       ap (λ q. count_closed (is_call sh.form && (is_named q && not (is_named (form_at sh.parts (arity sh - m))))) (length (named_keys sh.parts)) (count_with q n)) is ∙ ap (λ b. count_closed b (length (named_keys sh.parts)) n) (and_false (is_call sh.form))
 
-  gather_part_goes : (m : ℕ) → suc m ≤ arity sh → Next m → (u : Common) → EnvFits u.cells xs env → (vs : List Value) → length vs ≡ count_of sh env (arity sh - suc m) → All (There u.cells) vs → (p : NodeForm) → form_at sh.parts (arity sh - suc m) ≡ p → Goes g sh.form u (gather_part a k sh env m vs (gathering m) p)
+  gather_part_goes : (m : ℕ) → suc m ≤ arity sh → Next m → (u : Common) → EnvFits u.cells xs env → (vs : List Value) → length vs ≡ count_of sh env (arity sh - suc m) → AllAre (There u.cells) vs → (p : NodeForm) → form_at sh.parts (arity sh - suc m) ≡ p → Goes g sh.form u (gather_part a k sh env m vs (gathering m) p)
   gather_part_goes m le next u fit vs count there (form.PlainPart t) is = next u fit vs (count ∙ sym (plain_count m t is _) ∙ sym (counted_behind m le)) there
   gather_part_goes m le next u fit vs count there (form.NamedEntry t) is = entry_value m le u fit vs there 0 (form.NamedEntry t) is refl refl refl (omega (arith, count)) next
   gather_part_goes m le next u fit vs count there (form.NumberedEntry z) is = entry_value m le u fit vs there 0 (form.NumberedEntry z) is refl refl refl (omega (arith, count)) next

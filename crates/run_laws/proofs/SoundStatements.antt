@@ -1,7 +1,7 @@
 -- Statements: sound from a sound state on.
 use Rattle.std.proofs.Common.{arith, ◌≡◌, ◌≤◌, ◌<◌, ◌+◌, ◌-◌, refl, sym, ap, subst, ◌∙◌, ℕ, zero, suc, Bool, true, false, List, [], ◌∷◌, length, Option, Some, None}
 use Rattle.std.specs.Prelude.{slice_get, not, pos, ◌&&◌}
-use Rattle.std.specs.List.{AllByRecursion as All}
+use Rattle.std.specs.List.{AllByRecursion as AllAre}
 use Rattle.model_syntax.specs.declared.node.NodeForm.{NodeForm}
 use Rattle.model_syntax.specs.declared.node.NodeForm.TheVariants as form
 use Rattle.model_values.specs.Cells.{new_cell}
@@ -339,7 +339,7 @@ module _ (g : Setting) (shaped : Shaped g.script) (k : ℕ) (sh : Shape) (xs : N
     each_element_goes u env on i fit there Past s at grown = null_goes g sh.form u each_plain s at
     each_element_goes u env on i fit there (Stops limit) s at grown = tt
     each_element_goes u env on i fit there (Turns h args element) s at grown =
-        let fits : CellsFit (closure_rule g.script) h × (All (There h) args × All (There h) element) = grown.fits ((at.sound).cells, (there_then u s.world.shared at.later on there, tt)) in
+        let fits : CellsFit (closure_rule g.script) h × (AllAre (There h) args × AllAre (There h) element) = grown.fits ((at.sound).cells, (there_then u s.world.shared at.later on there, tt)) in
         let l1 : Later s.world.shared (put_cells h s.world).shared = record { cells = grown.later; nodes = omega arith } in
         let at1 : At g u (with_world (put_cells h s.world) s) = at_moved g u (put_cells h) s at (record { later = l1; cells = fits.0; binding = variables_later (cells s.world) h grown.later s.world.shared.binding (at.sound).binding; head = (at.sound).head }) in
         from_here g sh.form u (each_body a k x env on i (value_at 0 args)) (with_world (put_cells h s.world) s) at1

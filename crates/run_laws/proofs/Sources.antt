@@ -1,7 +1,7 @@
 -- What a node is evaluated from, where all of it is sound; and the frames of a node.
 use Rattle.std.proofs.Common.{arith, ◌≡◌, ◌≤◌, ◌<◌, ◌+◌, ◌-◌, refl, sym, ap, subst, ◌∙◌, ℕ, zero, suc, Bool, true, false, List, [], ◌∷◌, length, Option, Some, None}
 use Rattle.std.specs.Prelude.{slice_get, drop, nat_lt, ◌&&◌}
-use Rattle.std.specs.List.{AllByRecursion as All}
+use Rattle.std.specs.List.{AllByRecursion as AllAre}
 use Rattle.model_syntax.specs.declared.node.NodeForm.{NodeForm}
 use Rattle.model_syntax.specs.declared.node.NodeForm.TheVariants as form
 use Rattle.model_values.specs.Fitting.{There, HasVariable, HasClosure}
@@ -49,7 +49,7 @@ pub record CalleeFits (root : Term) (u : Common) (k : ℕ) (env : Env) : Type 0 
 -- what a turn is begun with: what a `for` goes over; or of a walk its value, its closure and what it keeps
 abbrev pub TurnFits : NodeForm → Common → List Value → Type 0
 TurnFits (form.ForEach x) u kept = There u.cells (value_at 0 kept)
-TurnFits (form.Method access f) u kept = There u.cells (value_at 0 kept) × There u.cells (value_at 1 kept) × All (There u.cells) (drop 2 kept)
+TurnFits (form.Method access f) u kept = There u.cells (value_at 0 kept) × There u.cells (value_at 1 kept) × AllAre (There u.cells) (drop 2 kept)
 TurnFits f u kept = Unit {0}
 
 pub turn_then : (f : NodeForm) (u v : Common) → Later u v → (kept : List Value) → TurnFits f u kept → TurnFits f v kept
@@ -96,7 +96,7 @@ module _ (g : Setting) (shaped : Shaped g.script) (k : ℕ) (sh : Shape) (xs : N
     pub inner : (u : Common) (i j : ℕ) (env : Env) → has_inner (form_at sh.parts i) ≡ true → EnvFits u.cells (names_within (form_at sh.parts i) j (names_within sh.form i (names_after sh.parts i xs))) env → Goes g form.Block u (a.part (Inside j) i env)
     pub suffix : (u : Common) (i : ℕ) (env : Env) (v : Value) → There u.cells v → EnvFits u.cells (names_within sh.form i (names_after sh.parts i xs)) env → Goes g form.Block u (a.part (On v) i env)
     pub again : (u : Common) (i : ℕ) (kept : List Value) (env : Env) → EnvFits u.cells (turn_names sh.form sh.parts xs) env → TurnFits sh.form u kept → Goes g sh.form u (a.again i kept env)
-    pub call : (u : Common) (n : ℕ) (args : List Value) (env : Env) → CalleeFits g.script u n env → All (There u.cells) args → Goes g form.Block u (a.call n args env)
+    pub call : (u : Common) (n : ℕ) (args : List Value) (env : Env) → CalleeFits g.script u n env → AllAre (There u.cells) args → Goes g form.Block u (a.call n args env)
 
   -- a frame of this node that meets its row, with its variables
   pub sits_here : (u : Common) (d : FrameKind) (left : ℕ) (env : Env) (vs : List Value) → (frame_row d sh left env).stands ≡ true → left < (frame_row d sh left env).limit

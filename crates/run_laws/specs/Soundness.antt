@@ -1,7 +1,7 @@
 -- An evaluation that begins in a sound state goes to a later one, ends with what is there, and waits inside frames that fit
 -- (this product's own).
 use Rattle.std.specs.Prelude.{◌≡◌, ◌<◌, ℕ, zero, suc, Bool, true, false, List, [], ◌∷◌, length, Option, Some, None, slice_get, pos}
-use Rattle.std.specs.List.{AllByRecursion as All}
+use Rattle.std.specs.List.{AllByRecursion as AllAre}
 use Rattle.model_syntax.specs.declared.node.NodeForm.{NodeForm}
 use Rattle.model_syntax.specs.declared.node.NodeForm.TheVariants as form
 use Rattle.model_values.specs.Fitting.{There, HasVariable, HasText, HasClosure, HasThrowable, CellsFit}
@@ -64,12 +64,12 @@ pub record Sits (root : Term) (u : Common) (f : Frame) : Type 0 where
 -- A branch begins with a closure of the script, behind a flow node.
 pub record BranchFits (root : Term) (u : Common) (b : Branch) : Type 0 where
   pub closure : closure_rule root b.closure b.env
-  pub variables : All (λ x. HasVariable (slice_get u.cells x.cell)) b.env
+  pub variables : AllAre (λ x. HasVariable (slice_get u.cells x.cell)) b.env
   pub head : IsFlowNode u.nodes b.head
 
 abbrev pub AskedFits : Term → Common → Asked → Type 0
 AskedFits root u (ForRequest r) = Unit {0}
-AskedFits root u (ForBranches bs) = All (BranchFits root u) bs
+AskedFits root u (ForBranches bs) = AllAre (BranchFits root u) bs
 
 -- A node of this form ends with what is there; a declaration alone declares, and under its name.
 abbrev pub declares_as : NodeForm → List ℕ → Type 0
@@ -91,7 +91,7 @@ module _ (g : Setting) where
   pub record Sound (w : World) : Type 0 where
     pub setting : w.setting ≡ g
     pub cells : CellsFit (closure_rule g.script) w.shared.cells
-    pub binding : All (λ b. HasVariable (slice_get w.shared.cells b.cell)) w.shared.binding
+    pub binding : AllAre (λ b. HasVariable (slice_get w.shared.cells b.cell)) w.shared.binding
     pub head : IsFlowNode w.shared.nodes w.own.head
 
   -- a sound state, later than u, in which no answer is still to come
@@ -103,7 +103,7 @@ module _ (g : Setting) where
   -- what a node of form f comes to that begins behind u
   abbrev pub Holds : NodeForm → Common → Result → Type 0
   Holds f u (Ended e s) = At u s × EndFits f s.world.shared e
-  Holds f u (Waits asked path s) = At u s × AskedFits g.script s.world.shared asked × All (Sits g.script s.world.shared) path
+  Holds f u (Waits asked path s) = At u s × AskedFits g.script s.world.shared asked × AllAre (Sits g.script s.world.shared) path
   Holds f u (Limited k s) = Unit {0}
   Holds f u Unfinished = Unit {0}
 
