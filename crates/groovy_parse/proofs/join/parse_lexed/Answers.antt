@@ -1,8 +1,12 @@
 use Rattle.std.proofs.Common.{ap, subst, sym, Err}
 use Rattle.model_syntax.specs.FirstFault.{SyntaxPlace}
 use Rattle.std.proofs.lemmas.Result.{err_from_is_err_and}
+use Rattle.model_syntax.proofs.BracketDepthLaws.{lexed-shallow}
 use Rattle.groovy_parse.proofs.FirstFaults.{scope_first}
 use Rattle.groovy_parse.proofs.join.parse_lexed.Goals as goal
+
+pub parse_tokens-requires : goal.parse_tokens-requires
+parse_tokens-requires c = lexed-shallow c.requires
 
 pub returns-in_err-check-in-Ok-clause-refused : goal.returns-in_err-check-in-Ok-clause-refused
 returns-in_err-check-in-Ok-clause-refused c =
