@@ -50,8 +50,11 @@ fn run<R: Processes>(
     command.arg(wrapper(alloc, order)?)?;
     command.arg(control.path.as_str())?;
     command.current_dir(text(order.folder.as_slice())?)?;
-    for (name, value) in order.env.as_slice() {
-        command.env(text(name.as_slice())?, text(value.as_slice())?)?;
+    for variable in order.env.as_slice() {
+        command.env(
+            text(variable.name.as_slice())?,
+            text(variable.value.as_slice())?,
+        )?;
     }
     command.stdin(Stdio::null());
     command.stdout(Stdio::null());

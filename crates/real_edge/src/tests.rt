@@ -7,7 +7,7 @@ use std::alloc::{AllocError, Global};
 use std::test::Fail;
 use std::time::{Clock, Duration};
 use std::{env, fs, io};
-use task_host::{Bytes, Host, Look, Made, Order, Pairs, Started, Stream};
+use task_host::{Bytes, Host, Look, Made, Order, Pair, Pairs, Started, Stream, Text};
 
 // An order of task 2 with this script, whose workspace has this name in this test's folder.
 fn order(rt: &HostRuntime, workspace: &str, script: &str) -> io::Result<Order> {
@@ -20,7 +20,7 @@ fn order(rt: &HostRuntime, workspace: &str, script: &str) -> io::Result<Order> {
         executor: 0,
         workspace: Bytes::from_slice(alloc, workspace.as_bytes())?,
         folder: Bytes::from_slice(alloc, workspace.as_bytes())?,
-        env: Pairs::of(Vec::new(alloc)),
+        env: Pairs::new(alloc),
         script: Bytes::from_slice(alloc, script.as_bytes())?,
         keep_out: false,
         kept_log: 0,
@@ -198,12 +198,11 @@ fn paths_with_blanks_quotes_and_newlines(rt: HostRuntime) -> Result<(), Fail> {
 fn the_script_sees_the_environment(rt: HostRuntime) -> Result<(), Fail> {
     let alloc = rt.alloc();
     let mut order = order(&rt, "environment", "echo \"$NAME\"\n")?;
-    let mut pairs = Vec::new(alloc);
     for value in ["first", "a b"] {
-        let name = Bytes::from_slice(alloc, b"NAME")?;
-        pairs.push((name, Bytes::from_slice(alloc, value.as_bytes())?))?;
+        let name = Text::from_str(alloc, "NAME")?;
+        let value = Text::from_str(alloc, value)?;
+        order.env.push(Pair { name, value })?;
     }
-    order.env = Pairs::of(pairs);
     assert_eq!(rt; end_of(&rt, &order), Look::Exited(0));
     let log = written(&rt, &order, Stream::Log, 0)?;
     assert_eq!(rt; log.as_slice(), b"+ echo a b\na b\n".as_slice());

@@ -1,4 +1,4 @@
--- The first element that passes a test, after a write and after a push.
+-- The first element that passes a test, by its place and after a push.
 use Rattle.std.proofs.Common.{◌≡◌, ◌<◌, ℕ, zero, suc, ◌+◌, Bool, true, false, cond, List, [], ◌∷◌, ◌++◌, length, get_or, set, Option, Some, None, refl, sym, ◌∙◌, ap, arith}
 use Rattle.std.specs.Prelude.{find, position}
 use Rattle.std.specs.List.{position_from}
@@ -10,27 +10,11 @@ find_at p [] i d lt passes fails = absurd (omega arith)
 find_at p (x ∷ xs) zero d lt passes fails = rw passes refl
 find_at p (x ∷ xs) (suc i) d lt passes fails = rw (fails 0 (omega arith)) (find_at p xs i d (omega arith) passes (λ k less. fails (suc k) (omega arith)))
 
-find_at_set : {X : Type 0} (p : X → Bool) (xs : List X) (i : ℕ) (d y : X) → i < length xs → p y ≡ true → ((k : ℕ) → k < i → p (get_or xs k d) ≡ false) → find p (set xs i y) ≡ Some y
-find_at_set p [] i d y lt passes fails = absurd (omega arith)
-find_at_set p (x ∷ xs) zero d y lt passes fails = rw passes refl
-find_at_set p (x ∷ xs) (suc i) d y lt passes fails = rw (fails 0 (omega arith)) (find_at_set p xs i d y (omega arith) passes (λ k less. fails (suc k) (omega arith)))
-
 -- what stands at the place that was found
 pub find-position : {X : Type 0} (p : X → Bool) (xs : List X) (i : ℕ) (x : X) → position p xs ≡ Some i → x ≡ get_or xs i x → find p xs ≡ Some x
 find-position p xs i x is at =
     let facts = position-Some p xs i x is in
     find_at p xs i x facts.0 facts.1 facts.2 ∙ ap Some (sym at)
-
--- and after a write there
-pub find-position-set : {X : Type 0} (p : X → Bool) (xs : List X) (i : ℕ) (x y : X) → position p xs ≡ Some i → p y ≡ true → find p (set xs i y) ≡ Some y
-find-position-set p xs i x y is passes =
-    let facts = position-Some p xs i x is in find_at_set p xs i x y facts.0 passes facts.2
-
-pub find-set_other : {X : Type 0} (q : X → Bool) (xs : List X) (i : ℕ) (x y : X) → x ≡ get_or xs i x → q x ≡ false → q y ≡ false → find q (set xs i y) ≡ find q xs
-find-set_other q [] i x y at fails still = refl
-find-set_other q (z ∷ xs) zero x y at fails still =
-    let here : q z ≡ false = ap q (sym at) ∙ fails in rw still (rw here refl)
-find-set_other q (z ∷ xs) (suc i) x y at fails still = ap (λ (o : Option _). cond (q z) (Some z) o) (find-set_other q xs i x y at fails still)
 
 none_from : {X : Type 0} (p : X → Bool) (xs : List X) (n : ℕ) → position_from p n xs ≡ None → find p xs ≡ None
 none_from p [] n is = refl

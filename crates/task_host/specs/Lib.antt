@@ -1,3 +1,4 @@
 pub mod Host
+pub mod Tasks
 pub mod MemoryHost
 pub mod MemoryHostLaws

@@ -7,10 +7,10 @@ use Rattle.std.proofs.lemmas.List.{get_or_default}
 use Rattle.std.proofs.lemmas.List.Folds.{Any-from_list_any}
 use Rattle.task_host.specs.declared.outcome.TaskOutcome.{TaskOutcome}
 use Rattle.task_host.specs.Host.{IsIdle}
-use Rattle.task_host.specs.MemoryHost.{outcome_of, text_of, code_of, is_launched, written_by, ended_with}
+use Rattle.task_host.specs.Tasks.{outcome_of, text_of, code_of, is_launched, written_by, ended_with}
 
-launched_from : (task : ℕ) (launches : List ℕ) → is_launched task launches ≡ true → Contains launches task
-launched_from task launches is =
+pub contains_from : (task : ℕ) (launches : List ℕ) → is_launched task launches ≡ true → Contains launches task
+contains_from task launches is =
     let any = Any-from_list_any (λ t. nat_eq t task) launches is in
     let same = eqb-true any.1 task any.4 in
     (any.0, any.2, get_or_default launches any.0 task any.1 any.2 ∙ any.3 ∙ same)
@@ -20,7 +20,7 @@ pub idle_before_launch : (launches : List ℕ) (outcomes : List TaskOutcome) (ta
 idle_before_launch launches outcomes task not_there = by (is_launched task launches) refl
   where
     by : (b : Bool) → is_launched task launches ≡ b → IsIdle (ended_with launches outcomes task) (written_by launches outcomes task)
-    by true is = absurd (not_there (launched_from task launches is))
+    by true is = absurd (not_there (contains_from task launches is))
     by false is = record {
       output = λ stream. ap (λ b. if b then option_map_or (text_of stream) (outcome_of task outcomes) [] else []) is;
       exited = ap (λ b. if b then option_and_then code_of (outcome_of task outcomes) else None) is;

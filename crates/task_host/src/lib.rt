@@ -9,17 +9,16 @@
 //! certain calls, keeps a list of all calls, and can be handed from one life of the controller to the next.
 //!
 //! ```text
-//! let mut host = MemoryHost::new(alloc, Numbers::of(Vec::new(alloc)), outcomes);
+//! let mut host = MemoryHost::new(alloc, Numbers::new(alloc), outcomes);
 //! host.make_dir(&order);  // Made::Made, and Made::Exists when asked again
 //! host.start(&order);     // Started::Started: the task stands among the launches
-//! host.look(&order);      // Look::Running, and at last Look::Exited(code)
+//! host.look(&order);      // Look::Running, as often as its outcome says, and then Look::Exited(code)
 //! ```
 #![tactic(auto)]
 
 mod answers;
 mod call;
 mod host;
-mod lists;
 mod memory;
 mod order;
 mod outcome;
@@ -28,10 +27,13 @@ pub use answers::{Look, Made, Started};
 pub use call::Call;
 pub use device_faults::Failed;
 pub use host::Host;
-pub use lists::{Bytes, Numbers, Pairs};
 pub use memory::MemoryHost;
+pub use model_text::{Bytes, Pair, Pairs, Text};
 pub use order::{Order, Stream};
 pub use outcome::{TaskOutcome, TaskOutcomes};
+
+/// Numbers of calls.
+pub type Numbers = model_text::Sequence<u64>;
 
 #[cfg(test)]
 mod tests;

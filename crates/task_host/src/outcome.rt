@@ -1,7 +1,10 @@
 //! What the tasks of a host in memory do.
 
+ghost use Rattle.std.specs.Prelude.{◌≡◌};
+ghost use Rattle.task_host.specs.Tasks.{text_of};
+
 use crate::{Bytes, Stream};
-use std::marker::Model;
+use model_text::Sequence;
 
 /// What a task does once it was launched.
 #[derive(Drop)]
@@ -19,9 +22,6 @@ pub struct TaskOutcome {
 }
 
 impl TaskOutcome {
-    ghost use Rattle.std.specs.Prelude.{◌≡◌};
-    ghost use Rattle.task_host.specs.MemoryHost.{text_of};
-
     /// What the task writes to this stream.
     pub fn text(&self, stream: Stream) -> &[u8]
         ensures { result.now ≡ text_of stream self.now }
@@ -34,35 +34,4 @@ impl TaskOutcome {
 }
 
 /// Outcomes. Of two of one task the first counts; a task with none runs for ever and writes nothing.
-#[derive(Drop)]
-pub struct TaskOutcomes {
-    outcomes: Vec<TaskOutcome>,
-}
-
-impl Model for TaskOutcomes {
-    ghost use Rattle.std.specs.Prelude.{List};
-    ghost use Rattle.task_host.specs.declared.outcome.TaskOutcome.{TaskOutcome};
-
-    ghost Value = { List TaskOutcome };
-
-    ghost view = { λ o. o.outcomes.items };
-}
-
-impl TaskOutcomes {
-    ghost use Rattle.std.specs.Prelude.{◌≡◌};
-
-    /// These outcomes.
-    pub fn of(outcomes: Vec<TaskOutcome>) -> TaskOutcomes
-        ensures { result ≡ outcomes.items }
-    {
-        TaskOutcomes { outcomes }
-    }
-
-    /// The outcomes, without a copy.
-    pub fn into_vec(self) -> Vec<TaskOutcome>
-        ensures { result.items ≡ self }
-    {
-        let TaskOutcomes { outcomes } = self;
-        outcomes
-    }
-}
+pub type TaskOutcomes = Sequence<TaskOutcome>;

@@ -10,7 +10,7 @@ fn order(alloc: Global, task: u32) -> Result<Order, AllocError> {
         executor: 0,
         workspace: Bytes::from_slice(alloc, b"/w/workspace/demo")?,
         folder: Bytes::from_slice(alloc, b"/w/workspace/demo")?,
-        env: Pairs::of(Vec::new(alloc)),
+        env: Pairs::new(alloc),
         script: Bytes::from_slice(alloc, b"make")?,
         keep_out: false,
         kept_log: 0,
@@ -35,8 +35,8 @@ fn host(
     };
     Ok(MemoryHost::new(
         alloc,
-        Numbers::of(Vec::from_slice(alloc, fail_at)?),
-        TaskOutcomes::of(vec![in alloc; outcome]?),
+        Numbers::from_slice(alloc, fail_at)?,
+        TaskOutcomes::from_vec(vec![in alloc; outcome]?),
     ))
 }
 
@@ -125,8 +125,8 @@ fn an_echoing_host_writes_the_number(rt: HostRuntime) -> Result<(), Fail> {
 
 #[test]
 fn the_next_life_finds_folders_and_launches(rt: HostRuntime) -> Result<(), Fail> {
-    let none = TaskOutcomes::of(Vec::new(rt.alloc()));
-    let mut first = MemoryHost::new(rt.alloc(), Numbers::of(Vec::new(rt.alloc())), none);
+    let none = TaskOutcomes::new(rt.alloc());
+    let mut first = MemoryHost::new(rt.alloc(), Numbers::new(rt.alloc()), none);
     let order = order(rt.alloc(), 2)?;
     assert_eq!(rt; first.make_dir(&order), Made::Made);
     assert_eq!(rt; first.start(&order), Started::Started);

@@ -1,13 +1,14 @@
-use Rattle.std.proofs.Common.{List, ℕ, subst}
-use Rattle.task_host.specs.Host.{TellsState}
-use Rattle.task_host.specs.MemoryHost.{ended_with}
+use Rattle.task_host.proofs.HostLemmas.{look_state, look_launches, look_dirs, looks_go_on}
 use Rattle.task_host.proofs.memory.MemoryHostHost.look.Goals as goal
 
 pub returns-clause-state : goal.returns-clause-state
-returns-clause-state c = λ honest.
-    let s = c.args.self.now in
-    let now = c.look_at-answer.new.outcomes.items in
-    let task = c.args.order.now.task in
-    let answer = c.look_at-answer.result in
-    subst (λ (dirs : List ℕ). TellsState task dirs s.launches.items (ended_with s.launches.items s.outcomes.items task) (ended_with s.launches.items now task) answer) c.deref.ensures.value
-    (subst (λ (launches : List ℕ). TellsState task c.deref.result.now launches (ended_with launches s.outcomes.items task) (ended_with launches now task) answer) c.deref-2.ensures.value c.look_at-answer.ensures.state)
+returns-clause-state c = λ honest. look_state c.args.order.now.task c.args.self.now.tasks c.look-answer.new.self c.look-answer.result c.look-answer.ensures.looks
+
+pub returns-clause-launches : goal.returns-clause-launches
+returns-clause-launches c = look_launches c.args.order.now.task c.args.self.now.tasks c.look-answer.new.self c.look-answer.result c.look-answer.ensures.looks
+
+pub returns-clause-folders : goal.returns-clause-folders
+returns-clause-folders c = λ honest. look_dirs c.args.order.now.task c.args.self.now.tasks c.look-answer.new.self c.look-answer.result c.look-answer.ensures.looks
+
+pub returns-clause-output : goal.returns-clause-output
+returns-clause-output c = λ honest. looks_go_on c.args.order.now.task c.args.self.now.tasks c.look-answer.new.self c.look-answer.result c.look-answer.ensures.looks

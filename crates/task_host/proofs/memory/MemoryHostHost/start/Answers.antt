@@ -1,11 +1,14 @@
-use Rattle.std.proofs.Common.{List, ℕ, subst}
-use Rattle.task_host.specs.Host.{Launches}
-use Rattle.task_host.proofs.OutcomeLemmas.{launch_goes_on}
+use Rattle.task_host.proofs.HostLemmas.{starts_at_most, starts_launches, start_dirs, start_goes_on}
 use Rattle.task_host.proofs.memory.MemoryHostHost.start.Goals as goal
 
+pub returns-clause-launches : goal.returns-clause-launches
+returns-clause-launches c = starts_at_most c.args.order.now.task c.args.self.now.tasks c.start-answer.new.self c.start-answer.result c.start-answer.ensures.starts
+
 pub returns-clause-launched : goal.returns-clause-launched
-returns-clause-launched c = λ honest.
-    subst (λ (dirs : List ℕ). Launches c.args.order.now.task dirs c.args.self.now.launches.items c.launch-answer.new.launches.items c.launch-answer.result) c.deref.ensures.value c.launch-answer.ensures.launched
+returns-clause-launched c = λ honest. starts_launches c.args.order.now.task c.args.self.now.tasks c.start-answer.new.self c.start-answer.result c.start-answer.ensures.starts
+
+pub returns-clause-folders : goal.returns-clause-folders
+returns-clause-folders c = λ honest. start_dirs c.args.order.now.task c.args.self.now.tasks c.start-answer.new.self c.start-answer.result c.start-answer.ensures.starts
 
 pub returns-clause-output : goal.returns-clause-output
-returns-clause-output c = λ honest. launch_goes_on c.args.order.now.task c.args.self.now.launches.items c.launch-answer.new.launches.items c.args.self.now.outcomes.items c.prepare-ready.new.outcomes.items c.launch-answer.ensures.at_most c.prepare-ready.ensures
+returns-clause-output c = λ honest. start_goes_on c.args.order.now.task c.args.self.now.tasks c.start-answer.new.self c.start-answer.result c.start-answer.ensures.starts
