@@ -1,6 +1,4 @@
 // What the calls of a journal answer where they fail.
-use device_faults::Failed;
-use std::alloc::{AllocError, AllocFailed};
 use thiserror::Error;
 
 #[derive(Clone, Copy, Debug, PartialEq, Eq, Error)]
@@ -11,17 +9,6 @@ pub enum CreateFault {
     /// Byte 0 of the file is 1, and the file has six bytes or more.
     #[error("the file has a record")]
     HasRecord,
-}
-
-impl From<Failed> for CreateFault {
-    ghost use Rattle.std.specs.Prelude.{◌≡◌};
-    ghost use Rattle.journal_core.specs.declared.faults.CreateFault.TheVariants.{Disk};
-
-    ghost from_gives = { λ _ fault. fault ≡ Disk };
-
-    fn from(_: Failed) -> CreateFault {
-        CreateFault::Disk
-    }
 }
 
 #[derive(Clone, Copy, Debug, PartialEq, Eq, Error)]
@@ -39,28 +26,6 @@ pub enum OpenFault {
     Damaged { at: u64 },
 }
 
-impl From<Failed> for OpenFault {
-    ghost use Rattle.std.specs.Prelude.{◌≡◌};
-    ghost use Rattle.journal_core.specs.declared.faults.OpenFault.TheVariants.{Disk};
-
-    ghost from_gives = { λ _ fault. fault ≡ Disk };
-
-    fn from(_: Failed) -> OpenFault {
-        OpenFault::Disk
-    }
-}
-
-impl<T: Drop> From<AllocFailed<T>> for OpenFault {
-    ghost use Rattle.std.specs.Prelude.{◌≡◌};
-    ghost use Rattle.journal_core.specs.declared.faults.OpenFault.TheVariants.{Memory};
-
-    ghost from_gives = { λ _ fault. fault ≡ Memory };
-
-    fn from(_: AllocFailed<T>) -> OpenFault {
-        OpenFault::Memory
-    }
-}
-
 #[derive(Clone, Copy, Debug, PartialEq, Eq, Error)]
 pub enum ReadFault {
     #[error("out of memory")]
@@ -68,28 +33,6 @@ pub enum ReadFault {
     /// A call of the disk failed.
     #[error("the disk failed")]
     Disk,
-}
-
-impl From<Failed> for ReadFault {
-    ghost use Rattle.std.specs.Prelude.{◌≡◌};
-    ghost use Rattle.journal_core.specs.declared.faults.ReadFault.TheVariants.{Disk};
-
-    ghost from_gives = { λ _ fault. fault ≡ Disk };
-
-    fn from(_: Failed) -> ReadFault {
-        ReadFault::Disk
-    }
-}
-
-impl From<AllocError> for ReadFault {
-    ghost use Rattle.std.specs.Prelude.{◌≡◌};
-    ghost use Rattle.journal_core.specs.declared.faults.ReadFault.TheVariants.{Memory};
-
-    ghost from_gives = { λ _ fault. fault ≡ Memory };
-
-    fn from(_: AllocError) -> ReadFault {
-        ReadFault::Memory
-    }
 }
 
 #[derive(Clone, Copy, Debug, PartialEq, Eq, Error)]
@@ -105,15 +48,4 @@ pub enum AppendFault {
     /// An earlier append on this journal answered `Disk`.
     #[error("the journal is stopped")]
     Stopped,
-}
-
-impl From<AllocError> for AppendFault {
-    ghost use Rattle.std.specs.Prelude.{◌≡◌};
-    ghost use Rattle.journal_core.specs.declared.faults.AppendFault.TheVariants.{Memory};
-
-    ghost from_gives = { λ _ fault. fault ≡ Memory };
-
-    fn from(_: AllocError) -> AppendFault {
-        AppendFault::Memory
-    }
 }

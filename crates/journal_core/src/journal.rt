@@ -115,8 +115,12 @@ impl<D: Disk> Journal<D> {
         ensures same { (self.new.len ≡ self.old.len) × (self.new.stopped ≡ self.old.stopped) }
         ensures cause { IsErrOf result ReadFault.Disk → Rose (D.faults self.old.disk) (D.faults self.new.disk) }
     {
-        let mut bytes = zeros(alloc, entry.len as usize)?;
-        read_exact(&mut self.disk, entry.at + 5, &mut bytes)?;
+        let Ok(mut bytes) = zeros(alloc, entry.len as usize) else {
+            return Err(ReadFault::Memory);
+        };
+        let Ok(()) = read_exact(&mut self.disk, entry.at + 5, &mut bytes) else {
+            return Err(ReadFault::Disk);
+        };
         Ok(Bytes::from_vec(bytes))
     }
 
@@ -147,7 +151,9 @@ impl<D: Disk> Journal<D> {
         if add > MAX_LENGTH || len > MAX_LENGTH - add {
             return Err(AppendFault::Full { len, add });
         }
-        let block = spell(alloc, payload)?;
+        let Ok(block) = spell(alloc, payload) else {
+            return Err(AppendFault::Memory);
+        };
         if let Err(_) = write_record(&mut self.disk, len - 1, &block) {
             self.stopped = true;
             return Err(AppendFault::Disk);

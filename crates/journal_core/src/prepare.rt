@@ -22,8 +22,10 @@ fn close_first<D: Disk>(disk: &mut D) -> Result<(), CreateFault>
     ensures never_falls { D.faults disk.old ≤ D.faults disk.new }
     ensures cause { IsErrOf result CreateFault.Disk → Rose (D.faults disk.old) (D.faults disk.new) }
 {
-    write_durably(disk, 0, &[0])?;
-    Ok(())
+    match write_durably(disk, 0, &[0]) {
+        Ok(()) => Ok(()),
+        Err(_) => Err(CreateFault::Disk),
+    }
 }
 
 /// Makes sure that the file has no record and begins with a closed gate, all of it durable.
@@ -35,12 +37,16 @@ pub fn prepare<D: Disk>(disk: &mut D) -> Result<(), CreateFault>
     ensures within { OnOk result (0 < D.end disk.new) }
     ensures cause { IsErrOf result CreateFault.Disk → Rose (D.faults disk.old) (D.faults disk.new) }
 {
-    let end = settle(disk)?;
+    let Ok(end) = settle(disk) else {
+        return Err(CreateFault::Disk);
+    };
     if end == 0 {
         return close_first(disk);
     }
     let mut gate = [0; 1];
-    read_exact(disk, 0, &mut gate)?;
+    let Ok(()) = read_exact(disk, 0, &mut gate) else {
+        return Err(CreateFault::Disk);
+    };
     if gate[0] != 1 {
         return Ok(());
     }

@@ -30,11 +30,16 @@ fn walk_gates<D: Disk>(
     let mut entries = Vec::new(alloc);
     let mut at = 0;
     loop {
-        match read_head(disk, at, end)? {
+        let Ok(head) = read_head(disk, at, end) else {
+            return Err(OpenFault::Disk);
+        };
+        match head {
             Head::Closed => return Ok((at, entries)),
             Head::Cut => return Err(OpenFault::Damaged { at }),
             Head::Open { len } => {
-                entries.push(Record { at, len })?;
+                let Ok(()) = entries.push(Record { at, len }) else {
+                    return Err(OpenFault::Memory);
+                };
                 at += 5 + len as u64;
             }
         }
@@ -52,7 +57,9 @@ pub fn load<D: Disk>(alloc: Global, disk: &mut D) -> Result<(u64, Vec<Record>), 
     ensures each { IfOk result (λ found. All (λ entry. entry.at + 5 + entry.len < found.0) found.1.items) }
     ensures cause { IsErrOf result OpenFault.Disk → Rose (D.faults disk.old) (D.faults disk.new) }
 {
-    let end = settle(disk)?;
+    let Ok(end) = settle(disk) else {
+        return Err(OpenFault::Disk);
+    };
     if end < 6 {
         return Err(OpenFault::Empty);
     }

@@ -18,7 +18,7 @@ returns-clause-found g c file told =
     let told_e : g.D.Disk.reads c.settle.new.disk ≡ Some file = c.settle.ensures.told ∙ told in
     let found = c.in_ok-place.ensures.found file told_e in
     let some : 0 < length c.in_ok-place.entries.items = search rules in
-    let only = c.in_ok-end.ensures.durable file told in
+    let only = c.in-Ok.ensures.durable file told in
     record {
       payloads = found.0;
       some = omega (arith, some, ap length found.2, length-entries 0 found.0);

@@ -12,38 +12,38 @@ use Rattle.journal_core.proofs.walk.walk_gates.Goals as goal
 
 pub returns-in-Cut-clause-found : goal.returns-in-Cut-clause-found
 returns-in-Cut-clause-found g c file told =
-    let inv = c.loop-entries.invariant in
-    let at = c.loop-entries.at in
+    let inv = c.loop-head.invariant in
+    let at = c.loop-head.at in
     let told_at = inv.quiet.told ∙ told in
     let so_far = inv.read file told in
     let size : c.args.end ≡ length file = c.requires.end ∙ if_told (λ (f : List ℕ). g.D.Disk.end c.args.disk.now ≡ length f) told (g.met.D.Disk.told_end c.args.disk.now) in
     let inside : at < length file = omega (arith, inv.within, size) in
-    let head = subst (λ (h : Head). IsHead file at h) c.in-Cut.is (c.in_ok-read_head.ensures.found file told_at) in
+    let head = subst (λ (h : Head). IsHead file at h) c.in-Cut.is (c.in-Ok.ensures.found file told_at) in
     (so_far.0, record_cut file at so_far.0 inside so_far.1 head.0 (omega (arith, c.requires.room, size)) head.1, so_far.1.stands)
 
 pub returns-in-Closed-clause-found : goal.returns-in-Closed-clause-found
 returns-in-Closed-clause-found g c file told =
-    let inv = c.loop-entries.invariant in
-    let at = c.loop-entries.at in
+    let inv = c.loop-head.invariant in
+    let at = c.loop-head.at in
     let told_at = inv.quiet.told ∙ told in
     let so_far = inv.read file told in
     let size : c.args.end ≡ length file = c.requires.end ∙ if_told (λ (f : List ℕ). g.D.Disk.end c.args.disk.now ≡ length f) told (g.met.D.Disk.told_end c.args.disk.now) in
     let inside : at < length file = omega (arith, inv.within, size) in
-    let head = subst (λ (h : Head). IsHead file at h) c.in-Closed.is (c.in_ok-read_head.ensures.found file told_at) in
+    let head = subst (λ (h : Head). IsHead file at h) c.in-Closed.is (c.in-Ok.ensures.found file told_at) in
     (so_far.0, gate_closed file at so_far.0 inside so_far.1 head, so_far.2)
 
-pub loop-entries-preserved : goal.loop-entries-preserved
-loop-entries-preserved g c =
-    let inv = c.loop-entries.invariant in
-    let at = c.loop-entries.at in
+pub loop-head-preserved : goal.loop-head-preserved
+loop-head-preserved g c =
+    let inv = c.loop-head.invariant in
+    let at = c.loop-head.at in
     let len = c.in-Open.len in
-    let room : at + 5 + len < c.args.end = subst (λ (h : Head). HeadEnds at c.args.end h) c.in-Open.is c.in_ok-read_head.ensures.within in
+    let room : at + 5 + len < c.args.end = subst (λ (h : Head). HeadEnds at c.args.end h) c.in-Open.is c.in-Ok.ensures.within in
     record {
       within = omega (arith, room);
-      quiet = only_reads_then g.D.Disk.reads g.D.Disk.may_leave g.D.Disk.clock g.D.Disk.may_have_left_since g.D.Disk.end c.args.disk.now c.loop-entries.disk c.read_head.new.disk inv.quiet c.read_head.ensures.quiet;
-      each = subst (λ (l : List Record). All (λ (entry : Record). entry.at + 5 + entry.len ≤ at + (5 + len)) l) (sym c.in_ok-push-in-Open.ensures.items)
-          (All-push (λ (entry : Record). entry.at + 5 + entry.len ≤ at + (5 + len)) c.loop-entries.entries.items (record { at = at; len = len })
-          (All-weaker (λ (entry : Record). entry.at + 5 + entry.len ≤ at) (λ (entry : Record). entry.at + 5 + entry.len ≤ at + (5 + len)) (λ entry le. omega (arith, le)) c.loop-entries.entries.items inv.each)
+      quiet = only_reads_then g.D.Disk.reads g.D.Disk.may_leave g.D.Disk.clock g.D.Disk.may_have_left_since g.D.Disk.end c.args.disk.now c.loop-head.disk c.read_head.new.disk inv.quiet c.read_head.ensures.quiet;
+      each = subst (λ (l : List Record). All (λ (entry : Record). entry.at + 5 + entry.len ≤ at + (5 + len)) l) (sym c.in-Ok-push.ensures.items)
+          (All-push (λ (entry : Record). entry.at + 5 + entry.len ≤ at + (5 + len)) c.loop-head.entries.items (record { at = at; len = len })
+          (All-weaker (λ (entry : Record). entry.at + 5 + entry.len ≤ at) (λ (entry : Record). entry.at + 5 + entry.len ≤ at + (5 + len)) (λ entry le. omega (arith, le)) c.loop-head.entries.items inv.each)
           (omega arith));
       faults = omega (arith, inv.faults, c.read_head.ensures.cause.never_falls);
       read = λ file told.
@@ -51,9 +51,9 @@ loop-entries-preserved g c =
           let so_far = inv.read file told in
           let size : c.args.end ≡ length file = c.requires.end ∙ if_told (λ (f : List ℕ). g.D.Disk.end c.args.disk.now ≡ length f) told (g.met.D.Disk.told_end c.args.disk.now) in
           let inside : at < length file = omega (arith, inv.within, size) in
-          let head = subst (λ (h : Head). IsHead file at h) c.in-Open.is (c.in_ok-read_head.ensures.found file told_at) in
+          let head = subst (λ (h : Head). IsHead file at h) c.in-Open.is (c.in-Ok.ensures.found file told_at) in
           let p = payload_read file at so_far.0 inside so_far.1 len in
-          let pushed : c.push.new.self.items ≡ c.loop-entries.entries.items ++ record { at = at; len = len } ∷ [] = c.in_ok-push-in-Open.ensures.items in
+          let pushed : c.push.new.self.items ≡ c.loop-head.entries.items ++ record { at = at; len = len } ∷ [] = c.in-Ok-push.ensures.items in
           let place : at ≡ 0 + length (framed so_far.0) = omega (arith, so_far.1.stands) in (
             so_far.0 ++ p ∷ [],
             record_read file at so_far.0 inside so_far.1 len head.0 head.1 head.2 head.3,

@@ -6,8 +6,8 @@ use Rattle.journal_core.specs.Answers.{entries_of}
 use Rattle.journal_core.specs.Finding.{ReadTo}
 use Rattle.journal_core.proofs.walk.walk_gates.Given as goal
 
-abbrev pub invariant-loop-entries : goal.invariant-loop-entries
-invariant-loop-entries g l = record {
+abbrev pub invariant-loop-head : goal.invariant-loop-head
+invariant-loop-head g l = record {
   within : l.at < l.end;
   quiet : OnlyReads g.D.Disk.reads g.D.Disk.may_leave g.D.Disk.clock g.D.Disk.may_have_left_since g.D.Disk.end l.fn.disk l.disk;
   each : All (λ (entry : Record). entry.at + 5 + entry.len ≤ l.at) l.entries.items;
@@ -15,5 +15,5 @@ invariant-loop-entries g l = record {
   read : (file : List ℕ) → g.D.Disk.reads l.fn.disk ≡ Some file → (payloads : List (List ℕ)) × ReadTo file l.at payloads × (l.entries.items ≡ entries_of 0 payloads);
 }
 
-abbrev pub decreases-loop-entries : goal.decreases-loop-entries
-decreases-loop-entries g l = l.end - l.at
+abbrev pub decreases-loop-head : goal.decreases-loop-head
+decreases-loop-head g l = l.end - l.at
