@@ -105,7 +105,6 @@ fn each_call_fails_in_its_turn(rt: HostRuntime) -> Result<(), Fail> {
         );
         assert_eq!(rt; host.remove(&order) == Err(Failed), at == 5);
         assert_eq!(rt; host.launches().is_empty(), at <= 2);
-        assert_eq!(rt; host.refused(), 0);
     }
     Ok(())
 }
