@@ -18,17 +18,20 @@ use Rattle.model_syntax.specs.declared.tree.Target.{Target}
 use Rattle.model_syntax.specs.declared.tree.Expr.{Expr}
 use Rattle.model_syntax.specs.declared.tree.Expr.TheVariants.{Variable}
 use Rattle.model_syntax.specs.declared.tree.Stmt.{Stmt}
+use Rattle.model_syntax.specs.declared.tree.Assignment.{Assignment}
+use Rattle.model_syntax.specs.declared.tree.Init.{Init}
+use Rattle.model_syntax.specs.declared.tree.Init.TheVariants as head
 use Rattle.model_syntax.specs.declared.tree.Function.{Function}
 use Rattle.model_syntax.specs.declared.tree.Top.{Top}
 use Rattle.model_syntax.specs.declared.tree.Tree.{Tree}
 use Rattle.std.specs.Prelude.{option_map}
 use Rattle.model_syntax.specs.Stream.{Stream, Places, declared}
-use Rattle.model_syntax.specs.Operators.{Chain, by_or, by_and, Terms, Rank, chosen, chained, joined, suffixed, prefixed, operand, with_closure}
+use Rattle.model_syntax.specs.Operators.{Chain, by_or, by_and, Terms, Rank, chosen, chained, joined, suffixed, prefixed, operand, with_closure, for_steps}
 use Rattle.model_syntax.specs.Grammar.{MayBreak, no_break, break, MaySeparate, no_separator, separator_line, separator_sign, Separates, separates_line, separates_sign, Prefixes, prefixes_none, prefixes_more, NameList, names_last, names_more, Heads, heads_none, heads_names, heads_typed, Dotted, dotted_none, dotted_more, Catches, catches_plain, catches_exception, catches_throwable, MayComma, no_comma, comma_behind, IsExpr, whole, chain, pair_alone, pair, terms, unary, Choices, choices_none, choices_true, choices_set, ChainRest, chain_end, chain_more, TermsRest, terms_end, terms_more, Suffixes, suffixes_none, suffixes_property, suffixes_method, suffixes_index, IsCall, call_empty, call_some, call_closure, MayClose, no_closure, closure_behind, IsArguments, arguments_named, arguments_ordered, IsNamed, named_by_name, named_by_text, NamedList, named_last, named_more, ExprList, exprs_last, exprs_more, IsPrimary, primary_number, primary_text, primary_gstring, primary_true, primary_false, primary_null, primary_name, primary_call, primary_group, primary_no_list, primary_list, primary_no_map, primary_map, primary_closure, primary_new, primary_new_with, IsGString, gstring, Parts, parts_none, parts_plain, parts_braces, parts_path, IsEntry, entry_named, entry_number, entry_gstring, entry_group, EntryList, entries_last, entries_more, IsClosure, closure_headed, closure_plain, IsWhole, whole_call, whole_expr, IsTarget, target_name, target_property, target_index, IsAssign, assign_value, assign_up, assign_down, IsSimple, simple_def, simple_declare, simple_assign, simple_evaluate, simple_return, simple_return_value, simple_break, simple_continue, simple_throw, IsStmt, stmt_if, stmt_while, stmt_for_each, stmt_for_steps, stmt_try_catch, stmt_try_finally, stmt_simple, IsArm, arm, ElseIfs, no_else_if, else_if, MayElse, no_else, else_body, IsEach, each_plain, each_typed, IsInit, init_declare, init_assign, IsCatch, catch, CatchList, no_catch, catch_more, IsFinally, finally, MayFinally, no_finally, finally_behind, IsBody, body_block, body_simple, IsBlock, block, IsStmts, stmts_none, stmts_some, StmtsRest, stmts_end, stmts_more}
 use Rattle.model_syntax.specs.Scripts.{IsParameter, parameter_plain, parameter_typed, ParameterList, parameters_last, parameters_more, Parameters, no_parameters, some_parameters, IsFunction, function, IsTop, top_function, top_statement, TopsRest, tops_end, tops_more, Tops, tops_none, tops_some, IsScript}
-use Rattle.model_syntax.specs.Scopes.{Mark, Marks, all, loop, callable, heads, block_if_any, block_begins, loop_begins, callable_begins, scope_ends, declares, declares_it, declares_function, breaks, continues, choice_marks, entry_marks, expr_marks, part_marks, stmt_marks, suffix_marks, target_marks, arguments_marks, arm_marks, catch_marks, operand_marks, function_marks, top_marks, tree_marks}
+use Rattle.model_syntax.specs.Scopes.{Mark, Marks, all, loop, callable, heads, block_if_any, block_begins, loop_begins, callable_begins, scope_ends, declares, declares_it, declares_function, breaks, continues, assignment_marks, choice_marks, entry_marks, expr_marks, part_marks, stmt_marks, suffix_marks, target_marks, arguments_marks, arm_marks, catch_marks, operand_marks, function_marks, top_marks, tree_marks}
 use Rattle.model_syntax.specs.Scopes as scopes
-use Rattle.model_syntax.proofs.ScopeLaws.{choice-IfTrue, choice-IfSet, entry-Named, entry-Numbered, entry-Computed, expr-Number, expr-Literal, expr-GString, expr-True, expr-False, expr-Null, expr-Variable, expr-Call, expr-Group, expr-List, expr-Map, expr-Closure, expr-New, expr-Suffixed, expr-Prefixed, expr-Joined, expr-And, expr-Or, expr-Chosen, part-Plain, part-Inner, stmt-If, stmt-While, stmt-ForEach, stmt-ForSteps, stmt-Try, stmt-Declare, stmt-Assign, stmt-Increment, stmt-Decrement, stmt-Evaluate, stmt-Return, stmt-Break, stmt-Continue, stmt-Throw, suffix-Property, suffix-Method, suffix-Index, target-ToName, target-ToProperty, target-ToIndex, arguments-is, arm-is, catch-is, operand-is}
+use Rattle.model_syntax.proofs.ScopeLaws.{assignment-Write, assignment-Increment, assignment-Decrement, choice-IfTrue, choice-IfSet, entry-Named, entry-Numbered, entry-Computed, expr-Number, expr-Literal, expr-GString, expr-True, expr-False, expr-Null, expr-Variable, expr-Call, expr-Group, expr-List, expr-Map, expr-Closure, expr-New, expr-Suffixed, expr-Prefixed, expr-Joined, expr-And, expr-Or, expr-Chosen, part-Plain, part-Inner, stmt-If, stmt-While, stmt-ForEach, stmt-ForDeclared, stmt-ForSteps, stmt-Try, stmt-Declare, stmt-Assign, stmt-Evaluate, stmt-Return, stmt-Break, stmt-Continue, stmt-Throw, suffix-Property, suffix-Method, suffix-Index, target-ToName, target-ToProperty, target-ToIndex, arguments-is, arm-is, catch-is, operand-is}
 
 -- The place of a mark, if it has one.
 abbrev pub place_of : Mark → Option Place
@@ -66,6 +69,15 @@ suffixed-marks e (s ∷ ss) = expr-Suffixed e (s ∷ ss)
 prefixed-marks : (ps : List Prefix) (e : Expr) → expr_marks (prefixed ps e) ≡ expr_marks e
 prefixed-marks [] e = refl
 prefixed-marks (p ∷ ps) e = expr-Prefixed (p ∷ ps) e
+
+-- the first part of a `for` with steps, and the whole of it
+abbrev head_marks : Init → Marks
+head_marks (head.Declare d v) = declares d ∷ expr_marks v
+head_marks (head.Assign u) = assignment_marks u
+
+for_steps-marks : (i : Init) (e : Expr) (u : Assignment) (ss : List Stmt) → stmt_marks (for_steps i e u ss) ≡ scopes.block (head_marks i ∷ expr_marks e ∷ assignment_marks u ∷ loop (map stmt_marks ss) ∷ [])
+for_steps-marks (head.Declare d v) e u ss = stmt-ForDeclared d v e u ss
+for_steps-marks (head.Assign i) e u ss = stmt-ForSteps i e u ss
 
 all-append : (xs ys : List Marks) → all (xs ++ ys) ≡ all xs ++ all ys
 all-append [] ys = refl
@@ -265,15 +277,15 @@ module _ {K : Stream} {P : Places} where
     target (target_property {e = e} {ss = ss} {n = n} x s d k) = along (target-ToProperty (suffixed e ss) n ∙ suffixed-marks e ss) (right (join (primary x) (suffixes s)) (omega arith))
     target (target_index {e = e} {i = i} {ss = ss} x s o y c) = along (target-ToIndex (suffixed e ss) i ∙ ap (λ m. m ++ expr_marks i) (suffixed-marks e ss)) (join (join (primary x) (suffixes s)) (widen (expression y) (omega arith) (omega arith)))
 
-    assign : {s : Stmt} {a b : ℕ} → IsAssign K P s a b → Placed P (stmt_marks s) a b
-    assign (assign_value {t = t} {o = o} {e = e} x s i y) = along (stmt-Assign t o e) (join (target x) (left (whole_value y) (omega arith)))
-    assign (assign_up {t = t} x s) = along (stmt-Increment t) (right (target x) (omega arith))
-    assign (assign_down {t = t} x s) = along (stmt-Decrement t) (right (target x) (omega arith))
+    assign : {u : Assignment} {a b : ℕ} → IsAssign K P u a b → Placed P (assignment_marks u) a b
+    assign (assign_value {t = t} {o = o} {e = e} x s i y) = along (assignment-Write t o e) (join (target x) (left (whole_value y) (omega arith)))
+    assign (assign_up {t = t} x s) = along (assignment-Increment t) (right (target x) (omega arith))
+    assign (assign_down {t = t} x s) = along (assignment-Decrement t) (right (target x) (omega arith))
 
     simple : {s : Stmt} {a b : ℕ} → IsSimple K P s a b → Placed P (stmt_marks s) a b
     simple (simple_def {n = n} {a = a} w k) = along (stmt-Declare (declared n (P (a + 1))) None) (placed_here (a + 1) refl (omega arith) (placed_none (omega arith)))
     simple (simple_declare {n = n} {e = e} {a = a} t k s x) = along (stmt-Declare (declared n (P (a + 1))) (Some e)) (placed_here (a + 1) refl (omega arith) (left (whole_value x) (omega arith)))
-    simple (simple_assign n x) = assign x
+    simple (simple_assign {u = u} n x) = along (stmt-Assign u) (assign x)
     simple (simple_evaluate {e = e} n x) = along (stmt-Evaluate e) (whole_value x)
     simple (simple_return w) = along (stmt-Return None) (placed_none (omega arith))
     simple (simple_return_value {e = e} w x) = along (stmt-Return (Some e)) (left (whole_value x) (omega arith))
@@ -288,7 +300,7 @@ module _ {K : Stream} {P : Places} where
         along (stmt-ForEach d e ss) (in_block ((declares d ∷ []) ∷ expr_marks e ∷ loop (map stmt_marks ss) ∷ [])
         (join (left (each x) (omega arith)) (left (alone (in_loop (map stmt_marks ss) (body r))) (omega (arith, break-span m)))))
     statement (stmt_for_steps {i = i} {u = u} {e = e} {ss = ss} w o x s y t z c m r) =
-        along (stmt-ForSteps i e u ss) (in_block (stmt_marks i ∷ expr_marks e ∷ stmt_marks u ∷ loop (map stmt_marks ss) ∷ [])
+        along (for_steps-marks i e u ss) (in_block (head_marks i ∷ expr_marks e ∷ assignment_marks u ∷ loop (map stmt_marks ss) ∷ [])
         (join (left (init x) (omega arith)) (join (left (expression y) (omega arith)) (join (left (assign z) (omega arith)) (left (alone (in_loop (map stmt_marks ss) (body r))) (omega (arith, break-span m)))))))
     statement (stmt_try_catch {ss = ss} {c = c} {cs = cs} {o = o} w m x y r f) =
         along (stmt-Try ss (c ∷ cs) o) (join (left (in_block (map stmt_marks ss) (block_body x)) (omega (arith, break-span m))) (join (join (catch_block y) (catch_list r)) (may_finally f)))
@@ -311,8 +323,8 @@ module _ {K : Stream} {P : Places} where
     each (each_plain {a = a} k w x) = placed_here a refl (omega arith) (left (expression x) (omega arith))
     each (each_typed {a = a} t k w x) = placed_here (a + 1) refl (omega arith) (left (expression x) (omega arith))
 
-    init : {s : Stmt} {a b : ℕ} → IsInit K P s a b → Placed P (stmt_marks s) a b
-    init (init_declare {n = n} {e = e} {a = a} t k s x) = along (stmt-Declare (declared n (P (a + 1))) (Some e)) (placed_here (a + 1) refl (omega arith) (left (whole_value x) (omega arith)))
+    init : {i : Init} {a b : ℕ} → IsInit K P i a b → Placed P (head_marks i) a b
+    init (init_declare {a = a} t k s x) = placed_here (a + 1) refl (omega arith) (left (whole_value x) (omega arith))
     init (init_assign x) = assign x
 
     catch_block : {c : Catch} {a b : ℕ} → IsCatch K P c a b → Placed P (catch_marks c) a b
