@@ -73,8 +73,8 @@ ran_outcome script status command read no_memory (inr cut) = absurd (eight_not_e
 
 outcome_of : {words : List (List ℕ)} {left : Option (List ℕ)} {a b c d decided : ℕ} {text : List ℕ} (status : ℕ) → Decides words left a b decided text
     → Told c d decided status → Outcome words left a b c d status
-outcome_of status (usage wrong) (inl told) = as_usage told wrong
-outcome_of status (usage wrong) (inr cut) = absurd (two_not_ended cut.0)
+outcome_of status (usage wrong calm) (inl told) = as_usage told wrong
+outcome_of status (usage wrong calm) (inr cut) = absurd (two_not_ended cut.0)
 outcome_of status (unread command rose) (inl told) = as_unread told command rose
 outcome_of status (unread command rose) (inr cut) = absurd (six_not_ended cut.0)
 outcome_of status (no_room command calm) (inl told) = as_wanting told command

@@ -36,8 +36,8 @@ pub data Runs (script : List ℕ) : ℕ → List ℕ → Type 0 where
 -- The table of endings. `left` are the bytes that the script source had left, where it tells them, and the two
 -- numbers are its counts of faults before the call and after it.
 pub data Decides (words : List (List ℕ)) (left : Option (List ℕ)) (before after : ℕ) : ℕ → List ℕ → Type 0 where
-  -- the words are no command
-  usage : ¬ (IsRun words) → Decides words left before after 2 usage_text
+  -- the words are no command, and the source was not asked
+  usage : ¬ (IsRun words) → after ≡ before → Decides words left before after 2 usage_text
   -- the script could not be read
   unread : IsRun words → Rose before after → Decides words left before after 6 read_failed_text
   -- there was no memory for the script

@@ -5,7 +5,7 @@ use Rattle.jenkinsd.proofs.EndsLemmas.{read_runs, reads_none, reads_script, read
 use Rattle.jenkinsd.proofs.controller.decide.Goals as goal
 
 pub returns-in_default-clause-decides : goal.returns-in_default-clause-decides
-returns-in_default-clause-decides g c = usage c.in_default.ensures
+returns-in_default-clause-decides g c = usage c.in_default.ensures refl
 
 pub returns-in_default-clause-reads : goal.returns-in_default-clause-reads
 returns-in_default-clause-reads g c = reads_none _
