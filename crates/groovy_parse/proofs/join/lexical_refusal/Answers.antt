@@ -5,7 +5,7 @@ use Rattle.groovy_parse.proofs.join.lexical_refusal.Goals as goal
 use Rattle.groovy_parse.proofs.join.lexical_refusal.Goals.{in-Ok, in-Err-Memory, in-Err-Fault}
 
 pub parse_tokens-requires : goal.parse_tokens-requires
-parse_tokens-requires c = lexical_fault-shallow c.requires
+parse_tokens-requires c = record { shallow = lexical_fault-shallow c.requires }
 
 pub earlier_fault-requires-clause-here : goal.earlier_fault-requires-clause-here
 earlier_fault-requires-clause-here c = c.in-Err-Fault.ensures.fault _ (ap Err c.in-Err-Fault.field-0-is)

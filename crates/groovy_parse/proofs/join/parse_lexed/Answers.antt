@@ -6,7 +6,7 @@ use Rattle.groovy_parse.proofs.FirstFaults.{scope_first}
 use Rattle.groovy_parse.proofs.join.parse_lexed.Goals as goal
 
 pub parse_tokens-requires : goal.parse_tokens-requires
-parse_tokens-requires c = lexed-shallow c.requires
+parse_tokens-requires c = record { shallow = lexed-shallow c.requires }
 
 pub returns-in_err-check-in-Ok-clause-refused : goal.returns-in_err-check-in-Ok-clause-refused
 returns-in_err-check-in-Ok-clause-refused c =
