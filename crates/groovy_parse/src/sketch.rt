@@ -153,26 +153,29 @@ impl Sketch {
                 self.name(&name.name)?;
                 self.put(" = ")?;
                 self.expression(value)?;
-                self.steps(test, step.get(), body.as_slice())
+                self.test(test)?;
+                self.assignment(step.get())?;
+                self.put(") ")?;
+                self.block(body.as_slice())
             }
             Stmt::ForSteps(first, test, step, body) => {
                 self.put("for (")?;
                 self.assignment(first.get())?;
-                self.steps(test, step.get(), body.as_slice())
+                self.test(test)?;
+                self.assignment(step.get())?;
+                self.put(") ")?;
+                self.block(body.as_slice())
             }
             _ => Ok(()),
         }
     }
 
-    /// What stands behind the first part of a `for` with steps.
+    /// The test of a `for` with steps, between its first part and its last.
     #[cycle(sketch)]
-    fn steps(&mut self, test: &Expr, step: &Assignment, body: &[Stmt]) -> Result<(), AllocError> {
+    fn test(&mut self, test: &Expr) -> Result<(), AllocError> {
         self.put("; ")?;
         self.expression(test)?;
-        self.put("; ")?;
-        self.assignment(step)?;
-        self.put(") ")?;
-        self.block(body)
+        self.put("; ")
     }
 
     #[cycle(sketch)]
