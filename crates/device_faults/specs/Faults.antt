@@ -14,3 +14,9 @@ pub record HasCause {T E : Type 0} (before now : ℕ) (result : Result T E) : Ty
   pub never_falls : before ≤ now
   pub calm : IsOk result → now ≡ before
   pub failed : IsErr result → Rose before now
+
+-- A call that failed has counted a fault, and any other counts none.
+pub record CountsFault (before now : ℕ) (Fails : Type 0) : Type 0 where
+  pub never_falls : before ≤ now
+  pub calm : ¬ Fails → now ≡ before
+  pub failed : Fails → Rose before now
