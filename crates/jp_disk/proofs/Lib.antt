@@ -2,3 +2,4 @@ mod ImageLemmas
 mod MediumLemmas
 mod StepLemmas
 mod HistoryLemmas
+pub mod MomentLemmas

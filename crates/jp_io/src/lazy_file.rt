@@ -7,7 +7,8 @@ use std::{fs, io};
 /// A reader of the file at a path, which is opened at the first read.
 ///
 /// Where it cannot be opened, each read fails: the first with the error of opening it, and later ones
-/// with `NotFound`.
+/// with `NotFound`. Where a signal interrupted the opening, that read fails with `Interrupted`, and the next
+/// one opens the file again, as `StdSource` does.
 #[derive(Drop)]
 pub struct LazyFile<'a, R: Files> {
     files: &'a R,
@@ -34,8 +35,14 @@ impl<'a, R: Files> LazyFile<'a, R> {
 
     fn open(&mut self) -> io::Result<()> {
         if let State::Unopened = self.state {
-            self.state = State::Missing;
-            self.state = State::Open(fs::open(self.files, self.path.as_str())?);
+            self.state = match fs::open(self.files, self.path.as_str()) {
+                Ok(file) => State::Open(file),
+                Err(error) if error.kind() == ErrorKind::Interrupted => return Err(error),
+                Err(error) => {
+                    self.state = State::Missing;
+                    return Err(error);
+                }
+            };
         }
         Ok(())
     }

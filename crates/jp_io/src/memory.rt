@@ -108,9 +108,10 @@ impl Sink for MemorySink {
     ghost faults = { λ sink. sink.calls.faults };
 
     /// As the trait says. Beside it: the call fails where it is listed, and else only where memory was refused
-    /// for the bytes; where it is done it takes all of them.
+    /// for the bytes, which never is where there are none; where it is done it takes all of them.
     fn write(&mut self, bytes: &[u8]) -> Result<usize, Failed>
         ensures one_call { IsOneCall (NextFails self.old.calls) (IsErr result) self.old.calls self.new.calls }
+        ensures only_listed { bytes.now ≡ [] → IsErr result → NextFails self.old.calls }
         ensures whole { IfOk result (λ n. n ≡ length bytes.now) }
 
         ensures count { IfOk result (λ n. n ≤ length bytes.now) }
@@ -120,6 +121,9 @@ impl Sink for MemorySink {
     {
         if self.calls.next_fails() {
             return Err(self.calls.fail());
+        }
+        if bytes.is_empty() {
+            return Ok(0);
         }
         match self.bytes.extend_from_slice(bytes) {
             Ok(()) => Ok(bytes.len()),
