@@ -1,7 +1,6 @@
 -- What a host promises, of one in memory: it follows from what its calls make of folders and tasks.
-use Rattle.std.proofs.Common.{◌≡◌, ◌<◌, ◌≤◌, ◌-◌, ℕ, ℤ, Bool, true, false, cond, List, [], ◌∷◌, ◌++◌, length, take, min, Option, Some, None, Result, Ok, Err, inl, inr, refl, sym, ◌∙◌, ap, subst, arith}
+use Rattle.std.proofs.Common.{◌≡◌, ◌-◌, ℕ, ℤ, Bool, true, false, cond, List, [], ◌∷◌, ◌++◌, length, take, min, Option, Result, Ok, Err, inl, inr, refl, sym, ◌∙◌, ap, subst, arith}
 use Rattle.std.proofs.Math.Seq.{take-length}
-use Rattle.std.specs.Prelude.{IfOk, IsErr}
 use Rattle.device_faults.specs.declared.faults.Failed.{Failed}
 use Rattle.task_host.specs.declared.answers.Made.{Made}
 use Rattle.task_host.specs.declared.answers.Made.TheVariants as made
@@ -12,7 +11,7 @@ use Rattle.task_host.specs.declared.answers.Look.TheVariants as look
 use Rattle.task_host.specs.declared.order.Stream.{Stream}
 use Rattle.task_host.specs.declared.outcome.TaskOutcome.{TaskOutcome}
 use Rattle.task_host.specs.Host.{MakesFolder, RemovesFolder, LaunchesAtMost, Launches, TellsState, Stays, GoesOn, Reads}
-use Rattle.task_host.specs.Tasks.{State, outcome_of, code_of, is_launched, written_by, ended_with, echo_of, MakesDir, after_launch, Starts, after_look, IsRunning, HasEnded, Looks, Removes}
+use Rattle.task_host.specs.Tasks.{State, written_by, ended_with, echo_of, MakesDir, Starts, Looks, Removes}
 use Rattle.task_host.proofs.OutcomeLemmas.{AddsOutcome, launch_goes_on, look_goes_on, not_ended, ended_now}
 
 abbrev output : State → ℕ → Stream → List ℕ

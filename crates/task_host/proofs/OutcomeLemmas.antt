@@ -1,5 +1,5 @@
 -- What a look and a launch leave of what a host in memory has written and ended.
-use Rattle.std.proofs.Common.{◌≡◌, ◌≢◌, ◌⊎◌, inl, inr, ◌<◌, ◌-◌, ℕ, zero, suc, ℤ, Bool, true, false, cond, List, [], ◌∷◌, ◌++◌, length, get_or, set, take, Option, Some, None, IsSome, refl, sym, ◌∙◌, ap, subst, arith, nat_eq}
+use Rattle.std.proofs.Common.{◌≡◌, ◌≢◌, ◌⊎◌, inl, inr, ◌<◌, ℕ, zero, suc, ℤ, Bool, true, false, cond, List, [], ◌∷◌, ◌++◌, length, get_or, set, take, Option, Some, None, IsSome, refl, sym, ◌∙◌, ap, subst, arith, nat_eq}
 use Rattle.std.specs.Prelude.{position, Contains, option_and_then, ◌||◌}
 use Rattle.std.specs.Option.{option_map_or}
 use Rattle.std.proofs.Math.Seq.{take-length}
@@ -11,7 +11,7 @@ use Rattle.task_host.specs.declared.answers.Look.TheVariants as look
 use Rattle.task_host.specs.declared.order.Stream.{Stream}
 use Rattle.task_host.specs.declared.order.Stream.TheVariants.{Log, Out}
 use Rattle.task_host.specs.declared.outcome.TaskOutcome.{TaskOutcome}
-use Rattle.task_host.specs.Host.{TellsState, GoesOn, LaunchesAtMost}
+use Rattle.task_host.specs.Host.{GoesOn, LaunchesAtMost}
 use Rattle.task_host.specs.Tasks.{State, outcome_of, text_of, code_of, is_launched, written_by, ended_with, one_less, after_look, IsRunning, HasEnded, LooksOnce, Looks}
 use Rattle.std.proofs.lemmas.Bool.{eq-eqb, ne_eqb, eqb-true}
 use Rattle.std.proofs.lemmas.List.Quantifiers.{position-Some}

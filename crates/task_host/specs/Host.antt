@@ -1,7 +1,6 @@
 -- What an honest host does: its folders, launches and output before and after a call. A folder goes by the number of its
 -- task, and `exited` gives the code of each task that has ended.
 use Rattle.std.specs.Prelude.{◌≡◌, ◌≢◌, ◌⊎◌, ◌<◌, ◌≤◌, ℕ, ℤ, not, nat_eq, List, [], ◌∷◌, ◌++◌, length, take, drop, filter, Contains, Option, Some, None, IsSome, IsSomeAnd, Result, Ok, Err}
-use Rattle.device_faults.specs.Faults.{Rose}
 use Rattle.device_faults.specs.declared.faults.Failed.{Failed}
 use Rattle.task_host.specs.declared.answers.Made.{Made}
 use Rattle.task_host.specs.declared.answers.Made.TheVariants as made
@@ -70,12 +69,6 @@ pub record Reads (end «from» : ℕ) (old : List ℕ) (n : ℕ) : Type 0 where
 -- The first n bytes of the buffer are those of the output at this place, and the others stay.
 abbrev pub HasRead : List ℕ → ℕ → ℕ → List ℕ → List ℕ → Type 0
 HasRead output «from» n old new = new ≡ take n (drop «from» output) ++ drop n old
-
--- A call that failed has counted a fault, and any other counts none.
-pub record CountsFault (before now : ℕ) (Fails : Type 0) : Type 0 where
-  pub never_falls : before ≤ now
-  pub calm : ¬ Fails → now ≡ before
-  pub failed : Fails → Rose before now
 
 -- Where the calls are told after a call, they were told before it, and this one is the last.
 abbrev pub Records : Option (List Call) → Option (List Call) → Call → Type 0

@@ -1,7 +1,8 @@
 //! A host: what an executor's tasks run on.
 
 ghost use Rattle.std.specs.Prelude.{◌≡◌, ◌≤◌, ◌↔◌, ◌≢◌, ℕ, ℤ, List, [], ◌∷◌, ◌++◌, length, Option, IfOk, IsErr, Contains};
-ghost use Rattle.task_host.specs.Host.{MakesFolder, RemovesFolder, LaunchesAtMost, Launches, TellsState, Stays, GoesOn, IsIdle, Reads, HasRead, CountsFault, Records, bytes_read};
+ghost use Rattle.device_faults.specs.Faults.{CountsFault};
+ghost use Rattle.task_host.specs.Host.{MakesFolder, RemovesFolder, LaunchesAtMost, Launches, TellsState, Stays, GoesOn, IsIdle, Reads, HasRead, Records, bytes_read};
 ghost use Rattle.task_host.specs.declared.call.Call.{Call};
 ghost use Rattle.task_host.specs.declared.order.Stream.{Stream};
 

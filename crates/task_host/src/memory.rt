@@ -2,7 +2,8 @@
 
 ghost use Rattle.std.specs.Prelude.{◌≡◌, ◌⊎◌, ◌≤◌, ◌-◌, ◌↔◌, length, min, true, false, Contains, IfOk, IsErr, Some, [], option_map};
 ghost use Rattle.device_faults.specs.Calls.{begun, NextFails, after_call, IsOneCall};
-ghost use Rattle.task_host.specs.Host.{MakesFolder, RemovesFolder, LaunchesAtMost, Launches, TellsState, Stays, GoesOn, Reads, HasRead, CountsFault, Records, bytes_read};
+ghost use Rattle.device_faults.specs.Faults.{CountsFault};
+ghost use Rattle.task_host.specs.Host.{MakesFolder, RemovesFolder, LaunchesAtMost, Launches, TellsState, Stays, GoesOn, Reads, HasRead, Records, bytes_read};
 ghost use Rattle.task_host.specs.Tasks.{unused, MakesDir, Starts, Looks, Removes};
 ghost use Rattle.task_host.specs.MemoryHost.{tasks_of, counts_of, calls_of, output_of, exited_of};
 ghost use Rattle.task_host.specs.MemoryHostLaws.{idle_before_launch};
@@ -118,12 +119,12 @@ impl Host for MemoryHost {
     /// and tasks is exact.
     fn make_dir(&mut self, order: &Order) -> Made
         ensures one_call { IsOneCall (NextFails (counts_of self.old)) (result ≡ Made.Failed) (counts_of self.old) (counts_of self.new) }
+        ensures only_listed { Contains (tasks_of self.old).dirs order.now.task → result ≡ Made.Failed → NextFails (counts_of self.old) }
         ensures makes { MakesDir order.now.task (tasks_of self.old) (tasks_of self.new) result }
 
-        ensures folder { Unit {0} → MakesFolder order.now.task (tasks_of self.old).dirs (tasks_of self.new).dirs result }
+        ensures folder { MakesFolder order.now.task (tasks_of self.old).dirs (tasks_of self.new).dirs result }
         ensures launches { (tasks_of self.new).launches ≡ (tasks_of self.old).launches }
-        ensures output { Unit {0} → Stays (exited_of self.old) (exited_of self.new) (output_of self.old) (output_of self.new) }
-        ensures honest { Unit {0} ↔ Unit {0} }
+        ensures output { Stays (exited_of self.old) (exited_of self.new) (output_of self.old) (output_of self.new) }
         ensures calls { Records (calls_of self.old) (calls_of self.new) (Call.MakeDir order.now result) }
         ensures cause { CountsFault (counts_of self.old).faults (counts_of self.new).faults (result ≡ Made.Failed) }
     {
@@ -137,10 +138,9 @@ impl Host for MemoryHost {
         ensures starts { Starts order.now.task (tasks_of self.old) (tasks_of self.new) result }
 
         ensures launches { LaunchesAtMost order.now.task (tasks_of self.old).launches (tasks_of self.new).launches }
-        ensures launched { Unit {0} → Launches order.now.task (tasks_of self.old).dirs (tasks_of self.old).launches (tasks_of self.new).launches result }
-        ensures folders { Unit {0} → (tasks_of self.new).dirs ≡ (tasks_of self.old).dirs }
-        ensures output { Unit {0} → GoesOn order.now.task (exited_of self.old) (exited_of self.new) (output_of self.old) (output_of self.new) }
-        ensures honest { Unit {0} ↔ Unit {0} }
+        ensures launched { Launches order.now.task (tasks_of self.old).dirs (tasks_of self.old).launches (tasks_of self.new).launches result }
+        ensures folders { (tasks_of self.new).dirs ≡ (tasks_of self.old).dirs }
+        ensures output { GoesOn order.now.task (exited_of self.old) (exited_of self.new) (output_of self.old) (output_of self.new) }
         ensures calls { Records (calls_of self.old) (calls_of self.new) (Call.Start order.now result) }
         ensures cause { CountsFault (counts_of self.old).faults (counts_of self.new).faults (result ≡ Started.Failed) }
     {
@@ -154,11 +154,10 @@ impl Host for MemoryHost {
         ensures only_listed { result ≡ Look.Failed → NextFails (counts_of self.old) }
         ensures looks { Looks order.now.task (tasks_of self.old) (tasks_of self.new) result }
 
-        ensures state { Unit {0} → TellsState order.now.task (tasks_of self.old).dirs (tasks_of self.old).launches (exited_of self.old order.now.task) (exited_of self.new order.now.task) result }
+        ensures state { TellsState order.now.task (tasks_of self.old).dirs (tasks_of self.old).launches (exited_of self.old order.now.task) (exited_of self.new order.now.task) result }
         ensures launches { (tasks_of self.new).launches ≡ (tasks_of self.old).launches }
-        ensures folders { Unit {0} → (tasks_of self.new).dirs ≡ (tasks_of self.old).dirs }
-        ensures output { Unit {0} → GoesOn order.now.task (exited_of self.old) (exited_of self.new) (output_of self.old) (output_of self.new) }
-        ensures honest { Unit {0} ↔ Unit {0} }
+        ensures folders { (tasks_of self.new).dirs ≡ (tasks_of self.old).dirs }
+        ensures output { GoesOn order.now.task (exited_of self.old) (exited_of self.new) (output_of self.old) (output_of self.new) }
         ensures calls { Records (calls_of self.old) (calls_of self.new) (Call.Look order.now result) }
         ensures cause { CountsFault (counts_of self.old).faults (counts_of self.new).faults (result ≡ Look.Failed) }
     {
@@ -180,12 +179,11 @@ impl Host for MemoryHost {
         ensures same_tasks { tasks_of self.new ≡ tasks_of self.old }
 
         ensures room { IfOk result (λ n. n ≤ length buf.old) }
-        ensures count { Unit {0} → IfOk result (Reads (length (output_of self.new order.now.task stream)) from buf.old) }
-        ensures bytes { Unit {0} → IfOk result (λ n. HasRead (output_of self.new order.now.task stream) from n buf.old buf.new) }
+        ensures count { IfOk result (Reads (length (output_of self.new order.now.task stream)) from buf.old) }
+        ensures bytes { IfOk result (λ n. HasRead (output_of self.new order.now.task stream) from n buf.old buf.new) }
         ensures launches { (tasks_of self.new).launches ≡ (tasks_of self.old).launches }
-        ensures folders { Unit {0} → (tasks_of self.new).dirs ≡ (tasks_of self.old).dirs }
-        ensures output { Unit {0} → GoesOn order.now.task (exited_of self.old) (exited_of self.new) (output_of self.old) (output_of self.new) }
-        ensures honest { Unit {0} ↔ Unit {0} }
+        ensures folders { (tasks_of self.new).dirs ≡ (tasks_of self.old).dirs }
+        ensures output { GoesOn order.now.task (exited_of self.old) (exited_of self.new) (output_of self.old) (output_of self.new) }
         ensures calls { Records (calls_of self.old) (calls_of self.new) (Call.Read order.now stream from (length buf.old) (bytes_read result buf.new)) }
         ensures cause { CountsFault (counts_of self.old).faults (counts_of self.new).faults (IsErr result) }
     {
@@ -202,9 +200,8 @@ impl Host for MemoryHost {
         ensures same_tasks { tasks_of self.new ≡ tasks_of self.old }
 
         ensures launches { (tasks_of self.new).launches ≡ (tasks_of self.old).launches }
-        ensures folders { Unit {0} → (tasks_of self.new).dirs ≡ (tasks_of self.old).dirs }
-        ensures output { Unit {0} → Stays (exited_of self.old) (exited_of self.new) (output_of self.old) (output_of self.new) }
-        ensures honest { Unit {0} ↔ Unit {0} }
+        ensures folders { (tasks_of self.new).dirs ≡ (tasks_of self.old).dirs }
+        ensures output { Stays (exited_of self.old) (exited_of self.new) (output_of self.old) (output_of self.new) }
         ensures calls { Records (calls_of self.old) (calls_of self.new) Call.Pause }
         ensures calm { (counts_of self.new).faults ≡ (counts_of self.old).faults }
     {
@@ -217,10 +214,9 @@ impl Host for MemoryHost {
         ensures only_listed { IsErr result → NextFails (counts_of self.old) }
         ensures removes { Removes order.now.task (tasks_of self.old) (tasks_of self.new) result }
 
-        ensures folder { Unit {0} → RemovesFolder order.now.task (tasks_of self.old).dirs (tasks_of self.new).dirs result }
+        ensures folder { RemovesFolder order.now.task (tasks_of self.old).dirs (tasks_of self.new).dirs result }
         ensures launches { (tasks_of self.new).launches ≡ (tasks_of self.old).launches }
-        ensures output { Unit {0} → Stays (exited_of self.old) (exited_of self.new) (output_of self.old) (output_of self.new) }
-        ensures honest { Unit {0} ↔ Unit {0} }
+        ensures output { Stays (exited_of self.old) (exited_of self.new) (output_of self.old) (output_of self.new) }
         ensures calls { Records (calls_of self.old) (calls_of self.new) (Call.Remove order.now result) }
         ensures cause { CountsFault (counts_of self.old).faults (counts_of self.new).faults (IsErr result) }
     {

@@ -2,7 +2,8 @@
 
 ghost use Rattle.std.specs.Prelude.{◌≡◌, ◌⊎◌, ◌≤◌, ◌-◌, ◌++◌, ◌∷◌, [], length, min, nat_eq, position, Contains, IfOk, IsErr, MatchResult};
 ghost use Rattle.device_faults.specs.Calls.{NextFails, IsOneCall};
-ghost use Rattle.task_host.specs.Host.{HasRead, CountsFault};
+ghost use Rattle.device_faults.specs.Faults.{CountsFault};
+ghost use Rattle.task_host.specs.Host.{HasRead};
 ghost use Rattle.task_host.specs.Tasks.{unused, written_by, echo_of, MakesDir, after_launch, Starts, LooksOnce, Looks, Removes};
 
 use crate::{Bytes, Failed, Look, Made, Started, Stream, TaskOutcome, TaskOutcomes};
@@ -54,6 +55,7 @@ impl Tasks {
 
     pub fn make_dir(&mut self, counts: &mut FailingCalls, task: u32) -> Made
         ensures one_call { IsOneCall (NextFails counts.old) (result ≡ Made.Failed) counts.old counts.new }
+        ensures only_listed { Contains self.old.dirs task → result ≡ Made.Failed → NextFails counts.old }
         ensures makes { MakesDir task self.old self.new result }
         ensures cause { CountsFault counts.old.faults counts.new.faults (result ≡ Made.Failed) }
     {

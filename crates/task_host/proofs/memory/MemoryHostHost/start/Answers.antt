@@ -5,10 +5,10 @@ pub returns-clause-launches : goal.returns-clause-launches
 returns-clause-launches c = starts_at_most c.args.order.now.task c.args.self.now.tasks c.start-answer.new.self c.start-answer.result c.start-answer.ensures.starts
 
 pub returns-clause-launched : goal.returns-clause-launched
-returns-clause-launched c = λ honest. starts_launches c.args.order.now.task c.args.self.now.tasks c.start-answer.new.self c.start-answer.result c.start-answer.ensures.starts
+returns-clause-launched c = starts_launches c.args.order.now.task c.args.self.now.tasks c.start-answer.new.self c.start-answer.result c.start-answer.ensures.starts
 
 pub returns-clause-folders : goal.returns-clause-folders
-returns-clause-folders c = λ honest. start_dirs c.args.order.now.task c.args.self.now.tasks c.start-answer.new.self c.start-answer.result c.start-answer.ensures.starts
+returns-clause-folders c = start_dirs c.args.order.now.task c.args.self.now.tasks c.start-answer.new.self c.start-answer.result c.start-answer.ensures.starts
 
 pub returns-clause-output : goal.returns-clause-output
-returns-clause-output c = λ honest. start_goes_on c.args.order.now.task c.args.self.now.tasks c.start-answer.new.self c.start-answer.result c.start-answer.ensures.starts
+returns-clause-output c = start_goes_on c.args.order.now.task c.args.self.now.tasks c.start-answer.new.self c.start-answer.result c.start-answer.ensures.starts
