@@ -9,7 +9,7 @@ use Rattle.journal_core.specs.Records.{records, framed, Has}
 use Rattle.journal_core.specs.State.{Stores}
 use Rattle.jp_disk.specs.Images.{IsOnlyImage}
 use Rattle.jp_disk.specs.Reading.{HasRead}
-use Rattle.journal_core.specs.Answers.{entries_of}
+use Rattle.journal_core.specs.Answers.{entries_of, StandInTurn}
 use Rattle.journal_core.specs.Finding.{ReadTo, Splits}
 use Rattle.journal_core.specs.declared.record.Record.{Record}
 use Rattle.journal_core.proofs.RecordLemmas.{length-frame, framed-push, Fit-push, damaged, has_framed}
@@ -19,6 +19,11 @@ entries-push at [] p = let same : at ≡ at + 0 = omega arith in ap (λ (n : ℕ
 entries-push at (q ∷ ps) p =
     let same : at + 5 + length q + length (framed ps) ≡ at + length (framed (q ∷ ps)) = omega (arith, length-frame q (framed ps)) in
     ap (λ (l : List Record). record { at = at; len = length q } ∷ l) (entries-push (at + 5 + length q) ps p ∙ ap (λ (n : ℕ). entries_of (at + 5 + length q) ps ++ record { at = n; len = length p } ∷ []) same)
+
+-- a record behind those that end with a gate
+pub in_turn_push : (at : ℕ) (entries : List Record) (mid : ℕ) (e : Record) (len : ℕ) → StandInTurn at entries mid → mid ≡ e.at + 1 → len ≡ e.at + 5 + e.len + 1 → StandInTurn at (entries ++ e ∷ []) len
+in_turn_push at [] mid e len turn is next = (omega (arith, turn, is), omega (arith, turn, is, next))
+in_turn_push at (x ∷ entries) mid e len turn is next = (turn.0, in_turn_push (at + 5 + x.len) entries mid e len turn.1 is next)
 
 module _ (file : List ℕ) (at : ℕ) (ps : List (List ℕ)) (inside : at < length file) (so_far : ReadTo file at ps) where
   split : drop at file ≡ get_or file at 0 ∷ drop (at + 1) file

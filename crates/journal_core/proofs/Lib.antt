@@ -1,5 +1,5 @@
-mod RecordLemmas
-mod TornLemmas
-mod MomentLemmas
-mod StepLemmas
-mod FindingLemmas
+pub mod RecordLemmas
+pub mod TornLemmas
+pub mod MomentLemmas
+pub mod StepLemmas
+pub mod FindingLemmas

@@ -8,7 +8,7 @@ use Rattle.journal_core.specs.Records.{records, framed, body, Has, HasWithOrWith
 use Rattle.journal_core.specs.State.{State, Stores}
 use Rattle.journal_core.proofs.RecordLemmas.{has_framed, length-frame, framed-push, Fit-push, body_behind, either_gate}
 use Rattle.journal_core.proofs.TornLemmas.{torn_behind, torn_gate, written_behind, written_gate}
-use Rattle.journal_core.proofs.MomentLemmas.{starts}
+use Rattle.jp_disk.proofs.MomentLemmas.{starts}
 
 pub length-body : (p : List ℕ) → length (body p) ≡ 5 + length p
 length-body p = omega (arith, length-append (big_bytes 4 (length p) ++ p) (0 ∷ []), length-append (big_bytes 4 (length p)) p, length-bytes_high_first 4 (length p))

@@ -33,6 +33,12 @@ abbrev pub entries_of : ℕ → List (List ℕ) → List Record
 entries_of at [] = []
 entries_of at (payload ∷ payloads) = record { at = at; len = length payload } ∷ entries_of (at + 5 + length payload) payloads
 
+-- The records stand one behind the other, the first gate at this place, and a journal of this length ends with the gate
+-- behind the last of them (docs/FORMATS.md).
+abbrev pub StandInTurn : ℕ → List Record → ℕ → Type 0
+StandInTurn at [] len = len ≡ at + 1
+StandInTurn at (entry ∷ entries) len = (entry.at ≡ at) × StandInTurn (at + 5 + entry.len) entries len
+
 -- the file has records and no damaged one; the journal holds them, and these are their entries
 pub record Opens {D : Type 0} (reads : D → Option (List ℕ)) (may_leave : D → List ℕ → Type 0) (file : List ℕ) (disk : D) (len : ℕ) (entries : List Record) : Type 0 where
   pub payloads : List (List ℕ)

@@ -1,12 +1,13 @@
 // A journal, and its calls.
-ghost use Rattle.std.specs.Prelude.{◌≡◌, ◌⊎◌, ◌≤◌, ◌<◌, ◌+◌, ◌^◌, ◌++◌, [], ◌∷◌, List, ℕ, length, true, false, IfOk, IfErr, OnOk, Some, MatchResult, slice_get, IsErrOf};
+ghost use Rattle.std.specs.Prelude.{◌≡◌, ◌≢◌, ◌⊎◌, ◌≤◌, ◌<◌, ◌+◌, ◌^◌, ◌++◌, [], ◌∷◌, List, ℕ, length, true, false, IfOk, OnOk, Some, MatchResult, slice_get, slice_index, IsErrOf, vec_len};
 ghost use Rattle.std.specs.List.{All};
+ghost use Rattle.jp_disk.specs.Images.{after_write};
 ghost use Rattle.jp_disk.specs.Moments.{AtEachMoment};
-ghost use Rattle.device_faults.specs.Faults.{Rose};
+ghost use Rattle.device_faults.specs.Faults.{CountsFault};
 ghost use Rattle.journal_core.specs.Records.{records, Has, HasWithOrWithout};
 ghost use Rattle.journal_core.specs.State.{Holds};
 ghost use Rattle.journal_core.specs.Moments.{OnlyReads, SinceSync};
-ghost use Rattle.journal_core.specs.Answers.{AppendAnswers, AppendLeaves, entries_of, Opens, OpenRefuses, IsStarted, CreateRefuses};
+ghost use Rattle.journal_core.specs.Answers.{AppendAnswers, AppendLeaves, entries_of, Opens, OpenRefuses, StandInTurn, IsStarted, CreateRefuses};
 
 use crate::head::read_exact;
 use crate::prepare::prepare;
@@ -46,7 +47,7 @@ impl<D: Disk> Journal<D> {
     /// as it is. It needs no memory.
     ///
     /// The error hands the disk back. `HasRecord` comes exactly where byte 0 is 1 and the file has six bytes or more,
-    /// and then nothing is changed; `Disk` only where the disk's count of faults rose.
+    /// and then nothing is changed; `Disk` only where the disk's count of faults rose, which it does at no other answer.
     ///
     /// A crash up to the first sync leaves what it might have left before, and from then on the records that the file
     /// had.
@@ -54,12 +55,18 @@ impl<D: Disk> Journal<D> {
         ensures created { (file : List ℕ) → D.reads disk ≡ Some file → MatchResult result
             (λ journal. ¬ IsStarted file × Has [] file × Holds D.reads D.may_leave journal [])
             (λ e. CreateRefuses D.reads D.may_leave file e.1 e.0) }
+        ensures same { (file : List ℕ) → D.reads disk ≡ Some file → 0 < length file → slice_index file 0 ≢ 1
+            → IfOk result (λ journal. D.reads journal.disk ≡ Some file) }
+        ensures closed { (file : List ℕ) → D.reads disk ≡ Some file → (file ≡ []) ⊎ (slice_index file 0 ≡ 1)
+            → IfOk result (λ journal. D.reads journal.disk ≡ Some (after_write file 0 (0 ∷ []))) }
         ensures fresh { IfOk result (λ journal. (journal.len ≡ 1) × (journal.stopped ≡ false)) }
         ensures any_moment { (file : List ℕ) → D.reads disk ≡ Some file → MatchResult result
             (λ journal. SinceSync D.clock D.may_have_left_since D.may_leave file disk journal.disk (λ image. records image ≡ records file))
             (λ e. SinceSync D.clock D.may_have_left_since D.may_leave file disk e.1 (λ image. records image ≡ records file)
             ⊎ ((e.0 ≡ CreateFault.Disk) × AtEachMoment D.clock D.may_have_left_since disk e.1 (D.may_leave disk))) }
-        ensures cause { IfErr result (λ e. e.0 ≡ CreateFault.Disk → Rose (D.faults disk) (D.faults e.1)) }
+        ensures cause { MatchResult result
+            (λ journal. CountsFault (D.faults disk) (D.faults journal.disk) ⊥)
+            (λ e. CountsFault (D.faults disk) (D.faults e.1) (e.0 ≡ CreateFault.Disk)) }
     {
         let mut disk = disk;
         match prepare(&mut disk) {
@@ -72,23 +79,29 @@ impl<D: Disk> Journal<D> {
         }
     }
 
-    /// The journal of a file with records, and where each of them stands, in order. It syncs, and then reads the gate
+    /// The journal of a file with records, and where each of them stands, in order: one behind the other, the first
+    /// gate at 0, on each disk, whether it tells its bytes or not. It syncs, and then reads the gate
     /// and the length of each record, five bytes at a time, and no payload. It writes nothing and repairs nothing, and
     /// needs memory for the list of records alone.
     ///
     /// The error hands the disk back. `Empty` comes exactly where the file has no record; `Damaged` exactly where a
-    /// record does not end in the file, with the place of its gate; `Disk` only where the disk's count of faults rose.
-    /// A crash leaves what it might have left before.
+    /// record does not end in the file, with the place of its gate; `Disk` only where the disk's count of faults rose,
+    /// which it does at no other answer. A crash leaves what it might have left before.
     pub fn open(alloc: Global, disk: D) -> Result<(Journal<D>, Vec<Record>), (OpenFault, D)>
         ensures found { (file : List ℕ) → D.reads disk ≡ Some file → MatchResult result
             (λ found. Opens D.reads D.may_leave file found.0.disk found.0.len found.1.items)
             (λ e. OpenRefuses file e.0 × (D.reads e.1 ≡ Some file)) }
+        ensures told { (file : List ℕ) → D.reads disk ≡ Some file → IfOk result (λ found. D.reads found.0.disk ≡ Some file) }
         ensures running { IfOk result (λ found. found.0.stopped ≡ false) }
+        ensures some { IfOk result (λ found. 0 < vec_len found.1) }
+        ensures in_turn { IfOk result (λ found. StandInTurn 0 found.1.items found.0.len) }
         ensures each { IfOk result (λ found. All (λ entry. entry.at + 5 + entry.len < found.0.len) found.1.items) }
         ensures any_moment { MatchResult result
             (λ found. AtEachMoment D.clock D.may_have_left_since disk found.0.disk (D.may_leave disk))
             (λ e. AtEachMoment D.clock D.may_have_left_since disk e.1 (D.may_leave disk)) }
-        ensures cause { IfErr result (λ e. e.0 ≡ OpenFault.Disk → Rose (D.faults disk) (D.faults e.1)) }
+        ensures cause { MatchResult result
+            (λ found. CountsFault (D.faults disk) (D.faults found.0.disk) ⊥)
+            (λ e. CountsFault (D.faults disk) (D.faults e.1) (e.0 ≡ OpenFault.Disk)) }
     {
         let mut disk = disk;
         match load(alloc, &mut disk) {
@@ -105,7 +118,7 @@ impl<D: Disk> Journal<D> {
     }
 
     /// The payload of a record that `open` gave. It writes nothing. `Disk` comes only where the disk's count of faults
-    /// rose.
+    /// rose, which it does at no other answer.
     pub fn read(&mut self, alloc: Global, entry: Record) -> Result<Bytes, ReadFault>
         requires { entry.at + 5 + entry.len < self.old.len }
         ensures payload { (payloads : List (List ℕ)) (k : ℕ) → Holds D.reads D.may_leave self.old payloads
@@ -113,7 +126,7 @@ impl<D: Disk> Journal<D> {
         ensures length { IfOk result (λ bytes. length bytes ≡ entry.len) }
         ensures quiet { OnlyReads D.reads D.may_leave D.clock D.may_have_left_since D.end self.old.disk self.new.disk }
         ensures same { (self.new.len ≡ self.old.len) × (self.new.stopped ≡ self.old.stopped) }
-        ensures cause { IsErrOf result ReadFault.Disk → Rose (D.faults self.old.disk) (D.faults self.new.disk) }
+        ensures cause { CountsFault (D.faults self.old.disk) (D.faults self.new.disk) (IsErrOf result ReadFault.Disk) }
     {
         let Ok(mut bytes) = zeros(alloc, entry.len as usize) else {
             return Err(ReadFault::Memory);
@@ -130,8 +143,8 @@ impl<D: Disk> Journal<D> {
     ///
     /// `Stopped` comes exactly where an earlier append on this journal answered `Disk`; else `Full` exactly where the
     /// length and what the record adds, 5 and the bytes of the payload, are more than 1,073,741,824 together; `Disk`
-    /// only where the disk's count of faults rose. `Memory`, `Full` and `Stopped` change nothing, and no call of the
-    /// disk was made.
+    /// only where the disk's count of faults rose, which it does at no other answer. `Memory`, `Full` and `Stopped` change
+    /// nothing, and no call of the disk was made.
     ///
     /// A crash at any moment of the call leaves a file with the records from before it, or with these and the new one.
     pub fn append(&mut self, alloc: Global, payload: &[u8]) -> Result<u64, AppendFault>
@@ -141,7 +154,7 @@ impl<D: Disk> Journal<D> {
             → OnOk result (Holds D.reads D.may_leave self.new (payloads ++ payload.now ∷ [])) }
         ensures any_moment { (payloads : List (List ℕ)) → Holds D.reads D.may_leave self.old payloads
             → AtEachMoment D.clock D.may_have_left_since self.old.disk self.new.disk (HasWithOrWithout payloads payload.now) }
-        ensures cause { IsErrOf result AppendFault.Disk → Rose (D.faults self.old.disk) (D.faults self.new.disk) }
+        ensures cause { CountsFault (D.faults self.old.disk) (D.faults self.new.disk) (IsErrOf result AppendFault.Disk) }
     {
         if self.stopped {
             return Err(AppendFault::Stopped);
@@ -160,6 +173,13 @@ impl<D: Disk> Journal<D> {
         }
         self.len = len + add;
         Ok(self.len)
+    }
+
+    /// The length of the journal in bytes: the place of its last gate plus 1.
+    pub fn len(&self) -> u64
+        ensures { result ≡ self.now.len }
+    {
+        self.len
     }
 
     /// The disk. It needs no memory.

@@ -1,9 +1,10 @@
 // Walks the gates of a file.
-ghost use Rattle.std.specs.Prelude.{◌≡◌, ◌≤◌, ◌<◌, ◌+◌, ◌^◌, List, ℕ, length, IfOk, Some, IsErrOf};
+ghost use Rattle.std.specs.Prelude.{◌≡◌, ◌≤◌, ◌<◌, ◌+◌, ◌^◌, List, ℕ, length, IfOk, Some, IsErrOf, vec_len};
 ghost use Rattle.std.specs.List.{All};
 ghost use Rattle.jp_disk.specs.Moments.{AtEachMoment};
-ghost use Rattle.device_faults.specs.Faults.{Rose};
+ghost use Rattle.device_faults.specs.Faults.{CountsFault};
 ghost use Rattle.journal_core.specs.Moments.{OnlyReads};
+ghost use Rattle.journal_core.specs.Answers.{StandInTurn};
 ghost use Rattle.journal_core.specs.Finding.{WalkFinds, LoadFinds};
 
 use crate::durable::settle;
@@ -24,8 +25,8 @@ fn walk_gates<D: Disk>(
     ensures found { (file : List ℕ) → D.reads disk.old ≡ Some file → WalkFinds file result }
     ensures within { IfOk result (λ found. found.0 < end) }
     ensures each { IfOk result (λ found. All (λ entry. entry.at + 5 + entry.len ≤ found.0) found.1.items) }
-    ensures never_falls { D.faults disk.old ≤ D.faults disk.new }
-    ensures cause { IsErrOf result OpenFault.Disk → Rose (D.faults disk.old) (D.faults disk.new) }
+    ensures in_turn { IfOk result (λ found. StandInTurn 0 found.1.items (found.0 + 1)) }
+    ensures cause { CountsFault (D.faults disk.old) (D.faults disk.new) (IsErrOf result OpenFault.Disk) }
 {
     let mut entries = Vec::new(alloc);
     let mut at = 0;
@@ -55,7 +56,9 @@ pub fn load<D: Disk>(alloc: Global, disk: &mut D) -> Result<(u64, Vec<Record>), 
     ensures some { IfOk result (λ found. 0 < found.0) }
     ensures within { IfOk result (λ found. found.0 ≤ D.end disk.new) }
     ensures each { IfOk result (λ found. All (λ entry. entry.at + 5 + entry.len < found.0) found.1.items) }
-    ensures cause { IsErrOf result OpenFault.Disk → Rose (D.faults disk.old) (D.faults disk.new) }
+    ensures filled { IfOk result (λ found. 0 < vec_len found.1) }
+    ensures in_turn { IfOk result (λ found. StandInTurn 0 found.1.items found.0) }
+    ensures cause { CountsFault (D.faults disk.old) (D.faults disk.new) (IsErrOf result OpenFault.Disk) }
 {
     let Ok(end) = settle(disk) else {
         return Err(OpenFault::Disk);

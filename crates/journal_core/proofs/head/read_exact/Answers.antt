@@ -2,7 +2,8 @@ use Rattle.std.proofs.Common.{◌≡◌, ◌≤◌, ◌-◌, ◌+◌, ℕ, List,
 use Rattle.std.proofs.lemmas.List.{take_all, drop_all, append-nil}
 use borrow.Rule.Slice.PartMut.{put_mid}
 use Rattle.jp_disk.specs.Reading.{HasRead}
-use Rattle.journal_core.proofs.MomentLemmas.{if_told, only_reads_on}
+use Rattle.jp_disk.proofs.MomentLemmas.{if_told}
+use Rattle.journal_core.proofs.MomentLemmas.{only_reads_on}
 use Rattle.journal_core.proofs.FindingLemmas.{filled_more}
 use Rattle.journal_core.proofs.head.read_exact.Goals as goal
 

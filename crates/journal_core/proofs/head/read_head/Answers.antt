@@ -1,7 +1,7 @@
 use Rattle.std.proofs.Common.{◌≡◌, ◌<◌, ◌≤◌, ◌-◌, ◌+◌, ℕ, List, length, drop, sym, ◌∙◌, ap, arith, length-drop}
 use Rattle.byteorder.specs.Endian.{big_number}
 use Rattle.byteorder.specs.Numbers.{big_from-take}
-use Rattle.journal_core.proofs.MomentLemmas.{if_told}
+use Rattle.jp_disk.proofs.MomentLemmas.{if_told}
 use Rattle.journal_core.proofs.FindingLemmas.{head_bytes}
 use Rattle.journal_core.proofs.head.read_head.Goals as goal
 

@@ -1,7 +1,8 @@
 use Rattle.std.proofs.Common.{◌≡◌, ◌∷◌, [], List, ℕ, length, Some, ◌∙◌, ap, subst}
 use Rattle.jp_disk.specs.Images.{IsOnlyImage, after_write}
 use Rattle.journal_core.specs.Records.{HasWithOrWithout}
-use Rattle.journal_core.proofs.MomentLemmas.{runs_on, at_each_weaker, on_ok_both}
+use Rattle.jp_disk.proofs.MomentLemmas.{runs_on, at_each_weaker}
+use Rattle.journal_core.proofs.MomentLemmas.{on_ok_both}
 use Rattle.journal_core.proofs.StepLemmas.{file, tail, staged_file, behind_has, after_write-behind, gate_has, ended}
 use Rattle.journal_core.proofs.record.write_record.Goals as goal
 

@@ -1,13 +1,14 @@
-use Rattle.std.proofs.Common.{◌≡◌, ◌<◌, ◌≤◌, ◌+◌, ℕ, List, [], ◌∷◌, ◌++◌, length, sym, ◌∙◌, ap, subst, arith}
+use Rattle.std.proofs.Common.{◌≡◌, ◌<◌, ◌≤◌, ◌+◌, ℕ, List, [], ◌∷◌, ◌++◌, length, sym, ◌∙◌, refl, ap, subst, arith}
 use Rattle.std.specs.List.{All}
 use Rattle.std.proofs.lemmas.List.Elements.{All-push, All-weaker}
-use Rattle.journal_core.specs.Answers.{entries_of}
+use Rattle.journal_core.specs.Answers.{entries_of, StandInTurn}
 use Rattle.journal_core.specs.Records.{framed}
 use Rattle.journal_core.specs.Finding.{IsHead, HeadEnds}
 use Rattle.journal_core.specs.declared.head.Head.{Head}
 use Rattle.journal_core.specs.declared.record.Record.{Record}
-use Rattle.journal_core.proofs.MomentLemmas.{if_told, only_reads_then}
-use Rattle.journal_core.proofs.FindingLemmas.{gate_closed, record_cut, payload_read, length-payload_read, record_read, entries-push}
+use Rattle.jp_disk.proofs.MomentLemmas.{if_told}
+use Rattle.journal_core.proofs.MomentLemmas.{only_reads_then}
+use Rattle.journal_core.proofs.FindingLemmas.{gate_closed, record_cut, payload_read, length-payload_read, record_read, entries-push, in_turn_push}
 use Rattle.journal_core.proofs.walk.walk_gates.Goals as goal
 
 pub returns-in-Cut-clause-found : goal.returns-in-Cut-clause-found
@@ -45,7 +46,9 @@ loop-head-preserved g c =
           (All-push (λ (entry : Record). entry.at + 5 + entry.len ≤ at + (5 + len)) c.loop-head.entries.items (record { at = at; len = len })
           (All-weaker (λ (entry : Record). entry.at + 5 + entry.len ≤ at) (λ (entry : Record). entry.at + 5 + entry.len ≤ at + (5 + len)) (λ entry le. omega (arith, le)) c.loop-head.entries.items inv.each)
           (omega arith));
-      faults = omega (arith, inv.faults, c.read_head.ensures.cause.never_falls);
+      in_turn = subst (λ (l : List Record). StandInTurn 0 l (at + (5 + len) + 1)) (sym c.in-Ok-push.ensures.items)
+          (in_turn_push 0 c.loop-head.entries.items (at + 1) (record { at = at; len = len }) (at + (5 + len) + 1) inv.in_turn refl (omega arith));
+      faults = c.in-Ok.ensures.cause.calm refl ∙ inv.faults;
       read = λ file told.
           let told_at = inv.quiet.told ∙ told in
           let so_far = inv.read file told in

@@ -2,7 +2,7 @@ use Rattle.std.proofs.Common.{◌≡◌, ◌≤◌, ◌<◌, ◌-◌, ◌+◌, �
 use Rattle.std.specs.List.{All}
 use Rattle.journal_core.specs.declared.record.Record.{Record}
 use Rattle.journal_core.specs.Moments.{OnlyReads}
-use Rattle.journal_core.specs.Answers.{entries_of}
+use Rattle.journal_core.specs.Answers.{entries_of, StandInTurn}
 use Rattle.journal_core.specs.Finding.{ReadTo}
 use Rattle.journal_core.proofs.walk.walk_gates.Given as goal
 
@@ -11,7 +11,8 @@ invariant-loop-head g l = record {
   within : l.at < l.end;
   quiet : OnlyReads g.D.Disk.reads g.D.Disk.may_leave g.D.Disk.clock g.D.Disk.may_have_left_since g.D.Disk.end l.fn.disk l.disk;
   each : All (λ (entry : Record). entry.at + 5 + entry.len ≤ l.at) l.entries.items;
-  faults : g.D.Disk.faults l.fn.disk ≤ g.D.Disk.faults l.disk;
+  in_turn : StandInTurn 0 l.entries.items (l.at + 1);
+  faults : g.D.Disk.faults l.disk ≡ g.D.Disk.faults l.fn.disk;
   read : (file : List ℕ) → g.D.Disk.reads l.fn.disk ≡ Some file → (payloads : List (List ℕ)) × ReadTo file l.at payloads × (l.entries.items ≡ entries_of 0 payloads);
 }
 
