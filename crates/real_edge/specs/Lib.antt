@@ -1,1 +1,3 @@
 pub mod OwnFolders
+pub mod FolderHost
+pub mod FileDisk

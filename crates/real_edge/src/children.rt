@@ -1,6 +1,7 @@
 //! The processes of tasks, until they have been asked for their end.
 
-ghost use Rattle.std.specs.Prelude.{◌≡◌, ◌<◌, ◌++◌, ◌∷◌, [], OnOk, vec_len, vec_capacity};
+ghost use Rattle.std.specs.Prelude.{◌≡◌, ◌≤◌, ◌<◌, ◌++◌, ◌∷◌, [], None, OnOk, IsTrue, All, vec_len, vec_capacity};
+ghost use Rattle.std.specs.Process.{child_status};
 
 use std::alloc::{AllocError, Global};
 use std::process::{Child, OpenProcess};
@@ -46,16 +47,12 @@ impl<P: OpenProcess + Drop> Children<P> {
         let _ = self.unreaped.push(child);
     }
 
-    /// Reaps each process that has ended, and waits for none.
-    pub fn reap(&mut self) {
-        let mut index = 0;
-        while index < self.unreaped.len() {
-            if has_ended(&mut self.unreaped[index]) {
-                drop(self.unreaped.swap_remove(index));
-            } else {
-                index += 1;
-            }
-        }
+    /// Reaps each process that has ended, and waits for none. Each that stays was asked for its end, and had none.
+    pub fn reap(&mut self)
+        ensures asked { All (λ child. child_status child ≡ None) self.new.unreaped.items }
+        ensures fewer { vec_len self.new.unreaped ≤ vec_len self.old.unreaped }
+    {
+        self.unreaped.retain_mut(|child| is_running(child));
     }
 
     /// Reaps processes that have only to exit, and waits at most ten milliseconds for them.
@@ -71,14 +68,16 @@ impl<P: OpenProcess + Drop> Children<P> {
 }
 
 // Where the system has no answer it has no such process.
-fn has_ended<P: OpenProcess>(child: &mut Child<P>) -> bool {
-    !matches!(child.try_wait(), Ok(None))
+fn is_running<P: OpenProcess>(child: &mut Child<P>) -> bool
+    ensures { IsTrue result → child_status child.new ≡ None }
+{
+    matches!(child.try_wait(), Ok(None))
 }
 
 #[cfg(test)]
 mod tests {
     use super::*;
-    use std::process::Command;
+    use std::process::{Command, SystemProcess};
     use std::test::Fail;
 
     // A process that sleeps so long.
@@ -86,13 +85,19 @@ mod tests {
         Command::new(rt.alloc(), "sleep")?.arg(seconds)?.spawn(rt)
     }
 
-    #[test]
-    fn a_process_is_kept_until_it_has_ended(rt: HostRuntime) -> Result<(), Fail> {
+    // The processes of two tasks, of which one ends at once.
+    fn two_sleepers(rt: &HostRuntime) -> std::io::Result<Children<SystemProcess>> {
         let mut children = Children::new(rt.alloc());
         for seconds in ["0.3", "0"] {
             children.reserve()?;
-            children.keep(sleeper(&rt, seconds)?);
+            children.keep(sleeper(rt, seconds)?);
         }
+        Ok(children)
+    }
+
+    #[test]
+    fn a_process_is_kept_until_it_has_ended(rt: HostRuntime) -> Result<(), Fail> {
+        let mut children = two_sleepers(&rt)?;
         thread::sleep(&rt, Duration::from_millis(100));
         children.reap();
         let sleeping = children.unreaped.len();

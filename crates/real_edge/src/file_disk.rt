@@ -1,14 +1,13 @@
 //! A disk over one file of the system.
 
-ghost use Rattle.std.specs.Prelude.{◌≡◌, ◌≤◌, ◌<◌, ℕ, ⊤, None, length, OnOk, OnErr, IsErr, IsTrue};
-ghost use Rattle.device_faults.specs.Faults.{Rose};
+ghost use Rattle.std.specs.Prelude.{◌≡◌, ◌≤◌, ◌<◌, ◌+◌, ◌^◌, ◌||◌, ⊤, None, true, false, length, max, is_err, IfOk, OnOk, OnErr, IsErr, IsTrue};
+ghost use Rattle.device_faults.specs.Faults.{HasCause, Rose, counted};
 ghost use Rattle.jp_disk.specs.Reading.{IsReadCount};
 
 use crate::file_at_path::FileAtPath;
 use device_faults::{Failed, Faults};
 use jp_disk::Disk;
-use std::io;
-use std::io::ErrorKind;
+use std::marker::Model;
 use std::rt::Files;
 
 /// A disk over the file at a path, which is opened when it is first needed.
@@ -20,29 +19,47 @@ use std::rt::Files;
 /// After a write or a sync that failed every sync fails: of a file whose bytes were not written, the system may answer
 /// the next sync as if they had been.
 ///
-/// It tells contracts the length that it knows and its faults, and of a crash it says that it may leave anything: no
-/// contract can say what a real file keeps.
+/// It tells contracts the length that it knows, whether a write or a sync has failed, and its faults. Of a crash it says
+/// that it may leave anything: no contract can say what a real file keeps.
 #[derive(Drop)]
 pub struct FileDisk<'a, R: Files> {
-    file: WatchedFile<'a, R>,
+    file: FileAtPath<'a, R>,
     end: u64,
+    // Whether a write or a sync has failed: from then on no sync can tell what is on the disk.
+    has_failed: bool,
     faults: Faults,
+}
+
+impl<'a, R: Files> Model for FileDisk<'a, R> {
+    ghost use Rattle.real_edge.specs.FileDisk.{DiskState};
+
+    ghost Value = { DiskState };
+
+    ghost view = { λ disk. record { end = disk.end; has_failed = disk.has_failed; faults = disk.faults } };
 }
 
 impl<'a, R: Files> FileDisk<'a, R> {
     /// A disk over the file at this path. Nothing is opened yet, and no call has failed.
     pub fn new(files: &'a R, path: String) -> Self
-        ensures end { ⟦<FileDisk<'a, R> as Disk>⟧.end result ≡ 0 }
-        ensures faults { ⟦<FileDisk<'a, R> as Disk>⟧.faults result ≡ 0 }
+        ensures { result ≡ record { end = 0; has_failed = false; faults = 0 } }
     {
         FileDisk {
-            file: WatchedFile {
-                file: FileAtPath::new(files, path),
-                has_failed: false,
-            },
+            file: FileAtPath::new(files, path),
             end: 0,
+            has_failed: false,
             faults: Faults::new(),
         }
+    }
+}
+
+impl<R: Files> FileDisk<'_, R> {
+    // A write or a sync failed.
+    fn fail(&mut self) -> Failed
+        ensures failed { self.new ≡ record self.old { has_failed = true; faults = counted self.old.faults } }
+        ensures rose { Rose self.old.faults self.new.faults }
+    {
+        self.has_failed = true;
+        self.faults.rise()
     }
 }
 
@@ -67,8 +84,16 @@ impl<R: Files> Disk for FileDisk<'_, R> {
 
     ghost only_now = { λ _ _ _. tt };
 
-    fn len(&mut self) -> Result<u64, Failed> {
-        match self.file.file.len() {
+    /// As the trait says. Beside it, in each of these calls: a write or a sync that failed is remembered (`memory`), and
+    /// from then on every sync fails (`refused`).
+    fn len(&mut self) -> Result<u64, Failed>
+        ensures memory { self.new.has_failed ≡ self.old.has_failed }
+
+        ensures length { IfOk result (λ n. n ≡ self.new.end) }
+        ensures end { OnErr result (self.new.end ≡ self.old.end) }
+        ensures cause { HasCause self.old.faults self.new.faults result }
+    {
+        match self.file.len() {
             Ok(len) => {
                 self.end = len;
                 Ok(len)
@@ -77,60 +102,53 @@ impl<R: Files> Disk for FileDisk<'_, R> {
         }
     }
 
-    fn read_at(&mut self, at: u64, buf: &mut [u8]) -> Result<usize, Failed> {
+    fn read_at(&mut self, at: u64, buf: &mut [u8]) -> Result<usize, Failed>
+        ensures memory { self.new.has_failed ≡ self.old.has_failed }
+
+        ensures count { IfOk result (IsReadCount self.old.end at buf.old) }
+        ensures end { self.new.end ≡ self.old.end }
+        ensures cause { HasCause self.old.faults self.new.faults result }
+    {
         if at >= self.end || buf.is_empty() {
             return Ok(0);
         }
-        match self.file.file.read_at(at, buf) {
+        match self.file.read_at(at, buf) {
             Ok(count) if count > 0 => Ok(count),
             _ => Err(self.faults.rise()),
         }
     }
 
-    fn write_at(&mut self, at: u64, bytes: &[u8]) -> Result<(), Failed> {
+    fn write_at(&mut self, at: u64, bytes: &[u8]) -> Result<(), Failed>
+        requires within { at ≤ self.old.end }
+        requires room { at + length bytes.now < 2 ^ 64 }
+        ensures memory { self.new.has_failed ≡ (self.old.has_failed || is_err result) }
+
+        ensures end { OnOk result (self.new.end ≡ max self.old.end (at + length bytes.now)) }
+        ensures no_shorter { self.old.end ≤ self.new.end }
+        ensures cause { HasCause self.old.faults self.new.faults result }
+    {
         match self.file.write_at(at, bytes) {
             Ok(()) => {
                 self.end = self.end.max(at + bytes.len() as u64);
                 Ok(())
             }
-            Err(_) => Err(self.faults.rise()),
+            Err(_) => Err(self.fail()),
         }
     }
 
-    fn sync(&mut self) -> Result<(), Failed> {
-        match self.file.sync() {
-            Ok(()) => Ok(()),
-            Err(_) => Err(self.faults.rise()),
-        }
-    }
-}
-
-// A file of which is remembered whether a write or a sync has failed: from then on no sync can tell what is on the disk.
-#[derive(Drop)]
-struct WatchedFile<'a, R: Files> {
-    file: FileAtPath<'a, R>,
-    has_failed: bool,
-}
-
-impl<R: Files> WatchedFile<'_, R> {
-    fn write_at(&mut self, at: u64, bytes: &[u8]) -> io::Result<()>
-        ensures remembered { OnErr result (IsTrue self.new.has_failed) }
-        ensures kept { OnOk result (self.new.has_failed ≡ self.old.has_failed) }
-    {
-        let written = self.file.write_at(at, bytes);
-        self.has_failed |= written.is_err();
-        written
-    }
-
-    fn sync(&mut self) -> io::Result<()>
+    fn sync(&mut self) -> Result<(), Failed>
         ensures refused { IsTrue self.old.has_failed → IsErr result }
-        ensures remembered { OnErr result (IsTrue self.new.has_failed) }
+        ensures memory { self.new.has_failed ≡ (self.old.has_failed || is_err result) }
+
+        ensures end { self.new.end ≡ self.old.end }
+        ensures cause { HasCause self.old.faults self.new.faults result }
     {
         if self.has_failed {
-            return Err(io::Error::from(ErrorKind::Other));
+            return Err(self.faults.rise());
         }
-        let synced = self.file.sync();
-        self.has_failed = synced.is_err();
-        synced
+        match self.file.sync() {
+            Ok(()) => Ok(()),
+            Err(_) => Err(self.fail()),
+        }
     }
 }

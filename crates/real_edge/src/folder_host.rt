@@ -1,6 +1,8 @@
 //! A host whose tasks are processes of this machine.
 
-ghost use Rattle.std.specs.Prelude.{◌≡◌, ◌≢◌, ◌≤◌, ◌<◌, ◌↔◌, ℕ, List, [], None, length, IfOk};
+ghost use Rattle.std.specs.Prelude.{◌≡◌, ◌≢◌, ◌≤◌, ◌<◌, ◌*◌, min, [], None, length, IfOk, IsOk, IsErr, MatchResult};
+ghost use Rattle.device_faults.specs.Faults.{CountsFault};
+ghost use Rattle.real_edge.specs.OwnFolders.{IsOwn, forgotten, MakesOwn, RemovesOwn};
 
 use crate::children::Children;
 use crate::control::{ControlFolder, text};
@@ -9,6 +11,7 @@ use crate::pauses::Pauses;
 use crate::sync::make_durable;
 use crate::{Life, tasks};
 use device_faults::{Failed, Faults};
+use std::marker::Model;
 use std::process::Processes;
 use std::rt::{Env, Files};
 use std::time::{Clock, Duration};
@@ -23,7 +26,8 @@ use task_host::{Host, Look, Made, Order, Started, Stream};
 ///
 /// Why a task was not launched is said on standard error, since the build's log has only its code, -2.
 ///
-/// It tells contracts nothing but its faults: no contract can say what a folder or a process does.
+/// It tells contracts which folders it takes for the build's own, how long it pauses next, and its faults: no contract
+/// can say what a folder or a process does.
 #[derive(Drop)]
 pub struct FolderHost<'a, R: Processes> {
     rt: &'a R,
@@ -33,13 +37,20 @@ pub struct FolderHost<'a, R: Processes> {
     faults: Faults,
 }
 
-impl<'a, R: Files + Env + AllocGlobal + Eprint + Clock + Processes> FolderHost<'a, R> {
-    ghost use Rattle.real_edge.specs.OwnFolders.{IsOwn};
+impl<'a, R: Processes> Model for FolderHost<'a, R> {
+    ghost use Rattle.real_edge.specs.OwnFolders.{own_of};
+    ghost use Rattle.real_edge.specs.FolderHost.{HostState};
 
-    /// A host over the folders and processes of `rt`, in this life of the build. No call has failed.
+    ghost Value = { HostState };
+
+    ghost view = { λ host. record { own = own_of host.own; next_pause = host.pauses; faults = host.faults } };
+}
+
+impl<'a, R: Files + Env + AllocGlobal + Eprint + Clock + Processes> FolderHost<'a, R> {
+    /// A host over the folders and processes of `rt`, in this life of the build. It has made no folder, and no call has
+    /// failed.
     pub fn new(rt: &'a R, life: Life) -> Self
-        ensures faults { ⟦<FolderHost<'a, R> as Host>⟧.faults result ≡ 0 }
-        ensures own { (task : ℕ) → IsOwn result.own task ↔ (life ≡ Life.Later) }
+        ensures { result ≡ record { own = record { life = life; made = [] }; next_pause = 1; faults = 0 } }
     {
         FolderHost {
             rt,
@@ -52,9 +63,8 @@ impl<'a, R: Files + Env + AllocGlobal + Eprint + Clock + Processes> FolderHost<'
 
     // Makes the control folder with its script, or finds that the build's own is there.
     fn make(&mut self, order: &Order) -> io::Result<Made>
-        ensures made { IfOk result (λ made. made ≢ Made.Failed) }
-        ensures own { IfOk result (λ made. made ≡ Made.Exists → IsOwn self.old.own order.now.task) }
-        ensures listed { IfOk result (λ made. IsOwn self.new.own order.now.task) }
+        ensures made { MatchResult result (λ made. made ≢ Made.Failed × MakesOwn order.now.task self.old.own self.new.own made) (λ _. MakesOwn order.now.task self.old.own self.new.own Made.Failed) }
+        ensures pause { self.new.next_pause ≡ self.old.next_pause }
         ensures calm { self.new.faults ≡ self.old.faults }
     {
         tasks::check_workspace(order)?;
@@ -73,7 +83,7 @@ impl<'a, R: Files + Env + AllocGlobal + Eprint + Clock + Processes> FolderHost<'
 
     fn launch(&mut self, order: &Order) -> io::Result<()>
         ensures own { IfOk result (λ _. IsOwn self.old.own order.now.task) }
-        ensures calm { self.new.faults ≡ self.old.faults }
+        ensures same { self.new ≡ self.old }
     {
         if !self.own.contains(order.task) {
             return Err(io::Error::new(io::ErrorKind::NotFound, "its control folder was not made"));
@@ -92,7 +102,7 @@ impl<'a, R: Files + Env + AllocGlobal + Eprint + Clock + Processes> FolderHost<'
         buf: &mut [u8],
     ) -> io::Result<usize>
         ensures room { IfOk result (λ n. n ≤ length buf.old) }
-        ensures own { IfOk result (λ n. 0 < n → IsOwn self.now.own order.now.task) }
+        ensures foreign { ¬ IsOwn self.now.own order.now.task → result ≡ Ok 0 }
     {
         if !self.own.contains(order.task) {
             return Ok(0);
@@ -102,7 +112,7 @@ impl<'a, R: Files + Env + AllocGlobal + Eprint + Clock + Processes> FolderHost<'
 
     fn state(&self, order: &Order) -> io::Result<Look>
         ensures told { IfOk result (λ state. state ≢ Look.Failed) }
-        ensures own { IfOk result (λ state. state ≢ Look.Absent → IsOwn self.now.own order.now.task) }
+        ensures foreign { ¬ IsOwn self.now.own order.now.task → result ≡ Ok Look.Absent }
     {
         if !self.own.contains(order.task) {
             return Ok(Look::Absent);
@@ -110,14 +120,15 @@ impl<'a, R: Files + Env + AllocGlobal + Eprint + Clock + Processes> FolderHost<'
         tasks::state(self.rt, order)
     }
 
+    // A folder that is not the build's own is left alone.
     fn remove_own(&mut self, order: &Order) -> io::Result<()>
-        ensures { self.new.faults ≡ self.old.faults }
+        ensures own { MatchResult result (λ _. self.new ≡ record self.old { own = forgotten order.now.task self.old.own }) (λ _. self.new ≡ self.old) }
+        ensures foreign { ¬ IsOwn self.old.own order.now.task → IsOk result }
     {
-        if !self.own.contains(order.task) {
-            return Ok(());
+        if self.own.contains(order.task) {
+            let control = ControlFolder::of(self.rt.alloc(), order)?;
+            tasks::remove(self.rt, control.path.as_str())?;
         }
-        let control = ControlFolder::of(self.rt.alloc(), order)?;
-        tasks::remove(self.rt, control.path.as_str())?;
         self.own.forget(order.task);
         Ok(())
     }
@@ -149,7 +160,13 @@ impl<R: Files + Env + AllocGlobal + Eprint + Clock + Processes> Host for FolderH
 
     ghost nothing_before_launch = { λ _ _ honest _. absurd honest };
 
-    fn make_dir(&mut self, order: &Order) -> Made {
+    /// As the trait says. Beside it, in each of these calls: which folders are the build's own from then on (`own`), that
+    /// to a call there is no folder but the build's own (`foreign`), and how long the next pause is (`pause`).
+    fn make_dir(&mut self, order: &Order) -> Made
+        ensures own { MakesOwn order.now.task self.old.own self.new.own result }
+        ensures pause { self.new.next_pause ≡ self.old.next_pause }
+        ensures cause { CountsFault self.old.faults self.new.faults (result ≡ Made.Failed) }
+    {
         match self.make(order) {
             Ok(made) => made,
             Err(reason) => {
@@ -160,7 +177,12 @@ impl<R: Files + Env + AllocGlobal + Eprint + Clock + Processes> Host for FolderH
         }
     }
 
-    fn start(&mut self, order: &Order) -> Started {
+    fn start(&mut self, order: &Order) -> Started
+        ensures own { self.new.own ≡ self.old.own }
+        ensures foreign { ¬ IsOwn self.old.own order.now.task → result ≡ Started.Failed }
+        ensures pause { result ≡ Started.Started → self.new.next_pause ≡ 1 }
+        ensures cause { CountsFault self.old.faults self.new.faults (result ≡ Started.Failed) }
+    {
         self.children.reap();
         match self.launch(order) {
             Ok(()) => {
@@ -175,7 +197,12 @@ impl<R: Files + Env + AllocGlobal + Eprint + Clock + Processes> Host for FolderH
         }
     }
 
-    fn look(&mut self, order: &Order) -> Look {
+    fn look(&mut self, order: &Order) -> Look
+        ensures own { self.new.own ≡ self.old.own }
+        ensures foreign { ¬ IsOwn self.old.own order.now.task → result ≡ Look.Absent }
+        ensures pause { self.new.next_pause ≡ self.old.next_pause }
+        ensures cause { CountsFault self.old.faults self.new.faults (result ≡ Look.Failed) }
+    {
         self.children.reap();
         match self.state(order) {
             Ok(state) => state,
@@ -192,7 +219,14 @@ impl<R: Files + Env + AllocGlobal + Eprint + Clock + Processes> Host for FolderH
         stream: Stream,
         from: u64,
         buf: &mut [u8],
-    ) -> Result<usize, Failed> {
+    ) -> Result<usize, Failed>
+        ensures own { self.new.own ≡ self.old.own }
+        ensures foreign { ¬ IsOwn self.old.own order.now.task → result ≡ Ok 0 }
+        ensures pause { IfOk result (λ n. 0 < n → self.new.next_pause ≡ 1) }
+
+        ensures room { IfOk result (λ n. n ≤ length buf.old) }
+        ensures cause { CountsFault self.old.faults self.new.faults (IsErr result) }
+    {
         match self.read_own(order, stream, from, buf) {
             Ok(count) => {
                 if count > 0 {
@@ -204,12 +238,21 @@ impl<R: Files + Env + AllocGlobal + Eprint + Clock + Processes> Host for FolderH
         }
     }
 
-    fn pause(&mut self) {
+    fn pause(&mut self)
+        ensures own { self.new.own ≡ self.old.own }
+        ensures pause { self.new.next_pause ≡ min (2 * self.old.next_pause) 250 }
+        ensures calm { self.new.faults ≡ self.old.faults }
+    {
         self.children.reap();
         thread::sleep(self.rt, Duration::from_millis(self.pauses.take()));
     }
 
-    fn remove(&mut self, order: &Order) -> Result<(), Failed> {
+    fn remove(&mut self, order: &Order) -> Result<(), Failed>
+        ensures own { RemovesOwn order.now.task self.old.own self.new.own result }
+        ensures foreign { ¬ IsOwn self.old.own order.now.task → IsOk result }
+        ensures pause { self.new.next_pause ≡ self.old.next_pause }
+        ensures cause { CountsFault self.old.faults self.new.faults (IsErr result) }
+    {
         self.children.reap_soon(self.rt);
         match self.remove_own(order) {
             Ok(()) => Ok(()),

@@ -1,6 +1,6 @@
 //! Which control folders are the build's own.
 
-ghost use Rattle.std.specs.Prelude.{◌≡◌, ◌↔◌, ◌<◌, ◌++◌, ◌∷◌, [], IsTrue, OnOk, vec_len, vec_capacity};
+ghost use Rattle.std.specs.Prelude.{◌≡◌, ◌↔◌, ◌<◌, [], IsTrue, OnOk, vec_len, vec_capacity};
 
 use crate::Life;
 use std::alloc::{AllocError, Global};
@@ -14,12 +14,11 @@ pub struct OwnFolders {
 }
 
 impl OwnFolders {
-    ghost use Rattle.real_edge.specs.OwnFolders.{IsOwn};
+    ghost use Rattle.real_edge.specs.OwnFolders.{IsOwn, own_of, listed, forgotten};
 
     /// None is listed.
     pub fn new(alloc: Global, life: Life) -> Self
-        ensures life { result.life ≡ life }
-        ensures tasks { result.tasks.items ≡ [] }
+        ensures { own_of result ≡ record { life = life; made = [] } }
     {
         OwnFolders {
             life,
@@ -29,7 +28,7 @@ impl OwnFolders {
 
     /// Whether the folder of this task is the build's own.
     pub fn contains(&self, task: u32) -> bool
-        ensures { IsTrue result ↔ IsOwn self.now task }
+        ensures { IsTrue result ↔ IsOwn (own_of self.now) task }
     {
         self.life == Life::Later || self.tasks.contains(&task)
     }
@@ -41,8 +40,7 @@ impl OwnFolders {
     /// Where there is no memory. Nothing changes but the room.
     pub fn reserve(&mut self) -> Result<(), AllocError>
         ensures room { OnOk result (vec_len self.new.tasks < vec_capacity self.new.tasks) }
-        ensures life { self.new.life ≡ self.old.life }
-        ensures tasks { self.new.tasks.items ≡ self.old.tasks.items }
+        ensures same { own_of self.new ≡ own_of self.old }
     {
         self.tasks.reserve(1)
     }
@@ -50,14 +48,15 @@ impl OwnFolders {
     /// Lists a task, for which there is room.
     pub fn add(&mut self, task: u32)
         requires { vec_len self.old.tasks < vec_capacity self.old.tasks }
-        ensures added { self.new.tasks.items ≡ self.old.tasks.items ++ task ∷ [] }
-        ensures life { self.new.life ≡ self.old.life }
+        ensures { own_of self.new ≡ listed task (own_of self.old) }
     {
         let _ = self.tasks.push(task);
     }
 
     /// Takes a task off the list.
-    pub fn forget(&mut self, task: u32) {
+    pub fn forget(&mut self, task: u32)
+        ensures { own_of self.new ≡ forgotten task (own_of self.old) }
+    {
         self.tasks.retain(|listed| *listed != task);
     }
 }

@@ -19,8 +19,9 @@ pub fn sync_folder(files: &impl Files, path: &str) -> io::Result<()> {
 ///
 /// # Errors
 ///
-/// Those of making a folder and of the sync; and where there is no memory for a path. A folder that was found, in one
-/// that may not be read or cannot be synced at all, is taken for durable: no host can have made it there.
+/// Those of making a folder and of the sync, after which the folder that was made is removed again; and where there is
+/// no memory for a path. A folder that was found, in one that may not be read or cannot be synced at all, is taken for
+/// durable: a host that makes one there does not leave it.
 pub fn make_durable<R: Files + AllocGlobal>(rt: &R, path: &str) -> io::Result<()> {
     let mut level = String::new(rt.alloc());
     for (index, part) in path.split('/').enumerate() {
@@ -40,10 +41,24 @@ pub fn make_durable<R: Files + AllocGlobal>(rt: &R, path: &str) -> io::Result<()
 fn make_level(files: &impl Files, holder: &str, path: &str) -> io::Result<()> {
     let holder = if holder.is_empty() { "." } else { holder };
     match fs::create_dir(files, path) {
-        Ok(()) => sync_folder(files, holder),
+        Ok(()) => sync_made(files, holder, path),
         Err(error) if error.kind() == ErrorKind::AlreadyExists => sync_found(files, holder),
         Err(error) => Err(error),
     }
+}
+
+/// Syncs the folder in which this call made another. Where that fails, the one that was made goes again, so that no later
+/// call takes it for durable.
+///
+/// # Errors
+///
+/// Those of the sync.
+pub fn sync_made(files: &impl Files, holder: &str, made: &str) -> io::Result<()> {
+    let synced = sync_folder(files, holder);
+    if synced.is_err() {
+        let _ = fs::remove_dir(files, made);
+    }
+    synced
 }
 
 // Syncs a folder in which nothing was made by this call.

@@ -7,11 +7,31 @@ use crate::programs::{Programs, find};
 use device_faults::Failed;
 use jp_disk::Disk;
 use std::alloc::AllocError;
+use std::fmt::Debug;
 use std::fs::Permissions;
 use std::os::unix::fs::PermissionsExt;
+use std::process::Abort;
+use std::rt::Files;
 use std::test::Fail;
 use std::{env, fs, io};
 use task_host::{Bytes, Host, Look, Made, Order, Pair, Pairs, Started, Stream, Text};
+
+// The test fails where what was found is not what was wanted.
+fn expect<T: PartialEq + Debug + Drop>(rt: &impl Abort, found: T, wanted: T) {
+    assert_eq!(rt; found, wanted);
+}
+
+// Writes a file.
+fn put(rt: &HostRuntime, path: &str, text: &str) -> io::Result<()> {
+    fs::write(rt, path, text)
+}
+
+// The file has these bytes.
+fn expect_file<R: Files + AllocGlobal + Abort>(rt: &R, path: &str, bytes: &[u8]) -> io::Result<()> {
+    let found = fs::read(rt, path)?;
+    expect(rt, found.as_slice(), bytes);
+    Ok(())
+}
 
 // An order of task 2 with this script, whose workspace has this name in this test's folder.
 fn order(rt: &HostRuntime, workspace: &str, script: &str) -> io::Result<Order> {
@@ -63,34 +83,42 @@ fn written(
 #[test]
 fn missing_folders_are_made_and_those_that_are_there_stay(rt: HostRuntime) -> Result<(), Fail> {
     crate::sync::make_durable(&rt, "levels/of/folders")?;
-    fs::write(&rt, "levels/of/folders/kept", "x")?;
+    put(&rt, "levels/of/folders/kept", "x")?;
     crate::sync::make_durable(&rt, "levels/of/folders")?;
-    assert_eq!(rt;
-        fs::read(&rt, "levels/of/folders/kept")?.as_slice(),
-        b"x".as_slice()
-    );
-    fs::write(&rt, "levels/file", "")?;
+    expect_file(&rt, "levels/of/folders/kept", b"x")?;
+    put(&rt, "levels/file", "")?;
     assert!(rt; crate::sync::make_durable(&rt, "levels/file/below").is_err());
+    Ok(())
+}
+
+#[test]
+fn a_folder_whose_holder_cannot_be_synced_goes_again(rt: HostRuntime) -> Result<(), Fail> {
+    fs::create_dir(&rt, "unsynced")?;
+    assert!(rt; crate::sync::sync_made(&rt, "no such holder", "unsynced").is_err());
+    expect(&rt, fs::exists(&rt, "unsynced")?, false);
     Ok(())
 }
 
 #[test]
 fn echo_through_the_shell(rt: HostRuntime) -> Result<(), Fail> {
     let order = order(&rt, "echo", "echo hi")?;
-    let mut host = FolderHost::new(&rt, Life::First);
-    assert_eq!(rt; host.look(&order), Look::Absent);
-    assert_eq!(rt; end_of(&rt, &order), Look::Exited(0));
+    expect(&rt, end_of(&rt, &order), Look::Exited(0));
     let log = written(&rt, &order, Stream::Log, 0)?;
-    assert_eq!(rt; log.as_slice(), b"+ echo hi\nhi\n".as_slice());
+    expect(&rt, log.as_slice(), b"+ echo hi\nhi\n".as_slice());
     let rest = written(&rt, &order, Stream::Log, 10)?;
-    assert_eq!(rt; rest.as_slice(), b"hi\n".as_slice());
-    assert_eq!(rt;
-        fs::read(&rt, "echo@tmp/durable-00000002/script.sh")?.as_slice(),
-        b"echo hi".as_slice()
-    );
-    assert_eq!(rt; host.remove(&order), Ok(()));
-    assert_eq!(rt; host.remove(&order), Ok(()), "a folder that is gone");
-    assert_eq!(rt; host.look(&order), Look::Absent);
+    expect(&rt, rest.as_slice(), b"hi\n".as_slice());
+    Ok(())
+}
+
+#[test]
+fn a_folder_is_made_with_the_script_and_removed_once(rt: HostRuntime) -> Result<(), Fail> {
+    let order = order(&rt, "removed", "echo hi")?;
+    let mut host = FolderHost::new(&rt, Life::First);
+    let made = (host.look(&order), host.make_dir(&order), host.look(&order));
+    expect(&rt, made, (Look::Absent, Made::Made, Look::NotStarted));
+    expect_file(&rt, "removed@tmp/durable-00000002/script.sh", b"echo hi")?;
+    let removed = (host.remove(&order), host.remove(&order), host.look(&order));
+    expect(&rt, removed, (Ok(()), Ok(()), Look::Absent));
     Ok(())
 }
 
@@ -98,25 +126,34 @@ fn echo_through_the_shell(rt: HostRuntime) -> Result<(), Fail> {
 fn a_folder_is_made_once_and_a_task_started_once(rt: HostRuntime) -> Result<(), Fail> {
     let order = order(&rt, "once", "true")?;
     let mut host = FolderHost::new(&rt, Life::First);
-    assert_eq!(rt; host.start(&order), Started::Failed, "no folder");
-    assert_eq!(rt; host.make_dir(&order), Made::Made);
-    assert_eq!(rt; host.look(&order), Look::NotStarted);
-    assert_eq!(rt; host.read(&order, Stream::Log, 0, &mut [0; 8]), Ok(0));
-    assert_eq!(rt; host.make_dir(&order), Made::Exists);
-    assert_eq!(rt; host.start(&order), Started::Started);
-    assert_eq!(rt; host.start(&order), Started::Failed, "it was started");
+    expect(&rt, host.start(&order), Started::Failed);
+    let made = [host.make_dir(&order), host.make_dir(&order)];
+    expect(&rt, made, [Made::Made, Made::Exists]);
+    expect(&rt, host.read(&order, Stream::Log, 0, &mut [0; 8]), Ok(0));
+    let started = [host.start(&order), host.start(&order)];
+    expect(&rt, started, [Started::Started, Started::Failed]);
     Ok(())
+}
+
+// The look at a task with this result.
+fn look_at_result(rt: &HostRuntime, order: &Order, text: &str) -> io::Result<Look> {
+    put(rt, "hand@tmp/durable-00000002/jenkins-result.txt", text)?;
+    Ok(FolderHost::new(rt, Life::Later).look(order))
 }
 
 #[test]
 fn a_result_written_by_hand(rt: HostRuntime) -> Result<(), Fail> {
     let order = order(&rt, "hand", "true")?;
-    let mut host = FolderHost::new(&rt, Life::First);
-    assert_eq!(rt; host.make_dir(&order), Made::Made);
-    fs::write(&rt, "hand@tmp/durable-00000002/jenkins-result.txt", "")?;
-    assert_eq!(rt; host.look(&order), Look::Failed, "no number");
-    fs::write(&rt, "hand@tmp/durable-00000002/jenkins-result.txt", "7\n")?;
-    assert_eq!(rt; host.look(&order), Look::Exited(7));
+    expect(
+        &rt,
+        FolderHost::new(&rt, Life::First).make_dir(&order),
+        Made::Made,
+    );
+    let looks = [
+        look_at_result(&rt, &order, "")?,
+        look_at_result(&rt, &order, "7\n")?,
+    ];
+    expect(&rt, looks, [Look::Failed, Look::Exited(7)]);
     Ok(())
 }
 
@@ -129,19 +166,29 @@ fn answers(rt: &HostRuntime, life: Life, order: &Order) -> (Made, Look) {
 #[test]
 fn a_workspace_that_no_folder_can_have(rt: HostRuntime) -> Result<(), Fail> {
     let alloc = rt.alloc();
-    fs::write(&rt, "file", "")?;
+    put(&rt, "file", "")?;
     let long = format!(in alloc; "{:x<252}", "job")?;
     for name in ["workspace/..", "workspace/.", "file/demo", long.as_str()] {
         let order = order(&rt, name, "true")?;
         for life in [Life::First, Life::Later] {
-            assert_eq!(rt; answers(&rt, life, &order), (Made::Failed, Look::Absent));
+            expect(
+                &rt,
+                answers(&rt, life, &order),
+                (Made::Failed, Look::Absent),
+            );
         }
     }
+    Ok(())
+}
+
+#[test]
+fn a_workspace_that_is_not_utf8(rt: HostRuntime) -> Result<(), Fail> {
     let mut order = order(&rt, "utf8", "true")?;
-    order.workspace = Bytes::from_slice(alloc, b"/tmp/\xff")?;
-    assert_eq!(rt;
+    order.workspace = Bytes::from_slice(rt.alloc(), b"/tmp/\xff")?;
+    expect(
+        &rt,
         answers(&rt, Life::Later, &order),
-        (Made::Failed, Look::Failed)
+        (Made::Failed, Look::Failed),
     );
     Ok(())
 }
@@ -149,36 +196,34 @@ fn a_workspace_that_no_folder_can_have(rt: HostRuntime) -> Result<(), Fail> {
 #[test]
 fn a_folder_that_another_build_left_is_made_anew(rt: HostRuntime) -> Result<(), Fail> {
     let order = order(&rt, "left", "true")?;
-    assert_eq!(rt; end_of(&rt, &order), Look::Exited(0), "the other build");
-    for left in ["a result", "no log"] {
-        let mut host = FolderHost::new(&rt, Life::First);
-        let made = [host.make_dir(&order), host.make_dir(&order)];
-        assert_eq!(rt; made, [Made::Made, Made::Exists], "it left {left}");
-        assert_eq!(rt; host.look(&order), Look::NotStarted);
+    expect(&rt, end_of(&rt, &order), Look::Exited(0));
+    // It left a result; the folder that is made anew then has no log.
+    for _ in 0..2 {
+        let made = answers(&rt, Life::First, &order);
+        expect(&rt, made, (Made::Made, Look::NotStarted));
     }
     let aside = fs::exists(&rt, "left@tmp/durable-00000002.old")?;
-    assert_eq!(rt; aside, false);
+    expect(&rt, aside, false);
     Ok(())
 }
 
 #[test]
 fn a_task_of_another_build_that_may_run_is_left_alone(rt: HostRuntime) -> Result<(), Fail> {
     let order = order(&rt, "alone", "true")?;
-    let mut other = FolderHost::new(&rt, Life::First);
     let mut host = FolderHost::new(&rt, Life::First);
-    let made = other.make_dir(&order);
-    fs::write(&rt, "alone@tmp/durable-00000002/jenkins-log.txt", "theirs")?;
-    assert_eq!(rt; [made, host.make_dir(&order)], [Made::Made, Made::Failed]);
-    assert_eq!(rt; host.start(&order), Started::Failed);
-    assert_eq!(rt; host.remove(&order), Ok(()));
-    assert_eq!(rt;
-        [host.look(&order), other.look(&order)],
-        [Look::Absent, Look::Running]
+    let mut other = FolderHost::new(&rt, Life::First);
+    expect(&rt, other.make_dir(&order), Made::Made);
+    put(&rt, "alone@tmp/durable-00000002/jenkins-log.txt", "theirs")?;
+    let launched = (
+        host.make_dir(&order),
+        host.start(&order),
+        host.remove(&order),
     );
-    let mut buf = [0; 8];
-    let read = host.read(&order, Stream::Log, 0, &mut buf);
-    let theirs = other.read(&order, Stream::Log, 0, &mut buf);
-    assert_eq!(rt; [read, theirs], [Ok(0), Ok(6)]);
+    expect(&rt, launched, (Made::Failed, Started::Failed, Ok(())));
+    let looks = [host.look(&order), other.look(&order)];
+    expect(&rt, looks, [Look::Absent, Look::Running]);
+    expect(&rt, host.read(&order, Stream::Log, 0, &mut [0; 8]), Ok(0));
+    expect(&rt, other.read(&order, Stream::Log, 0, &mut [0; 8]), Ok(6));
     Ok(())
 }
 
@@ -187,8 +232,8 @@ fn a_later_life_finds_the_folder_of_an_earlier_one(rt: HostRuntime) -> Result<()
     let order = order(&rt, "later", "true")?;
     let first = answers(&rt, Life::First, &order);
     let later = answers(&rt, Life::Later, &order);
-    assert_eq!(rt; first, (Made::Made, Look::NotStarted));
-    assert_eq!(rt; later, (Made::Exists, Look::NotStarted));
+    expect(&rt, first, (Made::Made, Look::NotStarted));
+    expect(&rt, later, (Made::Exists, Look::NotStarted));
     Ok(())
 }
 
@@ -205,27 +250,32 @@ fn set_env(rt: &HostRuntime, order: &mut Order, env: &[(&str, &str)]) -> Result<
 }
 
 #[test]
-fn a_step_with_a_path_of_its_own(rt: HostRuntime) -> Result<(), Fail> {
+fn a_setsid_of_the_workspace_is_not_run(rt: HostRuntime) -> Result<(), Fail> {
     let mut order = order(&rt, "path", "true")?;
     fs::create_dir(&rt, "path")?;
-    fs::write(&rt, "path/setsid", "#!/bin/sh\nexit 1\n")?;
+    put(&rt, "path/setsid", "#!/bin/sh\nexit 1\n")?;
     fs::set_permissions(&rt, "path/setsid", Permissions::from_mode(0o755))?;
     set_env(&rt, &mut order, &[("PATH", ".:/usr/bin:/bin")])?;
-    assert_eq!(rt;
-        end_of(&rt, &order),
-        Look::Exited(0),
-        "its setsid is not run"
-    );
-    order.task = 3;
+    expect(&rt, end_of(&rt, &order), Look::Exited(0));
+    Ok(())
+}
+
+#[test]
+fn a_path_of_the_step_does_not_lose_the_shell(rt: HostRuntime) -> Result<(), Fail> {
+    let mut order = order(&rt, "shell path", "true")?;
     set_env(&rt, &mut order, &[("PATH", "/no/such/folder")])?;
     let mut host = FolderHost::new(&rt, Life::First);
-    let made = host.make_dir(&order);
-    let started = host.start(&order);
-    assert_eq!(rt;
-        (made, started),
-        (Made::Made, Started::Started),
-        "the shell is found"
-    );
+    let answers = (host.make_dir(&order), host.start(&order));
+    expect(&rt, answers, (Made::Made, Started::Started));
+    Ok(())
+}
+
+// Runs the task to its end where `setsid` is at a path with no file.
+fn run_without_setsid(rt: &HostRuntime, order: &Order) -> io::Result<()> {
+    let control = ControlFolder::of(rt.alloc(), order)?;
+    let mut programs = Programs::of_controller(rt)?;
+    programs.setsid = Some(String::from_str(rt.alloc(), "/no/such/setsid")?);
+    spawn(rt, rt.alloc(), &programs, order, &control)?.wait()?;
     Ok(())
 }
 
@@ -233,13 +283,10 @@ fn a_step_with_a_path_of_its_own(rt: HostRuntime) -> Result<(), Fail> {
 fn a_setsid_that_cannot_be_started(rt: HostRuntime) -> Result<(), Fail> {
     let order = order(&rt, "unset", "true")?;
     let mut host = FolderHost::new(&rt, Life::First);
-    let made = host.make_dir(&order);
+    expect(&rt, host.make_dir(&order), Made::Made);
     fs::create_dir(&rt, "unset")?;
-    let control = ControlFolder::of(rt.alloc(), &order)?;
-    let mut programs = Programs::of_controller(&rt)?;
-    programs.setsid = Some(String::from_str(rt.alloc(), "/no/such/setsid")?);
-    spawn(&rt, rt.alloc(), &programs, &order, &control)?.wait()?;
-    assert_eq!(rt; (made, host.look(&order)), (Made::Made, Look::Exited(0)));
+    run_without_setsid(&rt, &order)?;
+    expect(&rt, host.look(&order), Look::Exited(0));
     Ok(())
 }
 
@@ -250,7 +297,7 @@ fn programs_are_found_by_absolute_folders(rt: HostRuntime) -> Result<(), Fail> {
     for (folder, mode) in [("first", 0o644), ("second", 0o755)] {
         fs::create_dir(&rt, folder)?;
         let program = format!(in alloc; "{folder}/sh")?;
-        fs::write(&rt, program.as_str(), "")?;
+        put(&rt, program.as_str(), "")?;
         fs::set_permissions(&rt, program.as_str(), Permissions::from_mode(mode))?;
     }
     let here = here.as_path();
@@ -266,33 +313,27 @@ fn programs_are_found_by_absolute_folders(rt: HostRuntime) -> Result<(), Fail> {
 fn a_script_with_an_interpreter_and_output_apart(rt: HostRuntime) -> Result<(), Fail> {
     let mut order = order(&rt, "apart", "#!/bin/sh\necho out\necho log >&2\nexit 3\n")?;
     order.keep_out = true;
-    assert_eq!(rt; end_of(&rt, &order), Look::Exited(3));
-    assert_eq!(rt;
-        written(&rt, &order, Stream::Out, 0)?.as_slice(),
-        b"out\n".as_slice()
-    );
-    assert_eq!(rt;
-        written(&rt, &order, Stream::Log, 0)?.as_slice(),
-        b"log\n".as_slice()
-    );
+    expect(&rt, end_of(&rt, &order), Look::Exited(3));
+    let out = written(&rt, &order, Stream::Out, 0)?;
+    expect(&rt, out.as_slice(), b"out\n".as_slice());
+    let log = written(&rt, &order, Stream::Log, 0)?;
+    expect(&rt, log.as_slice(), b"log\n".as_slice());
     Ok(())
 }
 
 #[test]
 fn a_failing_line_ends_the_script(rt: HostRuntime) -> Result<(), Fail> {
     let order = order(&rt, "line", "exit 3\necho never\n")?;
-    assert_eq!(rt; end_of(&rt, &order), Look::Exited(3));
-    assert_eq!(rt;
-        written(&rt, &order, Stream::Log, 0)?.as_slice(),
-        b"+ exit 3\n".as_slice()
-    );
+    expect(&rt, end_of(&rt, &order), Look::Exited(3));
+    let log = written(&rt, &order, Stream::Log, 0)?;
+    expect(&rt, log.as_slice(), b"+ exit 3\n".as_slice());
     Ok(())
 }
 
 #[test]
 fn a_killed_script_ends_with_the_signal(rt: HostRuntime) -> Result<(), Fail> {
     let order = order(&rt, "signal", "kill -9 $$\n")?;
-    assert_eq!(rt; end_of(&rt, &order), Look::Exited(137));
+    expect(&rt, end_of(&rt, &order), Look::Exited(137));
     Ok(())
 }
 
@@ -300,11 +341,11 @@ fn a_killed_script_ends_with_the_signal(rt: HostRuntime) -> Result<(), Fail> {
 fn a_task_whose_shell_is_killed_runs_for_ever(rt: HostRuntime) -> Result<(), Fail> {
     let order = order(&rt, "shell", "kill -9 $PPID\nkill -9 $$\n")?;
     let mut host = FolderHost::new(&rt, Life::First);
-    assert_eq!(rt; host.make_dir(&order), Made::Made);
-    assert_eq!(rt; host.start(&order), Started::Started);
+    expect(&rt, host.make_dir(&order), Made::Made);
+    expect(&rt, host.start(&order), Started::Started);
     for _ in 0..10 {
         host.pause();
-        assert_eq!(rt; host.look(&order), Look::Running);
+        expect(&rt, host.look(&order), Look::Running);
     }
     Ok(())
 }
@@ -313,7 +354,7 @@ fn a_task_whose_shell_is_killed_runs_for_ever(rt: HostRuntime) -> Result<(), Fai
 fn a_task_has_a_process_group_of_its_own(rt: HostRuntime) -> Result<(), Fail> {
     let script = "#!/bin/sh\nread -r _ _ _ _ group _ < /proc/$$/stat\necho \"$group\"\n";
     let order = order(&rt, "group", script)?;
-    assert_eq!(rt; end_of(&rt, &order), Look::Exited(0));
+    expect(&rt, end_of(&rt, &order), Look::Exited(0));
     let log = written(&rt, &order, Stream::Log, 0)?;
     let stat = fs::read_to_string(&rt, "/proc/self/stat")?;
     let own = stat.split_whitespace().nth(4).ok_or("a process group")?;
@@ -324,7 +365,7 @@ fn a_task_has_a_process_group_of_its_own(rt: HostRuntime) -> Result<(), Fail> {
 #[test]
 fn paths_with_blanks_quotes_and_newlines(rt: HostRuntime) -> Result<(), Fail> {
     let order = order(&rt, "a b'c\"d\ne", "pwd\n")?;
-    assert_eq!(rt; end_of(&rt, &order), Look::Exited(0));
+    expect(&rt, end_of(&rt, &order), Look::Exited(0));
     let log = written(&rt, &order, Stream::Log, 0)?;
     assert!(rt; log.as_slice().ends_with(b"/a b'c\"d\ne\n"));
     Ok(())
@@ -334,9 +375,9 @@ fn paths_with_blanks_quotes_and_newlines(rt: HostRuntime) -> Result<(), Fail> {
 fn the_script_sees_the_environment(rt: HostRuntime) -> Result<(), Fail> {
     let mut order = order(&rt, "environment", "echo \"$NAME\"\n")?;
     set_env(&rt, &mut order, &[("NAME", "first"), ("NAME", "a b")])?;
-    assert_eq!(rt; end_of(&rt, &order), Look::Exited(0));
+    expect(&rt, end_of(&rt, &order), Look::Exited(0));
     let log = written(&rt, &order, Stream::Log, 0)?;
-    assert_eq!(rt; log.as_slice(), b"+ echo a b\na b\n".as_slice());
+    expect(&rt, log.as_slice(), b"+ echo a b\na b\n".as_slice());
     Ok(())
 }
 
@@ -346,38 +387,43 @@ fn disk<'a>(rt: &'a HostRuntime, name: &str) -> Result<FileDisk<'a, HostRuntime>
 }
 
 #[test]
-fn what_was_written_is_read_again(rt: HostRuntime) -> Result<(), Fail> {
-    let mut first = disk(&rt, "again.dat")?;
-    assert_eq!(rt; first.len(), Ok(0), "a missing file");
-    assert_eq!(rt; first.sync(), Ok(()));
-    assert_eq!(rt; fs::exists(&rt, "again.dat")?, false, "it is not made yet");
-    assert_eq!(rt; first.write_at(0, b"hello"), Ok(()));
-    assert_eq!(rt; first.write_at(4, b"!!"), Ok(()));
-    assert_eq!(rt; first.sync(), Ok(()));
-    let mut again = disk(&rt, "again.dat")?;
+fn a_missing_file_is_made_by_the_first_write(rt: HostRuntime) -> Result<(), Fail> {
+    let mut disk = disk(&rt, "made.dat")?;
+    expect(&rt, (disk.len(), disk.sync()), (Ok(0), Ok(())));
+    expect(&rt, fs::exists(&rt, "made.dat")?, false);
+    assert_eq!(rt; disk.write_at(0, b"hello"), Ok(()));
+    let rest = [disk.write_at(4, b"!!"), disk.sync()];
+    expect(&rt, rest, [Ok(()), Ok(())]);
+    expect_file(&rt, "made.dat", b"hell!!")?;
+    expect(&rt, self::disk(&rt, "made.dat")?.len(), Ok(6));
+    Ok(())
+}
+
+#[test]
+fn a_read_gives_what_there_is_and_leaves_the_rest_of_the_buffer(
+    rt: HostRuntime,
+) -> Result<(), Fail> {
+    put(&rt, "again.dat", "hell!!")?;
+    let mut disk = disk(&rt, "again.dat")?;
     let mut buf = *b"abcdef";
-    assert_eq!(rt; again.len(), Ok(6));
-    assert_eq!(rt; again.read_at(1, &mut buf), Ok(5));
-    assert_eq!(rt; buf, *b"ell!!f", "the rest of the buffer stays");
-    assert_eq!(rt; again.read_at(6, &mut buf), Ok(0));
-    assert_eq!(rt;
-        fs::read(&rt, "again.dat")?.as_slice(),
-        b"hell!!".as_slice()
-    );
+    expect(&rt, (disk.len(), disk.read_at(1, &mut buf)), (Ok(6), Ok(5)));
+    expect(&rt, buf, *b"ell!!f");
+    expect(&rt, disk.read_at(6, &mut buf), Ok(0));
     Ok(())
 }
 
 #[test]
 fn a_file_that_cannot_be_made(rt: HostRuntime) -> Result<(), Fail> {
     let mut disk = disk(&rt, "no such folder/program.dat")?;
-    assert_eq!(rt; disk.len(), Ok(0));
-    assert_eq!(rt; disk.write_at(0, b"x"), Err(Failed));
-    assert_eq!(rt; disk.sync(), Err(Failed), "a write failed");
+    expect(&rt, disk.len(), Ok(0));
+    let failed = [disk.write_at(0, b"x"), disk.sync()];
+    expect(&rt, failed, [Err(Failed), Err(Failed)]);
     fs::create_dir(&rt, "no such folder")?;
-    assert_eq!(rt; disk.write_at(0, b"x"), Ok(()));
-    assert_eq!(rt; disk.sync(), Err(Failed), "it is remembered");
-    let mut again = self::disk(&rt, "no such folder/program.dat")?;
-    assert_eq!(rt; again.sync(), Ok(()), "another disk knows nothing of it");
+    let again = [disk.write_at(0, b"x"), disk.sync()];
+    expect(&rt, again, [Ok(()), Err(Failed)]);
+    // Another disk over the file knows nothing of it.
+    let other = self::disk(&rt, "no such folder/program.dat")?.sync();
+    expect(&rt, other, Ok(()));
     Ok(())
 }
 
@@ -385,11 +431,11 @@ fn a_file_that_cannot_be_made(rt: HostRuntime) -> Result<(), Fail> {
 fn a_sync_that_failed_fails_again(rt: HostRuntime) -> Result<(), Fail> {
     fs::create_dir(&rt, "gone")?;
     let mut disk = disk(&rt, "gone/program.dat")?;
-    assert_eq!(rt; disk.write_at(0, b"x"), Ok(()));
+    expect(&rt, disk.write_at(0, b"x"), Ok(()));
     fs::remove_dir_all(&rt, "gone")?;
-    assert_eq!(rt; disk.sync(), Err(Failed));
+    expect(&rt, disk.sync(), Err(Failed));
     fs::create_dir(&rt, "gone")?;
-    assert_eq!(rt; disk.sync(), Err(Failed));
+    expect(&rt, disk.sync(), Err(Failed));
     Ok(())
 }
 
@@ -397,18 +443,27 @@ fn a_sync_that_failed_fails_again(rt: HostRuntime) -> Result<(), Fail> {
 fn a_folder_is_no_file(rt: HostRuntime) -> Result<(), Fail> {
     fs::create_dir(&rt, "folder.dat")?;
     let mut disk = disk(&rt, "folder.dat")?;
-    assert_eq!(rt; disk.len(), Err(Failed));
-    assert_eq!(rt; disk.write_at(0, b"x"), Err(Failed));
+    expect(&rt, disk.len(), Err(Failed));
+    expect(&rt, disk.write_at(0, b"x"), Err(Failed));
     Ok(())
 }
 
 #[test]
 fn no_bytes_below_the_end_is_a_fault(rt: HostRuntime) -> Result<(), Fail> {
     let mut disk = disk(&rt, "cut.dat")?;
-    assert_eq!(rt; disk.write_at(0, b"hello"), Ok(()));
-    fs::write(&rt, "cut.dat", "he")?;
+    expect(&rt, disk.write_at(0, b"hello"), Ok(()));
+    put(&rt, "cut.dat", "he")?;
     let mut buf = [0u8; 8];
-    assert_eq!(rt; disk.read_at(1, &mut buf), Ok(1));
-    assert_eq!(rt; disk.read_at(3, &mut buf), Err(Failed));
+    expect(&rt, disk.read_at(1, &mut buf), Ok(1));
+    expect(&rt, disk.read_at(3, &mut buf), Err(Failed));
+    Ok(())
+}
+
+fn to_another_thread<T: Send>(_value: &T) {}
+
+#[test]
+fn a_disk_and_a_host_may_cross_threads(rt: HostRuntime) -> Result<(), Fail> {
+    to_another_thread(&FolderHost::new(&rt, Life::First));
+    to_another_thread(&disk(&rt, "crossing.dat")?);
     Ok(())
 }

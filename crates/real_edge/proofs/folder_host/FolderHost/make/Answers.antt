@@ -1,6 +1,10 @@
-use Rattle.std.proofs.Common.{inr}
-use Rattle.std.proofs.lemmas.List.Elements.{Contains-push}
+use Rattle.std.proofs.Common.{subst, ap, ◌∙◌, rules}
+use Rattle.real_edge.specs.FolderHost.{HostState}
+use Rattle.real_edge.specs.OwnFolders.{IsOwn, Own}
 use Rattle.real_edge.proofs.folder_host.FolderHost.make.Goals as goal
 
-pub returns-clause-listed : goal.returns-clause-listed
-returns-clause-listed g c = inr (rw c.add.ensures.added (Contains-push _ _))
+pub returns-then-not-branch-clause-made : goal.returns-then-not-branch-clause-made
+returns-then-not-branch-clause-made g c =
+    let own : HostState → Own = λ s. s.own in
+    let same = c.in_ok-reserve.ensures.same ∙ ap own c.self.view_is in
+    (λ e. cc, (subst (λ (o : Own). IsOwn o c.args.order.now.task) same (c.contains.ensures.0 (search rules)), same))

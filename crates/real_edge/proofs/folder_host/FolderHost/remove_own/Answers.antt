@@ -1,0 +1,7 @@
+use Rattle.std.proofs.Common.{subst, rules}
+use Rattle.real_edge.specs.FolderHost.{HostState}
+use Rattle.real_edge.specs.OwnFolders.{IsOwn}
+use Rattle.real_edge.proofs.folder_host.FolderHost.remove_own.Goals as goal
+
+pub returns-in_err-remove-clause-foreign : goal.returns-in_err-remove-clause-foreign
+returns-in_err-remove-clause-foreign g c = λ other. absurd (other (subst (λ (s : HostState). IsOwn s.own c.args.order.now.task) c.self.view_is (c.contains.ensures.0 (search rules))))

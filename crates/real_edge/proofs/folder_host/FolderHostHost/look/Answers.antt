@@ -1,0 +1,10 @@
+use Rattle.std.proofs.Common.{subst}
+use Rattle.real_edge.specs.FolderHost.{HostState}
+use Rattle.real_edge.specs.OwnFolders.{IsOwn}
+use Rattle.real_edge.proofs.folder_host.FolderHostHost.look.Goals as goal
+
+pub returns-in-Ok-clause-foreign : goal.returns-in-Ok-clause-foreign
+returns-in-Ok-clause-foreign g c = λ other. cc (c.in-Ok.ensures.foreign (λ own. other (subst (λ (s : HostState). IsOwn s.own c.args.order.now.task) c.self.view_is own)))
+
+pub returns-in-Err-clause-foreign : goal.returns-in-Err-clause-foreign
+returns-in-Err-clause-foreign g c = λ other. cc (c.in-Err.ensures.foreign (λ own. other (subst (λ (s : HostState). IsOwn s.own c.args.order.now.task) c.self.view_is own)))
