@@ -1,9 +1,10 @@
 -- What a heap keeps of its fields, and what a contract sees of them, through a cell that is written and one that is new.
-use Rattle.std.proofs.Common.{◌≡◌, ℕ, ◌+◌, ◌-◌, ◌<◌, ◌≤◌, ◌^◌, true, List, [], ◌∷◌, ◌++◌, length, get_or, set, Option, Some, slice_get, refl, sym, ap, subst, ◌∙◌, arith}
+use Rattle.std.proofs.Common.{◌≡◌, ℕ, ◌+◌, ◌-◌, ◌<◌, ◌≤◌, ◌^◌, true, List, [], ◌∷◌, ◌++◌, length, get_or, set, Some, slice_get, refl, sym, ap, subst, ◌∙◌, arith}
 use Rattle.std.specs.Vec.{with_item, vec_capacity}
 use Rattle.std.proofs.lemmas.List.{length-set, length_push}
 use Rattle.std.proofs.lemmas.Option.{slice_get_read}
 use Rattle.model_values.specs.Cells.{cell_bytes, heap_bytes}
+use Rattle.model_values.proofs.CellGrowth.{size_within}
 use Rattle.cell_heap.specs.Follows.{Follows}
 use Rattle.cell_heap.specs.HeapKept.{IsKept}
 use Rattle.cell_heap.specs.Marks.{Marks}
@@ -12,7 +13,7 @@ use Rattle.cell_heap.specs.Soundness.{AreSound, CellBelow, IsSoundIn}
 use Rattle.cell_heap.specs.ValueTypes.{Cell}
 use Rattle.cell_heap.specs.declared.heap.Heap.TheInside.{Inside}
 use Rattle.cell_heap.proofs.FollowsLemmas.{Follows-push, Follows-set}
-use Rattle.cell_heap.proofs.SizeLemmas.{heap_bytes-push, heap_bytes-set, part_count-le}
+use Rattle.cell_heap.proofs.SizeLemmas.{heap_bytes-push, heap_bytes-set}
 use Rattle.cell_heap.proofs.SoundLemmas.{AreSound-push, AreSound-set}
 
 -- what a contract sees
@@ -70,7 +71,7 @@ IsKept-push h next c k items capacity room marks total below small few =
     let flags : length next.changes.flags ≡ length h.changes.flags + 1 = ap (λ (m : Marks). length m.flags) marks ∙ length_push h.changes.flags true in
     let spare : next.changes.spare ≡ h.changes.spare - 1 = ap (λ (m : Marks). m.spare) marks in
     let bytes : heap_bytes next.cells.items ≡ heap_bytes h.cells.items + cell_bytes c = ap heap_bytes items ∙ heap_bytes-push h.cells.items c in
-    let new : IsSoundIn (length h.cells.items) c = record { below = below; small = omega (arith, part_count-le c, total, small) } in record {
+    let new : IsSoundIn (length h.cells.items) c = record { below = below; small = omega (arith, size_within c, total, small) } in record {
       sound = subst AreSound (sym items) (AreSound-push h.cells.items c k.sound new);
       few = omega (arith, lens, next.cells.ok.0, few);
       marked = omega (arith, flags, lens, next.cells.ok.0, h.cells.ok.0, k.marked);

@@ -1,10 +1,9 @@
 -- Heap bytes of cells and of all cells.
-use Rattle.std.proofs.Common.{◌≡◌, ℕ, zero, suc, ◌+◌, ◌*◌, ◌<◌, ◌≤◌, ◌^◌, List, [], ◌∷◌, ◌++◌, length, get_or, set, take, Option, Some, None, slice_get, refl, ap, subst, arith}
+use Rattle.std.proofs.Common.{◌≡◌, ℕ, zero, suc, ◌+◌, ◌*◌, ◌<◌, ◌≤◌, ◌^◌, List, [], ◌∷◌, ◌++◌, length, get_or, set, take, Some, None, slice_get, refl, ap, subst, arith}
 use Rattle.std.proofs.lemmas.List.{take_more}
 use Rattle.std.proofs.lemmas.Option.{slice_get_within, get_or_from_slice_get}
 use Rattle.model_values.specs.Cells.{cell_bytes, entry_bytes, heap_bytes, key_bytes}
-use Rattle.cell_heap.specs.Soundness.{part_count}
-use Rattle.cell_heap.specs.ValueTypes.{Key, Value, Cell, Variable, TextCell, ListCell, MapCell, ClosureCell, ThrownCell}
+use Rattle.cell_heap.specs.ValueTypes.{Key, Value, Cell}
 
 pub heap_bytes-push : (h : List Cell) (c : Cell) → heap_bytes (h ++ c ∷ []) ≡ heap_bytes h + cell_bytes c
 heap_bytes-push [] c = omega arith
@@ -35,20 +34,6 @@ entry_bytes-push (b ∷ es) e = omega (arith, entry_bytes-push es e)
 pub entry_bytes-take_more : (es : List (Key × Value)) (i : ℕ) (e : Key × Value) → slice_get es i ≡ Some e → entry_bytes (take (i + 1) es) ≡ entry_bytes (take i es) + (32 + key_bytes e.0)
 entry_bytes-take_more es i e got =
     rw (take_more es i e (slice_get_within es i e got), get_or_from_slice_get es i e e got) (entry_bytes-push (take i es) e)
-
-pub length-entry_bytes : (es : List (Key × Value)) → length es ≤ entry_bytes es
-length-entry_bytes [] = omega arith
-length-entry_bytes (e ∷ es) = omega (arith, length-entry_bytes es)
-
--- a cell's parts are no more than its bytes
-pub part_count-le : (c : Cell) → part_count c ≤ cell_bytes c
-part_count-le (Variable v) = omega arith
-part_count-le (TextCell t) = omega arith
-part_count-le (ListCell vs) = omega arith
-part_count-le (MapCell es) = omega (arith, length-entry_bytes es)
-part_count-le (ClosureCell node env) = omega arith
-part_count-le (ThrownCell class None) = omega arith
-part_count-le (ThrownCell class (Some m)) = omega arith
 
 -- a place that is not there is behind the end
 pub slice_get-none : (es : List (Key × Value)) (i : ℕ) → slice_get es i ≡ None → length es ≤ i

@@ -1,18 +1,6 @@
--- What a cell is and holds.
-use Rattle.std.specs.Prelude.{ℕ, List, [], length, Option, Some, None}
-use Rattle.cell_heap.specs.ValueTypes.{Value, Key, Cell, Variable, TextCell, ListCell, MapCell, ClosureCell, ThrownCell}
-
-abbrev pub IsVariable : Option Cell → Type 0
-IsVariable (Some (Variable v)) = Unit {0}
-IsVariable _ = ⊥
-
-abbrev pub IsList : Option Cell → Type 0
-IsList (Some (ListCell vs)) = Unit {0}
-IsList _ = ⊥
-
-abbrev pub IsMap : Option Cell → Type 0
-IsMap (Some (MapCell es)) = Unit {0}
-IsMap _ = ⊥
+-- What a cell holds.
+use Rattle.std.specs.Prelude.{ℕ, List, [], length, Option, Some}
+use Rattle.cell_heap.specs.ValueTypes.{Value, Key, Cell, ListCell, MapCell}
 
 -- the entries of a list, and of a map; none of another cell
 abbrev pub values_in : Option Cell → List Value

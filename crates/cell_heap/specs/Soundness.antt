@@ -1,7 +1,8 @@
 -- What a heap keeps of its cells: they name only cells that are there, and none is so large that a script's numbers
 -- could not count its parts.
-use Rattle.std.specs.Prelude.{ℕ, ◌<◌, ◌^◌, List, length, Some, None, All}
-use Rattle.cell_heap.specs.ValueTypes.{Value, Null, Truth, Whole, InCell, Cell, Variable, TextCell, ListCell, MapCell, ClosureCell, ThrownCell}
+use Rattle.std.specs.Prelude.{ℕ, ◌<◌, ◌^◌, List, length, All}
+use Rattle.model_values.specs.Cells.{cell_size}
+use Rattle.cell_heap.specs.ValueTypes.{Value, InCell, Cell, Variable, ListCell, MapCell, ClosureCell}
 
 -- the value names no cell, or one of the first n
 abbrev pub ValueBelow : ℕ → Value → Type 0
@@ -16,19 +17,9 @@ CellBelow n (MapCell es) = All (λ e. ValueBelow n e.1) es
 CellBelow n (ClosureCell node env) = All (λ b. b.cell < n) env
 CellBelow n _ = Unit {0}
 
--- its bytes of text, or its entries
-abbrev pub part_count : Cell → ℕ
-part_count (Variable v) = 0
-part_count (TextCell t) = length t
-part_count (ListCell vs) = length vs
-part_count (MapCell es) = length es
-part_count (ClosureCell node env) = length env
-part_count (ThrownCell class None) = 0
-part_count (ThrownCell class (Some m)) = length m
-
 pub record IsSoundIn (n : ℕ) (c : Cell) : Type 0 where
   pub below : CellBelow n c
-  pub small : part_count c < 2 ^ 31
+  pub small : cell_size c < 2 ^ 31
 
 -- every cell is sound among all of them
 abbrev pub AreSound : List Cell → Type 0

@@ -5,14 +5,15 @@ ghost use Rattle.std.specs.Map.{lookup, remove_entry};
 ghost use Rattle.indexmap.specs.IndexMap.{insert_entry};
 ghost use Rattle.model_values.specs.Keys.{same_key};
 ghost use Rattle.model_values.specs.declared.cell.Cell.TheVariants.{List as ListCell, Map as MapCell};
-ghost use Rattle.cell_heap.specs.Contents.{IsList, IsMap, values_in, pairs_in};
+ghost use Rattle.model_values.specs.Fitting.{HasList, HasMap};
+ghost use Rattle.cell_heap.specs.Contents.{values_in, pairs_in};
 
 use model_values::{Cell, Entries, Key, Value, Values};
 use std::alloc::AllocError;
 
 /// The entries of a list.
 pub(crate) fn values_of(cell: &Cell) -> &Values
-    requires { IsList (Some cell.now) }
+    requires { HasList (Some cell.now) }
     ensures { result.now ≡ values_in (Some cell.now) }
 {
     match cell {
@@ -23,7 +24,7 @@ pub(crate) fn values_of(cell: &Cell) -> &Values
 
 /// The entries of a map.
 pub(crate) fn pairs_of(cell: &Cell) -> &Entries
-    requires { IsMap (Some cell.now) }
+    requires { HasMap (Some cell.now) }
     ensures { result.now ≡ pairs_in (Some cell.now) }
 {
     match cell {
@@ -34,7 +35,7 @@ pub(crate) fn pairs_of(cell: &Cell) -> &Entries
 
 /// Puts a value behind a list.
 pub(crate) fn push(cell: &mut Cell, value: Value) -> Result<(), AllocError>
-    requires { IsList (Some cell.old) }
+    requires { HasList (Some cell.old) }
     ensures pushed { OnOk result (cell.new ≡ ListCell (values_in (Some cell.old) ++ value ∷ [])) }
     ensures unchanged { OnErr result (cell.new ≡ cell.old) }
 {
@@ -46,7 +47,7 @@ pub(crate) fn push(cell: &mut Cell, value: Value) -> Result<(), AllocError>
 
 /// Puts a value in the place of an entry of a list.
 pub(crate) fn set(cell: &mut Cell, at: u32, value: Value)
-    requires list { IsList (Some cell.old) }
+    requires list { HasList (Some cell.old) }
     requires within { at < length (values_in (Some cell.old)) }
     ensures { cell.new ≡ ListCell (slice_set (values_in (Some cell.old)) at value) }
 {
@@ -58,7 +59,7 @@ pub(crate) fn set(cell: &mut Cell, at: u32, value: Value)
 
 /// Gives a key of a map this value, and gives the one that it had.
 pub(crate) fn put(cell: &mut Cell, key: Key, value: Value) -> Result<Option<Value>, AllocError>
-    requires { IsMap (Some cell.old) }
+    requires { HasMap (Some cell.old) }
     ensures old { IfOk result (λ old. old ≡ lookup (same_key key) (pairs_in (Some cell.old))) }
     ensures put { OnOk result (cell.new ≡ MapCell (insert_entry same_key (pairs_in (Some cell.old)) key value)) }
     ensures unchanged { OnErr result (cell.new ≡ cell.old) }
@@ -71,7 +72,7 @@ pub(crate) fn put(cell: &mut Cell, key: Key, value: Value) -> Result<Option<Valu
 
 /// Takes the entry with this key out of a map.
 pub(crate) fn remove(cell: &mut Cell, key: &Key)
-    requires { IsMap (Some cell.old) }
+    requires { HasMap (Some cell.old) }
     ensures { cell.new ≡ MapCell (remove_entry (same_key key.now) (pairs_in (Some cell.old))) }
 {
     match cell {

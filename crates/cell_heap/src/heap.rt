@@ -2,9 +2,10 @@
 
 ghost use Rattle.std.specs.Prelude.{◌≡◌, ◌≢◌, ◌↔◌, IsTrue, ◌+◌, ◌-◌, ◌<◌, ◌≤◌, ◌^◌, true, false, None, Some, [], ◌∷◌, ◌++◌, length, max, replicate, slice_get, slice_set, vec_len, IfOk, IfErr, OnOk, OnErr, MatchResult, IsErrOf};
 ghost use Rattle.model_values.specs.Cells.{cell_bytes, heap_bytes};
+ghost use Rattle.model_values.specs.Fitting.{HasVariable};
 ghost use Rattle.model_values.specs.declared.cell.Cell.TheVariants.{Variable};
 ghost use Rattle.cell_heap.specs.Follows.{Follows};
-ghost use Rattle.cell_heap.specs.Contents.{IsVariable, entry_count};
+ghost use Rattle.cell_heap.specs.Contents.{entry_count};
 ghost use Rattle.cell_heap.specs.Marks.{places};
 ghost use Rattle.cell_heap.specs.Refusals.{limit_of, new_cell_limit};
 ghost use Rattle.cell_heap.specs.Soundness.{AreSound, IsSoundIn, CellBelow, ValueBelow};
@@ -165,7 +166,7 @@ impl Heap {
     /// Puts a value into a variable, which is changed then. It takes no memory.
     pub fn set(&mut self, id: u32, value: Value)
         requires within { id < length self.old.cells }
-        requires variable { IsVariable (slice_get self.old.cells id) }
+        requires variable { HasVariable (slice_get self.old.cells id) }
         requires below { ValueBelow (length self.old.cells) value }
         ensures set { self.new ≡ record self.old { cells = slice_set self.old.cells id (Variable value); changed = slice_set self.old.changed id true } }
         ensures follows { Follows self.old self.new }

@@ -1,7 +1,7 @@
 -- Heap bytes, new cells and cells that grow, at and past each limit.
 use Rattle.std.specs.Prelude.{slice_get, ◌+◌, true, [], Some, None, pos, codes, refl, ◌≡◌, ◌∷◌, ◌++◌}
 use Rattle.model_values.specs.Limits.{limit_line}
-use Rattle.model_values.specs.Cells.{cell_bytes, heap_bytes, Gives, Meets, new_text, new_list, new_map, new_list_of, throw, list_push, map_put, set_variable}
+use Rattle.model_values.specs.Cells.{cell_bytes, cell_size, heap_bytes, Gives, Meets, new_text, new_list, new_map, new_list_of, throw, list_push, map_put, set_variable}
 use Rattle.model_values.proofs.Sample.{sample, ab, gives_new, throws, small}
 use Rattle.model_values.specs.Types.{Null, Truth, InCell, IntKey, TextKey, Variable, TextCell, ListCell, MapCell, ClosureCell, ThrownCell, Abort, Error, NodesEvaluated, CallDepth, FlowNodes, LogSize, GreenThreads, TextLength, CollectionSize, ValueDepth, Cells, HeapBytes}
 
@@ -26,6 +26,15 @@ bytes_of_a_throwable = refl
 
 pub bytes_of_a_throwable_without_a_message : cell_bytes (ThrownCell Error None) ≡ 16
 bytes_of_a_throwable_without_a_message = refl
+
+pub size_of_a_map : cell_size (MapCell ((IntKey (pos 1), Null) ∷ (TextKey (codes "key"), Null) ∷ [])) ≡ 2
+size_of_a_map = refl
+
+pub size_of_a_closure : cell_size (ClosureCell 4 ((record { name = codes "n"; cell = 0 }) ∷ [])) ≡ 0
+size_of_a_closure = refl
+
+pub size_of_a_throwable : cell_size (ThrownCell Abort (Some (codes "no"))) ≡ 2
+size_of_a_throwable = refl
 
 pub bytes_of_the_sample : heap_bytes sample ≡ 16 + 18 + 16 + 48 + 16 + (16 + 33 + 32) + 16 + 18 + 16 + 16 + 22 + 48
 bytes_of_the_sample = refl

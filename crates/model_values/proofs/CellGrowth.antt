@@ -7,10 +7,10 @@ use Rattle.std.proofs.lemmas.List.{length-set}
 use Rattle.std.proofs.lemmas.Option.{slice_get_within}
 use Rattle.std.proofs.lemmas.Bool.{ltb-false}
 use Rattle.indexmap.specs.IndexMap.{insert_entry}
-use Rattle.model_values.specs.Cells.{cell_bytes, entry_bytes, heap_bytes, key_bytes, Answer, Gives, Throws, Meets, unless_limit, no_room, with_new, new_cell, new_text, new_list, new_map, new_list_of, throw, list_push, put_over, map_put, variable_set, set_variable}
+use Rattle.model_values.specs.Cells.{cell_bytes, cell_size, entry_bytes, heap_bytes, key_bytes, Answer, Gives, Throws, Meets, unless_limit, no_room, with_new, new_cell, new_text, new_list, new_map, new_list_of, throw, list_push, put_over, map_put, variable_set, set_variable}
 use Rattle.model_values.specs.Fitting.{There, HasVariable, HasText, HasList, HasMap, HasClosure, HasThrowable, IsNumber, IsFlag, IsIn, IsNullOrIn, CellFits, CellsFit}
 use Rattle.model_values.specs.Keys.{same_key}
-use Rattle.model_values.specs.Later.{StaysAs, CellsLater, cell_size, AnswerLater, Bounded, Grows, AnswerGrows}
+use Rattle.model_values.specs.Later.{StaysAs, CellsLater, AnswerLater, Bounded, Grows, AnswerGrows}
 use Rattle.model_values.specs.Limits.{Limits}
 use Rattle.model_values.specs.Types.{Value, Null, Truth, Whole, InCell, Key, Cell, Variable, TextCell, ListCell, MapCell, ClosureCell, ThrownCell, Class, LimitKind, TextLength, CollectionSize, Cells, HeapBytes}
 use Rattle.model_values.specs.declared.cell.Binding.{Binding}
@@ -83,7 +83,7 @@ get_behind : (h ps : List Cell) (x : Cell) → slice_get (h ++ (ps ++ x ∷ []))
 get_behind h ps x = rw (← append_assoc h ps (x ∷ []), ← length-append h ps) (get_new (h ++ ps) x [])
 
 -- a cell with as many bytes as it may have holds no more
-size_within : (x : Cell) → cell_size x ≤ cell_bytes x
+pub size_within : (x : Cell) → cell_size x ≤ cell_bytes x
 size_within (Variable v) = omega arith
 size_within (TextCell t) = omega arith
 size_within (ListCell vs) = omega arith

@@ -14,6 +14,7 @@ mod MethodNameExamples
 mod OperatorExamples
 pub mod OperatorGrowth
 mod Sample
+pub mod TableLaws
 mod TextExamples
 mod TextMethodExamples
 pub mod TextMethodGrowth

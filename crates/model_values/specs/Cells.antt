@@ -30,6 +30,16 @@ abbrev pub heap_bytes : List Cell → ℕ
 heap_bytes [] = 0
 heap_bytes (c ∷ cs) = cell_bytes c + heap_bytes cs
 
+-- how many bytes of text or entries a cell holds
+abbrev pub cell_size : Cell → ℕ
+cell_size (Variable v) = 0
+cell_size (TextCell t) = length t
+cell_size (ListCell vs) = length vs
+cell_size (MapCell es) = length es
+cell_size (ClosureCell node env) = 0
+cell_size (ThrownCell class None) = 0
+cell_size (ThrownCell class (Some m)) = length m
+
 -- what an evaluation of values ends with: a value, or a throwable in the cell of this number, with the cells
 -- afterwards; or a limit, and then every cell is as it was before
 pub data Answer : Type 0 where

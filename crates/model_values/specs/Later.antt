@@ -2,11 +2,11 @@
 -- variable, a list or a map holds (this product's own).
 use Rattle.std.specs.Prelude.{◌≡◌, ◌≤◌, ℕ, List, length, Option, Some, slice_get}
 use Rattle.std.specs.List.{AllByRecursion as AllAre}
-use Rattle.model_values.specs.Cells.{Answer, Gives, Throws, Meets, heap_bytes}
+use Rattle.model_values.specs.Cells.{Answer, Gives, Throws, Meets, heap_bytes, cell_size}
 use Rattle.model_values.specs.Fitting.{There, HasVariable, HasList, HasMap, HasClosure, HasThrowable, CellsFit}
 use Rattle.model_values.specs.Limits.{Limits}
 use Rattle.model_values.specs.Methods.{Called, Done, Walks, CallsClosure}
-use Rattle.model_values.specs.Types.{Value, Cell, Variable, TextCell, ListCell, MapCell, ThrownCell}
+use Rattle.model_values.specs.Types.{Value, Cell, Variable, ListCell, MapCell}
 use Rattle.model_values.specs.Walks.{Turn, Turns, Past, Stops, After, Keeps, Ends}
 use Rattle.model_values.specs.declared.cell.Binding.{Binding}
 
@@ -28,14 +28,6 @@ AnswerLater h (Gives g v) = CellsLater h g
 AnswerLater h (Throws g c) = CellsLater h g
 AnswerLater h (Meets k) = Unit {0}
 
--- how many bytes or entries a cell holds
-abbrev pub cell_size : Cell → ℕ
-cell_size (TextCell t) = length t
-cell_size (ListCell vs) = length vs
-cell_size (MapCell es) = length es
-cell_size (ThrownCell class (Some m)) = length m
-cell_size c = 0
-
 -- at most so many cells, and so many heap bytes
 pub record Bounded (cells bytes : ℕ) (h : List Cell) : Type 0 where
   pub cells_fit : length h ≤ cells
@@ -45,8 +37,9 @@ pub record Bounded (cells bytes : ℕ) (h : List Cell) : Type 0 where
 abbrev pub Given : (ℕ → List Binding → Type 0) → List Cell → List Value → Type 0
 Given rule h vs = CellsFit rule h × AllAre (There h) vs
 
--- from cells h to cells g: they are later; they keep to the limits, and to every wider bound that h keeps to, each cell by itself
--- too; and where what was given names what is there, so do g, and what comes with them is there too
+-- from cells h to cells g: they are later; their number and their heap bytes stay within the limits, or within any wider bound that
+-- held of h, and no cell gets larger than such a bound of heap bytes; and where what was given names what is there, so do g, and
+-- what comes with them is there too
 pub record Grows (l : Limits) (rule : ℕ → List Binding → Type 0) (h : List Cell) (given : Type 0) (g : List Cell) (result : Type 0) : Type 0 where
   pub later : CellsLater h g
   pub bounds : (cells bytes : ℕ) → l.cells ≤ cells → l.bytes ≤ bytes → Bounded cells bytes h → Bounded cells bytes g

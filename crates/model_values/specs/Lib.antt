@@ -10,6 +10,7 @@ pub mod Later
 pub mod Limits
 pub mod ListMethods
 pub mod MethodNames
+pub mod MethodTable
 pub mod Methods
 pub mod Operators
 pub mod Searching

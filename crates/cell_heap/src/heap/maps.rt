@@ -4,9 +4,10 @@ ghost use Rattle.std.specs.Prelude.{◌≡◌, ◌+◌, ◌<◌, ◌≤◌, ◌^
 ghost use Rattle.std.specs.Map.{lookup, remove_entry};
 ghost use Rattle.indexmap.specs.IndexMap.{insert_entry};
 ghost use Rattle.model_values.specs.Keys.{same_key};
+ghost use Rattle.model_values.specs.Fitting.{HasMap};
 ghost use Rattle.model_values.specs.declared.cell.Cell.TheVariants.{Map as MapCell};
 ghost use Rattle.cell_heap.specs.Follows.{Follows};
-ghost use Rattle.cell_heap.specs.Contents.{IsMap, pairs_in};
+ghost use Rattle.cell_heap.specs.Contents.{pairs_in};
 ghost use Rattle.cell_heap.specs.Refusals.{added_bytes, limit_of, map_put_limit, put_limit};
 ghost use Rattle.cell_heap.specs.Soundness.{ValueBelow};
 
@@ -22,7 +23,7 @@ impl Heap {
     /// is new, and then nothing has changed.
     pub fn map_put(&mut self, id: u32, key: Key, value: Value) -> Result<Option<Value>, CellRefusal>
         requires within { id < length self.old.cells }
-        requires map { IsMap (slice_get self.old.cells id) }
+        requires map { HasMap (slice_get self.old.cells id) }
         requires below { ValueBelow (length self.old.cells) value }
         ensures old { IfOk result (λ old. old ≡ lookup (same_key key) (pairs_in (slice_get self.old.cells id))) }
         ensures put { OnOk result (self.new ≡ record self.old { cells = slice_set self.old.cells id (MapCell (insert_entry same_key (pairs_in (slice_get self.old.cells id)) key value)); changed = slice_set self.old.changed id true }) }
@@ -42,7 +43,7 @@ impl Heap {
     /// memory, and the time of the entries behind it.
     pub fn map_remove(&mut self, id: u32, key: &Key) -> Option<Value>
         requires within { id < length self.old.cells }
-        requires map { IsMap (slice_get self.old.cells id) }
+        requires map { HasMap (slice_get self.old.cells id) }
         ensures value { result ≡ lookup (same_key key.now) (pairs_in (slice_get self.old.cells id)) }
         ensures removed { OnSome result (self.new ≡ record self.old { cells = slice_set self.old.cells id (MapCell (remove_entry (same_key key.now) (pairs_in (slice_get self.old.cells id)))); changed = slice_set self.old.changed id true }) }
         ensures absent { IfNone result (self.new ≡ self.old) }

@@ -1,6 +1,7 @@
 use Rattle.std.proofs.Common.{◌≡◌, ℕ, ◌+◌, ◌<◌, ◌≤◌, ◌++◌, ◌∷◌, [], List, Option, Some, None, length, set, slice_get, ap, sym, ◌∙◌, subst, arith}
 use Rattle.model_values.specs.Cells.{cell_bytes, heap_bytes}
-use Rattle.cell_heap.specs.Contents.{IsList, values_in}
+use Rattle.model_values.specs.Fitting.{HasList}
+use Rattle.cell_heap.specs.Contents.{values_in}
 use Rattle.cell_heap.specs.Soundness.{AreSound, IsSoundIn}
 use Rattle.cell_heap.specs.ValueTypes.{Cell, ListCell}
 use Rattle.cell_heap.proofs.KeptLemmas.{IsKept-set, same_cells, seen_at, written, written-follows}
@@ -17,7 +18,7 @@ invariant_of-self-2 c =
     let was = c.index_mut.result.now in
     let got = seen_at h r view c.args.id was c.requires.within c.index_mut.ensures.value in
     let read = seen_at h r view c.args.id c.index.result.now c.requires.within c.index.ensures in
-    let list = known_at IsList r.cells c.args.id was got c.requires.list in
+    let list = known_at HasList r.cells c.args.id was got c.requires.list in
     let all : AreSound r.cells = subst AreSound (same_cells h r view) kept.sound in
     let same : length (values_in (Some was)) ≡ length (values_in (Some c.index.result.now)) = ap (λ (o : Option Cell). length (values_in o)) (sym got ∙ read) in
     let few : length (values_in (Some was)) < 65536 = omega (arith, same, c.len.ensures, ap length c.values_of.ensures, c.if-len-ge-MAX_ENTRIES.false) in

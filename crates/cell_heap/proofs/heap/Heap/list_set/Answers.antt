@@ -1,6 +1,7 @@
 use Rattle.std.proofs.Common.{◌≡◌, ℕ, ◌+◌, ◌<◌, ◌≤◌, ◌++◌, ◌∷◌, [], List, Option, Some, None, length, set, slice_get, ap, sym, ◌∙◌, subst, arith}
 use Rattle.model_values.specs.Cells.{cell_bytes}
-use Rattle.cell_heap.specs.Contents.{IsList, values_in}
+use Rattle.model_values.specs.Fitting.{HasList}
+use Rattle.cell_heap.specs.Contents.{values_in}
 use Rattle.cell_heap.specs.Soundness.{AreSound, IsSoundIn}
 use Rattle.cell_heap.specs.ValueTypes.{Cell, ListCell}
 use Rattle.cell_heap.proofs.KeptLemmas.{IsKept-set, same_cells, seen_at, written, written-follows}
@@ -15,7 +16,7 @@ invariant_of-self c =
     let kept = c.self.invariant in
     let was = c.index_mut.result.now in
     let got = seen_at h r view c.args.id was c.requires.within c.index_mut.ensures.value in
-    let list = known_at IsList r.cells c.args.id was got c.requires.list in
+    let list = known_at HasList r.cells c.args.id was got c.requires.list in
     let all : AreSound r.cells = subst AreSound (same_cells h r view) kept.sound in
     let sound = sound-list_set (length r.cells) was c.args.at c.args.value list (sound_seen r.cells c.args.id was all got) c.requires.below in
     let bytes : cell_bytes c.set.new.cell ≡ cell_bytes was = ap cell_bytes c.set.ensures ∙ bytes-list_set was c.args.at c.args.value list in

@@ -3,7 +3,8 @@ use Rattle.std.specs.Map.{lookup, remove_entry}
 use Rattle.indexmap.specs.IndexMap.{insert_entry}
 use Rattle.model_values.specs.Cells.{cell_bytes, heap_bytes, key_bytes}
 use Rattle.model_values.specs.Keys.{same_key}
-use Rattle.cell_heap.specs.Contents.{IsMap, pairs_in}
+use Rattle.model_values.specs.Fitting.{HasMap}
+use Rattle.cell_heap.specs.Contents.{pairs_in}
 use Rattle.cell_heap.specs.Refusals.{added_bytes, put_limit}
 use Rattle.cell_heap.specs.Soundness.{AreSound, IsSoundIn}
 use Rattle.cell_heap.specs.ValueTypes.{Cell, Key, Value, MapCell, LimitKind}
@@ -22,7 +23,7 @@ invariant_of-self-2 c =
     let k = c.args.key in
     let read = seen_at h r view c.args.id c.index.result.now c.requires.within c.index.ensures in
     let pairs : c.pairs_of.result.now ≡ pairs_in (Some was) = c.pairs_of.ensures ∙ ap pairs_in (sym read ∙ got) in
-    let map = known_at IsMap r.cells c.args.id was got c.requires.map in
+    let map = known_at HasMap r.cells c.args.id was got c.requires.map in
     let all : AreSound r.cells = subst AreSound (same_cells h r view) kept.sound in
     let none = subst (λ (es : List (Key × Value)). put_limit h.total es k (lookup (same_key k) es) ≡ None) pairs c.in_ok-added.ensures.refusal in
     let added : c.in_ok-added.added ≡ added_bytes k (lookup (same_key k) (pairs_in (Some was))) = c.in_ok-added.ensures.added ∙ ap (λ (es : List (Key × Value)). added_bytes k (lookup (same_key k) es)) pairs in

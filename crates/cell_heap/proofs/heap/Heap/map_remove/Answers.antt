@@ -3,7 +3,8 @@ use Rattle.std.specs.Map.{lookup, remove_entry}
 use Rattle.indexmap.specs.IndexMap.{insert_entry}
 use Rattle.model_values.specs.Cells.{cell_bytes, heap_bytes, key_bytes}
 use Rattle.model_values.specs.Keys.{same_key}
-use Rattle.cell_heap.specs.Contents.{IsMap, pairs_in}
+use Rattle.model_values.specs.Fitting.{HasMap}
+use Rattle.cell_heap.specs.Contents.{pairs_in}
 use Rattle.cell_heap.specs.Refusals.{added_bytes, put_limit}
 use Rattle.cell_heap.specs.Soundness.{AreSound, IsSoundIn}
 use Rattle.cell_heap.specs.ValueTypes.{Cell, Key, Value, MapCell}
@@ -22,7 +23,7 @@ overflow_sub-self c =
     let got = seen_at h r view c.args.id was c.requires.within c.index_mut.ensures.value in
     let read = seen_at h r view c.args.id c.index.result.now c.requires.within c.index.ensures in
     let pairs : c.pairs_of.result.now ≡ pairs_in (Some was) = c.pairs_of.ensures ∙ ap pairs_in (sym read ∙ got) in
-    let map = known_at IsMap r.cells c.args.id was got c.requires.map in
+    let map = known_at HasMap r.cells c.args.id was got c.requires.map in
     let k = c.args.key.now in
     let had : lookup (same_key k) (pairs_in (Some was)) ≡ Some c.in_ok-old.old = ap (λ (es : List (Key × Value)). lookup (same_key k) es) (sym pairs) ∙ sym c.in_ok-old.ensures in
     let less = bytes-remove_pair was k c.in_ok-old.old map had in
@@ -41,7 +42,7 @@ invariant_of-self c =
     let got = seen_at h r view c.args.id was c.requires.within c.index_mut.ensures.value in
     let read = seen_at h r view c.args.id c.index.result.now c.requires.within c.index.ensures in
     let pairs : c.pairs_of.result.now ≡ pairs_in (Some was) = c.pairs_of.ensures ∙ ap pairs_in (sym read ∙ got) in
-    let map = known_at IsMap r.cells c.args.id was got c.requires.map in
+    let map = known_at HasMap r.cells c.args.id was got c.requires.map in
     let k = c.args.key.now in
     let had : lookup (same_key k) (pairs_in (Some was)) ≡ Some c.in_ok-old.old = ap (λ (es : List (Key × Value)). lookup (same_key k) es) (sym pairs) ∙ sym c.in_ok-old.ensures in
     let less = bytes-remove_pair was k c.in_ok-old.old map had in
