@@ -2,9 +2,9 @@
 use Rattle.std.proofs.Common.{arith, refl, []}
 use Rattle.model_run.specs.State.{Setting}
 use Rattle.model_run.specs.World.{begun}
-use Rattle.model_run.specs.Fitting.{WorldFits}
+use Rattle.model_run.specs.Fitting.{Fits, seats_of}
 
-pub begun_fits : (setting : Setting) → WorldFits setting begun
+pub begun_fits : (setting : Setting) → Fits setting begun.ended begun.shared begun.next_thread (seats_of setting begun.threads)
 begun_fits setting = record {
   shared = record {
     cells = tt;
@@ -15,7 +15,7 @@ begun_fits setting = record {
     names = tt;
     some_node = omega arith;
     few_nodes = omega arith;
-    nodes = (refl, omega arith, tt, tt);
+    nodes = (refl, refl, tt, tt);
     requests = tt;
     few_requests = omega arith;
     asks = tt;
@@ -25,7 +25,7 @@ begun_fits setting = record {
   };
   numbers = (omega arith, omega arith, tt);
   few_threads = omega arith;
-  main = λ e. absurd (cc);
+  main = λ on e. absurd (cc);
   threads = (
     record {
       head = (omega arith, omega arith);
@@ -33,8 +33,9 @@ begun_fits setting = record {
       frames = tt;
       envs = tt;
       nested = tt;
+      closures = tt;
       waits = tt;
-      start = tt;
+      start = refl;
       own_held = ([], refl, refl);
       holds = tt;
       folders = refl;

@@ -8,6 +8,7 @@ use Rattle.model_run.specs.FrameTable.{Sort, Further, No_more, One_more, Any_mor
 use Rattle.model_run.specs.Nesting.{Sorts, FurtherFit, ValuesFit, FrameFits}
 use Rattle.model_run.specs.Scoping.{Names}
 use Rattle.model_run.specs.Fitting.{EnvFits, known, Later}
+use Rattle.model_run.proofs.Front.{front_length}
 use Rattle.model_values.proofs.LaterLaws.{there_later, text_later, closure_later, throwable_later, variables_later}
 
 -- the table with a wider notion of sorts
@@ -30,7 +31,7 @@ module _ (u v : Common) (later : Later u v) where
   known_later Any x h = there_later u.cells v.cells later.cells x h
   known_later (Up_to n) (Whole (pos m)) h = h
   known_later Flag (Truth b) h = tt
-  known_later Flow_node (Whole (pos n)) h = (h.0, let lt : n < length u.nodes + 2 = h.1 in omega (arith, later.nodes))
+  known_later Flow_node (Whole (pos n)) h = (h.0, let lt : n < length u.nodes + 2 = h.1 in omega (arith, front_length u.nodes v.nodes later.nodes))
   known_later A_closure (InCell c) h = closure_later u.cells v.cells later.cells c h
   known_later A_throwable (InCell c) h = throwable_later u.cells v.cells later.cells c h
   known_later Text_or_null Null h = tt

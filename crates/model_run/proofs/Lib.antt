@@ -3,7 +3,10 @@ mod LogExamples
 mod LabelExamples
 mod RunExamples
 mod RowExamples
+mod FitExamples
 mod AgentsExamples
+pub mod Front
+pub mod Asking
 pub mod Relation
 pub mod Room
 pub mod Under
@@ -26,4 +29,8 @@ pub mod WaitingLaws
 pub mod LaterLaws
 pub mod SinceLaws
 pub mod WorldLaws
+pub mod RequestLaws
+pub mod LaterWorlds
+pub mod RequestWorlds
+pub mod DueLaws
 mod FirstFits

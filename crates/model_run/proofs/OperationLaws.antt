@@ -1,18 +1,18 @@
 -- Each operation on values leaves later cells, in every world.
-use Rattle.std.proofs.Common.{ℕ, List, [], ◌∷◌, map, Bool, Option, Some, None}
+use Rattle.std.proofs.Common.{ℕ, List, map, Bool, Option, Some, None}
 use Rattle.model_syntax.specs.declared.tree.Access.{Access}
 use Rattle.model_syntax.specs.declared.tree.Access.TheVariants.{Direct, NullSafe}
 use Rattle.model_values.specs.Cells.{Answer, Gives, with_new, new_cell, new_text, new_list, new_map, throw}
 use Rattle.model_values.specs.Fitting.{There, HasText, HasList, HasMap, HasThrowable, IsNumber, IsIn}
-use Rattle.model_values.specs.Index.{get_at, set_at, get_property, set_property, unless_null}
-use Rattle.model_values.specs.Kinds.{Kind, null, closure, kind}
-use Rattle.model_values.specs.Later.{CellsLater, AnswerLater, CalledGrows, TurnGrows, AfterGrows}
+use Rattle.model_values.specs.Index.{get_at, set_at, get_property, set_property}
+use Rattle.model_values.specs.Kinds.{Kind, kind}
+use Rattle.model_values.specs.Later.{AnswerLater, CalledGrows, TurnGrows, AfterGrows}
 use Rattle.model_values.specs.MethodNames.{Method}
-use Rattle.model_values.specs.Methods.{Called, method_call, text_value}
+use Rattle.model_values.specs.Methods.{method_call}
 use Rattle.model_values.specs.Operators.{apply, incremented, decremented}
 use Rattle.model_values.specs.TextOf.{Writing, written}
-use Rattle.model_values.specs.Throws.{no_method, unknown_name, unknown_step, bad_key, throw_value, new_throwable}
-use Rattle.model_values.specs.Walks.{turn, loop_turn, After, after, at_end}
+use Rattle.model_values.specs.Throws.{no_method, unknown_step, throw_value, new_throwable}
+use Rattle.model_values.specs.Walks.{turn, loop_turn, after, at_end}
 use Rattle.model_values.proofs.CellGrowth.{Before, Sort, Answers, ungiven, answer_later, gives_new, new_cell_grows, new_text_grows, new_list_grows, new_map_grows, throw_grows}
 use Rattle.model_values.proofs.IndexGrowth.{get_at_grows, set_at_grows, get_property_grows, set_property_grows, unless_null_grows}
 use Rattle.model_values.proofs.LaterLaws.{later_itself}

@@ -1,6 +1,6 @@
 -- The table of frames, pinned down: at which of these nodes a frame of each kind may stand, and its rows.
 use Prim.Native.String.{String}
-use Rattle.std.specs.Prelude.{◌≡◌, refl, ℕ, pos, true, filter, List, [], ◌∷◌, codes, None}
+use Rattle.std.specs.Prelude.{◌≡◌, refl, ℕ, pos, Bool, true, false, filter, map, List, [], ◌∷◌, codes, None}
 use Rattle.model_syntax.specs.declared.node.NodeForm.TheVariants as form
 use Rattle.model_syntax.specs.declared.tree.Access.TheVariants.{Direct}
 use Rattle.model_syntax.specs.declared.tree.AssignSign.TheVariants.{Set, AddTo}
@@ -11,7 +11,8 @@ use Rattle.model_syntax.specs.declared.tree.Prefix.TheVariants.{Not}
 use Rattle.model_run.specs.RunTypes.{FrameKind}
 use Rattle.model_run.specs.declared.frame.FrameKind.TheVariants as kind
 use Rattle.model_run.specs.Around.{Shape}
-use Rattle.model_run.specs.FrameTable.{Sort, Further, Any, Up_to, Flag, Flow_node, A_closure, A_throwable, Text_or_null, Part, Inner, Suffix, Called, Own_body, Executor_wait, Task_wait, Person_wait, Branches_wait, No_more, One_more, Any_more, row, frame_row}
+use Rattle.model_run.specs.State.{Env}
+use Rattle.model_run.specs.FrameTable.{Sort, Further, Any, Up_to, Flag, Flow_node, A_closure, A_throwable, Text_or_null, Part, Inner, Suffix, Called, Own_body, Executor_wait, Task_wait, Person_wait, Branches_wait, No_more, One_more, Any_more, row, frame_row, enters_body}
 
 abbrev a_script : Shape
 a_script = record { form = form.Script; parts = form.Evaluate ∷ form.Declare (codes "x") ∷ [] }
@@ -373,7 +374,7 @@ steps_body_row = refl
 each_over_row : frame_row kind.EachOver a_for_each 0 [] ≡ row true 0 ([]) (Part 0)
 each_over_row = refl
 
-each_body_row : frame_row kind.EachBody a_for_each 0 [] ≡ row true 1 (Any ∷ Up_to 2147483647 ∷ []) (Part 1)
+each_body_row : frame_row kind.EachBody a_for_each 0 [] ≡ row true 1 (Any ∷ Up_to 2147483646 ∷ []) (Part 1)
 each_body_row = refl
 
 try_block_row : frame_row kind.TryBlock a_try 0 [] ≡ row true 0 ([]) (Part 0)
@@ -487,7 +488,7 @@ stage_body_row = refl
 catch_error_body_row : frame_row kind.CatchErrorBody a_catchError 0 [] ≡ row true 1 (Flow_node ∷ Flow_node ∷ Up_to 4 ∷ Text_or_null ∷ []) Called
 catch_error_body_row = refl
 
-retry_body_row : frame_row kind.RetryBody a_retry 0 [] ≡ row true 1 (Flow_node ∷ Flow_node ∷ Up_to 2147483647 ∷ A_closure ∷ []) Called
+retry_body_row : frame_row kind.RetryBody a_retry 0 [] ≡ row true 1 (Flow_node ∷ Flow_node ∷ Up_to 2147483646 ∷ A_closure ∷ []) Called
 retry_body_row = refl
 
 node_wait_row : frame_row kind.NodeWait a_node 0 [] ≡ row true 1 (A_closure ∷ []) Executor_wait
@@ -499,7 +500,7 @@ node_body_row = refl
 dir_body_row : frame_row kind.DirBody a_dir 0 [] ≡ row true 1 (Flow_node ∷ Flow_node ∷ []) Called
 dir_body_row = refl
 
-with_env_body_row : frame_row kind.WithEnvBody a_withEnv 0 [] ≡ row true 1 (Flow_node ∷ Flow_node ∷ Up_to 65536 ∷ []) Called
+with_env_body_row : frame_row kind.WithEnvBody a_withEnv 0 [] ≡ row true 1 (Flow_node ∷ Flow_node ∷ Up_to 2147483647 ∷ []) Called
 with_env_body_row = refl
 
 sh_wait_row : frame_row kind.ShWait a_sh 0 [] ≡ row true 1 (Flag ∷ Flag ∷ []) Task_wait
@@ -521,25 +522,25 @@ walk_of f = record { form = form.Method Direct (codes f); parts = form.Closure N
 abbrev kept_by : String → List Sort × Further
 kept_by f = ((frame_row kind.WalkTurn (walk_of f) 0 []).values, (frame_row kind.WalkTurn (walk_of f) 0 []).further)
 
-each_keeps : kept_by "each" ≡ (Any ∷ A_closure ∷ Up_to 2147483647 ∷ [], No_more)
+each_keeps : kept_by "each" ≡ (Any ∷ A_closure ∷ Up_to 2147483646 ∷ [], No_more)
 each_keeps = refl
 
-collect_keeps : kept_by "collect" ≡ (Any ∷ A_closure ∷ Up_to 2147483647 ∷ [], Any_more)
+collect_keeps : kept_by "collect" ≡ (Any ∷ A_closure ∷ Up_to 2147483646 ∷ [], Any_more)
 collect_keeps = refl
 
-find_keeps : kept_by "find" ≡ (Any ∷ A_closure ∷ Up_to 2147483647 ∷ Any ∷ [], One_more)
+find_keeps : kept_by "find" ≡ (Any ∷ A_closure ∷ Up_to 2147483646 ∷ Any ∷ [], One_more)
 find_keeps = refl
 
-find_all_keeps : kept_by "findAll" ≡ (Any ∷ A_closure ∷ Up_to 2147483647 ∷ Any ∷ [], Any_more)
+find_all_keeps : kept_by "findAll" ≡ (Any ∷ A_closure ∷ Up_to 2147483646 ∷ Any ∷ [], Any_more)
 find_all_keeps = refl
 
-any_keeps : kept_by "any" ≡ (Any ∷ A_closure ∷ Up_to 2147483647 ∷ [], No_more)
+any_keeps : kept_by "any" ≡ (Any ∷ A_closure ∷ Up_to 2147483646 ∷ [], No_more)
 any_keeps = refl
 
-every_keeps : kept_by "every" ≡ (Any ∷ A_closure ∷ Up_to 2147483647 ∷ [], No_more)
+every_keeps : kept_by "every" ≡ (Any ∷ A_closure ∷ Up_to 2147483646 ∷ [], No_more)
 every_keeps = refl
 
-times_keeps : kept_by "times" ≡ (Any ∷ A_closure ∷ Up_to 2147483647 ∷ [], No_more)
+times_keeps : kept_by "times" ≡ (Any ∷ A_closure ∷ Up_to 2147483646 ∷ [], No_more)
 times_keeps = refl
 
 -- the value of a declared variable that is called is kept before its arguments
@@ -548,3 +549,50 @@ called_variable_row = refl
 
 called_variable_row_2 : (frame_row kind.Gathered a_call 0 (record { name = codes "f"; cell = 0 } ∷ [])).values ≡ Any ∷ Any ∷ []
 called_variable_row_2 = refl
+
+-- no step stands at the call of a variable that has its name
+abbrev seen : String → Env
+seen x = record { name = codes x; cell = 0 } ∷ []
+
+abbrev stands_beside : FrameKind → Shape → String → Bool
+stands_beside k sh x = (frame_row k sh 0 (seen x)).stands
+
+stage_as_a_variable : stands_beside kind.StageBody a_stage "stage" ≡ false
+stage_as_a_variable = refl
+
+stage_beside_another_variable : stands_beside kind.StageBody a_stage "name" ≡ true
+stage_beside_another_variable = refl
+
+catch_error_as_a_variable : stands_beside kind.CatchErrorBody a_catchError "catchError" ≡ false
+catch_error_as_a_variable = refl
+
+retry_as_a_variable : stands_beside kind.RetryBody a_retry "retry" ≡ false
+retry_as_a_variable = refl
+
+node_as_a_variable : stands_beside kind.NodeWait a_node "node" ≡ false
+node_as_a_variable = refl
+
+node_body_as_a_variable : stands_beside kind.NodeBody a_node "node" ≡ false
+node_body_as_a_variable = refl
+
+dir_as_a_variable : stands_beside kind.DirBody a_dir "dir" ≡ false
+dir_as_a_variable = refl
+
+with_env_as_a_variable : stands_beside kind.WithEnvBody a_withEnv "withEnv" ≡ false
+with_env_as_a_variable = refl
+
+sh_as_a_variable : stands_beside kind.ShWait a_sh "sh" ≡ false
+sh_as_a_variable = refl
+
+input_as_a_variable : stands_beside kind.InputWait an_input "input" ≡ false
+input_as_a_variable = refl
+
+parallel_as_a_variable : stands_beside kind.ParallelWait a_parallel "parallel" ≡ false
+parallel_as_a_variable = refl
+
+-- which nodes enter a body with no frame around it
+abbrev a_method_that_calls : Shape
+a_method_that_calls = record { form = form.Method Direct (codes "call"); parts = [] }
+
+entering_nodes : map (λ sh. enters_body sh.form) (a_call ∷ an_echo ∷ a_method_that_calls ∷ a_method ∷ a_walk ∷ a_closure ∷ a_list ∷ []) ≡ true ∷ true ∷ true ∷ false ∷ false ∷ false ∷ false ∷ []
+entering_nodes = refl

@@ -4,23 +4,24 @@ use Rattle.std.specs.Prelude.{◌≡◌, ◌<◌, ◌≤◌, ◌⊎◌, ℕ, suc
 use Rattle.std.specs.Cmp.Lexicographic.{slice_cmp}
 use Rattle.std.specs.Ordering.{nat_cmp, is_lt}
 use Rattle.std.specs.List.{AllByRecursion as AllAre}
-use Rattle.model_values.specs.Cells.{heap_bytes}
+use Rattle.model_values.specs.Cells.{heap_bytes, cell_size}
 use Rattle.model_values.specs.Fitting.{There, HasVariable, HasText, HasClosure, HasThrowable, CellsFit}
-use Rattle.model_values.specs.Later.{CellsLater, cell_size}
+use Rattle.model_values.specs.Later.{CellsLater}
 use Rattle.model_run.specs.ValueTypes.{Null, Truth, Whole, InCell, Cell, Binding}
-use Rattle.model_run.specs.RunTypes.{FlowNode, Event, Answer, Begin, GrantedAnswer, Done, DecidedAnswer, Joined, Wait, Ready, RequestWait, BranchesWait, Join, JoinEnd, Outcome, ValueOutcome, ThrownOutcome, Request, NodeRequest, TaskRequest, InputRequest, OpenRequest, Held, Site, Context, FrameKind}
+use Rattle.model_run.specs.RunTypes.{FlowNode, NodeKind, EndBodyNode, EndBlockNode, Event, Answer, Begin, GrantedAnswer, Done, DecidedAnswer, Joined, Wait, Ready, RequestWait, BranchesWait, Join, JoinEnd, Outcome, ValueOutcome, ThrownOutcome, Request, NodeRequest, TaskRequest, InputRequest, OpenRequest, Held, Site, Context, FrameKind}
 use Rattle.model_run.specs.declared.frame.FrameKind.TheVariants as kind
+use Rattle.model_run.specs.FlowNodes.{IsFront}
 use Rattle.model_run.specs.Grants.{executor_of}
 use Rattle.model_run.specs.Labels.{label_fault}
 use Rattle.model_run.specs.StepTable.{has_blank}
-use Rattle.model_run.specs.Steps.{held_for}
+use Rattle.model_run.specs.Steps.{held_for, held_by}
 use Rattle.model_run.specs.Threads.{Runs, Script, Closure, Thread, stands}
 use Rattle.model_run.specs.Callables.{Callee}
 use Rattle.model_run.specs.World.{Build, world_in}
 use Rattle.model_run.specs.Terms.{Term, nodes_of}
 use Rattle.model_run.specs.State.{Setting, Common, Env, Frame, Result, Waits}
 use Rattle.model_run.specs.FrameTable.{Any, Up_to, Flag, Flow_node, A_closure, A_throwable, Text_or_null, is_closure_form}
-use Rattle.model_run.specs.Nesting.{Sorts, Spot, Begun, Any_branch, For_executor, For_task, For_person, For_branches, FrameFits, Chained, innermost, shape_at}
+use Rattle.model_run.specs.Nesting.{Sorts, Spot, Begun, Any_branch, For_executor, For_task, For_person, For_branches, FrameFits, Chained, CallsClosures, innermost, shape_at}
 use Rattle.model_run.specs.Scoping.{Names, names_at, names_of, names_for}
 
 -- variables by their cells, with these names
@@ -48,10 +49,20 @@ known u Text_or_null Null = Unit {0}
 known u Text_or_null (InCell c) = HasText (slice_get u.cells c)
 known u s v = ⊥
 
--- flow nodes are numbered one after the other, and name nodes before them; a start of 0 is none
+-- a flow node before this one
+abbrev pub IsBefore : ℕ → ℕ → Type 0
+IsBefore id n = (2 ≤ n) × (n < id)
+
+-- the end of a body and that of a block name some node before them; the others name none, which is 0
+abbrev pub StartsAt : NodeKind → ℕ → ℕ → Type 0
+StartsAt EndBodyNode id start = IsBefore id start
+StartsAt EndBlockNode id start = IsBefore id start
+StartsAt k id start = start ≡ 0
+
+-- flow nodes are numbered one after the other, and name nodes before them
 abbrev pub NodesFit : ℕ → List FlowNode → Type 0
 NodesFit id [] = Unit {0}
-NodesFit id (n ∷ ns) = (n.id ≡ id) × (n.start < id) × AllAre (λ p. (2 ≤ p) × (p < id)) n.parents × NodesFit (suc id) ns
+NodesFit id (n ∷ ns) = (n.id ≡ id) × StartsAt n.kind id n.start × AllAre (IsBefore id) n.parents × NodesFit (suc id) ns
 
 -- binding variables stand by rising names
 abbrev pub NamesRise : List Binding → Type 0
@@ -89,18 +100,23 @@ pub record HeldFits (site : Site) (u : Common) (x : Held) : Type 0 where
   pub made : x.request < u.next_request
   pub closed : find (λ r. nat_eq r.number x.request) u.requests ≡ None
 
--- The shared state: cells, variables, flow nodes, requests and executors. What is counted stays far below what its numbers
--- have room for.
-pub record SharedFits (setting : Setting) (u : Common) : Type 0 where
+-- a build that has ended has its end node besides
+abbrev pub most_nodes : Bool → ℕ
+most_nodes true = 100000001
+most_nodes false = 100000000
+
+-- The shared state of a build that has ended or not: cells, variables, flow nodes, requests and executors. What is counted stays
+-- far below what its numbers have room for.
+pub record SharedFits (setting : Setting) (ended : Bool) (u : Common) : Type 0 where
   pub cells : CellsFit (closure_rule setting.script) u.cells
-  -- each holds fewer than 2147483648 bytes or entries
+  -- each holds fewer than 2147483648 bytes of text or entries
   pub short : AllAre (λ c. cell_size c < 2147483648) u.cells
   pub few_cells : length u.cells < 4294967296
   pub few_bytes : heap_bytes u.cells ≤ 4611686018427387904
   pub binding : AllAre (λ b. HasVariable (slice_get u.cells b.cell)) u.binding
   pub names : NamesRise u.binding
   pub some_node : 0 < length u.nodes
-  pub few_nodes : length u.nodes ≤ 100000000
+  pub few_nodes : length u.nodes ≤ most_nodes ended
   pub nodes : NodesFit 2 u.nodes
   pub requests : Rise 0 u.next_request (map (λ r. r.number) u.requests)
   pub few_requests : u.next_request ≤ 100000000 + length u.nodes
@@ -197,7 +213,7 @@ Some_of P (x ∷ xs) = P x ⊎ Some_of P xs
 -- the answer with which a thread goes on is of the kind that it waited for, and names what is there
 abbrev pub AnswerFits : Common → Spot → List Frame → Answer → Type 0
 AnswerFits u at [] Begin = Unit {0}
-AnswerFits u For_executor fs (GrantedAnswer x) = find (λ h. nat_eq h.executor x) u.held ≡ None → ⊥
+AnswerFits u For_executor fs (GrantedAnswer x) = held_by x u.held ≡ None → ⊥
 AnswerFits u For_task fs (Done code out) = Unit {0}
 AnswerFits u For_person fs (DecidedAnswer proceed name) = Unit {0}
 AnswerFits u For_branches fs (Joined ends) = AllAre (λ b. EndFits u b.end) ends
@@ -225,10 +241,15 @@ abbrev pub ParentFits : List Seat → ℕ → Option ℕ → Type 0
 ParentFits seats n None = n ≡ 0
 ParentFits seats n (Some p) = (p < n) × Above n (seat_of seats p)
 
--- the closure of a branch that has not begun is one of the script's, with its variables
-abbrev pub StartFits : Term → List Cell → Option Callee → Type 0
-StartFits root h None = Unit {0}
-StartFits root h (Some c) = (c.node < length (nodes_of root)) × (is_closure_form (shape_at root c.node).form ≡ true) × EnvFits h (names_at root c.node) c.env
+-- a closure of the script, with its variables
+abbrev pub BranchBegins : Term → List Cell → Option Callee → Type 0
+BranchBegins root h None = ⊥
+BranchBegins root h (Some c) = (c.node < length (nodes_of root)) × (is_closure_form (shape_at root c.node).form ≡ true) × EnvFits h (names_at root c.node) c.env
+
+-- a branch that has not begun, which has a parent and no frame, has its closure, and no other thread has one
+abbrev pub StartFits : Term → List Cell → Option ℕ → List Frame → Option Callee → Type 0
+StartFits root h (Some parent) [] c = BranchBegins root h c
+StartFits root h parent fs c = c ≡ None
 
 -- One thread: its frames meet the table and stand one inside the other, each with its variables; and what it waits for.
 pub record SeatFits (setting : Setting) (u : Common) (seats : List Seat) (t : Seat) : Type 0 where
@@ -237,8 +258,9 @@ pub record SeatFits (setting : Setting) (u : Common) (seats : List Seat) (t : Se
   pub frames : AllAre (FrameFits (known u) setting.script) t.stack
   pub envs : AllAre (λ f. EnvFits u.cells (names_for setting.script f) f.env) t.stack
   pub nested : Chained setting.script (outermost t.parent) t.stack
+  pub closures : CallsClosures setting.script (outermost t.parent) t.stack
   pub waits : WaitFits u seats t (innermost setting.script (outermost t.parent) t.stack) t.wait
-  pub start : StartFits setting.script u.cells t.start
+  pub start : StartFits setting.script u.cells t.parent t.stack t.start
   -- the held requests and the folders are those of its parent, and then those of its own open bodies
   pub own_held : (own : List ℕ) × (t.context.held ≡ (context_above seats t.parent).held ++ own) × (length own ≡ length (filter (λ f. holds_executor f.kind) t.stack))
   pub holds : AllAre (λ r. held_for r u.held ≡ None → ⊥) t.context.held
@@ -257,19 +279,28 @@ abbrev pub concat_map : {A B : Type 0} → (A → List B) → List A → List B
 concat_map g [] = []
 concat_map g (x ∷ xs) = g x ++ concat_map g xs
 
--- the requests of the `node` bodies that a thread has opened itself
-abbrev pub own_held_of : List Seat → Seat → List ℕ
-own_held_of seats t = drop (length (context_above seats t.parent).held) t.context.held
+-- the request of the executor that a thread is about to be given
+abbrev pub request_in : Option Held → List ℕ
+request_in (Some x) = x.request ∷ []
+request_in None = []
 
--- A sound build: its shared state and its threads. At rest no thread is ready.
-pub record Fits (setting : Setting) (u : Common) (next_thread : ℕ) (seats : List Seat) : Type 0 where
-  pub shared : SharedFits setting u
+abbrev pub granted_request : List Held → Wait → List ℕ
+granted_request held (Ready (GrantedAnswer x)) = request_in (held_by x held)
+granted_request held w = []
+
+-- the requests of the `node` bodies that a thread has opened itself, and of the one that it is about to open
+abbrev pub own_held_of : Common → List Seat → Seat → List ℕ
+own_held_of u seats t = drop (length (context_above seats t.parent).held) t.context.held ++ granted_request u.held t.wait
+
+-- A sound build that has ended or not: its shared state and its threads. One that has not ended has its main thread.
+pub record Fits (setting : Setting) (ended : Bool) (u : Common) (next_thread : ℕ) (seats : List Seat) : Type 0 where
+  pub shared : SharedFits setting ended u
   pub numbers : Rise 0 next_thread (map (λ t. t.number) seats)
   pub few_threads : next_thread ≤ 100000000 + length u.nodes
-  pub main : seat_of seats 0 ≡ None → ⊥
+  pub main : ended ≡ false → seat_of seats 0 ≡ None → ⊥
   pub threads : AllAre (SeatFits setting u seats) seats
-  -- the requests of all open `node` bodies differ
-  pub differ : Distinct (concat_map (own_held_of seats) seats)
+  -- the requests of all open `node` bodies differ, those that are about to be opened included
+  pub differ : Distinct (concat_map (own_held_of u seats) seats)
   pub waited_for : AllAre (IsWaitedFor seats) u.requests
 
 -- it is not about to go on
@@ -278,15 +309,16 @@ NotReady (Ready x) = ⊥
 NotReady w = Unit {0}
 
 -- as a build stands between two events, and in its image
-pub record FitsAtRest (setting : Setting) (u : Common) (next_thread : ℕ) (seats : List Seat) : Type 0 where
-  pub fits : Fits setting u next_thread seats
+pub record FitsAtRest (setting : Setting) (ended : Bool) (u : Common) (next_thread : ℕ) (seats : List Seat) : Type 0 where
+  pub fits : Fits setting ended u next_thread seats
   pub rests : AllAre (λ t. NotReady t.wait) seats
 
--- A later shared state: cells only grow, each stays of its kind, and closures, texts and throwables stay as they are; and no flow
--- node goes away. It is all that a thread relies on while others go on.
+-- A later shared state: cells only grow, each stays of its kind, and closures, texts and throwables stay as they are; and flow
+-- nodes are only added. It is all that a thread's frames and values rely on while others go on; its open request and its held
+-- executors must stay besides.
 pub record Later (u v : Common) : Type 0 where
   pub cells : CellsLater u.cells v.cells
-  pub nodes : length u.nodes ≤ length v.nodes
+  pub nodes : IsFront u.nodes v.nodes
 
 -- A thread of a world, as it stands.
 abbrev pub started_by : Runs → Option Callee
@@ -301,9 +333,10 @@ seat_at t r = record { number = t.own.number; parent = t.parent; head = t.head; 
 abbrev pub seats_of : Setting → List Thread → List Seat
 seats_of setting ts = map (λ t. seat_at t (stands setting t)) ts
 
--- what is to be shown of every world that has begun and not ended, where no thread is ready
+-- a build as it stands between two events is sound
 abbrev pub WorldFits : Setting → Build → Type 0
-WorldFits setting b = Fits setting b.shared b.next_thread (seats_of setting b.threads)
+WorldFits setting b = FitsAtRest setting b.ended b.shared b.next_thread (seats_of setting b.threads)
 
+-- what is to be shown: every world that has begun is sound, whether it has ended or not
 abbrev pub WorldsFit : Setting → Type 0
-WorldsFit setting = (events : List Event) → (world_in setting events).started ≡ true → (world_in setting events).ended ≡ false → WorldFits setting (world_in setting events)
+WorldsFit setting = (events : List Event) → (world_in setting events).started ≡ true → WorldFits setting (world_in setting events)

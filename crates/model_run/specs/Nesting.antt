@@ -6,9 +6,8 @@ use Rattle.model_run.specs.declared.frame.FrameKind.TheVariants as kind
 use Rattle.model_run.specs.Terms.{Term, nodes_of, number_of, part_of, term_at}
 use Rattle.model_run.specs.State.{Frame, Asked, For_request, For_branches as For_branching}
 use Rattle.model_run.specs.Around.{Shape}
-use Rattle.model_run.specs.Gathering.{is_call}
 use Rattle.model_run.specs.Meaning.{shape_of}
-use Rattle.model_run.specs.FrameTable.{Sort, Further, No_more, One_more, Any_more, Within, Part, Inner, Suffix, Called, Own_body, Executor_wait, Task_wait, Person_wait, Branches_wait, Row, row_of, passes}
+use Rattle.model_run.specs.FrameTable.{Sort, Further, No_more, One_more, Any_more, Within, Part, Inner, Suffix, Called, Own_body, Executor_wait, Task_wait, Person_wait, Branches_wait, Row, row_of, passes, enters_body, is_closure_form, is_function_form, is_name_call}
 
 -- the shape of node k, and the row of a frame
 abbrev pub shape_at : Term → ℕ → Shape
@@ -93,7 +92,7 @@ is_own f = true
 -- A frame that may stand at a spot: one of a node's own, or that of the body which a call enters.
 pub data Enters (root : Term) (f : Frame) : Spot → Type 0 where
   own_frame : {k : ℕ} → is_own f.kind ≡ true → Leads root k f.node → Enters root f (Begun k)
-  entered : {k : ℕ} (j : ℕ) → f.kind ≡ kind.CallBody → Leads root k j → is_call (shape_at root j).form ≡ true → Enters root f (Begun k)
+  entered : {k : ℕ} (j : ℕ) → f.kind ≡ kind.CallBody → Leads root k j → enters_body (shape_at root j).form ≡ true → Enters root f (Begun k)
   any_body : f.kind ≡ kind.CallBody → Enters root f Any_body
   body_of : {k : ℕ} → f.kind ≡ kind.CallBody → f.node ≡ k → Enters root f (Body_of k)
   any_branch : f.kind ≡ kind.BranchBody → Enters root f Any_branch
@@ -116,11 +115,26 @@ abbrev pub Nested : Term → Spot → List Frame → Asked → Type 0
 Nested root at [] asked = WaitsFor at asked
 Nested root at (f ∷ fs) asked = Enters root f at × FrameFits anything root f × Nested root (spot_in root f) fs asked
 
--- The same without the rows and the wait, and the spot inside the last frame.
+-- The same without the rows and the wait.
 abbrev pub Chained : Term → Spot → List Frame → Type 0
 Chained root at [] = Unit {0}
 Chained root at (f ∷ fs) = Enters root f at × Chained root (spot_in root f) fs
 
+-- a call of a name may stand in the place of node k
+abbrev pub CallsByName : Term → ℕ → Type 0
+CallsByName root k = (j : ℕ) × Leads root k j × (is_name_call (shape_at root j).form ≡ true)
+
+-- What a step or a walk calls is a closure. A function is called by its name alone, so by no method `call`.
+abbrev pub IsClosureAt : Term → Spot → Frame → Type 0
+IsClosureAt root Any_body f = is_closure_form (shape_at root f.node).form ≡ true
+IsClosureAt root (Begun k) f = is_function_form (shape_at root f.node).form ≡ true → CallsByName root k
+IsClosureAt root at f = Unit {0}
+
+abbrev pub CallsClosures : Term → Spot → List Frame → Type 0
+CallsClosures root at [] = Unit {0}
+CallsClosures root at (f ∷ fs) = IsClosureAt root at f × CallsClosures root (spot_in root f) fs
+
+-- the spot inside the last frame
 abbrev pub innermost : Term → Spot → List Frame → Spot
 innermost root at [] = at
 innermost root at (f ∷ fs) = innermost root (spot_in root f) fs
