@@ -1,12 +1,11 @@
 -- The arguments that a step is bound to are there, and its body is a closure.
-use Rattle.std.proofs.Common.{◌≡◌, refl, sym, ap, subst, ℕ, Bool, true, false, List, [], ◌∷◌, ◌++◌, Option, Some, None}
-use Rattle.std.specs.Prelude.{slice_get, map, if◌then◌else◌, option_and_then}
+use Rattle.std.proofs.Common.{◌≡◌, refl, ℕ, Bool, true, false, List, [], ◌∷◌, Option, Some, None}
+use Rattle.std.specs.Prelude.{slice_get, map, if◌then◌else◌}
 use Rattle.std.specs.List.{AllByRecursion as AllAre}
-use Rattle.std.specs.Map.{lookup}
-use Rattle.model_values.specs.Kinds.{Kind, null, flag, number, text, items, pairs, closure, thrown, cell_kind, kind}
+use Rattle.model_values.specs.Kinds.{Kind, pairs, cell_kind, kind}
 use Rattle.model_values.specs.TextOf.{key_text}
 use Rattle.model_values.specs.Fitting.{There, HasClosure, IsIn, CellFits, CellsFit}
-use Rattle.model_values.proofs.CellGrowth.{all_get, cell_there}
+use Rattle.model_values.proofs.CellGrowth.{all_get}
 use Rattle.model_values.proofs.KindFacts.{KindFits, kind_fits}
 use Rattle.model_values.specs.declared.value.Value.{Value}
 use Rattle.model_values.specs.declared.value.Value.TheVariants.{Null, Bool as Truth, Int as Whole, Cell as InCell}
@@ -18,7 +17,7 @@ use Rattle.model_run.specs.declared.step.Step.{Step}
 use Rattle.model_run.specs.State.{World}
 use Rattle.model_run.specs.Around.{cells}
 use Rattle.model_run.specs.Names.{same_text}
-use Rattle.model_run.specs.StepTable.{is_closure, Given, given, Bound, Binds, Refuses, Stops_at, Fit, Fits, Bad, Meets, parameters, takes_map, has_body, main_name, missing, unknown, all_fit, both_returned, label_of, bind_label, bind_body, bind_missing, bind_returned, bind_fit, bind_known, bind_given, named_or_main, bind_rest, split_last, with_front, bind_split, bind_step}
+use Rattle.model_run.specs.StepTable.{is_closure, Given, given, Bound, Binds, Refuses, Stops_at, Fit, Fits, Bad, Meets, parameters, takes_map, has_body, missing, unknown, all_fit, both_returned, label_of, bind_label, bind_body, bind_missing, bind_returned, bind_fit, bind_known, named_or_main, bind_rest, split_last, bind_step}
 
 -- what is given is there
 abbrev pub GivenThere : List Cell → Given → Type 0

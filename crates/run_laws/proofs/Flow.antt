@@ -1,39 +1,35 @@
 -- What the combinators of evaluation keep: sound states, later and later, and frames that fit.
-use Rattle.std.proofs.Common.{arith, ◌≡◌, ◌≤◌, ◌<◌, ◌+◌, refl, sym, ap, subst, ◌∙◌, ℕ, zero, suc, Bool, true, false, List, [], ◌∷◌, length, Option, Some, None}
+use Rattle.std.proofs.Common.{arith, ◌≡◌, ◌<◌, ◌+◌, refl, sym, subst, ℕ, Bool, true, false, List, length, Option, Some, None}
 use Rattle.std.specs.Prelude.{pos, slice_get}
 use Rattle.std.specs.List.{AllByRecursion as AllAre}
 use Rattle.model_syntax.specs.declared.node.NodeForm.{NodeForm}
 use Rattle.model_syntax.specs.declared.node.NodeForm.TheVariants as form
 use Rattle.model_values.specs.Cells.{Answer, Gives, Throws, Meets}
-use Rattle.model_values.specs.Fitting.{There, HasVariable, HasText, HasClosure, HasThrowable, CellsFit}
-use Rattle.model_values.specs.Later.{CellsLater, Grows, AnswerGrows, Given}
+use Rattle.model_values.specs.Fitting.{There, HasVariable, HasThrowable, CellsFit}
+use Rattle.model_values.specs.Later.{CellsLater, AnswerGrows}
 use Rattle.model_values.specs.Truth.{truth}
 use Rattle.model_values.proofs.LaterLaws.{later_itself, later_on, there_later, text_later, closure_later, throwable_later, variable_later, variables_later, all_weaker}
 use Rattle.model_values.specs.declared.value.Value.{Value}
 use Rattle.model_values.specs.declared.value.Value.TheVariants.{Null, Bool as Truth, Int as Whole, Cell as InCell}
 use Rattle.model_values.specs.declared.limit.LimitKind.{LimitKind}
 use Rattle.model_values.specs.declared.cell.Cell.{Cell}
-use Rattle.model_values.specs.declared.cell.Binding.{Binding}
 use Rattle.model_run.specs.declared.ending.Ending.{Ending}
 use Rattle.model_run.specs.declared.ending.Ending.TheVariants.{Normal, Thrown, Returned, Broke, Continued, Declared, Answered}
-use Rattle.model_run.specs.declared.ending.Branch.{Branch}
 use Rattle.model_run.specs.declared.ending.Asked.{Asked}
-use Rattle.model_run.specs.declared.ending.Asked.TheVariants.{ForRequest, ForBranches}
 use Rattle.model_run.specs.declared.frame.Frame.{Frame}
-use Rattle.model_run.specs.State.{Setting, Common, World, Reply, State, Env, Result, Ended, Waits, Limited, Unfinished, with_world, through, changed, seeing, choose, unless_limit, guarded, on_value, on_throw, put_cells, answered, operating, may_count, counted, tick, reply_to, awaiting}
-use Rattle.model_run.specs.Around.{ended, limits, cells, deciding}
+use Rattle.model_run.specs.State.{Setting, Common, World, State, Result, Ended, Waits, Limited, Unfinished, with_world, through, changed, choose, unless_limit, guarded, on_value, put_cells, answered, may_count, counted, tick, reply_to, awaiting}
+use Rattle.model_run.specs.Around.{ended, cells, deciding}
 use Rattle.model_run.specs.FrameTable.{Sort, Any, Up_to, Flag, Flow_node, A_closure, A_throwable, Text_or_null, is_declaration}
-use Rattle.model_run.specs.Nesting.{Sorts, FrameFits}
-use Rattle.model_run.specs.Scoping.{names_for}
-use Rattle.model_run.specs.Fitting.{EnvFits, closure_rule, IsFlowNode, Later}
+use Rattle.model_run.specs.Fitting.{closure_rule, IsFlowNode, Later}
+use Rattle.model_run.proofs.Front.{front_itself, front_same, front_on, front_length}
 use Rattle.model_run.proofs.LaterLaws.{frame_wider, env_later}
-use Rattle.run_laws.specs.Soundness.{seen, Sits, BranchFits, AskedFits, declares_as, EndFits, Sound, At, Holds, Goes}
+use Rattle.run_laws.specs.Soundness.{seen, Sits, AskedFits, declares_as, EndFits, Sound, At, Holds, Goes}
 
 pub later_self : (u : Common) → Later u u
-later_self u = record { cells = later_itself u.cells; nodes = omega arith }
+later_self u = record { cells = later_itself u.cells; nodes = front_itself u.nodes }
 
 pub later_then : (u v w : Common) → Later u v → Later v w → Later u w
-later_then u v w a b = record { cells = later_on u.cells v.cells w.cells a.cells b.cells; nodes = omega (arith, a.nodes, b.nodes) }
+later_then u v w a b = record { cells = later_on u.cells v.cells w.cells a.cells b.cells; nodes = front_on u.nodes v.nodes w.nodes a.nodes b.nodes }
 
 module _ (u v : Common) (later : Later u v) where
   pub there_then : (x : Value) → There u.cells x → There v.cells x
@@ -43,7 +39,7 @@ module _ (u v : Common) (later : Later u v) where
   all_there_then xs h = all_weaker _ _ there_then xs h
 
   pub node_then : (n : ℕ) → IsFlowNode u.nodes n → IsFlowNode v.nodes n
-  node_then n h = (h.0, let lt : n < length u.nodes + 2 = h.1 in omega (arith, later.nodes))
+  node_then n h = (h.0, let lt : n < length u.nodes + 2 = h.1 in omega (arith, front_length u.nodes v.nodes later.nodes))
 
   pub seen_then : (s : Sort) (x : Value) → seen u s x → seen v s x
   seen_then Any x h = there_then x h
@@ -123,7 +119,7 @@ module _ (g : Setting) where
   -- a change of nothing that soundness speaks of
   pub moves_aside : (h : World → World) (w : World) → Sound g w → (h w).shared.cells ≡ w.shared.cells → (h w).shared.binding ≡ w.shared.binding → (h w).shared.nodes ≡ w.shared.nodes → (h w).own.head ≡ w.own.head → Moves h w
   moves_aside h w sound c b n o = record {
-    later = record { cells = subst (CellsLater w.shared.cells) (sym c) (later_itself w.shared.cells); nodes = omega (arith, ap length n) };
+    later = record { cells = subst (CellsLater w.shared.cells) (sym c) (later_itself w.shared.cells); nodes = front_same w.shared.nodes (h w).shared.nodes n };
     cells = subst (CellsFit (closure_rule g.script)) (sym c) sound.cells;
     binding = subst (λ cs. AllAre (λ x. HasVariable (slice_get cs x.cell)) (h w).shared.binding) (sym c) (subst (λ bs. AllAre (λ x. HasVariable (slice_get w.shared.cells x.cell)) bs) (sym b) sound.binding);
     head = subst (λ ns. IsFlowNode ns (h w).own.head) (sym n) (subst (IsFlowNode w.shared.nodes) (sym o) sound.head);
@@ -174,11 +170,11 @@ module _ (g : Setting) where
         → ((v : Value) (t : State) → At g u t → Later s.world.shared t.world.shared → sort t.world.shared.cells v → Holds g f u (go v t)) → Holds g f u (answered x go s)
     answer_goes l sort (Gives h v) s at given is grown go k =
         let fit : CellsFit (closure_rule g.script) h × sort h v = grown.fits is in
-        let l1 : Later s.world.shared (put_cells h s.world).shared = record { cells = grown.later; nodes = omega arith } in
+        let l1 : Later s.world.shared (put_cells h s.world).shared = record { cells = grown.later; nodes = front_itself s.world.shared.nodes } in
         k v (with_world (put_cells h s.world) s) (at_moved u (put_cells h) s at (record { later = l1; cells = fit.0; binding = variables_later (cells s.world) h grown.later s.world.shared.binding (at.sound).binding; head = (at.sound).head })) l1 fit.1
     answer_goes l sort (Throws h c) s at given is grown go k =
         let fit : CellsFit (closure_rule g.script) h × HasThrowable (slice_get h c) = grown.fits is in
-        let l1 : Later s.world.shared (put_cells h s.world).shared = record { cells = grown.later; nodes = omega arith } in
+        let l1 : Later s.world.shared (put_cells h s.world).shared = record { cells = grown.later; nodes = front_itself s.world.shared.nodes } in
         (at_moved u (put_cells h) s at (record { later = l1; cells = fit.0; binding = variables_later (cells s.world) h grown.later s.world.shared.binding (at.sound).binding; head = (at.sound).head }), fit.1)
     answer_goes l sort (Meets m) s at given is grown go k = tt
 

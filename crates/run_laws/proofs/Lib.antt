@@ -1,4 +1,5 @@
 pub mod NodeLaws
+pub mod ShapedScripts
 pub mod Flow
 pub mod Sources
 pub mod SoundStatements
@@ -12,3 +13,13 @@ pub mod SoundStepForms
 pub mod SoundBranches
 pub mod SoundForms
 pub mod SoundEntries
+pub mod SoundBodies
+pub mod FrameForms
+pub mod InsideForms
+pub mod Evaluates
+pub mod SoundFrames
+pub mod Evaluation
+pub mod Resumption
+pub mod SoundThreads
+pub mod SoundSeats
+pub mod SoundWorlds

@@ -1,10 +1,10 @@
 -- Each node of a script is found by its number, with the names that it sees.
-use Rattle.std.proofs.Common.{arith, ◌≡◌, ◌<◌, ◌≤◌, ◌+◌, ◌∙◌, ap, sym, subst, refl, ℕ, zero, suc, List, [], ◌∷◌, ◌++◌, length, length-append, append_assoc, get_or}
+use Rattle.std.proofs.Common.{arith, ◌≡◌, ◌<◌, ◌+◌, ◌∙◌, ap, sym, subst, refl, ℕ, zero, suc, List, [], ◌∷◌, ◌++◌, length, length-append, append_assoc, get_or}
 use Rattle.std.proofs.lemmas.List.{append-nil}
 use Rattle.std.proofs.Math.Seq.{get_or-append_seam}
 use Rattle.model_syntax.specs.declared.node.NodeForm.{NodeForm}
 use Rattle.model_syntax.specs.Nodes.{Node}
-use Rattle.model_run.specs.Terms.{Term, Terms, Numbered, no_terms, and_then, term, form_of, forms_of, nodes_of, nodes_of_all, empty_block, nth_part, term_at}
+use Rattle.model_run.specs.Terms.{Term, Terms, Numbered, no_terms, and_then, term, number_of, form_of, forms_of, nodes_of, nodes_of_all, empty_block, nth_part, term_at}
 use Rattle.model_run.specs.Around.{Shape}
 use Rattle.model_run.specs.Meaning.{shape_of}
 use Rattle.model_run.specs.Nesting.{shape_at}
@@ -113,3 +113,27 @@ somewhere_among root (t ∷ ts) c (suc i) j lt = somewhere_among root ts c.1 i j
 pub real_at : (root : Term) → Real root [] root → (k : ℕ) → k < length (nodes_of root) → Somewhere root (term_at root k)
 unfolding term_at
 real_at root h k lt = somewhere_among root (nodes_of root) (subst (Somewheres root) (append-nil (nodes_of root)) (somewheres_term root root [] [] h tt)) k k lt
+
+-- The node with a number has that number.
+abbrev CountUp : ℕ → List Term → Type 0
+CountUp n [] = Unit {0}
+CountUp n (t ∷ ts) = (number_of t ≡ n) × CountUp (suc n) ts
+
+mutual
+  count_term : (n : ℕ) (t : Term) (post : List Term) → From n t → CountUp (n + length (nodes_of t)) post → CountUp n (nodes_of t ++ post)
+  count_term n (Numbered j f ps) post h c = let e : n + suc (length (nodes_of_all ps)) ≡ suc n + length (nodes_of_all ps) = omega arith in (h.0, count_all (suc n) ps post h.1 (subst (λ m. CountUp m post) e c))
+
+  count_all : (n : ℕ) (ts : Terms) (post : List Term) → FromAll n ts → CountUp (n + length (nodes_of_all ts)) post → CountUp n (nodes_of_all ts ++ post)
+  count_all n no_terms post h c = let e : n + 0 ≡ n = omega arith in subst (λ m. CountUp m post) e c
+  count_all n (and_then t ts) post h c =
+      let e : n + length (nodes_of t ++ nodes_of_all ts) ≡ n + length (nodes_of t) + length (nodes_of_all ts) = omega (arith, length-append (nodes_of t) (nodes_of_all ts)) in
+      subst (CountUp n) (sym (append_assoc (nodes_of t) (nodes_of_all ts) post)) (count_term n t (nodes_of_all ts ++ post) h.0 (count_all (n + length (nodes_of t)) ts post h.1 (subst (λ m. CountUp m post) e c)))
+
+count_get : (n : ℕ) (ts : List Term) (i : ℕ) (d : Term) → CountUp n ts → i < length ts → number_of (get_or ts i d) ≡ n + i
+count_get n [] i d c lt = absurd (omega arith)
+count_get n (t ∷ ts) zero d c lt = omega (arith, c.0)
+count_get n (t ∷ ts) (suc i) d c lt = omega (arith, count_get (suc n) ts i d c.1 (omega (arith, lt)))
+
+pub number_at : (p : Node) (k : ℕ) → k < length (nodes_of (term 0 p)) → number_of (term_at (term 0 p) k) ≡ k
+unfolding term_at
+number_at p k lt = omega (arith, count_get 0 (nodes_of (term 0 p)) k (empty_block k) (subst (CountUp 0) (append-nil (nodes_of (term 0 p))) (count_term 0 (term 0 p) [] (term_from 0 p) tt)) lt)

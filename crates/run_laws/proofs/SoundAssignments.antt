@@ -1,15 +1,13 @@
 -- Assignments, and `++` and `--`: sound from a sound state on.
-use Rattle.std.proofs.Common.{arith, ◌≡◌, ◌≤◌, ◌<◌, ◌+◌, ◌-◌, refl, sym, ap, subst, ◌∙◌, ℕ, zero, suc, Bool, true, false, List, [], ◌∷◌, ◌++◌, length, length-append, Option, Some, None}
-use Rattle.std.specs.Prelude.{slice_get, nat_eq, nat_lt, ◌&&◌, if◌then◌else◌}
+use Rattle.std.proofs.Common.{arith, ◌≡◌, ◌+◌, refl, sym, ap, subst, ◌∙◌, ℕ, zero, suc, Bool, true, false, List, [], ◌∷◌, ◌++◌, length, length-append, Option, Some, None}
+use Rattle.std.specs.Prelude.{slice_get, nat_eq, nat_lt, if◌then◌else◌}
 use Rattle.std.specs.List.{AllByRecursion as AllAre}
 use Rattle.std.specs.Ordering.{is_lt, nat_cmp}
 use Rattle.std.specs.Cmp.Lexicographic.{slice_cmp}
-use Rattle.std.proofs.lemmas.Bool.{eqb-true}
 use Rattle.model_syntax.specs.declared.node.NodeForm.{NodeForm}
 use Rattle.model_syntax.specs.declared.node.NodeForm.TheVariants as form
-use Rattle.model_syntax.specs.declared.tree.AssignSign.{AssignSign}
-use Rattle.model_values.specs.Cells.{Answer, Gives, set_variable as set_cell}
-use Rattle.model_values.specs.Fitting.{There, HasVariable, HasThrowable, IsNumber, IsIn, CellFits, CellsFit}
+use Rattle.model_values.specs.Cells.{Answer, set_variable as set_cell}
+use Rattle.model_values.specs.Fitting.{There, HasVariable, IsNumber, CellFits, CellsFit}
 use Rattle.model_values.specs.Later.{Grows, AnswerGrows, Given}
 use Rattle.model_values.specs.Index.{get_at, set_at, get_property, set_property}
 use Rattle.model_values.specs.Operators.{apply, incremented, decremented}
@@ -20,27 +18,27 @@ use Rattle.model_values.proofs.IndexGrowth.{all_index}
 use Rattle.model_values.proofs.ThrowGrowth.{unknown_name_grows}
 use Rattle.model_values.proofs.LaterLaws.{later_itself, variables_later}
 use Rattle.model_values.specs.declared.value.Value.{Value}
-use Rattle.model_values.specs.declared.value.Value.TheVariants.{Null, Int as Whole, Cell as InCell}
+use Rattle.model_values.specs.declared.value.Value.TheVariants.{Null, Int as Whole}
 use Rattle.model_values.specs.declared.cell.Cell.{Cell}
 use Rattle.model_values.specs.declared.cell.Cell.TheVariants.{Variable, Text as TextCell, List as ListCell, Map as MapCell, Closure as ClosureCell, Thrown as ThrownCell}
 use Rattle.model_values.specs.declared.cell.Binding.{Binding}
 use Rattle.model_values.specs.declared.operator.Op.{Op}
 use Rattle.model_run.specs.declared.frame.FrameKind.TheVariants as kind
 use Rattle.model_run.specs.declared.ending.Ending.{Ending}
-use Rattle.model_run.specs.declared.ending.Ending.TheVariants.{Normal, Thrown, Returned, Broke, Continued, Declared, Answered}
 use Rattle.model_run.specs.declared.ending.Entry.TheVariants.{First, Inside}
-use Rattle.model_run.specs.State.{Setting, Common, World, State, Env, Result, Ended, with_world, through, changed, put_cells, operating, answered, tick, on_value}
-use Rattle.model_run.specs.Around.{Around, Shape, form_at, arity, frame, ended, cells, limits, value_at}
+use Rattle.model_run.specs.State.{Setting, Common, World, State, Env, Result, with_world, through, changed, put_cells, operating, answered, tick}
+use Rattle.model_run.specs.Around.{Around, Shape, form_at, frame, ended, cells, limits, value_at}
 use Rattle.model_run.specs.Names.{look, meant, first_of, same_text, content, variable, read_cell, read_name, set_variable, with_binding, bound, write_cell, write_name}
 use Rattle.model_run.specs.Assignments.{read_target, write_target, write_counted, place_size, assign_by, operator_in, after_assigned, assign_value, assign_at, step_by, at_target, after_index, after_receiver, receiver, sign_operator}
 use Rattle.model_run.specs.FrameTable.{No_more, is_target_form, is_assignment, is_declaration, any_values, operator_count}
 use Rattle.model_run.specs.Nesting.{ValuesFit}
 use Rattle.model_run.specs.Scoping.{Names, names_within}
-use Rattle.model_run.specs.Fitting.{EnvFits, closure_rule, Later}
+use Rattle.model_run.specs.Fitting.{EnvFits, closure_rule}
 use Rattle.model_run.proofs.LaterLaws.{env_later}
 use Rattle.model_run.proofs.Under.{both}
-use Rattle.run_laws.specs.Soundness.{Shaped, seen, may_declare, is_target, Sits, EndFits, Sound, At, Holds, Goes}
-use Rattle.run_laws.proofs.Flow.{later_self, there_then, all_there_then, at_self, holds_then, from_here, Moves, moves_aside, at_moved, change_goes, tick_goes, GoesWith, end_goes, value_goes, answer_goes, through_goes}
+use Rattle.model_run.proofs.Front.{front_itself}
+use Rattle.run_laws.specs.Soundness.{Shaped, seen, may_declare, is_target, EndFits, Sound, At, Holds, Goes}
+use Rattle.run_laws.proofs.Flow.{there_then, all_there_then, at_self, holds_then, from_here, Moves, moves_aside, at_moved, tick_goes, GoesWith, end_goes, value_goes, answer_goes, through_goes}
 use Rattle.run_laws.proofs.Sources.{has_inner, Place, Sources, sits_here, Quiet, part_goes, inner_goes}
 use Rattle.run_laws.proofs.SoundStatements.{variable_goes}
 
@@ -91,10 +89,10 @@ module _ (g : Setting) where
   set_moves : (c : ℕ) (v : Value) (w : World) → Sound g w → There w.shared.cells v → Moves g (set_variable c v) w
   set_moves c v w sound there =
       let grown : Grows (limits w) (closure_rule g.script) (cells w) (Given (closure_rule g.script) (cells w) (v ∷ [])) (set_cell (cells w) c v) (Unit {0}) = set_variable_grows (before_of g w (v ∷ [])) c v (Unit {0}) (λ x. x.1.0) (λ x. tt) in
-      record { later = record { cells = grown.later; nodes = omega arith }; cells = (grown.fits (sound.cells, (there, tt))).0; binding = variables_later (cells w) (set_cell (cells w) c v) grown.later w.shared.binding sound.binding; head = sound.head }
+      record { later = record { cells = grown.later; nodes = front_itself w.shared.nodes }; cells = (grown.fits (sound.cells, (there, tt))).0; binding = variables_later (cells w) (set_cell (cells w) c v) grown.later w.shared.binding sound.binding; head = sound.head }
 
   bound_moves : (x : List ℕ) (c : ℕ) (w : World) → Sound g w → HasVariable (slice_get w.shared.cells c) → Moves g (bound x c) w
-  bound_moves x c w sound has = record { later = record { cells = later_itself w.shared.cells; nodes = omega arith }; cells = sound.cells; binding = binding_with w.shared.cells x c w.shared.binding has sound.binding; head = sound.head }
+  bound_moves x c w sound has = record { later = record { cells = later_itself w.shared.cells; nodes = front_itself w.shared.nodes }; cells = sound.cells; binding = binding_with w.shared.cells x c w.shared.binding has sound.binding; head = sound.head }
 
   -- the value of a name
   pub read_goes : (f : NodeForm) (u : Common) (x : List ℕ) (ys : Names) (env : Env) → EnvFits u.cells ys env → (go : Value → State → Result) → GoesWith g f u go → Goes g f u (operating (read_name x env) go)
@@ -170,13 +168,13 @@ module _ (g : Setting) where
   assigned_goes f plain sh u ys env fit kept there = value_goes g f u _ (λ v s at is. from_here g f u (assign_by (operator_in sh.form) (form_at sh.parts 0) kept env v) s at
       (assign_by_goes f plain s.world.shared ys env (env_later u s.world.shared at.later ys env fit) kept (all_there_then u s.world.shared at.later kept there) (operator_in sh.form) (form_at sh.parts 0) v is))
 
-target_plain : (f : NodeForm) → is_target_form f ≡ true → is_declaration f ≡ false
+pub target_plain : (f : NodeForm) → is_target_form f ≡ true → is_declaration f ≡ false
 target_plain (form.Assign sign) e = refl
 target_plain form.Increment e = refl
 target_plain form.Decrement e = refl
 target_plain f e = absurd (cc)
 
-target_quiet : (f : NodeForm) → is_target_form f ≡ true → (i : ℕ) → may_declare f i ≡ false
+pub target_quiet : (f : NodeForm) → is_target_form f ≡ true → (i : ℕ) → may_declare f i ≡ false
 target_quiet (form.Assign sign) e i = refl
 target_quiet form.Increment e i = refl
 target_quiet form.Decrement e i = refl

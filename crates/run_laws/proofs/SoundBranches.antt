@@ -1,5 +1,5 @@
 -- The step `parallel`, the ends of branches, and each step as it begins: sound from a sound state on.
-use Rattle.std.proofs.Common.{arith, ◌≡◌, ◌≤◌, ◌<◌, ◌+◌, ◌-◌, refl, sym, ap, subst, ◌∙◌, ℕ, zero, suc, Bool, true, false, List, [], ◌∷◌, ◌++◌, length, length-append, Option, Some, None}
+use Rattle.std.proofs.Common.{arith, ◌≡◌, refl, ℕ, Bool, true, false, List, [], ◌∷◌, ◌++◌, Option, Some, None}
 use Rattle.std.specs.Prelude.{slice_get, codes, map, nat_lt, unwrap_or, if◌then◌else◌}
 use Rattle.std.specs.List.{AllByRecursion as AllAre}
 use Rattle.indexmap.specs.IndexMap.{insert_all}
@@ -7,13 +7,11 @@ use Rattle.model_syntax.specs.declared.node.NodeForm.{NodeForm}
 use Rattle.model_syntax.specs.declared.node.NodeForm.TheVariants as form
 use Rattle.model_values.specs.Cells.{new_map}
 use Rattle.model_values.specs.Keys.{same_key}
-use Rattle.model_values.specs.Kinds.{Kind, kind, null, flag, number, text, items, pairs, closure, thrown}
+use Rattle.model_values.specs.Kinds.{Kind, kind, pairs}
 use Rattle.model_values.specs.TextOf.{key_text}
-use Rattle.model_values.specs.Fitting.{There, HasVariable, HasMap, HasClosure, HasThrowable, IsIn, CellFits, CellsFit}
-use Rattle.model_values.specs.Later.{Given as GivenValues}
+use Rattle.model_values.specs.Fitting.{There, HasVariable, HasMap, HasClosure, IsIn, CellFits, CellsFit}
 use Rattle.model_values.proofs.CellGrowth.{Before, all_append, all_get, new_map_grows, map_is_there, map_there}
 use Rattle.model_values.proofs.OperatorGrowth.{all_inserts}
-use Rattle.model_values.proofs.KindFacts.{KindFits, kind_fits}
 use Rattle.model_values.proofs.LaterLaws.{throwable_later, variables_later, all_weaker}
 use Rattle.model_values.specs.declared.value.Value.{Value}
 use Rattle.model_values.specs.declared.value.Value.TheVariants.{Null, Bool as Truth, Int as Whole, Cell as InCell}
@@ -22,13 +20,11 @@ use Rattle.model_values.specs.declared.value.Outcome.TheVariants.{Value as Value
 use Rattle.model_values.specs.declared.key.Key.{Key}
 use Rattle.model_values.specs.declared.cell.Cell.{Cell}
 use Rattle.model_values.specs.declared.cell.Cell.TheVariants.{Variable, Text as TextCell, List as ListCell, Map as MapCell, Closure as ClosureCell, Thrown as ThrownCell}
-use Rattle.model_values.specs.declared.cell.Binding.{Binding}
 use Rattle.model_run.specs.declared.callee.Callee.{Callee}
 use Rattle.model_run.specs.declared.step.Step.{Step}
 use Rattle.model_run.specs.declared.step.Step.TheVariants as step
 use Rattle.model_run.specs.declared.wait.BranchEnd.{BranchEnd}
-use Rattle.model_run.specs.declared.wait.Answer.{Answer as Reply_answer}
-use Rattle.model_run.specs.declared.wait.Answer.TheVariants.{Begin, Granted as GrantedAnswer, Done, Decided as DecidedAnswer, Joined}
+use Rattle.model_run.specs.declared.wait.Answer.TheVariants.{Joined}
 use Rattle.model_run.specs.declared.result.BuildResult.TheVariants.{Unstable}
 use Rattle.model_values.specs.declared.throwable.Class.TheVariants.{Abort, IllegalArgument}
 use Rattle.model_run.specs.declared.frame.FrameKind.TheVariants as kind
@@ -36,22 +32,22 @@ use Rattle.model_run.specs.declared.ending.Branch.{Branch}
 use Rattle.model_run.specs.declared.ending.Asked.TheVariants.{ForBranches}
 use Rattle.model_run.specs.declared.ending.Ending.{Ending}
 use Rattle.model_run.specs.declared.ending.Ending.TheVariants.{Normal, Thrown, Returned, Broke, Continued, Declared, Answered}
-use Rattle.model_run.specs.State.{Setting, Common, World, State, Env, Result, Ended, Limited, with_world, through, changed, seeing, operating, on_throw, awaiting}
+use Rattle.model_run.specs.State.{Setting, Common, World, State, Env, Ended, with_world, changed, seeing}
 use Rattle.model_run.specs.Around.{Around, Shape, frame, ended, cells, limits, whole}
-use Rattle.model_run.specs.Callables.{closure_in, closure_of, calling}
-use Rattle.model_run.specs.FlowNodes.{next_node, atom, block, end_body, end_block, end_branches, logging, noted_limit, noted_branch, branch_body, branch_label, body_line, branch_name, pipeline}
+use Rattle.model_run.specs.Callables.{closure_in, closure_of}
+use Rattle.model_run.specs.FlowNodes.{next_node, noted_limit, noted_branch, branch_label, body_line, branch_name}
 use Rattle.model_run.specs.StepTable.{Given, given, Bound, Binds, Refuses, Stops_at, bind_step, text_given, is_true}
-use Rattle.model_run.specs.Steps.{text_or_empty, throwing, worsened, sh_in, place_of, input_asks, with_callee, branches_of, branch_entries, branches_given, values_of, outcome_value, is_thrown, earlier, first_failure, thrown_by, joined_as, joined_branches, after_parallel, fork, no_branches, fork_or_none, begin_branches, parallel, branch_failed, after_branch, atom_step, block_step, bound_step, begin_step, kept_text, named_result, tries_given, overrides_of}
-use Rattle.model_run.specs.FrameTable.{is_declaration, calls_step, frame_row}
+use Rattle.model_run.specs.Steps.{text_or_empty, worsened, sh_in, place_of, with_callee, branches_of, branch_entries, branches_given, values_of, outcome_value, is_thrown, earlier, first_failure, thrown_by, joined_as, joined_branches, after_parallel, no_branches, fork_or_none, begin_branches, parallel, branch_failed, after_branch, atom_step, block_step, bound_step, begin_step, tries_given, overrides_of}
+use Rattle.model_run.specs.FrameTable.{is_declaration, calls_step}
 use Rattle.model_run.specs.Scoping.{Names}
 use Rattle.model_run.specs.Fitting.{EnvFits, closure_rule, IsFlowNode, OutcomeFits, Later}
 use Rattle.model_run.proofs.LaterLaws.{env_later}
-use Rattle.run_laws.specs.Soundness.{Shaped, BranchFits, AskedFits, EndFits, Sound, At, Holds, Goes}
-use Rattle.run_laws.proofs.Binding.{GivenThere, BodyThere, BoundThere, ThereIf, given_there, bound_there}
-use Rattle.run_laws.proofs.Flow.{answer_goes, all_there_then, later_self, later_then, there_then, node_then, at_self, holds_then, from_here, end_goes, null_goes, end_then, end_as, Moves, at_moved, wait_goes}
+use Rattle.run_laws.specs.Soundness.{Shaped, BranchFits, EndFits, Sound, At, Holds, Goes}
+use Rattle.run_laws.proofs.Binding.{GivenThere, BoundThere, given_there, bound_there}
+use Rattle.run_laws.proofs.Flow.{answer_goes, all_there_then, there_then, node_then, at_self, holds_then, from_here, end_goes, null_goes, Moves, at_moved, wait_goes}
 use Rattle.run_laws.proofs.Sources.{Place, Sources, sits_here}
 use Rattle.run_laws.proofs.SoundAssignments.{before_of, operate_goes}
-use Rattle.run_laws.proofs.SoundSteps.{more_nodes, new_node, branch_moves, noting_goes, end_body_goes, end_block_goes, end_branches_goes, atom_goes, block_goes, logging_goes, aside_goes, throwing_goes, ending_goes}
+use Rattle.run_laws.proofs.SoundSteps.{new_node, branch_moves, end_body_goes, end_block_goes, end_branches_goes, atom_goes, block_goes, logging_goes, aside_goes, throwing_goes, ending_goes}
 use Rattle.run_laws.proofs.SoundStepForms.{guard_here, closure_there, stage_goes, catch_error_goes, retry_goes, with_env_goes, node_goes, dir_in_goes, sh_in_goes, input_asks_goes}
 
 -- closures of the script
@@ -107,7 +103,7 @@ branch_then g u v l bs h = all_weaker _ _ (λ b c. record { closure = c.closure;
 abbrev pub OutcomesFit : Common → List BranchEnd → Type 0
 OutcomesFit u ends = AllAre (λ b. OutcomeFits u b.end.outcome) ends
 
-outcome_then : (u v : Common) → Later u v → (o : Outcome) → OutcomeFits u o → OutcomeFits v o
+pub outcome_then : (u v : Common) → Later u v → (o : Outcome) → OutcomeFits u o → OutcomeFits v o
 outcome_then u v l (ValueOutcome x) h = there_then u v l x h
 outcome_then u v l (ThrownOutcome c) h = throwable_later u.cells v.cells l.cells c h
 
@@ -177,12 +173,12 @@ module _ (g : Setting) (f : NodeForm) (plain : is_declaration f ≡ false) where
       (operate_goes g f u [] tt (IsIn HasMap) map_there (λ w. new_map (limits w) (cells w) []) (λ w. new_map_grows (before_of g w []) [] (λ x. tt)) ended (end_goes g f u plain)))
 
 module _ (g : Setting) (shaped : Shaped g.script) (k : ℕ) (sh : Shape) (xs : Names) (place : Place g k sh xs) (a : Around) (src : Sources g shaped k sh xs place a) (plain : is_declaration sh.form ≡ false) (env : Env) where
-  fork_goes : calls_step step.Parallel sh.form ≡ true → (u : Common) → EnvFits u.cells xs env → (start : ℕ) → IsFlowNode u.nodes start → (bs : List Branch) → AllAre (BranchFits g.script u) bs → Goes g sh.form u (fork_or_none k env start bs)
+  fork_goes : calls_step step.Parallel sh.form env ≡ true → (u : Common) → EnvFits u.cells xs env → (start : ℕ) → IsFlowNode u.nodes start → (bs : List Branch) → AllAre (BranchFits g.script u) bs → Goes g sh.form u (fork_or_none k env start bs)
   fork_goes cs u fit start flow [] h = no_branches_goes g sh.form plain u start
   fork_goes cs u fit start flow (b ∷ bs) h = λ s at. wait_goes g sh.form u (frame kind.ParallelWait k 0 env (whole start ∷ [])) (sits_here g shaped k sh xs place u kind.ParallelWait 0 env (whole start ∷ []) cs (omega arith) (flow, tt) fit)
       (after_parallel start) (ForBranches (b ∷ bs)) s at (branch_then g u s.world.shared at.later (b ∷ bs) h)
 
-  begin_goes : calls_step step.Parallel sh.form ≡ true → (bs : List (List ℕ × Callee)) (u : Common) → EnvFits u.cells xs env → (start : ℕ) → IsFlowNode u.nodes start → (done : List Branch) → AllAre (BranchFits g.script u) done → Branches g u bs → Goes g sh.form u (begin_branches k env start done bs)
+  begin_goes : calls_step step.Parallel sh.form env ≡ true → (bs : List (List ℕ × Callee)) (u : Common) → EnvFits u.cells xs env → (start : ℕ) → IsFlowNode u.nodes start → (done : List Branch) → AllAre (BranchFits g.script u) done → Branches g u bs → Goes g sh.form u (begin_branches k env start done bs)
   begin_goes cs [] u fit start flow done h r = fork_goes cs u fit start flow done h
   begin_goes cs (b ∷ bs) u fit start flow done h r = λ s at.
       let m : Moves g (noted_branch b.0) s.world = branch_moves g b.0 s.world at.sound in
@@ -196,7 +192,7 @@ module _ (g : Setting) (shaped : Shaped g.script) (k : ℕ) (sh : Shape) (xs : N
       (all_append (BranchFits g.script (noted_branch b.0 s.world).shared) done ((record { name = b.0; closure = (b.1).node; env = (b.1).env; head = next_node s.world }) ∷ []) (branch_then g u (noted_branch b.0 s.world).shared at1.later done h) (record { closure = c.rule; variables = c.variables; head = new_node s.world.shared.nodes _ }, tt))
       (branches_then g u (noted_branch b.0 s.world).shared at1.later (b ∷ bs) r).1 (with_world (noted_branch b.0 s.world) s) (at_self g u (with_world (noted_branch b.0 s.world) s) at1)))
 
-  parallel_goes : calls_step step.Parallel sh.form ≡ true → (u : Common) → EnvFits u.cells xs env → (args : Given) → Goes g sh.form u (parallel k env args)
+  parallel_goes : calls_step step.Parallel sh.form env ≡ true → (u : Common) → EnvFits u.cells xs env → (args : Given) → Goes g sh.form u (parallel k env args)
   parallel_goes cs u fit args = block_goes g sh.form u (codes "parallel") _ (λ s at. from_here g sh.form u (begin_branches k env s.world.own.head [] (branches_given s.world (given (codes "branches") args))) s at
       (begin_goes cs (branches_given s.world (given (codes "branches") args)) s.world.shared (env_later u s.world.shared at.later xs env fit) s.world.own.head (at.sound).head [] tt (given_are g s.world at.sound (given (codes "branches") args))))
 
@@ -206,7 +202,7 @@ module _ (g : Setting) (shaped : Shaped g.script) (k : ℕ) (sh : Shape) (xs : N
   CallsIt step.Echo = Unit {0}
   CallsIt step.Error = Unit {0}
   CallsIt step.MakeUnstable = Unit {0}
-  CallsIt s = calls_step s sh.form ≡ true
+  CallsIt s = calls_step s sh.form env ≡ true
 
   -- a step without a body
   atom_step_goes : (s : Step) → CallsIt s → (u : Common) → EnvFits u.cells xs env → (w : World) (args : Given) → Goes g sh.form u (atom_step k env w args s)

@@ -1,22 +1,17 @@
 -- Calls, but for steps: sound from a sound state on.
-use Rattle.std.proofs.Common.{arith, ◌≡◌, ◌≤◌, ◌<◌, ◌+◌, ◌-◌, refl, sym, ap, subst, ◌∙◌, ℕ, zero, suc, Bool, true, false, List, [], ◌∷◌, ◌++◌, length, length-append, Option, Some, None}
-use Rattle.std.specs.Prelude.{slice_get, take, drop, codes, unwrap_or, option_and_then, if◌then◌else◌}
+use Rattle.std.proofs.Common.{arith, ◌≡◌, refl, sym, ap, subst, ◌∙◌, ℕ, zero, suc, Bool, true, false, List, [], ◌∷◌, ◌++◌, Option, Some, None}
+use Rattle.std.specs.Prelude.{slice_get, take, drop, option_and_then, if◌then◌else◌}
 use Rattle.std.specs.List.{AllByRecursion as AllAre}
 use Rattle.model_syntax.specs.declared.node.NodeForm.{NodeForm}
 use Rattle.model_syntax.specs.declared.node.NodeForm.TheVariants as form
 use Rattle.model_syntax.specs.declared.tree.Access.{Access}
-use Rattle.model_values.specs.Cells.{Answer, Gives, with_new}
 use Rattle.model_values.specs.Kinds.{kind}
-use Rattle.model_values.specs.MethodNames.{Method, Each, Collect, Find, FindAll, Any, Every, Times, method_named}
-use Rattle.model_values.specs.Methods.{Called, Done, Walks, CallsClosure, method_call}
-use Rattle.model_values.specs.Throws.{unknown_step, no_method}
-use Rattle.model_values.specs.Walks.{Turn as Element, Turns, Past, Stops, turn, After, Keeps, Ends, after, at_end}
-use Rattle.model_values.specs.Fitting.{There, HasVariable, HasClosure, CellFits, CellsFit}
-use Rattle.model_values.specs.Later.{Grows, AnswerGrows, CalledGrows, TurnGrows, AfterGrows, Given}
-use Rattle.model_values.proofs.Growth.{methods, walk_turns, walk_ends}
-use Rattle.model_values.proofs.CellGrowth.{Before, all_append, all_get, cell_there}
-use Rattle.model_values.proofs.IndexGrowth.{all_index}
-use Rattle.model_values.proofs.ThrowGrowth.{unknown_step_grows}
+use Rattle.model_values.specs.MethodNames.{Method, Collect, Find, FindAll}
+use Rattle.model_values.specs.Walks.{Turn as Element, Turns, Past, Stops, turn, After, Keeps, Ends, at_end}
+use Rattle.model_values.specs.Fitting.{There, HasClosure, CellFits, CellsFit}
+use Rattle.model_values.specs.Later.{TurnGrows, AfterGrows, Given}
+use Rattle.model_values.proofs.Growth.{walk_turns, walk_ends}
+use Rattle.model_values.proofs.CellGrowth.{all_append, all_get}
 use Rattle.model_values.proofs.WalkGrowth.{after_grows}
 use Rattle.model_values.proofs.LaterLaws.{variables_later}
 use Rattle.model_values.specs.declared.value.Value.{Value}
@@ -25,33 +20,28 @@ use Rattle.model_values.specs.declared.cell.Cell.{Cell}
 use Rattle.model_values.specs.declared.cell.Cell.TheVariants.{Variable, Text as TextCell, List as ListCell, Map as MapCell, Closure as ClosureCell, Thrown as ThrownCell}
 use Rattle.model_values.specs.declared.limit.LimitKind.{LimitKind}
 use Rattle.model_run.specs.declared.callee.Callee.{Callee}
-use Rattle.model_run.specs.declared.step.Step.{Step}
 use Rattle.model_run.specs.declared.frame.Frame.{Frame}
 use Rattle.model_run.specs.declared.frame.FrameKind.TheVariants as kind
 use Rattle.model_run.specs.declared.ending.Ending.{Ending}
-use Rattle.model_run.specs.Terms.{Term, Terms, Numbered, no_terms, and_then, form_of, parts_of, number_of, nodes_of}
-use Rattle.model_run.specs.State.{Setting, Common, World, State, Env, Result, Limited, with_world, through, changed, choose, unless_limit, guarded, put_cells, answered, operating, may_count, counted, tick, raised, on_value}
-use Rattle.model_run.specs.Around.{Around, Shape, arity, frame, ended, cells, limits, value_at, whole}
-use Rattle.model_run.specs.Names.{look, variable}
+use Rattle.model_run.specs.Terms.{Term, Terms, Numbered, no_terms, and_then, form_of, parts_of, number_of}
+use Rattle.model_run.specs.State.{Setting, Common, World, State, Env, Result, Limited, with_world, through, changed, unless_limit, may_count}
+use Rattle.model_run.specs.Around.{Around, Shape, frame, ended, cells, limits, whole}
+use Rattle.model_run.specs.Names.{variable}
 use Rattle.model_run.specs.Callables.{closure_in, closure_of, calling, function_if, function_in, function_named}
-use Rattle.model_run.specs.Calls.{enter, walks, held_in_turn, held_arguments, held_element, held_kept, element_size, walked, walk_after, after_walk_turn, begun_turn, walk_turn, takes_two, walk, walk_method, called, call_method, is_null, call_on, method_step, Meant, Callee_of, Step_of, Nothing, meant_step, meant_binding, binding_closure, meant_function, call_meant, call_name, call_value, call_by, call_named}
-use Rattle.model_run.specs.Gathering.{is_call}
-use Rattle.model_run.specs.StepTable.{step_named}
-use Rattle.model_run.specs.Steps.{begin_step}
-use Rattle.model_run.specs.FrameTable.{Further, Any_more, A_closure, is_callable, is_closure_form, is_declaration, is_walk, walk_values, walk_further}
-use Rattle.model_run.specs.Meaning.{shape_of}
-use Rattle.model_run.specs.Nesting.{FurtherFit, ValuesFit, shape_at}
-use Rattle.model_run.specs.Scoping.{Names, names_at, names_around, names_behind, names_within, names_of}
+use Rattle.model_run.specs.Calls.{enter, held_in_turn, held_arguments, held_element, held_kept, element_size, walked, walk_after, after_walk_turn, begun_turn, walk_turn, takes_two, walk, walk_method}
+use Rattle.model_run.specs.FrameTable.{Any_more, A_closure, is_callable, is_declaration, is_walk, walk_values, walk_further}
+use Rattle.model_run.specs.Nesting.{FurtherFit, ValuesFit}
+use Rattle.model_run.specs.Scoping.{Names, names_around, names_behind, names_within}
 use Rattle.model_run.specs.Fitting.{EnvFits, closure_rule, Later}
-use Rattle.model_run.proofs.CallLaws.{method_walks, OneOrTwo, ElementFits, kind_turn_fits}
+use Rattle.model_run.proofs.CallLaws.{OneOrTwo, ElementFits, kind_turn_fits}
 use Rattle.model_run.proofs.LaterLaws.{env_later}
-use Rattle.model_run.proofs.Under.{both}
 use Rattle.model_run.proofs.Walk.{closure_called}
-use Rattle.run_laws.specs.Soundness.{Shaped, seen, Sits, EndFits, Sound, At, Holds, Goes}
-use Rattle.run_laws.proofs.NodeLaws.{Real, RealAll, shaped as shape_from}
-use Rattle.run_laws.proofs.Flow.{later_self, there_then, all_there_then, seen_then, at_self, at_then, holds_then, from_here, holds_as, Moves, moves_aside, at_moved, change_goes, unless_goes, tick_goes, GoesWith, end_goes, null_goes, value_goes, answer_goes, through_goes}
+use Rattle.model_run.proofs.Front.{front_itself}
+use Rattle.run_laws.specs.Soundness.{Shaped, seen, EndFits, Sound, At, Holds, Goes}
+use Rattle.run_laws.proofs.NodeLaws.{Real, RealAll}
+use Rattle.run_laws.proofs.Flow.{there_then, all_there_then, seen_then, at_self, holds_then, from_here, holds_as, at_moved, tick_goes, end_goes, null_goes, value_goes, answer_goes, through_goes}
 use Rattle.run_laws.proofs.Sources.{CalleeFits, TurnFits, turn_names, Place, Sources, sits_here}
-use Rattle.run_laws.proofs.SoundAssignments.{before_of, operate_goes, same, content_there}
+use Rattle.run_laws.proofs.SoundAssignments.{before_of, operate_goes, same}
 
 -- what is called, where there is one
 abbrev pub CalleeThere : Term → Common → Option Callee → Type 0
@@ -191,7 +181,7 @@ module _ (g : Setting) (shaped : Shaped g.script) (k : ℕ) (sh : Shape) (xs : N
 
     walked_goes : (u : Common) (env : Env) → EnvFits u.cells xs env → (i : ℕ) (on f : Value) → There u.cells on → There u.cells f → (s : State) → At g u s → (given : Type 0) → given → (x : After) → AfterGrows (limits s.world) (closure_rule g.script) (cells s.world) given x → Holds g sh.form u (walked a env i on f x s)
     walked_goes u env fit i on f ton tf s at given sure (Keeps kept) grown =
-        from_here g sh.form u (a.again (suc i) (on ∷ f ∷ kept) env) s at (src.again s.world.shared (suc i) (on ∷ f ∷ kept) env
+        from_here g sh.form u (a.again (suc i) (on ∷ f ∷ kept) env) s at (src.again s.world.shared (suc i) (on ∷ f ∷ kept) env plain
         (subst (λ zs. EnvFits s.world.shared.cells zs env) (sym (ap (λ p. turn_names p sh.parts xs) is)) (env_later u s.world.shared at.later xs env fit))
         (subst (λ p. TurnFits p s.world.shared (on ∷ f ∷ kept)) (sym is) (there_then u s.world.shared at.later on ton, there_then u s.world.shared at.later f tf, grown sure)))
     walked_goes u env fit i on f ton tf s at given sure (Ends answer) grown =
@@ -214,7 +204,7 @@ module _ (g : Setting) (shaped : Shaped g.script) (k : ℕ) (sh : Shape) (xs : N
       walk_turn_goes u env fit i on f kept ton tf tk c s at callee fseen (Turns h args element) sized grown =
           let fits : CellsFit (closure_rule g.script) h × (AllAre (There h) args × AllAre (There h) element) = grown.fits ((at.sound).cells, (there_then u s.world.shared at.later on ton, tt)) in
           let v : Common = (begun_turn h s.world).shared in
-          let l1 : Later s.world.shared (begun_turn h s.world).shared = record { cells = grown.later; nodes = omega arith } in
+          let l1 : Later s.world.shared (begun_turn h s.world).shared = record { cells = grown.later; nodes = front_itself s.world.shared.nodes } in
           let s1 : State = with_world (begun_turn h s.world) s in
           let at1 : At g u (with_world (begun_turn h s.world) s) = at_moved g u (begun_turn h) s at (record { later = l1; cells = fits.0; binding = variables_later (cells s.world) h grown.later s.world.shared.binding (at.sound).binding; head = (at.sound).head }) in
           let held : List Value = held_in_turn (walk_method sh.form) args element kept in

@@ -1,57 +1,43 @@
 -- A node as it is entered: sound from a sound state on.
-use Rattle.std.proofs.Common.{arith, ◌≡◌, ◌≤◌, ◌<◌, ◌+◌, ◌-◌, refl, sym, ap, subst, ◌∙◌, ℕ, zero, suc, Bool, true, false, List, [], ◌∷◌, ◌++◌, length, length-append, append_assoc, Option, Some, None}
-use Rattle.std.specs.Prelude.{slice_get, drop, codes, is_some, map, reverse, nat_eq, if◌then◌else◌}
-use Rattle.std.proofs.lemmas.Bool.{eqb-true}
+use Rattle.std.proofs.Common.{arith, ◌≡◌, ◌<◌, ◌-◌, refl, sym, ap, subst, ◌∙◌, ℕ, Bool, true, false, List, [], ◌∷◌, length, Option, Some, None}
+use Rattle.std.specs.Prelude.{slice_get, drop, is_some, if◌then◌else◌}
 use Rattle.std.specs.List.{AllByRecursion as AllAre}
 use Rattle.model_syntax.specs.declared.node.NodeForm.{NodeForm}
 use Rattle.model_syntax.specs.declared.node.NodeForm.TheVariants as form
-use Rattle.model_values.specs.Cells.{Gives, new_cell, new_text, with_new}
-use Rattle.model_values.specs.Kinds.{closure}
-use Rattle.model_values.specs.Throws.{no_method}
-use Rattle.model_values.specs.Fitting.{There, HasVariable, HasText, HasClosure, IsIn, CellFits, CellsFit}
-use Rattle.model_values.specs.Later.{Given}
+use Rattle.model_values.specs.Cells.{new_cell, new_text}
+use Rattle.model_values.specs.Fitting.{There, HasText, HasClosure, IsIn, CellsFit}
 use Rattle.model_values.proofs.Growth.{new_texts}
-use Rattle.model_values.proofs.CellGrowth.{Before, gives_new, new_closure_grows, text_there, cell_there}
-use Rattle.model_values.proofs.LaterLaws.{get_new, later_behind, there_later, variables_later}
-use Rattle.model_values.proofs.ThrowGrowth.{no_method_grows}
+use Rattle.model_values.proofs.CellGrowth.{Before, new_closure_grows, text_there, cell_there}
 use Rattle.model_values.specs.declared.value.Value.{Value}
 use Rattle.model_values.specs.declared.value.Value.TheVariants.{Null, Bool as Truth, Int as Whole, Cell as InCell}
 use Rattle.model_values.specs.declared.cell.Cell.{Cell}
-use Rattle.model_values.specs.declared.cell.Cell.TheVariants.{Variable, Closure as ClosureCell}
+use Rattle.model_values.specs.declared.cell.Cell.TheVariants.{Closure as ClosureCell}
 use Rattle.model_run.specs.declared.frame.FrameKind.TheVariants as kind
-use Rattle.model_run.specs.declared.ending.Ending.{Ending}
-use Rattle.model_run.specs.declared.ending.Ending.TheVariants.{Normal, Thrown, Returned, Broke, Continued, Declared, Answered}
-use Rattle.model_run.specs.declared.ending.Entry.{Entry}
-use Rattle.model_run.specs.declared.ending.Entry.TheVariants.{First, Inside, On, Turn, Body, Branched}
-use Rattle.model_run.specs.State.{Setting, Common, World, State, Env, Result, Ended, with_world, through, choose, changed, seeing, unless_limit, guarded, operating, tick, on_value}
-use Rattle.model_run.specs.Around.{Around, Shape, form_at, arity, frame, ended, cells, limits, value_at, whole}
-use Rattle.model_run.specs.Names.{look, bind, bind_all, variable, read_name}
-use Rattle.model_run.specs.Callables.{parameters_of, if_as_many, arguments_for, call_limit, opened, closed, plain as plain_end, after_call, body_with, body}
-use Rattle.model_run.specs.Statements.{on_statement, statements, after_steps_first, each_from, after_try, throws}
+use Rattle.model_run.specs.declared.ending.Ending.TheVariants.{Broke, Continued}
+use Rattle.model_run.specs.declared.ending.Entry.TheVariants.{First}
+use Rattle.model_run.specs.State.{Setting, Common, World, Env, Ended, through, choose, operating, on_value}
+use Rattle.model_run.specs.Around.{Around, Shape, form_at, arity, frame, ended, cells, limits, value_at}
+use Rattle.model_run.specs.Names.{look}
+use Rattle.model_run.specs.Statements.{statements, after_steps_first, each_from, after_try, throws}
 use Rattle.model_syntax.specs.declared.tree.Access.{Access}
 use Rattle.model_run.specs.Assignments.{receiver}
 use Rattle.model_run.specs.Calls.{walks, walk, walk_method, called_value}
-use Rattle.model_run.specs.Steps.{after_branch}
-use Rattle.model_run.specs.Forms.{gathered, gather_all, start, suffix_on, turn, body_of, branched, enter, value}
-use Rattle.model_run.specs.FrameTable.{is_block, is_chain, is_method, is_target_form, is_declaration, is_each, same_form, gathers, count_of, count_before, is_callable, is_closure_form}
-use Rattle.model_run.specs.Nesting.{shape_at}
-use Rattle.model_run.specs.Scoping.{Names, names_within, names_after, names_of}
-use Rattle.model_run.specs.Fitting.{EnvFits, closure_rule, IsFlowNode, Later}
+use Rattle.model_run.specs.Forms.{gather_all, start, suffix_on, turn}
+use Rattle.model_run.specs.FrameTable.{is_block, is_chain, is_method, is_target_form, is_declaration, is_each, same_form, gathers, count_of, count_before, is_closure_form}
+use Rattle.model_run.specs.Scoping.{Names, names_within, names_after}
+use Rattle.model_run.specs.Fitting.{EnvFits, closure_rule}
 use Rattle.model_run.proofs.LaterLaws.{env_later}
 use Rattle.model_run.proofs.Under.{both}
-use Rattle.model_run.proofs.Walk.{closure_called}
-use Rattle.run_laws.specs.Soundness.{Shaped, may_declare, is_target, EndFits, Sound, At, Holds, Goes}
+use Rattle.run_laws.specs.Soundness.{Shaped, may_declare, is_target, Sound, Goes}
 use Rattle.run_laws.proofs.NodeLaws.{Real}
-use Rattle.run_laws.proofs.Flow.{later_self, there_then, all_there_then, node_then, at_self, holds_then, from_here, holds_as, end_then, end_as, Moves, moves_aside, at_moved, tick_goes, GoesWith, end_goes, null_goes, value_goes, answer_goes, through_goes}
-use Rattle.run_laws.proofs.Sources.{TurnFits, turn_names, Place, Sources, sits_here, Quiet, quiet_names, part_goes}
+use Rattle.run_laws.proofs.Flow.{from_here, holds_as, tick_goes, end_goes, null_goes, answer_goes, through_goes}
+use Rattle.run_laws.proofs.Sources.{TurnFits, turn_names, Place, Sources, sits_here, part_goes}
 use Rattle.run_laws.proofs.SoundStatements.{statements_goes, under_goes, arms_goes, while_test_goes, while_turn_goes, steps_first_goes, steps_turn_goes, each_over_goes, each_turn_goes, try_goes, declaration_goes, return_goes, throw_end_goes}
-use Rattle.run_laws.proofs.SoundAssignments.{before_of, operate_goes, read_goes, receiver_goes, content_there}
+use Rattle.run_laws.proofs.SoundAssignments.{operate_goes, read_goes, receiver_goes, content_there}
 use Rattle.run_laws.proofs.SoundExpressions.{value_form_goes, property_goes, group_goes, choices_goes, operands_goes, joined_all_goes, prefixed_goes, suffixed_all_goes, indexed_goes}
 use Rattle.run_laws.proofs.SoundGathering.{gather_goes}
 use Rattle.run_laws.proofs.SoundCalls.{walk_goes}
 use Rattle.run_laws.proofs.SoundForms.{gathered_goes}
-use Rattle.run_laws.proofs.SoundStepForms.{guard_here}
-use Rattle.run_laws.proofs.SoundBranches.{branch_end_goes}
 
 called_count : (w : World) (o : Option ℕ) → length (called_value w o) ≡ (if is_some o then 1 else 0)
 called_count w None = refl

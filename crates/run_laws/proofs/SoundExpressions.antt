@@ -1,7 +1,6 @@
 -- Expressions, but for calls: sound from a sound state on.
-use Rattle.std.proofs.Common.{arith, ◌≡◌, ◌≤◌, ◌<◌, ◌+◌, ◌-◌, refl, sym, ap, subst, ◌∙◌, ℕ, zero, suc, Bool, true, false, List, [], ◌∷◌, ◌++◌, length, length-append, Option, Some, None}
-use Rattle.std.specs.Prelude.{slice_get, not, ◌&&◌, ◌||◌, if◌then◌else◌, reverse}
-use Rattle.std.specs.List.{AllByRecursion as AllAre}
+use Rattle.std.proofs.Common.{arith, ◌≡◌, ◌≤◌, ◌<◌, ◌-◌, refl, sym, ap, subst, ◌∙◌, ℕ, zero, suc, Bool, true, false, List, [], ◌∷◌}
+use Rattle.std.specs.Prelude.{not, if◌then◌else◌, reverse}
 use Rattle.model_syntax.specs.declared.node.NodeForm.{NodeForm}
 use Rattle.model_syntax.specs.declared.node.NodeForm.TheVariants as form
 use Rattle.model_syntax.specs.declared.tree.Access.{Access}
@@ -10,13 +9,11 @@ use Rattle.model_syntax.specs.declared.tree.Operator.{Operator}
 use Rattle.model_syntax.specs.declared.tree.Operator.TheVariants as operator
 use Rattle.model_syntax.specs.declared.tree.Prefix.{Prefix}
 use Rattle.model_syntax.specs.declared.tree.Prefix.TheVariants as prefix
-use Rattle.model_values.specs.Cells.{Answer}
 use Rattle.model_values.specs.Equality.{Equality, Is as Equal_is, Stops, equal}
 use Rattle.model_values.specs.Index.{get_at, get_property}
 use Rattle.model_values.specs.Kinds.{kind}
 use Rattle.model_values.specs.Operators.{apply}
-use Rattle.model_values.specs.Truth.{truth}
-use Rattle.model_values.specs.Fitting.{There, CellsFit}
+use Rattle.model_values.specs.Fitting.{There}
 use Rattle.model_values.specs.Later.{AnswerGrows, Given}
 use Rattle.model_values.proofs.Growth.{operators, reads, property_reads}
 use Rattle.model_values.proofs.IndexGrowth.{unless_null_grows}
@@ -26,23 +23,23 @@ use Rattle.model_values.specs.declared.operator.Op.{Op}
 use Rattle.model_values.specs.declared.operator.Op.TheVariants.{Plus, Minus, Times, Mod, Less, LessEqual, Greater, GreaterEqual, Range, Negative, Positive}
 use Rattle.model_run.specs.declared.frame.FrameKind.TheVariants as kind
 use Rattle.model_run.specs.declared.ending.Ending.{Ending}
-use Rattle.model_run.specs.declared.ending.Entry.TheVariants.{First, Inside, On}
-use Rattle.model_run.specs.State.{Setting, Common, World, State, Env, Result, Limited, through, changed, seeing, operating, tick, raised, on_value}
-use Rattle.model_run.specs.Around.{Around, Shape, form_at, arity, frame, ended, cells, limits, value_at, deciding}
+use Rattle.model_run.specs.declared.ending.Entry.TheVariants.{Inside, On}
+use Rattle.model_run.specs.State.{Setting, Common, World, State, Env, Result, Limited, tick, raised, on_value}
+use Rattle.model_run.specs.Around.{Around, Shape, form_at, arity, frame, ended, cells, limits, deciding}
 use Rattle.model_run.specs.Expressions.{after_choice, choice_test, choice, choices, truth_value, stops_or, is_and, after_operand, operands, compared, comparing, computing, applying, operator_of, after_joined, joined, joined_all, prefixing, prefixes_of, prefixed_by, prefixed, suffixed, suffixed_all, safely, property, index, indexed, group}
 use Rattle.model_run.specs.Forms.{value}
-use Rattle.model_run.specs.FrameTable.{same_form, is_choice, is_chain, is_declaration, current, suffixed_within}
+use Rattle.model_run.specs.FrameTable.{same_form, is_choice, is_chain, is_declaration}
 use Rattle.model_run.specs.Scoping.{Names, names_within, names_after}
 use Rattle.model_run.specs.Fitting.{EnvFits, closure_rule, Later}
 use Rattle.model_run.proofs.LaterLaws.{env_later}
 use Rattle.model_run.proofs.Under.{both}
 use Rattle.run_laws.specs.Soundness.{Shaped, may_declare, is_operand, Sits, EndFits, Sound, At, Holds, Goes}
-use Rattle.run_laws.proofs.Flow.{later_self, there_then, all_there_then, at_self, holds_then, from_here, holds_as, Moves, moves_aside, at_moved, change_goes, tick_goes, decide_goes, GoesWith, end_goes, null_goes, value_goes, through_goes}
+use Rattle.run_laws.proofs.Flow.{later_self, there_then, from_here, holds_as, Moves, moves_aside, change_goes, tick_goes, decide_goes, GoesWith, end_goes, null_goes, value_goes, through_goes}
 use Rattle.run_laws.proofs.Sources.{has_inner, Place, Sources, sits_here, Quiet, quiet_names, part_goes, inner_goes}
 use Rattle.run_laws.proofs.SoundAssignments.{before_of, operate_goes, same}
 use Rattle.run_laws.proofs.SoundStatements.{under_goes}
 
-operand_inner : (f : NodeForm) → is_operand f ≡ true → has_inner f ≡ true
+pub operand_inner : (f : NodeForm) → is_operand f ≡ true → has_inner f ≡ true
 operand_inner (form.Operand o) e = refl
 operand_inner f e = absurd (cc)
 
@@ -55,7 +52,7 @@ chain_plain form.And e = refl
 chain_plain form.Or e = refl
 chain_plain f e = absurd (cc)
 
-chain_quiet : (f : NodeForm) → is_chain f ≡ true → (i : ℕ) → may_declare f i ≡ false
+pub chain_quiet : (f : NodeForm) → is_chain f ≡ true → (i : ℕ) → may_declare f i ≡ false
 chain_quiet form.And e i = refl
 chain_quiet form.Or e i = refl
 chain_quiet f e i = absurd (cc)

@@ -1,6 +1,6 @@
 -- Each form of node: sound from a sound state on.
-use Rattle.std.proofs.Common.{arith, ◌≡◌, ◌≤◌, ◌<◌, ◌+◌, ◌-◌, refl, sym, ap, subst, ◌∙◌, ℕ, zero, suc, Bool, true, false, List, [], ◌∷◌, ◌++◌, length, Option, Some, None}
-use Rattle.std.specs.Prelude.{slice_get, codes, unwrap_or}
+use Rattle.std.proofs.Common.{◌≡◌, refl, ap, ◌∙◌, ℕ, suc, Bool, true, false, List, [], ◌∷◌, Option, Some, None}
+use Rattle.std.specs.Prelude.{slice_get, codes, unwrap_or, not, is_some}
 use Rattle.std.specs.List.{AllByRecursion as AllAre}
 use Rattle.model_syntax.specs.declared.node.NodeForm.{NodeForm}
 use Rattle.model_syntax.specs.declared.node.NodeForm.TheVariants as form
@@ -9,34 +9,33 @@ use Rattle.model_values.specs.Kinds.{kind}
 use Rattle.model_values.specs.MethodNames.{Method, ToString, method_named}
 use Rattle.model_values.specs.Methods.{Called, Done, Walks, CallsClosure, method_call}
 use Rattle.model_values.specs.Throws.{unknown_step}
-use Rattle.model_values.specs.Fitting.{There, HasVariable, HasClosure}
-use Rattle.model_values.specs.Later.{AnswerGrows, CalledGrows, Given}
+use Rattle.model_values.specs.Fitting.{There, HasClosure}
+use Rattle.model_values.specs.Later.{CalledGrows, Given}
 use Rattle.model_values.proofs.Growth.{methods}
-use Rattle.model_values.proofs.CellGrowth.{cell_there, all_get}
-use Rattle.model_values.proofs.IndexGrowth.{all_index}
+use Rattle.model_values.proofs.CellGrowth.{cell_there}
 use Rattle.model_values.proofs.ThrowGrowth.{unknown_step_grows}
 use Rattle.model_values.specs.declared.value.Value.{Value}
 use Rattle.model_values.specs.declared.value.Value.TheVariants.{Null, Cell as InCell}
 use Rattle.model_run.specs.declared.callee.Callee.{Callee}
 use Rattle.model_run.specs.declared.step.Step.{Step}
 use Rattle.model_run.specs.declared.step.Step.TheVariants as step
-use Rattle.model_run.specs.State.{Setting, Common, World, State, Env, Result, with_world, choose, changed, seeing, operating, answered, may_count, counted, tick, raised}
-use Rattle.model_run.specs.Around.{Around, Shape, arity, ended, cells, limits, value_at}
-use Rattle.model_run.specs.Names.{look, variable}
-use Rattle.model_run.specs.Callables.{closure_of, calling, function_named}
-use Rattle.model_run.specs.Calls.{enter, walks, walk, walk_method, called, call_method, is_null, call_on, method_step, Meant, Callee_of, Step_of, Nothing, meant_function, meant_binding, meant_step, binding_closure, call_meant, call_name, call_value, call_by, call_named}
+use Rattle.model_run.specs.State.{Setting, Common, World, State, Env, with_world, changed, answered, may_count, counted, tick, raised}
+use Rattle.model_run.specs.Around.{Around, Shape, ended, cells, limits}
+use Rattle.model_run.specs.Names.{look}
+use Rattle.model_run.specs.Callables.{closure_of, function_named}
+use Rattle.model_run.specs.Calls.{enter, walks, walk, walk_method, called, is_null, call_on, method_step, Meant, Callee_of, Step_of, Nothing, meant_function, meant_binding, meant_step, binding_closure, call_meant, call_name, call_value, call_by}
 use Rattle.model_run.specs.Forms.{gathered}
 use Rattle.model_run.specs.StepTable.{step_named}
 use Rattle.model_run.specs.Steps.{begin_step}
 use Rattle.model_run.specs.FrameTable.{is_declaration, is_walk, calls_step, same_step}
 use Rattle.model_run.specs.Scoping.{Names}
-use Rattle.model_run.specs.Fitting.{EnvFits, closure_rule, Later}
+use Rattle.model_run.specs.Fitting.{EnvFits, closure_rule}
 use Rattle.model_run.proofs.CallLaws.{method_walks}
 use Rattle.model_run.proofs.LaterLaws.{env_later}
 use Rattle.model_run.proofs.Under.{both}
 use Rattle.run_laws.specs.Soundness.{Shaped, Sound, At, Holds, Goes}
 use Rattle.run_laws.proofs.NodeLaws.{Real}
-use Rattle.run_laws.proofs.Flow.{there_then, all_there_then, at_self, holds_then, from_here, Moves, moves_aside, at_moved, tick_goes, end_goes, null_goes, answer_goes}
+use Rattle.run_laws.proofs.Flow.{there_then, all_there_then, from_here, moves_aside, at_moved, tick_goes, end_goes, null_goes, answer_goes}
 use Rattle.run_laws.proofs.Sources.{Place, Sources}
 use Rattle.run_laws.proofs.SoundAssignments.{before_of, operate_goes}
 use Rattle.run_laws.proofs.SoundCalls.{CalleeThere, closure_fits, function_fits, binding_fits, calling_goes, enter_goes, walk_goes}
@@ -91,29 +90,29 @@ module _ (g : Setting) (real : Real g.script [] g.script) (shaped : Shaped g.scr
 
   -- a call of a name
   module _ (f : List ℕ) (is : sh.form ≡ form.Call f) where
-    calls_it : (s : Step) → step_named f ≡ Some s → CallsIt g shaped k sh xs place a src plain env s
-    calls_it step.Println e = tt
-    calls_it step.Echo e = tt
-    calls_it step.Error e = tt
-    calls_it step.MakeUnstable e = tt
-    calls_it step.Stage e = ap (calls_step step.Stage) is ∙ ap (same_step step.Stage) e
-    calls_it step.CatchError e = ap (calls_step step.CatchError) is ∙ ap (same_step step.CatchError) e
-    calls_it step.Retry e = ap (calls_step step.Retry) is ∙ ap (same_step step.Retry) e
-    calls_it step.Node e = ap (calls_step step.Node) is ∙ ap (same_step step.Node) e
-    calls_it step.Dir e = ap (calls_step step.Dir) is ∙ ap (same_step step.Dir) e
-    calls_it step.WithEnv e = ap (calls_step step.WithEnv) is ∙ ap (same_step step.WithEnv) e
-    calls_it step.Sh e = ap (calls_step step.Sh) is ∙ ap (same_step step.Sh) e
-    calls_it step.Input e = ap (calls_step step.Input) is ∙ ap (same_step step.Input) e
-    calls_it step.Parallel e = ap (calls_step step.Parallel) is ∙ ap (same_step step.Parallel) e
+    calls_it : look f env ≡ None → (s : Step) → step_named f ≡ Some s → CallsIt g shaped k sh xs place a src plain env s
+    calls_it unseen step.Println e = tt
+    calls_it unseen step.Echo e = tt
+    calls_it unseen step.Error e = tt
+    calls_it unseen step.MakeUnstable e = tt
+    calls_it unseen step.Stage e = ap (λ x. calls_step step.Stage x env) is ∙ both _ _ (ap (same_step step.Stage) e) (ap (λ o. not (is_some o)) unseen)
+    calls_it unseen step.CatchError e = ap (λ x. calls_step step.CatchError x env) is ∙ both _ _ (ap (same_step step.CatchError) e) (ap (λ o. not (is_some o)) unseen)
+    calls_it unseen step.Retry e = ap (λ x. calls_step step.Retry x env) is ∙ both _ _ (ap (same_step step.Retry) e) (ap (λ o. not (is_some o)) unseen)
+    calls_it unseen step.Node e = ap (λ x. calls_step step.Node x env) is ∙ both _ _ (ap (same_step step.Node) e) (ap (λ o. not (is_some o)) unseen)
+    calls_it unseen step.Dir e = ap (λ x. calls_step step.Dir x env) is ∙ both _ _ (ap (same_step step.Dir) e) (ap (λ o. not (is_some o)) unseen)
+    calls_it unseen step.WithEnv e = ap (λ x. calls_step step.WithEnv x env) is ∙ both _ _ (ap (same_step step.WithEnv) e) (ap (λ o. not (is_some o)) unseen)
+    calls_it unseen step.Sh e = ap (λ x. calls_step step.Sh x env) is ∙ both _ _ (ap (same_step step.Sh) e) (ap (λ o. not (is_some o)) unseen)
+    calls_it unseen step.Input e = ap (λ x. calls_step step.Input x env) is ∙ both _ _ (ap (same_step step.Input) e) (ap (λ o. not (is_some o)) unseen)
+    calls_it unseen step.Parallel e = ap (λ x. calls_step step.Parallel x env) is ∙ both _ _ (ap (same_step step.Parallel) e) (ap (λ o. not (is_some o)) unseen)
 
-    meant_goes : (u : Common) → EnvFits u.cells xs env → (args : List Value) → AllAre (There u.cells) args → (w : World) (m : Meant) → MeantThere g u f m → Goes g sh.form u (call_meant a k sh env f args w m)
-    meant_goes u fit args there w (Callee_of c) h = enter_goes g shaped k sh xs place a src plain u args c there h
-    meant_goes u fit args there w (Step_of s) h = tick_goes g sh.form u (begin_step a k env s args) (begin_step_goes g shaped k sh xs place a src plain env s (calls_it s h) u fit args there)
-    meant_goes u fit args there w Nothing h = tick_goes g sh.form u _ (operate_goes g sh.form u [] tt (λ h v. ⊥) (λ h v bad. absurd bad) (λ w. unknown_step (limits w) (cells w) f) (λ w. unknown_step_grows (before_of g w []) (λ h v. ⊥) f) ended (end_goes g sh.form u plain))
+    meant_goes : look f env ≡ None → (u : Common) → EnvFits u.cells xs env → (args : List Value) → AllAre (There u.cells) args → (w : World) (m : Meant) → MeantThere g u f m → Goes g sh.form u (call_meant a k sh env f args w m)
+    meant_goes unseen u fit args there w (Callee_of c) h = enter_goes g shaped k sh xs place a src plain u args c there h
+    meant_goes unseen u fit args there w (Step_of s) h = tick_goes g sh.form u (begin_step a k env s args) (begin_step_goes g shaped k sh xs place a src plain env s (calls_it unseen s h) u fit args there)
+    meant_goes unseen u fit args there w Nothing h = tick_goes g sh.form u _ (operate_goes g sh.form u [] tt (λ h v. ⊥) (λ h v bad. absurd bad) (λ w. unknown_step (limits w) (cells w) f) (λ w. unknown_step_grows (before_of g w []) (λ h v. ⊥) f) ended (end_goes g sh.form u plain))
 
-    call_name_goes : (u : Common) → EnvFits u.cells xs env → (args : List Value) → AllAre (There u.cells) args → Goes g sh.form u (call_name a k sh env f args)
-    call_name_goes u fit args there s at = from_here g sh.form u (call_meant a k sh env f args s.world (meant_function f s.world (function_named f s.world))) s at
-        (meant_goes s.world.shared (env_later u s.world.shared at.later xs env fit) args (all_there_then u s.world.shared at.later args there) s.world (meant_function f s.world (function_named f s.world)) (function_there g s.world f at.sound (function_named f s.world) (function_fits g real f s.world at.sound)))
+    call_name_goes : look f env ≡ None → (u : Common) → EnvFits u.cells xs env → (args : List Value) → AllAre (There u.cells) args → Goes g sh.form u (call_name a k sh env f args)
+    call_name_goes unseen u fit args there s at = from_here g sh.form u (call_meant a k sh env f args s.world (meant_function f s.world (function_named f s.world))) s at
+        (meant_goes unseen s.world.shared (env_later u s.world.shared at.later xs env fit) args (all_there_then u s.world.shared at.later args there) s.world (meant_function f s.world (function_named f s.world)) (function_there g s.world f at.sound (function_named f s.world) (function_fits g real f s.world at.sound)))
 
     call_value_goes : (u : Common) → EnvFits u.cells xs env → (vs : List Value) → AllAre (There u.cells) vs → Goes g sh.form u (call_value a k sh env vs)
     call_value_goes u fit [] there = null_goes g sh.form u plain
@@ -123,13 +122,13 @@ module _ (g : Setting) (real : Real g.script [] g.script) (shaped : Shaped g.scr
         never : (s : State) (v : Value) (args : List Value) (m : Method) (c : ℕ) → method_call (limits s.world) (cells s.world) v (codes "call") args (suc s.world.shared.count) ≡ Walks m c → ⊥
         never s v args m c e = let w : walks (unwrap_or (method_named (codes "call")) ToString) ≡ true = method_walks (limits s.world) (cells s.world) v (codes "call") (method_named (codes "call")) args (suc s.world.shared.count) m c e in absurd (cc)
 
-    pub call_goes : (u : Common) → EnvFits u.cells xs env → (vs : List Value) → AllAre (There u.cells) vs → (o : Option ℕ) → Goes g sh.form u (call_by o a k sh env f vs)
-    call_goes u fit vs there None = call_name_goes u fit vs there
-    call_goes u fit vs there (Some c) = call_value_goes u fit vs there
+    pub call_goes : (u : Common) → EnvFits u.cells xs env → (vs : List Value) → AllAre (There u.cells) vs → (o : Option ℕ) → look f env ≡ o → Goes g sh.form u (call_by o a k sh env f vs)
+    call_goes u fit vs there None unseen = call_name_goes unseen u fit vs there
+    call_goes u fit vs there (Some c) seen = call_value_goes u fit vs there
 
   -- what a node does with all the values that it gathers
   pub gathered_goes : (f : NodeForm) → sh.form ≡ f → (u : Common) → EnvFits u.cells xs env → (vs : List Value) → AllAre (There u.cells) vs → Goes g sh.form u (gathered a k env sh f vs)
-  gathered_goes (form.Call f) is u fit vs there = call_goes f is u fit vs there (look f env)
+  gathered_goes (form.Call f) is u fit vs there = call_goes f is u fit vs there (look f env) refl
   gathered_goes (form.Method access f) is u fit vs there = method_goes access f is u fit vs there
   gathered_goes form.Map is u fit vs there = map_goes g sh.form plain u vs there sh
   gathered_goes form.GString is u fit vs there = text_goes g sh.form plain u vs there sh

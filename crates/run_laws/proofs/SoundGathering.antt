@@ -1,48 +1,46 @@
 -- Several values from left to right: sound from a sound state on.
-use Rattle.std.proofs.Common.{arith, ◌≡◌, ◌≤◌, ◌<◌, ◌+◌, ◌-◌, refl, sym, ap, subst, ◌∙◌, ℕ, zero, suc, Bool, true, false, List, [], ◌∷◌, ◌++◌, length, length-append, Option, Some, None}
+use Rattle.std.proofs.Common.{arith, ◌≡◌, ◌≤◌, ◌+◌, ◌-◌, refl, sym, ap, subst, ◌∙◌, ℕ, zero, suc, Bool, true, false, List, [], ◌∷◌, ◌++◌, length, length-append, Option, Some, None}
 use Rattle.std.specs.Prelude.{slice_get, not, ◌&&◌, take, drop, zip}
 use Rattle.std.specs.List.{AllByRecursion as AllAre}
 use Rattle.indexmap.specs.IndexMap.{insert_all, insert_entry}
 use Rattle.model_syntax.specs.declared.node.NodeForm.{NodeForm}
 use Rattle.model_syntax.specs.declared.node.NodeForm.TheVariants as form
 use Rattle.model_syntax.specs.declared.tree.NewClass.{NewClass}
-use Rattle.model_values.specs.Cells.{Answer, new_list, new_map}
+use Rattle.model_values.specs.Cells.{new_list, new_map}
 use Rattle.model_values.specs.Index.{key_of}
 use Rattle.model_values.specs.Keys.{same_key}
 use Rattle.model_values.specs.Kinds.{kind}
 use Rattle.model_values.specs.TextOf.{written}
-use Rattle.model_values.specs.Throws.{new_throwable, bad_key}
+use Rattle.model_values.specs.Throws.{new_throwable}
 use Rattle.model_values.specs.Fitting.{There, HasText, HasList, HasMap, HasThrowable, IsIn}
 use Rattle.model_values.specs.Later.{AnswerGrows, Given}
 use Rattle.model_values.proofs.Growth.{new_lists, new_throwables, written_texts}
-use Rattle.model_values.proofs.CellGrowth.{Before, all_append, all_insert, new_map_grows, map_is_there, map_there, list_there, text_there, throwable_there}
+use Rattle.model_values.proofs.CellGrowth.{all_append, all_insert, new_map_grows, map_is_there, map_there, list_there, text_there, throwable_there}
 use Rattle.model_values.proofs.OperatorGrowth.{all_inserts}
 use Rattle.model_values.proofs.ThrowGrowth.{bad_key_grows}
 use Rattle.model_values.specs.declared.value.Value.{Value}
-use Rattle.model_values.specs.declared.value.Value.TheVariants.{Null}
 use Rattle.model_values.specs.declared.key.Key.{Key}
 use Rattle.model_values.specs.declared.key.Key.TheVariants.{Int as IntKey, Text as TextKey}
 use Rattle.model_values.specs.declared.cell.Cell.{Cell}
 use Rattle.model_run.specs.declared.frame.FrameKind.TheVariants as kind
 use Rattle.model_run.specs.declared.ending.Ending.{Ending}
 use Rattle.model_run.specs.declared.ending.Entry.{Entry}
-use Rattle.model_run.specs.declared.ending.Entry.TheVariants.{First, Inside, On}
-use Rattle.model_run.specs.State.{Setting, Common, World, State, Env, Result, through, operating, tick, on_value}
+use Rattle.model_run.specs.declared.ending.Entry.TheVariants.{First, Inside}
+use Rattle.model_run.specs.State.{Setting, Common, World, State, Env, Result}
 use Rattle.model_run.specs.Around.{Around, Shape, form_at, arity, frame, ended, cells, limits}
-use Rattle.model_run.specs.Gathering.{is_call, is_named, closes_named, named_keys, close_named, keep_by, keep, after_gathered, gather_value, after_key, gather_part, gather, list_of, put_entry, and_entries, entries_of, map_from, map_of, text_parts, text_from, new_class, throwable_of}
-use Rattle.model_run.specs.Forms.{gathered, gather_all}
-use Rattle.model_run.specs.FrameTable.{No_more, gathers, is_plain, is_computed, is_declaration, any_values, count_with, count_closed, count_behind, count_of, key_count, gathered_within, current}
-use Rattle.model_run.specs.Nesting.{ValuesFit}
-use Rattle.model_run.specs.Scoping.{Names, names_within, names_after}
-use Rattle.model_run.specs.Fitting.{EnvFits, closure_rule, Later}
+use Rattle.model_run.specs.Gathering.{is_call, is_named, closes_named, named_keys, keep_by, keep, after_gathered, gather_value, after_key, gather_part, gather, list_of, put_entry, and_entries, entries_of, map_from, map_of, text_parts, text_from, new_class, throwable_of}
+use Rattle.model_run.specs.Forms.{gathered}
+use Rattle.model_run.specs.FrameTable.{gathers, is_plain, is_computed, is_declaration, count_with, count_closed, count_behind, count_of, key_count}
+use Rattle.model_run.specs.Scoping.{Names, names_within}
+use Rattle.model_run.specs.Fitting.{EnvFits, closure_rule}
 use Rattle.model_run.proofs.LaterLaws.{env_later}
 use Rattle.model_run.proofs.Under.{both}
-use Rattle.run_laws.specs.Soundness.{Shaped, may_declare, seen, Sits, EndFits, At, Holds, Goes}
-use Rattle.run_laws.proofs.Flow.{there_then, all_there_then, at_self, holds_then, from_here, tick_goes, GoesWith, end_goes, value_goes, through_goes}
+use Rattle.run_laws.specs.Soundness.{Shaped, may_declare, EndFits, At, Holds, Goes}
+use Rattle.run_laws.proofs.Flow.{all_there_then, from_here, tick_goes, end_goes, value_goes, through_goes}
 use Rattle.run_laws.proofs.Sources.{has_inner, Place, Sources, sits_here, Quiet, part_goes, inner_goes}
 use Rattle.run_laws.proofs.SoundAssignments.{before_of, operate_goes, same, any_seen}
 
-gathers_plain : (f : NodeForm) → gathers f ≡ true → is_declaration f ≡ false
+pub gathers_plain : (f : NodeForm) → gathers f ≡ true → is_declaration f ≡ false
 gathers_plain (form.Call f) e = refl
 gathers_plain (form.Method access f) e = refl
 gathers_plain form.List e = refl
@@ -51,7 +49,7 @@ gathers_plain form.GString e = refl
 gathers_plain (form.New c) e = refl
 gathers_plain f e = absurd (cc)
 
-gathers_quiet : (f : NodeForm) → gathers f ≡ true → (i : ℕ) → may_declare f i ≡ false
+pub gathers_quiet : (f : NodeForm) → gathers f ≡ true → (i : ℕ) → may_declare f i ≡ false
 gathers_quiet (form.Call f) e i = refl
 gathers_quiet (form.Method access f) e i = refl
 gathers_quiet form.List e i = refl
@@ -153,11 +151,11 @@ module _ (g : Setting) (shaped : Shaped g.script) (k : ℕ) (sh : Shape) (xs : N
   abbrev pub Done : Type 0
   Done = (u : Common) → EnvFits u.cells xs env → (vs : List Value) → length vs ≡ count_of sh env (arity sh) → AllAre (There u.cells) vs → Goes g sh.form u (gathered a k env sh sh.form vs)
 
-  abbrev gathering : ℕ → List Value → State → Result
+  abbrev pub gathering : ℕ → List Value → State → Result
   gathering m vs = gather a k sh env (gathered a k env sh sh.form) m vs
 
   -- with so many values, where m parts still come
-  abbrev Next : ℕ → Type 0
+  abbrev pub Next : ℕ → Type 0
   Next m = (u : Common) → EnvFits u.cells xs env → (vs : List Value) → length vs ≡ count_of sh env (arity sh - m) → AllAre (There u.cells) vs → Goes g sh.form u (gathering m vs)
 
   counted_behind : (m : ℕ) → suc m ≤ arity sh → count_of sh env (arity sh - m) ≡ count_behind sh m (count_of sh env (arity sh - suc m))

@@ -1,14 +1,12 @@
 -- Statements: sound from a sound state on.
 use Rattle.std.proofs.Common.{arith, ◌≡◌, ◌≤◌, ◌<◌, ◌+◌, ◌-◌, refl, sym, ap, subst, ◌∙◌, ℕ, zero, suc, Bool, true, false, List, [], ◌∷◌, length, Option, Some, None}
-use Rattle.std.specs.Prelude.{slice_get, not, pos, ◌&&◌}
+use Rattle.std.specs.Prelude.{slice_get, ◌&&◌}
 use Rattle.std.specs.List.{AllByRecursion as AllAre}
 use Rattle.model_syntax.specs.declared.node.NodeForm.{NodeForm}
 use Rattle.model_syntax.specs.declared.node.NodeForm.TheVariants as form
-use Rattle.model_values.specs.Cells.{new_cell}
 use Rattle.model_values.specs.Fitting.{There, HasVariable, HasThrowable, IsIn, CellsFit}
 use Rattle.model_values.proofs.IndexGrowth.{all_index}
-use Rattle.model_values.specs.Later.{Grows, TurnGrows, Given}
-use Rattle.model_values.specs.Throws.{throw_value}
+use Rattle.model_values.specs.Later.{TurnGrows, Given}
 use Rattle.model_values.specs.Walks.{Turn as Element, Turns, Past, Stops, loop_turn}
 use Rattle.model_values.proofs.Growth.{new_variables, throw_values, loop_turns}
 use Rattle.model_values.proofs.LaterLaws.{throwable_later, variables_later}
@@ -20,26 +18,26 @@ use Rattle.model_values.specs.declared.throwable.Class.{Class}
 use Rattle.model_syntax.specs.declared.tree.Caught.{Caught}
 use Rattle.model_values.specs.declared.cell.Binding.{Binding}
 use Rattle.model_values.specs.declared.cell.Cell.TheVariants.{Variable, Text as TextCell, List as ListCell, Map as MapCell, Closure as ClosureCell, Thrown as ThrownCell}
-use Rattle.model_run.specs.declared.frame.Frame.{Frame}
 use Rattle.model_run.specs.declared.frame.FrameKind.{FrameKind}
 use Rattle.model_run.specs.declared.frame.FrameKind.TheVariants as kind
 use Rattle.model_run.specs.declared.ending.Ending.{Ending}
 use Rattle.model_run.specs.declared.ending.Ending.TheVariants.{Normal, Thrown, Returned, Broke, Continued, Declared, Answered}
-use Rattle.model_run.specs.declared.ending.Entry.TheVariants.{First, Inside, On}
-use Rattle.model_run.specs.State.{Setting, Common, World, State, Env, Result, Ended, with_world, through, changed, seeing, put_cells, operating, answered, tick, on_value, on_throw}
+use Rattle.model_run.specs.declared.ending.Entry.TheVariants.{First, Inside}
+use Rattle.model_run.specs.State.{Setting, Common, State, Env, Result, Ended, with_world, put_cells, on_value}
 use Rattle.model_run.specs.Around.{Around, Shape, form_at, arity, frame, under, ended, cells, limits, value_at, cell_number, whole, deciding}
 use Rattle.model_run.specs.Names.{new_variable, bind, declare}
 use Rattle.model_run.specs.Statements.{on_statement, statements, after_if_test, arm, arms, on_turn, after_test, while_test, while_turn, after_steps_first, steps_test, steps_next, steps_turn, each_next, each_from, each_body, each_element, each_turn, catching, catches, catch_if, catch_of, catch_among, catch_for, after_catch, after_try, finally_block, finally_behind, after_finally, has_finally, is_finally, return_from, returns, throws, declaration}
-use Rattle.model_run.specs.FrameTable.{frame_row, is_block, same_form, is_arm, is_catch, is_each, is_declaration, has_parts, current}
+use Rattle.model_run.specs.FrameTable.{frame_row, is_block, same_form, is_arm, is_catch, is_each, is_declaration, current}
 use Rattle.model_run.specs.Nesting.{ValuesFit}
 use Rattle.model_run.specs.Scoping.{frame_names, Names, names_within, names_behind, names_after, names_of}
 use Rattle.model_run.specs.Fitting.{EnvFits, closure_rule, Later}
 use Rattle.model_run.proofs.LaterLaws.{env_later}
 use Rattle.model_run.proofs.StatementLaws.{some_parts}
 use Rattle.model_run.proofs.Under.{both}
+use Rattle.model_run.proofs.Front.{front_itself}
 use Rattle.run_laws.specs.Soundness.{Shaped, may_declare, seen, Sits, declares_as, EndFits, At, Holds, Goes}
-use Rattle.run_laws.proofs.Flow.{end_then, later_self, there_then, at_self, holds_then, from_here, holds_as, end_as, moves_aside, Moves, at_moved, change_goes, tick_goes, decide_goes, GoesWith, end_goes, null_goes, value_goes, answer_goes, through_goes}
-use Rattle.run_laws.proofs.Sources.{has_inner, TurnFits, turn_names, behind_none, after_one_more, Place, Sources, sits_here, Quiet, quiet_part, quiet_names, quiet_after, no_declaration, part_goes, inner_goes}
+use Rattle.run_laws.proofs.Flow.{end_then, later_self, there_then, at_self, holds_then, from_here, holds_as, end_as, at_moved, tick_goes, decide_goes, null_goes, value_goes, answer_goes, through_goes}
+use Rattle.run_laws.proofs.Sources.{TurnFits, turn_names, behind_none, after_one_more, Place, Sources, sits_here, Quiet, quiet_part, quiet_names, quiet_after, no_declaration, part_goes, inner_goes}
 
 block_ends : (f : NodeForm) → is_block f ≡ true → is_declaration f ≡ false
 block_ends form.Script e = refl
@@ -158,18 +156,26 @@ module _ (g : Setting) where
       (throw_values (limits s.world) (closure_rule g.script) (cells s.world) v) ended (λ c t at' l is. absurd is)
 
 module _ (g : Setting) (shaped : Shaped g.script) (k : ℕ) (sh : Shape) (xs : Names) (place : Place g k sh xs) (a : Around) (src : Sources g shaped k sh xs place a) where
+  -- behind a statement, where the further ones go on
+  next_goes : is_block sh.form ≡ true → (m : ℕ) → suc m ≤ arity sh → (u : Common) (env : Env) → EnvFits u.cells (names_after sh.parts (arity sh - suc m) xs) env
+      → ((w : Common) (v : Value) → There w.cells v → (env : Env) → EnvFits w.cells (names_after sh.parts (arity sh - m) xs) env → Goes g sh.form w (statements a k (arity sh) m v env))
+      → (e : Ending) (s : State) → At g u s → EndFits (form_at sh.parts (arity sh - suc m)) s.world.shared e → Holds g sh.form u (on_statement env (statements a k (arity sh) m) e s)
+  next_goes at m le u env fit rest e t p h =
+      let next : names_behind (form_at sh.parts (arity sh - suc m)) (names_after sh.parts (arity sh - suc m) xs) ≡ names_after sh.parts (arity sh - m) xs =
+      (let one : suc (arity sh - suc m) ≡ arity sh - m = omega arith in sym (after_one_more sh.parts (arity sh - suc m) xs (omega arith)) ∙ ap (λ n. names_after sh.parts n xs) one) in
+      statement_goes g sh.form (form_at sh.parts (arity sh - suc m)) u (names_after sh.parts (arity sh - suc m) xs) env fit (statements a k (arity sh) m)
+      (λ v1 env1 t1 p1 there1 fit1. from_here g sh.form u (statements a k (arity sh) m v1 env1) t1 p1 (rest t1.world.shared v1 there1 env1 (subst (λ ys. EnvFits t1.world.shared.cells ys env1) next fit1))) e t p h
+
   -- statements in a row
   pub statements_goes : is_block sh.form ≡ true → (m : ℕ) → m ≤ arity sh → (u : Common) (v : Value) → There u.cells v → (env : Env) → EnvFits u.cells (names_after sh.parts (arity sh - m) xs) env → Goes g sh.form u (statements a k (arity sh) m v env)
   statements_goes at zero le u v there env fit s q = (q, (there_then u s.world.shared q.later v there, block_ends sh.form at))
   statements_goes at (suc m) le u v there env fit s q =
-      let i : ℕ = arity sh - suc m in
-      let next : names_behind (form_at sh.parts (arity sh - suc m)) (names_after sh.parts (arity sh - suc m) xs) ≡ names_after sh.parts (arity sh - m) xs =
-      (let one : suc (arity sh - suc m) ≡ arity sh - m = omega arith in sym (after_one_more sh.parts (arity sh - suc m) xs (omega arith)) ∙ ap (λ n. names_after sh.parts n xs) one) in
       through_goes g sh.form (form_at sh.parts (arity sh - suc m)) u (frame kind.Statement k m env []) (sits_here g shaped k sh xs place u kind.Statement m env [] at (omega arith) tt fit) (on_statement env (statements a k (arity sh) m))
-      (λ e t p h. statement_goes g sh.form (form_at sh.parts (arity sh - suc m)) u (names_after sh.parts (arity sh - suc m) xs) env fit (statements a k (arity sh) m)
-      (λ v1 env1 t1 p1 there1 fit1. from_here g sh.form u (statements a k (arity sh) m v1 env1) t1 p1 (statements_goes at m (omega arith) t1.world.shared v1 there1 env1 (subst (λ ys. EnvFits t1.world.shared.cells ys env1) next fit1))) e t p h)
-      (a.part First (arity sh - suc m) env s)
+      (next_goes at m le u env fit (statements_goes at m (omega arith))) (a.part First (arity sh - suc m) env s)
       (src.part u (arity sh - suc m) env (subst (λ ys. EnvFits u.cells ys env) (sym (block_within sh.form at (arity sh - suc m) (names_after sh.parts (arity sh - suc m) xs))) fit) s q)
+
+  pub statement_end_goes : is_block sh.form ≡ true → (m : ℕ) → suc m ≤ arity sh → (u : Common) (env : Env) → EnvFits u.cells (names_after sh.parts (arity sh - suc m) xs) env → (e : Ending) (s : State) → At g u s → EndFits (form_at sh.parts (arity sh - suc m)) s.world.shared e → Holds g sh.form u (on_statement env (statements a k (arity sh) m) e s)
+  statement_end_goes at m le u env fit = next_goes at m le u env fit (statements_goes at m (omega arith))
 
   -- a part under a frame, in a node that sees for it what it sees itself
   pub under_goes : (f : NodeForm) (u : Common) (d : FrameKind) (left : ℕ) (env : Env) (vs : List Value) → (go : Ending → State → Result) (i : ℕ) → Quiet g shaped k sh xs place → names_within sh.form i xs ≡ xs → EnvFits u.cells xs env
@@ -222,7 +228,7 @@ module _ (g : Setting) (shaped : Shaped g.script) (k : ℕ) (sh : Shape) (xs : N
     while_plain = ap is_declaration is
 
     pub while_again : (u : Common) (env : Env) → EnvFits u.cells xs env → Goes g sh.form u (a.again 0 [] env)
-    while_again u env fit = src.again u 0 [] env (subst (λ zs. EnvFits u.cells zs env) (sym (ap (λ f. turn_names f sh.parts xs) is)) fit) (subst (λ f. TurnFits f u []) (sym is) tt)
+    while_again u env fit = src.again u 0 [] env while_plain (subst (λ zs. EnvFits u.cells zs env) (sym (ap (λ f. turn_names f sh.parts xs) is)) fit) (subst (λ f. TurnFits f u []) (sym is) tt)
 
     pub while_after_test : (u : Common) (env : Env) → EnvFits u.cells xs env → (e : Ending) (s : State) → At g u s → EndFits form.Block s.world.shared e → Holds g sh.form u (after_test a env e s)
     while_after_test u env fit = value_goes g sh.form u _ (λ v t q there. decide_goes g sh.form u v _ _ (tick_goes g sh.form u _ (while_again u env fit)) (null_goes g sh.form u while_plain) t q)
@@ -264,7 +270,7 @@ module _ (g : Setting) (shaped : Shaped g.script) (k : ℕ) (sh : Shape) (xs : N
     steps_under u d i env sits fit go k' s at = through_goes g sh.form form.Block u (frame d k 0 env []) sits go k' (a.part First (suc i) env s) (steps_part u i env fit s at)
 
     steps_again : (u : Common) (env : Env) → EnvFits u.cells (names_after sh.parts 1 xs) env → Goes g sh.form u (a.again 0 [] env)
-    steps_again u env fit = src.again u 0 [] env (subst (λ zs. EnvFits u.cells zs env) (sym (ap (λ f. turn_names f sh.parts xs) is)) fit) (subst (λ f. TurnFits f u []) (sym is) tt)
+    steps_again u env fit = src.again u 0 [] env steps_plain (subst (λ zs. EnvFits u.cells zs env) (sym (ap (λ f. turn_names f sh.parts xs) is)) fit) (subst (λ f. TurnFits f u []) (sym is) tt)
 
     steps_sits : (u : Common) (d : FrameKind) (env : Env) → (frame_row d sh 0 env).stands ≡ true → 0 < (frame_row d sh 0 env).limit → ValuesFit (seen u) (frame_row d sh 0 env).further (frame_row d sh 0 env).values [] → EnvFits u.cells (frame_names d sh 0 xs) env → Sits g.script u (frame d k 0 env [])
     steps_sits u d env stands low values fit = sits_here g shaped k sh xs place u d 0 env [] stands low values fit
@@ -305,7 +311,7 @@ module _ (g : Setting) (shaped : Shaped g.script) (k : ℕ) (sh : Shape) (xs : N
     each_plain = ap is_declaration is
 
     each_again : (u : Common) (i : ℕ) (on : Value) (env : Env) → EnvFits u.cells xs env → There u.cells on → Goes g sh.form u (a.again i (on ∷ []) env)
-    each_again u i on env fit there = src.again u i (on ∷ []) env (subst (λ zs. EnvFits u.cells zs env) (sym (ap (λ f. turn_names f sh.parts xs) is)) fit) (subst (λ f. TurnFits f u (on ∷ [])) (sym is) there)
+    each_again u i on env fit there = src.again u i (on ∷ []) env each_plain (subst (λ zs. EnvFits u.cells zs env) (sym (ap (λ f. turn_names f sh.parts xs) is)) fit) (subst (λ f. TurnFits f u (on ∷ [])) (sym is) there)
 
     each_next_goes : (u : Common) (env : Env) (on : Value) (i : ℕ) → EnvFits u.cells xs env → There u.cells on → (t : Element) → Goes g sh.form u (each_next a env on i t)
     each_next_goes u env on i fit there Past = null_goes g sh.form u each_plain
@@ -340,7 +346,7 @@ module _ (g : Setting) (shaped : Shaped g.script) (k : ℕ) (sh : Shape) (xs : N
     each_element_goes u env on i fit there (Stops limit) s at grown = tt
     each_element_goes u env on i fit there (Turns h args element) s at grown =
         let fits : CellsFit (closure_rule g.script) h × (AllAre (There h) args × AllAre (There h) element) = grown.fits ((at.sound).cells, (there_then u s.world.shared at.later on there, tt)) in
-        let l1 : Later s.world.shared (put_cells h s.world).shared = record { cells = grown.later; nodes = omega arith } in
+        let l1 : Later s.world.shared (put_cells h s.world).shared = record { cells = grown.later; nodes = front_itself s.world.shared.nodes } in
         let at1 : At g u (with_world (put_cells h s.world) s) = at_moved g u (put_cells h) s at (record { later = l1; cells = fits.0; binding = variables_later (cells s.world) h grown.later s.world.shared.binding (at.sound).binding; head = (at.sound).head }) in
         from_here g sh.form u (each_body a k x env on i (value_at 0 args)) (with_world (put_cells h s.world) s) at1
         (each_body_goes (put_cells h s.world).shared env on i (value_at 0 args) (env_later u (put_cells h s.world).shared at1.later xs env fit) (there_then u (put_cells h s.world).shared at1.later on there) (all_index (There h) args 0 Null (fits.1).0 tt))

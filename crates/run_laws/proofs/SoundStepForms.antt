@@ -1,64 +1,54 @@
 -- Each step, and how it goes on: sound from a sound state on.
-use Rattle.std.proofs.Common.{arith, ◌≡◌, ◌≤◌, ◌<◌, ◌+◌, ◌-◌, refl, sym, ap, subst, ◌∙◌, ℕ, zero, suc, Bool, true, false, List, [], ◌∷◌, ◌++◌, length, length-append, Option, Some, None}
-use Rattle.std.specs.Prelude.{slice_get, codes, ℤ, pos, map, unwrap_or, if◌then◌else◌, option_map, option_and_then}
-use Rattle.std.specs.List.{AllByRecursion as AllAre}
-use Rattle.std.specs.Fmt.{decimal}
+use Rattle.std.proofs.Common.{arith, ◌≡◌, ◌<◌, ◌+◌, refl, sym, ap, subst, ℕ, Bool, true, false, List, [], ◌∷◌, ◌++◌, length, Option, Some, None}
+use Rattle.std.specs.Prelude.{codes, ℤ, pos, if◌then◌else◌}
 use Rattle.std.specs.Ordering.{int_eq}
 use Rattle.std.specs.Str.Lossy.{utf8_lossy}
-use Rattle.indexmap.specs.IndexMap.{insert_all}
 use Rattle.model_syntax.specs.declared.node.NodeForm.{NodeForm}
 use Rattle.model_syntax.specs.declared.node.NodeForm.TheVariants as form
-use Rattle.model_values.specs.Cells.{Answer, Gives, new_map, new_text}
-use Rattle.model_values.specs.Keys.{same_key}
-use Rattle.model_values.specs.Kinds.{Kind, kind, pairs}
+use Rattle.model_values.specs.Cells.{new_text}
+use Rattle.model_values.specs.Kinds.{kind}
 use Rattle.model_values.specs.Methods.{text_value}
-use Rattle.model_values.specs.Fitting.{There, HasText, HasMap, HasClosure, HasThrowable, IsIn, IsNullOrIn, CellFits, CellsFit}
-use Rattle.model_values.specs.Later.{AnswerGrows, Given as GivenValues}
-use Rattle.model_values.proofs.Growth.{new_texts, text_values}
-use Rattle.model_values.proofs.CellGrowth.{Before, gives, wider, all_append, all_get, new_map_grows, map_is_there, map_there, text_or_null, text_there, cell_there}
-use Rattle.model_values.proofs.OperatorGrowth.{all_inserts}
+use Rattle.model_values.specs.Fitting.{There, HasText, HasClosure, IsIn, IsNullOrIn, CellsFit}
+use Rattle.model_values.specs.Later.{AnswerGrows}
+use Rattle.model_values.proofs.Growth.{new_texts}
+use Rattle.model_values.proofs.CellGrowth.{Before, gives, wider, text_or_null, text_there, cell_there}
 use Rattle.model_values.proofs.MethodGrowth.{text_value_is_text}
-use Rattle.model_values.proofs.LaterLaws.{throwable_later, variables_later}
 use Rattle.model_values.specs.declared.value.Value.{Value}
-use Rattle.model_values.specs.declared.value.Value.TheVariants.{Null, Bool as Truth, Int as Whole, Cell as InCell}
+use Rattle.model_values.specs.declared.value.Value.TheVariants.{Null, Bool as Truth, Cell as InCell}
 use Rattle.model_values.specs.declared.cell.Cell.{Cell}
 use Rattle.model_run.specs.declared.callee.Callee.{Callee}
-use Rattle.model_run.specs.declared.step.Step.{Step}
 use Rattle.model_text.specs.declared.pair.Pair.{Pair}
 use Rattle.model_run.specs.declared.step.Step.TheVariants as step
 use Rattle.model_run.specs.declared.frame.Frame.{Frame}
 use Rattle.model_run.specs.declared.frame.FrameKind.{FrameKind}
 use Rattle.model_run.specs.declared.frame.FrameKind.TheVariants as kind
 use Rattle.model_run.specs.declared.ending.Ending.{Ending}
-use Rattle.model_run.specs.declared.ending.Ending.TheVariants.{Normal, Thrown, Returned, Broke, Continued, Declared, Answered}
 use Rattle.model_run.specs.declared.ending.Asked.TheVariants.{ForRequest}
 use Rattle.model_run.specs.declared.request.Request.{Request}
 use Rattle.model_run.specs.declared.held.Held.{Held}
 use Rattle.model_run.specs.declared.site.Executor.{Executor}
-use Rattle.model_run.specs.State.{Setting, Common, World, State, Env, Result, Ended, with_world, through, unless_limit, changed, seeing, operating, awaiting}
+use Rattle.model_run.specs.State.{Setting, Common, World, State, Env, Result, Ended, with_world, unless_limit, changed, seeing, operating}
 use Rattle.model_run.specs.Around.{Around, Shape, frame, ended, cells, limits, whole}
 use Rattle.model_run.specs.Callables.{closure_of, calling}
-use Rattle.model_run.specs.FlowNodes.{with_line, line_limit, next_node, block, end_body, end_block, logging, body_limit, noted_body}
-use Rattle.model_run.specs.Results.{rank}
+use Rattle.model_run.specs.FlowNodes.{with_line, line_limit, next_node, block, end_block, noted_body}
 use Rattle.model_run.specs.Grants.{executor_of}
 use Rattle.model_run.specs.declared.wait.Answer.{Answer as Reply_answer}
 use Rattle.model_run.specs.declared.wait.Answer.TheVariants.{Begin, Granted as GrantedAnswer, Done, Decided as DecidedAnswer, Joined}
 use Rattle.model_values.specs.declared.limit.LimitKind.{LimitKind}
 use Rattle.model_values.specs.declared.throwable.Class.TheVariants.{Abort, FlowInterrupted, MissingContextVariable}
-use Rattle.model_run.specs.StepTable.{Given, given}
-use Rattle.model_run.specs.Steps.{held_by, Place as StepPlace, dir_in, dir_body, after_dir_body, folder_of, with_folder, without_folder, no_node, task_of, sh_in, sh_output, sh_ended, sh_done, after_sh, exit_message, throwing, input_decided, input_asks, after_input, released, last_number, left_node, node_body, after_node_body, node_runs, node_held, node_granted, after_node_wait, running_line, workspace_of, entered_node, run_body, text_or_empty, with_request, waiting_for, stage_body, after_body, catch_error_body, after_catch_error, kept_text, named_result, retry_body, after_retry, further_tries, tries_given, with_overrides, without_overrides, overrides_of, with_env_body, after_with_env, starts}
-use Rattle.model_run.specs.FrameTable.{No_more, Sort, Any, Flow_node, A_closure, Text_or_null, is_declaration, frame_row, calls_step}
+use Rattle.model_run.specs.Steps.{held_by, Place as StepPlace, dir_in, dir_body, after_dir_body, folder_of, with_folder, without_folder, no_node, task_of, sh_in, sh_output, sh_ended, sh_done, after_sh, exit_message, throwing, input_decided, input_asks, after_input, released, last_number, left_node, node_body, after_node_body, node_runs, node_held, node_granted, after_node_wait, running_line, workspace_of, entered_node, run_body, with_request, waiting_for, stage_body, after_body, catch_error_body, after_catch_error, kept_text, retry_body, after_retry, with_overrides, without_overrides, with_env_body, after_with_env, starts}
+use Rattle.model_run.specs.FrameTable.{No_more, Flow_node, A_closure, Text_or_null, is_declaration, frame_row, calls_step}
 use Rattle.model_run.specs.Nesting.{ValuesFit}
 use Rattle.model_run.specs.Scoping.{Names, frame_names}
-use Rattle.model_run.specs.Fitting.{EnvFits, closure_rule, IsFlowNode, Later}
+use Rattle.model_run.specs.Fitting.{EnvFits, closure_rule, Later}
 use Rattle.model_run.proofs.LaterLaws.{env_later}
 use Rattle.run_laws.specs.Soundness.{Shaped, seen, Sits, EndFits, Sound, At, Holds, Goes}
-use Rattle.run_laws.proofs.Binding.{GivenThere, BodyThere, ThereIf, given_there}
-use Rattle.run_laws.proofs.Flow.{end_goes, null_goes, change_goes, later_self, later_then, there_then, node_then, seen_then, at_self, holds_then, from_here, Moves, moves_aside, at_moved, answer_goes, wait_goes}
+use Rattle.run_laws.proofs.Binding.{ThereIf}
+use Rattle.run_laws.proofs.Flow.{end_goes, null_goes, change_goes, later_then, there_then, node_then, seen_then, holds_then, from_here, Moves, moves_aside, at_moved, answer_goes, wait_goes}
 use Rattle.run_laws.proofs.Sources.{CalleeFits, Place, Sources, sits_here}
-use Rattle.run_laws.proofs.SoundAssignments.{before_of, operate_goes}
+use Rattle.run_laws.proofs.SoundAssignments.{operate_goes}
 use Rattle.run_laws.proofs.SoundCalls.{CalleeThere, closure_fits, calling_goes}
-use Rattle.run_laws.proofs.SoundSteps.{throwing_goes, more_nodes, ending_goes, end_body_goes, end_block_goes, block_goes, logging_goes, aside_goes, body_end_goes, body_end_changed, catch_error_end, retry_with, after_retry_goes, starts_seen, fit_noted, body_goes}
+use Rattle.run_laws.proofs.SoundSteps.{throwing_goes, more_nodes, ending_goes, end_body_goes, end_block_goes, block_goes, logging_goes, body_end_goes, body_end_changed, catch_error_end, retry_with, after_retry_goes, starts_seen, fit_noted, body_goes}
 
 -- a closure's cell is there
 pub closure_there : (h : List Cell) (v : Value) → IsIn HasClosure h v → There h v
@@ -119,7 +109,7 @@ module _ (g : Setting) (shaped : Shaped g.script) (k : ℕ) (sh : Shape) (xs : N
   closure_body : (d : FrameKind) → (frame_row d sh 0 env).stands ≡ true → (u : Common) (f : Value) (s : State) → At g u s → (go : Callee → State → Result) → ((c : Callee) → CalleeFits g.script s.world.shared c.node c.env → Holds g sh.form u (go c s)) → Holds g sh.form u (calling (closure_of s.world f) (ended Null) go s)
   closure_body d stands u f s at go k' = calling_goes g sh.form plain u (closure_of s.world f) s at (closure_fits g s.world f at.sound) go (λ c e callee. k' c callee)
 
-  pub stage_goes : calls_step step.Stage sh.form ≡ true → (u : Common) → EnvFits u.cells xs env → (name : List ℕ) (f : Value) → Goes g sh.form u (block (codes "stage") (seeing (λ w. calling (closure_of w f) (ended Null) (stage_body a k env name w))))
+  pub stage_goes : calls_step step.Stage sh.form env ≡ true → (u : Common) → EnvFits u.cells xs env → (name : List ℕ) (f : Value) → Goes g sh.form u (block (codes "stage") (seeing (λ w. calling (closure_of w f) (ended Null) (stage_body a k env name w))))
   stage_goes cs u fit name f = block_goes g sh.form u (codes "stage") _ (λ s at. closure_body kind.StageBody cs u f s at (stage_body a k env name s.world) (λ c callee.
       body_goes g shaped k sh xs place a src plain env kind.StageBody cs (omega arith) [] name u fit (after_body (codes "stage") s.world.own.head (next_node s.world)) s.world c s at refl refl callee
       (let x = starts_seen g shaped k sh xs place a src plain env name s.world at.sound in (x.0, (x.1, tt))) (fit_noted g shaped k sh xs place a src plain env u fit name s at)
@@ -129,7 +119,7 @@ module _ (g : Setting) (shaped : Shaped g.script) (k : ℕ) (sh : Shape) (xs : N
   if_then u v l None h = tt
   if_then u v l (Some x) h = there_then u v l x h
 
-  pub catch_error_goes : calls_step step.CatchError sh.form ≡ true → (u : Common) → EnvFits u.cells xs env → (o : Option Value) → ThereIf u.cells o → (r : ℕ) (f : Value)
+  pub catch_error_goes : calls_step step.CatchError sh.form env ≡ true → (u : Common) → EnvFits u.cells xs env → (o : Option Value) → ThereIf u.cells o → (r : ℕ) (f : Value)
       → Goes g sh.form u (operating (λ w. kept_text w o) (λ message. block (codes "catchError") (seeing (λ w. calling (closure_of w f) (ended Null) (catch_error_body a k env r message w)))))
   catch_error_goes cs u fit o there r f s at =
       answer_goes g sh.form u (limits s.world) (IsNullOrIn HasText) (kept_text s.world o) s at (CellsFit (closure_rule g.script) (cells s.world) × ThereIf (cells s.world) o) ((at.sound).cells, if_then u s.world.shared at.later o there) (kept_grows g s.world o)
@@ -144,12 +134,12 @@ module _ (g : Setting) (shaped : Shaped g.script) (k : ℕ) (sh : Shape) (xs : N
       noted_later : (u : Common) (s : State) → At g u s → Later u (noted_body [] s.world).shared
       noted_later u s at = later_then u s.world.shared (noted_body [] s.world).shared at.later (more_nodes s.world.shared (noted_body [] s.world).shared _ refl refl)
 
-  pub retry_goes : calls_step step.Retry sh.form ≡ true → (u : Common) → EnvFits u.cells xs env → (m : ℕ) (f : Value) → There u.cells f → Goes g sh.form u (block (codes "retry") (seeing (λ w. retry_body (after_retry a k env w.own.head f m) a k env w.own.head m f)))
+  pub retry_goes : calls_step step.Retry sh.form env ≡ true → (u : Common) → EnvFits u.cells xs env → (m : ℕ) (f : Value) → There u.cells f → Goes g sh.form u (block (codes "retry") (seeing (λ w. retry_body (after_retry a k env w.own.head f m) a k env w.own.head m f)))
   retry_goes cs u fit m f tf = block_goes g sh.form u (codes "retry") _ (λ s at. from_here g sh.form u (retry_body (after_retry a k env s.world.own.head f m) a k env s.world.own.head m f) s at
       (retry_with g shaped k sh xs place a src plain env cs m (after_retry a k env s.world.own.head f m) s.world.own.head s.world.shared (env_later u s.world.shared at.later xs env fit) (at.sound).head f (there_then u s.world.shared at.later f tf)
       (λ v l b e t q h. after_retry_goes g shaped k sh xs place a src plain env cs m s.world.own.head v (env_later s.world.shared v l xs env (env_later u s.world.shared at.later xs env fit)) (node_then s.world.shared v l s.world.own.head (at.sound).head) f (there_then s.world.shared v l f (there_then u s.world.shared at.later f tf)) b e t q h)))
 
-  pub with_env_goes : calls_step step.WithEnv sh.form ≡ true → (u : Common) → EnvFits u.cells xs env → (ps : List Pair) (f : Value) → Goes g sh.form u (block (codes "withEnv") (seeing (λ w. changed (with_overrides ps) (calling (closure_of w f) (ended Null) (with_env_body a k env (length ps) w)))))
+  pub with_env_goes : calls_step step.WithEnv sh.form env ≡ true → (u : Common) → EnvFits u.cells xs env → (ps : List Pair) (f : Value) → Goes g sh.form u (block (codes "withEnv") (seeing (λ w. changed (with_overrides ps) (calling (closure_of w f) (ended Null) (with_env_body a k env (length ps) w)))))
   with_env_goes cs u fit ps f = block_goes g sh.form u (codes "withEnv") _ (λ s at.
       let at1 : At g u (with_world (with_overrides ps s.world) s) = at_moved g u (with_overrides ps) s at (moves_aside g (with_overrides ps) s.world at.sound refl refl refl refl) in
       let s1 : State = with_world (with_overrides ps s.world) s in
@@ -159,7 +149,7 @@ module _ (g : Setting) (shaped : Shaped g.script) (k : ℕ) (sh : Shape) (xs : N
       (λ v l e1 t q h. body_end_changed g sh.form plain v (codes "withEnv") s.world.own.head (next_node s.world) (without_overrides (length ps)) (λ w. refl) (λ w. refl) (λ w. refl) (λ w. refl) e1 t q h)))
 
   -- `node`
-  pub node_goes : calls_step step.Node sh.form ≡ true → (u : Common) → EnvFits u.cells xs env → (r : Request) (f : Value) → IsIn HasClosure u.cells f → Goes g sh.form u (block (codes "node") (seeing (λ w. waiting_for r (frame kind.NodeWait k 0 env (f ∷ [])) (after_node_wait a k env f) w)))
+  pub node_goes : calls_step step.Node sh.form env ≡ true → (u : Common) → EnvFits u.cells xs env → (r : Request) (f : Value) → IsIn HasClosure u.cells f → Goes g sh.form u (block (codes "node") (seeing (λ w. waiting_for r (frame kind.NodeWait k 0 env (f ∷ [])) (after_node_wait a k env f) w)))
   node_goes cs u fit r f is = block_goes g sh.form u (codes "node") _ (λ s at. waiting_goes u r (frame kind.NodeWait k 0 env (f ∷ [])) (after_node_wait a k env f) s at
       (sits_here g shaped k sh xs place s.world.shared kind.NodeWait 0 env (f ∷ []) cs (omega arith) (seen_then u s.world.shared at.later A_closure f (closure_sort u f is), tt) (env_later u s.world.shared at.later xs env fit)))
 
@@ -179,7 +169,7 @@ module _ (g : Setting) (shaped : Shaped g.script) (k : ℕ) (sh : Shape) (xs : N
       (subst (λ vs. ValuesFit (seen (noted_body [] s.world).shared) No_more vs (starts s.world ++ [])) (sym values) (let x = starts_seen g shaped k sh xs place a src plain env [] s.world at.sound in (x.0, (x.1, tt)))))
       (subst (λ ys. EnvFits (noted_body [] s.world).shared.cells ys env) (sym names) (fit_noted g shaped k sh xs place a src plain env u fit [] s at)) ok
 
-  node_body_at : calls_step step.Node sh.form ≡ true → (w : World) (u : Common) → EnvFits u.cells xs env → (o : Option Callee) (s : State) → At g u s → Beside w s.world → CalleeThere g.script s.world.shared o → Holds g sh.form u (calling o (ended Null) (node_body a k env w) s)
+  node_body_at : calls_step step.Node sh.form env ≡ true → (w : World) (u : Common) → EnvFits u.cells xs env → (o : Option Callee) (s : State) → At g u s → Beside w s.world → CalleeThere g.script s.world.shared o → Holds g sh.form u (calling o (ended Null) (node_body a k env w) s)
   node_body_at cs w u fit o s at beside there = calling_goes g sh.form plain u o s at there (node_body a k env w) (λ c e callee.
       beside_body kind.NodeBody cs (omega arith) refl refl refl w u fit (after_node_body w.own.head (next_node w)) c s at beside callee
       (λ v l e1 t q h. node_end_goes v w.own.head (next_node w) e1 t q h))
@@ -188,7 +178,7 @@ module _ (g : Setting) (shaped : Shaped g.script) (k : ℕ) (sh : Shape) (xs : N
       node_end_goes v start body e t q h = from_here g sh.form v (after_node_body start body e) t q (end_body_goes g sh.form t.world.shared body (changed left_node (end_block (codes "node") start (Ended e)))
           (change_goes g sh.form t.world.shared left_node (left_moves g) (end_block (codes "node") start (Ended e)) (end_block_goes g sh.form t.world.shared (codes "node") start (Ended e) (ending_goes g sh.form plain t.world.shared e h))))
 
-  node_runs_goes : calls_step step.Node sh.form ≡ true → (u : Common) → EnvFits u.cells xs env → (f : Value) (h : Held) (s : State) → At g u s → (o : Option Executor) → Holds g sh.form u (node_runs a k env f s.world h o s)
+  node_runs_goes : calls_step step.Node sh.form env ≡ true → (u : Common) → EnvFits u.cells xs env → (f : Value) (h : Held) (s : State) → At g u s → (o : Option Executor) → Holds g sh.form u (node_runs a k env f s.world h o s)
   node_runs_goes cs u fit f h s at None = null_goes g sh.form u plain s at
   node_runs_goes cs u fit f h s at (Some x) =
       let at1 : At g u (with_world (with_line (running_line x (workspace_of s.world h x)) s.world) s) = at_moved g u (with_line (running_line x (workspace_of s.world h x))) s at (moves_aside g (with_line (running_line x (workspace_of s.world h x))) s.world at.sound refl refl refl refl) in
@@ -202,12 +192,12 @@ module _ (g : Setting) (shaped : Shaped g.script) (k : ℕ) (sh : Shape) (xs : N
       callee_same None t = tt
       callee_same (Some c) t = record { below = t.below; callable = t.callable; variables = t.variables }
 
-  node_held_goes : calls_step step.Node sh.form ≡ true → (u : Common) → EnvFits u.cells xs env → (f : Value) (s : State) → At g u s → (o : Option Held) → Holds g sh.form u (node_held a k env f s.world o s)
+  node_held_goes : calls_step step.Node sh.form env ≡ true → (u : Common) → EnvFits u.cells xs env → (f : Value) (s : State) → At g u s → (o : Option Held) → Holds g sh.form u (node_held a k env f s.world o s)
   node_held_goes cs u fit f s at None = null_goes g sh.form u plain s at
   node_held_goes cs u fit f s at (Some h) = node_runs_goes cs u fit f h s at (executor_of s.world.setting.site h.executor)
 
   -- behind the wait for an executor
-  pub node_granted_goes : calls_step step.Node sh.form ≡ true → (u : Common) → EnvFits u.cells xs env → (f : Value) (x : Reply_answer) → Goes g sh.form u (node_granted a k env f x)
+  pub node_granted_goes : calls_step step.Node sh.form env ≡ true → (u : Common) → EnvFits u.cells xs env → (f : Value) (x : Reply_answer) → Goes g sh.form u (node_granted a k env f x)
   node_granted_goes cs u fit f (GrantedAnswer x) s at = node_held_goes cs u fit f s at (held_by x s.world.shared.held)
   node_granted_goes cs u fit f Begin s at = null_goes g sh.form u plain s at
   node_granted_goes cs u fit f (Done code out) s at = null_goes g sh.form u plain s at
@@ -223,7 +213,7 @@ module _ (g : Setting) (shaped : Shaped g.script) (k : ℕ) (sh : Shape) (xs : N
   no_node_goes : (u : Common) → Goes g sh.form u no_node
   no_node_goes u = throwing_goes g sh.form u MissingContextVariable (codes "Required context class hudson.FilePath is missing")
 
-  pub dir_in_goes : calls_step step.Dir sh.form ≡ true → (u : Common) → EnvFits u.cells xs env → (path : List ℕ) (f : Value) (s : State) → At g u s → (o : Option StepPlace) → Holds g sh.form u (dir_in a k env path f s.world o s)
+  pub dir_in_goes : calls_step step.Dir sh.form env ≡ true → (u : Common) → EnvFits u.cells xs env → (path : List ℕ) (f : Value) (s : State) → At g u s → (o : Option StepPlace) → Holds g sh.form u (dir_in a k env path f s.world o s)
   dir_in_goes cs u fit path f s at None = end_block_goes g sh.form u (codes "dir") s.world.own.head no_node (no_node_goes u) s at
   dir_in_goes cs u fit path f s at (Some p) =
       let at2 : At g u (with_world (with_folder (folder_of p.folder path) (with_line (codes "Running in " ++ folder_of p.folder path) s.world)) s) = at_moved g u (λ w. with_folder (folder_of p.folder path) (with_line (codes "Running in " ++ folder_of p.folder path) w)) s at
@@ -238,7 +228,7 @@ module _ (g : Setting) (shaped : Shaped g.script) (k : ℕ) (sh : Shape) (xs : N
       callee_same (Some c) t = record { below = t.below; callable = t.callable; variables = t.variables }
 
   -- `sh`
-  pub sh_in_goes : calls_step step.Sh sh.form ≡ true → (u : Common) → EnvFits u.cells xs env → (script : List ℕ) (status keep : Bool) (s : State) → At g u s → (o : Option StepPlace) → Holds g sh.form u (sh_in k env script status keep s.world o s)
+  pub sh_in_goes : calls_step step.Sh sh.form env ≡ true → (u : Common) → EnvFits u.cells xs env → (script : List ℕ) (status keep : Bool) (s : State) → At g u s → (o : Option StepPlace) → Holds g sh.form u (sh_in k env script status keep s.world o s)
   sh_in_goes cs u fit script status keep s at None = no_node_goes u s at
   sh_in_goes cs u fit script status keep s at (Some p) = waiting_goes u (task_of s.world p script status keep) (frame kind.ShWait k 0 env (Truth status ∷ Truth keep ∷ [])) (after_sh (Truth status) (Truth keep)) s at
       (sits_here g shaped k sh xs place s.world.shared kind.ShWait 0 env (Truth status ∷ Truth keep ∷ []) cs (omega arith) (tt, (tt, tt)) (env_later u s.world.shared at.later xs env fit))
@@ -272,6 +262,6 @@ module _ (g : Setting) (shaped : Shaped g.script) (k : ℕ) (sh : Shape) (xs : N
   input_decided_goes u (Done code out) = null_goes g sh.form u plain
   input_decided_goes u (Joined ends) = null_goes g sh.form u plain
 
-  pub input_asks_goes : calls_step step.Input sh.form ≡ true → (u : Common) → EnvFits u.cells xs env → (id : Option (List ℕ)) (s : State) → At g u s → Holds g sh.form u (input_asks k env id s.world s)
+  pub input_asks_goes : calls_step step.Input sh.form env ≡ true → (u : Common) → EnvFits u.cells xs env → (id : Option (List ℕ)) (s : State) → At g u s → Holds g sh.form u (input_asks k env id s.world s)
   input_asks_goes cs u fit id s at = waiting_goes u _ (frame kind.InputWait k 0 env []) after_input s at
       (sits_here g shaped k sh xs place s.world.shared kind.InputWait 0 env [] cs (omega arith) tt (env_later u s.world.shared at.later xs env fit))

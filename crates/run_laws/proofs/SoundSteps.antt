@@ -1,33 +1,18 @@
 -- Steps: sound from a sound state on.
-use Rattle.std.proofs.Common.{arith, ◌≡◌, ◌≤◌, ◌<◌, ◌+◌, ◌-◌, refl, sym, ap, subst, ◌∙◌, ℕ, zero, suc, Bool, true, false, List, [], ◌∷◌, ◌++◌, length, length-append, Option, Some, None}
-use Rattle.std.specs.Prelude.{slice_get, nat_eq, codes, ℤ, pos, map, if◌then◌else◌}
-use Rattle.std.specs.List.{AllByRecursion as AllAre}
-use Rattle.std.specs.Fmt.{decimal}
-use Rattle.std.specs.Ordering.{int_eq}
-use Rattle.std.specs.Str.Lossy.{utf8_lossy}
-use Rattle.indexmap.specs.IndexMap.{insert_all}
+use Rattle.std.proofs.Common.{arith, ◌≡◌, ◌<◌, ◌+◌, refl, sym, ap, subst, ◌∙◌, ℕ, zero, suc, Bool, true, false, List, [], ◌∷◌, ◌++◌, length, length-append, Option}
+use Rattle.std.specs.Prelude.{slice_get, codes}
 use Rattle.model_syntax.specs.declared.node.NodeForm.{NodeForm}
 use Rattle.model_syntax.specs.declared.node.NodeForm.TheVariants as form
-use Rattle.model_values.specs.Cells.{Answer, Gives, new_map, new_text, throw}
-use Rattle.model_values.specs.Keys.{same_key}
-use Rattle.model_values.specs.Kinds.{Kind, kind}
-use Rattle.model_values.specs.Methods.{text_value}
-use Rattle.model_values.specs.TextOf.{key_text}
-use Rattle.model_values.specs.Fitting.{There, HasText, HasMap, HasClosure, HasThrowable, IsIn, IsNullOrIn, CellFits, CellsFit}
+use Rattle.model_values.specs.Cells.{throw}
+use Rattle.model_values.specs.Kinds.{kind}
+use Rattle.model_values.specs.Fitting.{There, HasThrowable}
 use Rattle.model_values.specs.Later.{AnswerGrows, Given as GivenValues}
-use Rattle.model_values.proofs.Growth.{throws, new_texts, text_values}
-use Rattle.model_values.proofs.CellGrowth.{Before, gives, wider, all_append, all_get, new_map_grows, map_is_there, text_or_null, text_there, throw_grows}
-use Rattle.model_values.proofs.OperatorGrowth.{all_inserts}
-use Rattle.model_values.proofs.LaterLaws.{later_itself, throwable_later, variables_later}
+use Rattle.model_values.proofs.Growth.{throws}
+use Rattle.model_values.proofs.LaterLaws.{later_itself}
 use Rattle.model_values.specs.declared.value.Value.{Value}
-use Rattle.model_values.specs.declared.value.Value.TheVariants.{Null, Bool as Truth, Int as Whole, Cell as InCell}
-use Rattle.model_values.specs.declared.value.Outcome.{Outcome}
-use Rattle.model_values.specs.declared.value.Outcome.TheVariants.{Value as ValueOutcome, Thrown as ThrownOutcome}
-use Rattle.model_values.specs.declared.key.Key.{Key}
-use Rattle.model_values.specs.declared.key.Key.TheVariants.{Text as TextKey}
+use Rattle.model_values.specs.declared.value.Value.TheVariants.{Null}
 use Rattle.model_values.specs.declared.cell.Cell.{Cell}
 use Rattle.model_values.specs.declared.throwable.Class.{Class}
-use Rattle.model_values.specs.declared.throwable.Class.TheVariants.{Abort, FlowInterrupted}
 use Rattle.model_run.specs.declared.callee.Callee.{Callee}
 use Rattle.model_run.specs.declared.flow.NodeKind.{NodeKind}
 use Rattle.model_run.specs.declared.flow.NodeKind.TheVariants.{Atom, Block, EndBody, EndBlock}
@@ -35,26 +20,22 @@ use Rattle.model_run.specs.declared.flow.FlowNode.{FlowNode}
 use Rattle.model_run.specs.declared.frame.Frame.{Frame}
 use Rattle.model_run.specs.declared.frame.FrameKind.{FrameKind}
 use Rattle.model_run.specs.declared.frame.FrameKind.TheVariants as kind
-use Rattle.model_run.specs.declared.ending.Branch.{Branch}
-use Rattle.model_run.specs.declared.ending.Asked.TheVariants.{ForRequest, ForBranches}
 use Rattle.model_run.specs.declared.ending.Ending.{Ending}
 use Rattle.model_run.specs.declared.ending.Ending.TheVariants.{Normal, Thrown, Returned, Broke, Continued, Declared, Answered}
-use Rattle.model_run.specs.declared.request.Request.{Request}
-use Rattle.model_run.specs.State.{Setting, Common, World, State, Env, Result, Ended, with_world, through, changed, seeing, guarded, put_cells, operating, on_throw, awaiting}
-use Rattle.model_run.specs.Around.{Around, Shape, arity, frame, ended, cells, limits, whole}
-use Rattle.model_run.specs.Callables.{closure_of, calling}
-use Rattle.model_run.specs.FlowNodes.{next_node, with_line, line_limit, logging, noted, noted_limit, noting, atom, block, noted_body, body_limit, end_body, end_block, end_branches, noted_branch, branch_label, body_line, branch_body, branch_name, pipeline}
-use Rattle.model_run.specs.Steps.{throwing, worsened, logging_all, with_request, waiting_for, run_body, starts, after_body, caught, after_catch_error, catch_end, message_lines, caught_lines, result_at, kept_text, retry_end, retry_next, retry_body, after_retry, is_interruption}
-use Rattle.model_run.specs.FrameTable.{Sort, Any, Flow_node, A_closure, Text_or_null, is_declaration, frame_row, starts_block}
+use Rattle.model_run.specs.State.{Setting, Common, World, State, Env, Result, Ended, with_world, changed, seeing, on_throw}
+use Rattle.model_run.specs.Around.{Around, Shape, frame, ended, cells, limits, whole}
+use Rattle.model_run.specs.Callables.{closure_of}
+use Rattle.model_run.specs.FlowNodes.{next_node, with_line, line_limit, logging, noted, noted_limit, noting, atom, block, noted_body, body_limit, end_body, end_block, end_branches, noted_branch, body_line, pipeline}
+use Rattle.model_run.specs.Steps.{throwing, worsened, logging_all, run_body, starts, after_body, caught, after_catch_error, catch_end, message_lines, caught_lines, result_at, retry_end, retry_next, retry_body, after_retry, is_interruption}
+use Rattle.model_run.specs.FrameTable.{Flow_node, is_declaration, frame_row}
 use Rattle.model_run.specs.Nesting.{ValuesFit}
 use Rattle.model_run.specs.Scoping.{Names, frame_names}
 use Rattle.model_run.specs.Fitting.{EnvFits, closure_rule, IsFlowNode, Later}
 use Rattle.model_run.proofs.LaterLaws.{env_later}
-use Rattle.run_laws.specs.Soundness.{Shaped, seen, Sits, BranchFits, EndFits, Sound, At, Holds, Goes}
-use Rattle.run_laws.proofs.Flow.{later_self, later_then, there_then, all_there_then, node_then, seen_then, end_then, end_as, at_self, holds_then, from_here, holds_as, Moves, moves_aside, at_moved, change_goes, guard_goes, GoesWith, end_goes, null_goes, value_goes, answer_goes, through_goes, wait_goes}
+use Rattle.run_laws.specs.Soundness.{Shaped, seen, Sits, EndFits, Sound, At, Holds, Goes}
+use Rattle.run_laws.proofs.Flow.{later_then, there_then, node_then, end_then, end_as, at_self, holds_then, from_here, Moves, moves_aside, at_moved, change_goes, guard_goes, null_goes, answer_goes, through_goes}
 use Rattle.run_laws.proofs.Sources.{CalleeFits, Place, Sources, sits_here}
-use Rattle.run_laws.proofs.SoundAssignments.{before_of, operate_goes, same}
-use Rattle.run_laws.proofs.SoundCalls.{CalleeThere, callee_then, closure_fits, closure_seen, through_guard_goes, calling_goes}
+use Rattle.run_laws.proofs.SoundCalls.{callee_then, closure_fits, closure_seen, through_guard_goes, calling_goes}
 
 -- a number of a flow node more
 pub new_node : (nodes : List FlowNode) (n : FlowNode) → IsFlowNode (nodes ++ n ∷ []) (length nodes + 2)
@@ -64,7 +45,7 @@ old_node : (nodes : List FlowNode) (n : FlowNode) (m : ℕ) → IsFlowNode nodes
 old_node nodes n m h = (h.0, let lt : m < length nodes + 2 = h.1 in omega (arith, length-append nodes (n ∷ [])))
 
 pub more_nodes : (u v : Common) (n : FlowNode) → v.cells ≡ u.cells → v.nodes ≡ u.nodes ++ n ∷ [] → Later u v
-more_nodes u v n c e = record { cells = subst (Rattle.model_values.specs.Later.CellsLater u.cells) (sym c) (later_itself u.cells); nodes = omega (arith, ap length e, length-append u.nodes (n ∷ [])) }
+more_nodes u v n c e = record { cells = subst (Rattle.model_values.specs.Later.CellsLater u.cells) (sym c) (later_itself u.cells); nodes = (n ∷ [], e) }
 
 module _ (g : Setting) where
   noted_moves : (d : NodeKind) (name : List ℕ) (start : ℕ) (parents : World → List ℕ) (text : List ℕ) (w : World) → Sound g w → Moves g (λ w. noted d name start (parents w) text w) w

@@ -1,66 +1,27 @@
 -- What a node is evaluated from, where all of it is sound; and the frames of a node.
-use Rattle.std.proofs.Common.{arith, ◌≡◌, ◌≤◌, ◌<◌, ◌+◌, ◌-◌, refl, sym, ap, subst, ◌∙◌, ℕ, zero, suc, Bool, true, false, List, [], ◌∷◌, length, Option, Some, None}
-use Rattle.std.specs.Prelude.{slice_get, drop, nat_lt, ◌&&◌}
+use Rattle.std.proofs.Common.{arith, ◌≡◌, ◌<◌, refl, sym, ap, subst, ◌∙◌, ℕ, zero, suc, Bool, true, false, List, [], ◌∷◌, length}
 use Rattle.std.specs.List.{AllByRecursion as AllAre}
 use Rattle.model_syntax.specs.declared.node.NodeForm.{NodeForm}
 use Rattle.model_syntax.specs.declared.node.NodeForm.TheVariants as form
-use Rattle.model_values.specs.Fitting.{There, HasVariable, HasClosure}
+use Rattle.model_values.specs.Fitting.{There}
 use Rattle.model_values.specs.declared.value.Value.{Value}
-use Rattle.model_values.specs.declared.cell.Cell.{Cell}
-use Rattle.model_run.specs.declared.frame.Frame.{Frame}
 use Rattle.model_run.specs.declared.frame.FrameKind.{FrameKind}
-use Rattle.model_run.specs.declared.frame.FrameKind.TheVariants as kind
-use Rattle.model_run.specs.declared.ending.Ending.{Ending}
 use Rattle.model_run.specs.declared.ending.Entry.TheVariants.{First, Inside, On}
-use Rattle.model_run.specs.Terms.{Term, nodes_of}
-use Rattle.model_run.specs.State.{Setting, Common, State, Env, Result, through}
-use Rattle.model_run.specs.Around.{Around, Shape, form_at, arity, frame, under, value_at}
-use Rattle.model_run.specs.Callables.{parameters_of}
-use Rattle.model_run.specs.Calls.{walks, walk_method}
-use Rattle.model_run.specs.FrameTable.{Sort, Further, frame_row, is_block, is_declaration, is_callable, same_form, is_closure_form}
-use Rattle.model_run.specs.Nesting.{MeetsRow, ValuesFit, FrameFits, shape_at}
-use Rattle.model_run.specs.Scoping.{Names, names_around, names_within, names_behind, names_after, names_at, names_of, names_for, frame_names}
-use Rattle.model_run.specs.Fitting.{EnvFits, closure_rule, Later}
-use Rattle.model_run.proofs.LaterLaws.{env_later}
-use Rattle.run_laws.specs.Soundness.{Shaped, may_declare, is_target, is_operand, seen, Sits, EndFits, At, Holds, Goes}
+use Rattle.model_run.specs.Terms.{nodes_of}
+use Rattle.model_run.specs.State.{Setting, Common, Env}
+use Rattle.model_run.specs.Around.{Around, Shape, form_at, frame}
+use Rattle.model_run.specs.FrameTable.{frame_row, is_declaration}
+use Rattle.model_run.specs.Nesting.{MeetsRow, ValuesFit, shape_at}
+use Rattle.model_run.specs.Scoping.{Names, names_within, names_behind, names_after, names_at, frame_names}
+use Rattle.model_run.specs.Fitting.{EnvFits, Later}
+pub use Rattle.run_laws.specs.Evaluation.{has_inner, CalleeFits, TurnFits, turn_names}
+use Rattle.run_laws.specs.Soundness.{Shaped, may_declare, seen, Sits, Goes}
 use Rattle.run_laws.proofs.Flow.{there_then, all_there_then, holds_as}
-
--- the forms of parts that are evaluated part by part: an arm, a catch, an entry, an operand, and so on
-abbrev pub has_inner : NodeForm → Bool
-has_inner form.Arm = true
-has_inner (form.Catch caught x) = true
-has_inner form.Finally = true
-has_inner (form.ToProperty p) = true
-has_inner form.ToIndex = true
-has_inner (form.NamedEntry t) = true
-has_inner (form.NumberedEntry z) = true
-has_inner form.ComputedEntry = true
-has_inner (form.Operand o) = true
-has_inner form.IfTrue = true
-has_inner form.IfSet = true
-has_inner f = false
-
--- what is called is a closure or a function of the script, with its variables
-pub record CalleeFits (root : Term) (u : Common) (k : ℕ) (env : Env) : Type 0 where
-  pub below : k < length (nodes_of root)
-  pub callable : is_callable (shape_at root k).form ≡ true
-  pub variables : EnvFits u.cells (names_at root k) env
-
--- what a turn is begun with: what a `for` goes over; or of a walk its value, its closure and what it keeps
-abbrev pub TurnFits : NodeForm → Common → List Value → Type 0
-TurnFits (form.ForEach x) u kept = There u.cells (value_at 0 kept)
-TurnFits (form.Method access f) u kept = There u.cells (value_at 0 kept) × There u.cells (value_at 1 kept) × AllAre (There u.cells) (drop 2 kept)
-TurnFits f u kept = Unit {0}
 
 pub turn_then : (f : NodeForm) (u v : Common) → Later u v → (kept : List Value) → TurnFits f u kept → TurnFits f v kept
 turn_then (form.ForEach x) u v l kept h = there_then u v l _ h
 turn_then (form.Method access m) u v l kept h = (there_then u v l _ h.0, there_then u v l _ h.1, all_there_then u v l _ h.2)
 turn_then f u v l kept h = tt
-
--- what a further turn sees: in a `for` also what its head declared
-abbrev pub turn_names : NodeForm → List NodeForm → Names → Names
-turn_names form.ForSteps fs xs = names_after fs 1 xs
-turn_names f fs xs = xs
 
 -- names
 pub behind_none : (f : NodeForm) (xs : Names) → is_declaration f ≡ false → names_behind f xs ≡ xs
@@ -95,7 +56,7 @@ module _ (g : Setting) (shaped : Shaped g.script) (k : ℕ) (sh : Shape) (xs : N
     pub part : (u : Common) (i : ℕ) (env : Env) → EnvFits u.cells (names_within sh.form i (names_after sh.parts i xs)) env → Goes g (form_at sh.parts i) u (a.part First i env)
     pub inner : (u : Common) (i j : ℕ) (env : Env) → has_inner (form_at sh.parts i) ≡ true → EnvFits u.cells (names_within (form_at sh.parts i) j (names_within sh.form i (names_after sh.parts i xs))) env → Goes g form.Block u (a.part (Inside j) i env)
     pub suffix : (u : Common) (i : ℕ) (env : Env) (v : Value) → There u.cells v → EnvFits u.cells (names_within sh.form i (names_after sh.parts i xs)) env → Goes g form.Block u (a.part (On v) i env)
-    pub again : (u : Common) (i : ℕ) (kept : List Value) (env : Env) → EnvFits u.cells (turn_names sh.form sh.parts xs) env → TurnFits sh.form u kept → Goes g sh.form u (a.again i kept env)
+    pub again : (u : Common) (i : ℕ) (kept : List Value) (env : Env) → is_declaration sh.form ≡ false → EnvFits u.cells (turn_names sh.form sh.parts xs) env → TurnFits sh.form u kept → Goes g sh.form u (a.again i kept env)
     pub call : (u : Common) (n : ℕ) (args : List Value) (env : Env) → CalleeFits g.script u n env → AllAre (There u.cells) args → Goes g form.Block u (a.call n args env)
 
   -- a frame of this node that meets its row, with its variables

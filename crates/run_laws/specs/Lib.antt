@@ -1,1 +1,3 @@
 pub mod Soundness
+pub mod Evaluation
+pub mod Worlds

@@ -1,25 +1,25 @@
 -- An evaluation that begins in a sound state goes to a later one, ends with what is there, and waits inside frames that fit
 -- (this product's own).
-use Rattle.std.specs.Prelude.{◌≡◌, ◌<◌, ℕ, zero, suc, Bool, true, false, List, [], ◌∷◌, length, Option, Some, None, slice_get, pos}
+use Rattle.std.specs.Prelude.{◌≡◌, ◌<◌, ℕ, zero, suc, Bool, true, false, List, [], slice_get, pos}
 use Rattle.std.specs.List.{AllByRecursion as AllAre}
 use Rattle.model_syntax.specs.declared.node.NodeForm.{NodeForm}
 use Rattle.model_syntax.specs.declared.node.NodeForm.TheVariants as form
-use Rattle.model_values.specs.Fitting.{There, HasVariable, HasText, HasClosure, HasThrowable, CellsFit}
-use Rattle.model_values.specs.declared.value.Value.{Value}
-use Rattle.model_values.specs.declared.value.Value.TheVariants.{Null, Bool as Truth, Int as Whole, Cell as InCell}
+use Rattle.model_values.specs.Fitting.{There, HasVariable, HasThrowable, CellsFit}
+use Rattle.model_values.specs.declared.value.Value.TheVariants.{Int as Whole}
 use Rattle.model_run.specs.declared.ending.Ending.{Ending}
 use Rattle.model_run.specs.declared.ending.Ending.TheVariants.{Normal, Thrown, Returned, Broke, Continued, Declared, Answered}
 use Rattle.model_run.specs.declared.ending.Branch.{Branch}
 use Rattle.model_run.specs.declared.ending.Asked.{Asked}
 use Rattle.model_run.specs.declared.ending.Asked.TheVariants.{ForRequest, ForBranches}
 use Rattle.model_run.specs.declared.frame.Frame.{Frame}
-use Rattle.model_run.specs.Terms.{Term, nodes_of}
-use Rattle.model_run.specs.State.{Setting, Common, World, State, Env, Result, Ended, Waits, Limited, Unfinished}
-use Rattle.model_run.specs.Around.{Shape, form_at, arity}
-use Rattle.model_run.specs.FrameTable.{Sort, Any, Up_to, Flag, Flow_node, A_closure, A_throwable, Text_or_null, is_block, is_target_form, is_declaration, is_closure_form, same_form}
+pub use Rattle.script_laws.specs.NodeParts.{is_target, is_operand}
+use Rattle.model_run.specs.Terms.{Term}
+use Rattle.model_run.specs.State.{Setting, Common, World, State, Result, Ended, Waits, Limited, Unfinished}
+use Rattle.model_run.specs.Around.{form_at, arity}
+use Rattle.model_run.specs.FrameTable.{Up_to, is_block, is_target_form, is_declaration, same_form}
 use Rattle.model_run.specs.Nesting.{Sorts, FrameFits, shape_at}
-use Rattle.model_run.specs.Scoping.{Names, names_at, names_for}
-use Rattle.model_run.specs.Fitting.{EnvFits, closure_rule, IsFlowNode, Later}
+use Rattle.model_run.specs.Scoping.{names_for}
+use Rattle.model_run.specs.Fitting.{EnvFits, closure_rule, IsFlowNode, known, Later}
 
 -- The nodes of a script stand as those of a tree do, as far as names depend on it.
 abbrev pub may_declare : NodeForm → ℕ → Bool
@@ -27,34 +27,18 @@ may_declare form.ForSteps zero = true
 may_declare form.ForSteps (suc i) = false
 may_declare f i = is_block f
 
-abbrev pub is_target : NodeForm → Bool
-is_target (form.ToName x) = true
-is_target (form.ToProperty p) = true
-is_target form.ToIndex = true
-is_target f = false
-
-abbrev pub is_operand : NodeForm → Bool
-is_operand (form.Operand o) = true
-is_operand f = false
-
--- declarations stand in rows of statements and first in the head of a `for` alone; a target is one; and behind the first operand
--- stand operands
+-- a declaration stands only in a row of statements, or first in the head of a `for`; what is assigned to is a target; behind a first
+-- operand stand operands; and the head of a `for` has a first part
 pub record Shaped (root : Term) : Type 0 where
   pub declares : (k i : ℕ) → is_declaration (form_at (shape_at root k).parts i) ≡ true → may_declare (shape_at root k).form i ≡ true
   pub targets : (k : ℕ) → is_target_form (shape_at root k).form ≡ true → is_target (form_at (shape_at root k).parts 0) ≡ true
   pub operands : (k i : ℕ) → same_form form.Joined (shape_at root k).form ≡ true → suc i < arity (shape_at root k) → is_operand (form_at (shape_at root k).parts (suc i)) ≡ true
+  pub steps : (k : ℕ) → same_form form.ForSteps (shape_at root k).form ≡ true → 0 < arity (shape_at root k)
 
--- What a value of each sort is in a state; numbers of any size.
+-- What a value of each sort is in a state, as in a sound build, but numbers of any size.
 abbrev pub seen : Common → Sorts
-seen u Any v = There u.cells v
 seen u (Up_to n) (Whole (pos m)) = Unit {0}
-seen u Flag (Truth b) = Unit {0}
-seen u Flow_node (Whole (pos n)) = IsFlowNode u.nodes n
-seen u A_closure (InCell c) = HasClosure (slice_get u.cells c)
-seen u A_throwable (InCell c) = HasThrowable (slice_get u.cells c)
-seen u Text_or_null Null = Unit {0}
-seen u Text_or_null (InCell c) = HasText (slice_get u.cells c)
-seen u s v = ⊥
+seen u s v = known u s v
 
 -- A frame that fits, with its variables.
 pub record Sits (root : Term) (u : Common) (f : Frame) : Type 0 where

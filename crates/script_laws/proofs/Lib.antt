@@ -1,0 +1,5 @@
+pub mod Rows
+pub mod TreeParts
+pub mod ScriptParts
+pub mod PartFacts
+mod PartExamples
