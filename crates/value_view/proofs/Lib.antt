@@ -1,0 +1,4 @@
+pub mod CharacterLemmas
+pub mod DepthLemmas
+pub mod PartLemmas
+pub mod TextLemmas

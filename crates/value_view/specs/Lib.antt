@@ -1,0 +1,5 @@
+pub mod Answers
+pub mod Depth
+pub mod Places
+pub mod Refusals
+pub mod Seen
