@@ -1,0 +1,9 @@
+pub mod FirstLemmas
+pub mod MemberLemmas
+pub mod KeyLemmas
+pub mod AgentLemmas
+pub mod SiteLemmas
+pub mod ReadLemmas
+pub mod LabelLemmas
+pub mod FileLemmas
+pub mod KindLemmas

@@ -1,0 +1,4 @@
+pub mod Paths
+pub mod FirstFault
+pub mod Members
+pub mod Agents

@@ -1,0 +1,4 @@
+pub mod Parts
+pub mod Decoding
+pub mod Growth
+pub mod WalkLaws

@@ -1,0 +1,4 @@
+pub mod Rows
+pub mod Script
+pub mod Walk
+pub mod CodeKept

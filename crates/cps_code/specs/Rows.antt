@@ -1,0 +1,18 @@
+-- The table of a script: a row for each node, in the order of the numbers.
+use Rattle.std.specs.Prelude.{ℕ, List, [], ◌∷◌, map, Option, slice_get}
+use Rattle.model_run.specs.Terms.{Term, Terms, no_terms, and_then, number_of, form_of, parts_of, nodes_of, term_at}
+use Rattle.cps_code.specs.declared.row.Row.{Row}
+
+abbrev pub numbers_of : Terms → List ℕ
+numbers_of no_terms = []
+numbers_of (and_then t ts) = number_of t ∷ numbers_of ts
+
+abbrev pub row_of : Term → Row
+row_of t = record { form = form_of t; parts = numbers_of (parts_of t) }
+
+abbrev pub rows_of : Term → List Row
+rows_of root = map row_of (nodes_of root)
+
+-- the number of part i of the node with the number k, and none where it has no such part
+abbrev pub part_number : Term → ℕ → ℕ → Option ℕ
+part_number root k i = slice_get (numbers_of (parts_of (term_at root k))) i

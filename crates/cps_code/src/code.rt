@@ -1,0 +1,80 @@
+//! The numbered nodes of a script.
+
+ghost use Rattle.std.specs.Prelude.{◌≡◌, ◌<◌, length, IfOk, IfSome};
+ghost use Rattle.model_syntax.specs.TreeNodes.{tree_node};
+ghost use Rattle.model_run.specs.Terms.{Found, term, nodes_of, term_at, form_of, part_of};
+ghost use Rattle.cps_code.specs.Rows.{part_number, rows_of};
+ghost use Rattle.cps_code.specs.Script.{script_of};
+
+use crate::row::Row;
+use crate::walk::rows_of_tree;
+use model_syntax::{NodeForm, Tree};
+use std::alloc::{AllocError, Global};
+use std::marker::Model;
+
+/// The syntax of a script: its nodes by their numbers. A contract sees the rows of the nodes, which are those of one
+/// script (`script_of`).
+#[derive(Drop)]
+pub struct Code {
+    rows: Vec<Row>,
+}
+
+impl Model for Code {
+    ghost use Rattle.std.specs.Prelude.{List};
+    ghost use Rattle.cps_code.specs.declared.row.Row.{Row};
+
+    ghost Value = { List Row };
+
+    ghost use Rattle.cps_code.specs.CodeKept.{IsKept};
+
+    ghost view = { λ code. code.rows.items };
+
+    ghost invariant = { IsKept };
+}
+
+impl Code {
+    /// How many nodes there are. Their numbers are those below it.
+    pub fn len(&self) -> u32
+        ensures len { result ≡ length (nodes_of (script_of self.now)) }
+        ensures found { Found (script_of self.now) (script_of self.now) }
+    {
+        self.rows.len() as u32
+    }
+
+    /// The rule or operator of the node with this number, with its name, text or number.
+    pub fn kind(&self, node: u32) -> &NodeForm
+        requires { node < length (nodes_of (script_of self.now)) }
+        ensures { result.now ≡ form_of (term_at (script_of self.now) node) }
+    {
+        &self.rows[node as usize].form
+    }
+
+    /// The number of a part of this node, counted from 0 in the order of the script, and `None` exactly where the node
+    /// has no such part.
+    pub fn part(&self, node: u32, at: u32) -> Option<u32>
+        requires { node < length (nodes_of (script_of self.now)) }
+        ensures number { result ≡ part_number (script_of self.now) node at }
+        ensures found { IfSome result (λ number. term_at (script_of self.now) number ≡ part_of (script_of self.now) (term_at (script_of self.now) node) at) }
+        ensures behind { IfSome result (λ number. (node < number) × (number < length (nodes_of (script_of self.now)))) }
+    {
+        self.rows[node as usize].parts.get(at as usize).copied()
+    }
+}
+
+/// Numbers the nodes of a tree, in time and memory linear in the tree. A tree of any size will do that `parse` gives; it
+/// may be as deep as the stack allows, and brackets of a script nest at most 128 deep.
+///
+/// Each node is found by its number (`found`), and so the numbers of its parts find its parts.
+///
+/// # Errors
+///
+/// `AllocError` where the memory was refused, and where the tree has more than 4,294,967,295 nodes, which no script of
+/// 1,048,576 bytes has.
+pub fn number(alloc: Global, tree: Tree) -> Result<Code, AllocError>
+    ensures rows { IfOk result (λ code. code ≡ rows_of (term 0 (tree_node tree))) }
+    ensures script { IfOk result (λ code. script_of code ≡ term 0 (tree_node tree)) }
+    ensures found { IfOk result (λ code. Found (script_of code) (script_of code)) }
+{
+    let rows = rows_of_tree(alloc, &tree)?;
+    Ok(Code { rows })
+}

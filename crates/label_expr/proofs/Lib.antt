@@ -1,0 +1,4 @@
+pub mod ConditionLaws
+pub mod TokenLaws
+pub mod GrammarLaws
+pub mod WholeLaws

@@ -1,0 +1,24 @@
+//! Label expressions, by which a `node` step says on which executors it may run.
+//!
+//! [`parse`] reads a label: names, names in double quotes, `!`, `&&`, `||`, `->`, `<->` and parentheses, with the signs
+//! of Jenkins. It is proved to give exactly the expression of the definitions (`model_run`, `Labels`), or the one fault
+//! with its place. [`LabelExpr::matches`] tells whether an executor with these labels fits, and takes no memory.
+//!
+//! ```
+//! let expr = parse(alloc, b"linux && !win")?;
+//! assert!(expr.matches(&[Text::from_str(alloc, "linux")?]));
+//! assert!(parse(alloc, b"a -> b -> c").err() == Some(LabelRefusal::Fault { at: 7 }));
+//! ```
+#![tactic(auto)]
+
+mod condition;
+mod lexer;
+mod parser;
+mod refusal;
+#[cfg(test)]
+mod tests;
+mod token;
+
+pub use condition::{Condition, LabelExpr};
+pub use parser::parse;
+pub use refusal::LabelRefusal;
