@@ -88,7 +88,7 @@ def main():
                 file.write(script(size, pieces))
         return 0
     if not os.access(given.program, os.X_OK):
-        sys.exit(f"bench: {given.program} is not built yet; './controller run examples/hello' builds it")
+        sys.exit(f"bench: {given.program} is not built yet; './controller build' builds it")
     start, start_peak = best_of(given.program, "\n", given.runs)
     small, small_peak = best_of(given.program, script(SMALL, pieces), given.runs)
     large, large_peak = best_of(given.program, script(LARGE, pieces), given.runs)
