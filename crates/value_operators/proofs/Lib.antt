@@ -1,0 +1,4 @@
+pub mod NumberLemmas
+pub mod OperandLemmas
+pub mod PlaceLemmas
+pub mod TargetLemmas

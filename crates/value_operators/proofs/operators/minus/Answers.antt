@@ -1,0 +1,6 @@
+use Rattle.std.proofs.Common.{rules}
+use Rattle.std.proofs.lemmas.Int.{wraps}
+use Rattle.value_operators.proofs.operators.minus.Goals as goal
+
+pub returns-in-Number-Number-clause-read : goal.returns-in-Number-Number-clause-read
+returns-in-Number-Number-clause-read c = λ h. search (rules, wraps)
