@@ -1,11 +1,11 @@
 -- What a walk adds to a table are the rows of the nodes that it walks.
-use Rattle.std.proofs.Common.{◌≡◌, ◌∙◌, ℕ, zero, suc, ◌+◌, ◌<◌, List, [], ◌∷◌, ◌++◌, length, length-append, append_assoc, map, set, get_or, Option, Some, slice_get, refl, ap, ap₂, sym, subst, arith}
+use Rattle.std.proofs.Common.{◌≡◌, ◌∙◌, ℕ, suc, ◌+◌, List, [], ◌∷◌, ◌++◌, length, length-append, append_assoc, map, Some, slice_get, refl, ap, ap₂, sym, arith}
 use Rattle.std.proofs.Math.Seq.{get_or-append_seam, set-append_seam}
 use Rattle.std.proofs.lemmas.List.{append-nil, map-append, length-map}
 use Rattle.std.proofs.lemmas.Option.{slice_get-get_or}
 use Rattle.model_syntax.specs.declared.node.NodeForm.{NodeForm}
 use Rattle.model_syntax.specs.Nodes.{Node, Nodes, node, none, more, size}
-use Rattle.model_run.specs.Terms.{Term, Terms, Numbered, term, terms, nodes_of, nodes_of_all, number_of}
+use Rattle.model_run.specs.Terms.{term, terms, nodes_of, nodes_of_all, number_of}
 use Rattle.model_run.proofs.Found.{size_of}
 use Rattle.cps_code.specs.declared.row.Row.{Row}
 use Rattle.cps_code.specs.Rows.{numbers_of, row_of, rows_of}

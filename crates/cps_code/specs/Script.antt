@@ -1,6 +1,8 @@
--- The script whose table some rows are.
-use Rattle.std.specs.Prelude.{◌≡◌, ℕ, zero, suc, ◌<◌, List, [], ◌∷◌, length, Some, get_or}
-use Rattle.model_run.specs.Terms.{Term, Terms, Numbered, no_terms, and_then, nodes_of, empty_block, Found}
+-- The script whose table some rows are (this product's own).
+use Rattle.std.specs.Prelude.{◌≡◌, ℕ, zero, suc, ◌+◌, ◌<◌, List, [], ◌∷◌, length, Some, get_or}
+use Rattle.model_syntax.specs.TreeNodes.{tree_node}
+use Rattle.model_syntax.specs.declared.tree.Tree.{Tree}
+use Rattle.model_run.specs.Terms.{Term, Terms, Numbered, no_terms, and_then, term, nodes_of, empty_block, Found}
 use Rattle.cps_code.specs.declared.row.Row.{Row}
 use Rattle.cps_code.specs.Rows.{row_of, rows_of, part_number}
 
@@ -22,9 +24,13 @@ node_at (suc n) rows k = Numbered k (row_at rows k).form (terms_by (node_at n ro
 unfoldable pub script_of : List Row → Term
 script_of rows = node_at (length rows) rows 0
 
--- the number of a part is above the node's own, and is that of a node
+-- part i of node k has a number above k + i, which is that of a node
 abbrev pub ArePartsBehind : Term → Type 0
-ArePartsBehind root = (k i p : ℕ) → part_number root k i ≡ Some p → (k < p) × (p < length (nodes_of root))
+ArePartsBehind root = (k i p : ℕ) → part_number root k i ≡ Some p → (k + i < p) × (p < length (nodes_of root))
+
+-- the term of some tree
+abbrev pub IsScript : Term → Type 0
+IsScript root = ∥ ((tree : Tree) × (root ≡ term 0 (tree_node tree))) ∥₁
 
 -- rows that are the table of a script, in which each node is found by its number
 pub record IsTable (rows : List Row) : Type 0 where

@@ -3,8 +3,8 @@
 ghost use Rattle.std.specs.Prelude.{◌≡◌, ◌<◌, length, IfOk, IfSome};
 ghost use Rattle.model_syntax.specs.TreeNodes.{tree_node};
 ghost use Rattle.model_run.specs.Terms.{Found, term, nodes_of, term_at, form_of, part_of};
-ghost use Rattle.cps_code.specs.Rows.{part_number, rows_of};
-ghost use Rattle.cps_code.specs.Script.{script_of};
+ghost use Rattle.cps_code.specs.Rows.{part_count, part_number, rows_of};
+ghost use Rattle.cps_code.specs.Script.{IsScript, script_of};
 
 use crate::row::Row;
 use crate::walk::rows_of_tree;
@@ -13,7 +13,7 @@ use std::alloc::{AllocError, Global};
 use std::marker::Model;
 
 /// The syntax of a script: its nodes by their numbers. A contract sees the rows of the nodes, which are those of one
-/// script (`script_of`).
+/// script (`script_of`), and that script is the term of some tree (`IsScript`), also where the tree is long gone.
 #[derive(Drop)]
 pub struct Code {
     rows: Vec<Row>,
@@ -37,6 +37,7 @@ impl Code {
     pub fn len(&self) -> u32
         ensures len { result ≡ length (nodes_of (script_of self.now)) }
         ensures found { Found (script_of self.now) (script_of self.now) }
+        ensures script { IsScript (script_of self.now) }
     {
         self.rows.len() as u32
     }
@@ -47,6 +48,14 @@ impl Code {
         ensures { result.now ≡ form_of (term_at (script_of self.now) node) }
     {
         &self.rows[node as usize].form
+    }
+
+    /// How many parts this node has, in constant time.
+    pub fn parts(&self, node: u32) -> u32
+        requires { node < length (nodes_of (script_of self.now)) }
+        ensures { result ≡ part_count (script_of self.now) node }
+    {
+        self.rows[node as usize].parts.len() as u32
     }
 
     /// The number of a part of this node, counted from 0 in the order of the script, and `None` exactly where the node

@@ -1,3 +1,4 @@
+use Rattle.std.proofs.lemmas.Grind.{merely}
 use Rattle.model_syntax.specs.TreeNodes.{tree_node}
 use Rattle.cps_code.specs.Script.{IsTable}
 use Rattle.cps_code.proofs.Decoding.{kept_table, kept_script}
@@ -6,6 +7,7 @@ use Rattle.cps_code.proofs.code.number.Goals as goal
 pub invariant_of-result : goal.invariant_of-result
 invariant_of-result c = record {
   table = kept_table (tree_node c.args.tree) c.in_ok-rows.rows.items c.in_ok-rows.ensures.rows;
+  script = merely (c.args.tree, kept_script (tree_node c.args.tree) c.in_ok-rows.rows.items c.in_ok-rows.ensures.rows);
   few = c.in_ok-rows.ensures.few;
 }
 

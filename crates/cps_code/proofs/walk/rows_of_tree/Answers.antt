@@ -1,6 +1,4 @@
-use Rattle.std.proofs.Common.{◌∙◌, ap, List}
-use Rattle.model_syntax.specs.Nodes.{nodes}
-use Rattle.model_syntax.specs.TreeNodes.{top_node}
+use Rattle.std.proofs.Common.{◌∙◌, ap}
 use Rattle.model_syntax.specs.declared.node.NodeForm.TheVariants as form
 use Rattle.cps_code.specs.Walk.{added_all}
 use Rattle.cps_code.proofs.Growth.{table_is}

@@ -1,4 +1,4 @@
-use Rattle.std.proofs.Common.{◌≡◌, ◌∙◌, ap, subst, Option, ℕ, slice_get}
+use Rattle.std.proofs.Common.{◌≡◌, ◌∙◌, ap, subst, slice_get}
 use Rattle.cps_code.specs.declared.row.Row.{Row}
 use Rattle.cps_code.specs.Rows.{part_number}
 use Rattle.cps_code.specs.Script.{script_of, IsTable}

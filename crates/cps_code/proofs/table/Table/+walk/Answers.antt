@@ -1,4 +1,4 @@
-use Rattle.std.proofs.Common.{◌≡◌, ◌∙◌, map, sym, ap, arith, List, ℕ}
+use Rattle.std.proofs.Common.{◌∙◌}
 use Rattle.model_syntax.specs.TreeNodes.{arm_node, catch_node, choice_node, entry_node, expr_node, operand_node, part_node, stmt_node, suffix_node}
 use Rattle.model_syntax.proofs.TreeNodeLaws.{assignment-Write, choice-IfTrue, entry-Computed, expr-Suffixed, expr-Joined, expr-Chosen, target-ToIndex, stmt-If, stmt-While, stmt-ForEach, stmt-ForDeclared, stmt-ForSteps, stmt-Try}
 use Rattle.model_syntax.specs.declared.node.NodeForm.TheVariants as form
