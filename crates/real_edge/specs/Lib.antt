@@ -1,3 +1,4 @@
 pub mod OwnFolders
+pub mod Control
 pub mod FolderHost
 pub mod FileDisk

@@ -1,6 +1,6 @@
 //! The processes of tasks, until they have been asked for their end.
 
-ghost use Rattle.std.specs.Prelude.{◌≡◌, ◌≤◌, ◌<◌, ◌++◌, ◌∷◌, [], None, OnOk, IsTrue, All, vec_len, vec_capacity};
+ghost use Rattle.std.specs.Prelude.{◌≡◌, ◌≤◌, ◌<◌, ◌++◌, ◌∷◌, [], suc, None, OnOk, IsTrue, All, vec_len, vec_capacity};
 ghost use Rattle.std.specs.Process.{child_status};
 
 use std::alloc::{AllocError, Global};
@@ -33,6 +33,7 @@ impl<P: OpenProcess> Children<P> {
     pub fn reserve(&mut self) -> Result<(), AllocError>
         ensures room { OnOk result (vec_len self.new.unreaped < vec_capacity self.new.unreaped) }
         ensures same { self.new.unreaped.items ≡ self.old.unreaped.items }
+        ensures count { vec_len self.new.unreaped ≡ vec_len self.old.unreaped }
     {
         self.unreaped.reserve(1)
     }
@@ -42,7 +43,8 @@ impl<P: OpenProcess + Drop> Children<P> {
     /// Keeps a process that was started. There is room for it.
     pub fn keep(&mut self, child: Child<P>)
         requires { vec_len self.old.unreaped < vec_capacity self.old.unreaped }
-        ensures { self.new.unreaped.items ≡ self.old.unreaped.items ++ child ∷ [] }
+        ensures kept { self.new.unreaped.items ≡ self.old.unreaped.items ++ child ∷ [] }
+        ensures count { vec_len self.new.unreaped ≡ suc (vec_len self.old.unreaped) }
     {
         let _ = self.unreaped.push(child);
     }
@@ -56,7 +58,9 @@ impl<P: OpenProcess + Drop> Children<P> {
     }
 
     /// Reaps processes that have only to exit, and waits at most ten milliseconds for them.
-    pub fn reap_soon(&mut self, clock: &impl Clock) {
+    pub fn reap_soon(&mut self, clock: &impl Clock)
+        ensures fewer { vec_len self.new.unreaped ≤ vec_len self.old.unreaped }
+    {
         for _ in 0..10 {
             self.reap();
             if self.unreaped.is_empty() {

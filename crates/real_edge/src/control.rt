@@ -1,5 +1,8 @@
 //! The control folder of a task.
 
+ghost use Rattle.std.specs.Prelude.{◌≡◌, IfOk, string_bytes, codes};
+ghost use Rattle.real_edge.specs.Control.{parent_of, control_folder, file_in, stream_file};
+
 use std::alloc::{AllocError, Global};
 use std::io::ErrorKind;
 use std::rt::Files;
@@ -34,7 +37,10 @@ impl ControlFolder {
     /// # Errors
     ///
     /// Where the workspace is not UTF-8, or there is no memory.
-    pub fn of(alloc: Global, order: &Order) -> io::Result<ControlFolder> {
+    pub fn of(alloc: Global, order: &Order) -> io::Result<ControlFolder>
+        ensures parent { IfOk result (λ folder. string_bytes folder.parent ≡ parent_of order.now.workspace) }
+        ensures path { IfOk result (λ folder. string_bytes folder.path ≡ control_folder order.now.workspace order.now.task) }
+    {
         let workspace = text(order.workspace.as_slice())?;
         let task = order.task;
         Ok(ControlFolder {
@@ -62,31 +68,42 @@ impl ControlFolder {
     }
 
     /// The script.
-    pub fn script(&self, alloc: Global) -> Result<String, AllocError> {
+    pub fn script(&self, alloc: Global) -> Result<String, AllocError>
+        ensures { IfOk result (λ path. string_bytes path ≡ file_in (string_bytes self.now.path) (codes "script.sh")) }
+    {
         self.file(alloc, "script.sh")
     }
 
     /// The log. It stands from the start of the task on.
-    pub fn log(&self, alloc: Global) -> Result<String, AllocError> {
+    pub fn log(&self, alloc: Global) -> Result<String, AllocError>
+        ensures { IfOk result (λ path. string_bytes path ≡ file_in (string_bytes self.now.path) (codes "jenkins-log.txt")) }
+    {
         self.file(alloc, "jenkins-log.txt")
     }
 
     /// The exit code. It stands from the end of the script on.
-    pub fn result(&self, alloc: Global) -> Result<String, AllocError> {
+    pub fn result(&self, alloc: Global) -> Result<String, AllocError>
+        ensures { IfOk result (λ path. string_bytes path ≡ file_in (string_bytes self.now.path) (codes "jenkins-result.txt")) }
+    {
         self.file(alloc, "jenkins-result.txt")
     }
 
     /// What the task writes to this stream.
-    pub fn stream(&self, alloc: Global, stream: Stream) -> Result<String, AllocError> {
+    pub fn stream(&self, alloc: Global, stream: Stream) -> Result<String, AllocError>
+        ensures { IfOk result (λ path. string_bytes path ≡ file_in (string_bytes self.now.path) (stream_file stream)) }
+    {
         match stream {
             Stream::Log => self.log(alloc),
             Stream::Out => self.file(alloc, "output.txt"),
         }
     }
 
-    fn file(&self, alloc: Global, name: &str) -> Result<String, AllocError> {
-        let path = &self.path;
-        format!(in alloc; "{path}/{name}")
+    fn file(&self, alloc: Global, name: &str) -> Result<String, AllocError>
+        ensures { IfOk result (λ path. string_bytes path ≡ file_in (string_bytes self.now.path) name.now) }
+    {
+        let path = self.path.as_str();
+        let path = format!(in alloc; "{path}/{name}")?;
+        Ok(path)
     }
 }
 
@@ -107,7 +124,9 @@ fn names_nothing(kind: ErrorKind) -> bool {
 /// # Errors
 ///
 /// Where they are not UTF-8.
-pub fn text(bytes: &[u8]) -> io::Result<&str> {
+pub fn text(bytes: &[u8]) -> io::Result<&str>
+    ensures { IfOk result (λ text. text.now ≡ bytes.now) }
+{
     match std::str::from_utf8(bytes) {
         Ok(text) => Ok(text),
         Err(_) => Err(io::Error::new(

@@ -1,7 +1,8 @@
 //! A host whose tasks are processes of this machine.
 
-ghost use Rattle.std.specs.Prelude.{◌≡◌, ◌≢◌, ◌≤◌, ◌<◌, ◌*◌, min, [], None, length, IfOk, IsOk, IsErr, MatchResult};
+ghost use Rattle.std.specs.Prelude.{◌≡◌, ◌≢◌, ◌≤◌, ◌<◌, ◌*◌, suc, min, [], None, length, IfOk, IsOk, IsErr, MatchResult};
 ghost use Rattle.device_faults.specs.Faults.{CountsFault};
+ghost use Rattle.real_edge.specs.FolderHost.{KeepsStarted, pause_after_start, pause_after_read};
 ghost use Rattle.real_edge.specs.OwnFolders.{IsOwn, forgotten, MakesOwn, RemovesOwn};
 
 use crate::children::Children;
@@ -26,8 +27,8 @@ use task_host::{Host, Look, Made, Order, Started, Stream};
 ///
 /// Why a task was not launched is said on standard error, since the build's log has only its code, -2.
 ///
-/// It tells contracts which folders it takes for the build's own, how long it pauses next, and its faults: no contract
-/// can say what a folder or a process does.
+/// It tells contracts which folders it takes for the build's own, how many processes it keeps, how long it pauses next,
+/// and its faults: no contract can say what a folder or a process does.
 #[derive(Drop)]
 pub struct FolderHost<'a, R: Processes> {
     rt: &'a R,
@@ -39,18 +40,19 @@ pub struct FolderHost<'a, R: Processes> {
 
 impl<'a, R: Processes> Model for FolderHost<'a, R> {
     ghost use Rattle.real_edge.specs.OwnFolders.{own_of};
+    ghost use Rattle.std.specs.Prelude.{vec_len};
     ghost use Rattle.real_edge.specs.FolderHost.{HostState};
 
     ghost Value = { HostState };
 
-    ghost view = { λ host. record { own = own_of host.own; next_pause = host.pauses; faults = host.faults } };
+    ghost view = { λ host. record { own = own_of host.own; unreaped = vec_len host.children.unreaped; next_pause = host.pauses; faults = host.faults } };
 }
 
 impl<'a, R: Files + Env + AllocGlobal + Eprint + Clock + Processes> FolderHost<'a, R> {
     /// A host over the folders and processes of `rt`, in this life of the build. It has made no folder, and no call has
     /// failed.
     pub fn new(rt: &'a R, life: Life) -> Self
-        ensures { result ≡ record { own = record { life = life; made = [] }; next_pause = 1; faults = 0 } }
+        ensures { result ≡ record { own = record { life = life; made = [] }; unreaped = 0; next_pause = 1; faults = 0 } }
     {
         FolderHost {
             rt,
@@ -64,6 +66,7 @@ impl<'a, R: Files + Env + AllocGlobal + Eprint + Clock + Processes> FolderHost<'
     // Makes the control folder with its script, or finds that the build's own is there.
     fn make(&mut self, order: &Order) -> io::Result<Made>
         ensures made { MatchResult result (λ made. made ≢ Made.Failed × MakesOwn order.now.task self.old.own self.new.own made) (λ _. MakesOwn order.now.task self.old.own self.new.own Made.Failed) }
+        ensures unreaped { self.new.unreaped ≡ self.old.unreaped }
         ensures pause { self.new.next_pause ≡ self.old.next_pause }
         ensures calm { self.new.faults ≡ self.old.faults }
     {
@@ -81,9 +84,10 @@ impl<'a, R: Files + Env + AllocGlobal + Eprint + Clock + Processes> FolderHost<'
         Ok(Made::Made)
     }
 
+    // Starts the task's process, and keeps it.
     fn launch(&mut self, order: &Order) -> io::Result<()>
         ensures own { IfOk result (λ _. IsOwn self.old.own order.now.task) }
-        ensures same { self.new ≡ self.old }
+        ensures kept { MatchResult result (λ _. self.new ≡ record self.old { unreaped = suc self.old.unreaped }) (λ _. self.new ≡ self.old) }
     {
         if !self.own.contains(order.task) {
             return Err(io::Error::new(io::ErrorKind::NotFound, "its control folder was not made"));
@@ -161,9 +165,11 @@ impl<R: Files + Env + AllocGlobal + Eprint + Clock + Processes> Host for FolderH
     ghost nothing_before_launch = { λ _ _ honest _. absurd honest };
 
     /// As the trait says. Beside it, in each of these calls: which folders are the build's own from then on (`own`), that
-    /// to a call there is no folder but the build's own (`foreign`), and how long the next pause is (`pause`).
+    /// to a call there is no folder but the build's own (`foreign`), how many processes are kept (`unreaped`), and how long
+    /// the next pause is (`pause`).
     fn make_dir(&mut self, order: &Order) -> Made
         ensures own { MakesOwn order.now.task self.old.own self.new.own result }
+        ensures unreaped { self.new.unreaped ≡ self.old.unreaped }
         ensures pause { self.new.next_pause ≡ self.old.next_pause }
         ensures cause { CountsFault self.old.faults self.new.faults (result ≡ Made.Failed) }
     {
@@ -180,7 +186,8 @@ impl<R: Files + Env + AllocGlobal + Eprint + Clock + Processes> Host for FolderH
     fn start(&mut self, order: &Order) -> Started
         ensures own { self.new.own ≡ self.old.own }
         ensures foreign { ¬ IsOwn self.old.own order.now.task → result ≡ Started.Failed }
-        ensures pause { result ≡ Started.Started → self.new.next_pause ≡ 1 }
+        ensures unreaped { KeepsStarted self.old.unreaped self.new.unreaped result }
+        ensures pause { self.new.next_pause ≡ pause_after_start self.old.next_pause result }
         ensures cause { CountsFault self.old.faults self.new.faults (result ≡ Started.Failed) }
     {
         self.children.reap();
@@ -200,6 +207,7 @@ impl<R: Files + Env + AllocGlobal + Eprint + Clock + Processes> Host for FolderH
     fn look(&mut self, order: &Order) -> Look
         ensures own { self.new.own ≡ self.old.own }
         ensures foreign { ¬ IsOwn self.old.own order.now.task → result ≡ Look.Absent }
+        ensures unreaped { self.new.unreaped ≤ self.old.unreaped }
         ensures pause { self.new.next_pause ≡ self.old.next_pause }
         ensures cause { CountsFault self.old.faults self.new.faults (result ≡ Look.Failed) }
     {
@@ -222,7 +230,8 @@ impl<R: Files + Env + AllocGlobal + Eprint + Clock + Processes> Host for FolderH
     ) -> Result<usize, Failed>
         ensures own { self.new.own ≡ self.old.own }
         ensures foreign { ¬ IsOwn self.old.own order.now.task → result ≡ Ok 0 }
-        ensures pause { IfOk result (λ n. 0 < n → self.new.next_pause ≡ 1) }
+        ensures unreaped { self.new.unreaped ≡ self.old.unreaped }
+        ensures pause { self.new.next_pause ≡ pause_after_read self.old.next_pause result }
 
         ensures room { IfOk result (λ n. n ≤ length buf.old) }
         ensures cause { CountsFault self.old.faults self.new.faults (IsErr result) }
@@ -240,6 +249,7 @@ impl<R: Files + Env + AllocGlobal + Eprint + Clock + Processes> Host for FolderH
 
     fn pause(&mut self)
         ensures own { self.new.own ≡ self.old.own }
+        ensures unreaped { self.new.unreaped ≤ self.old.unreaped }
         ensures pause { self.new.next_pause ≡ min (2 * self.old.next_pause) 250 }
         ensures calm { self.new.faults ≡ self.old.faults }
     {
@@ -249,6 +259,7 @@ impl<R: Files + Env + AllocGlobal + Eprint + Clock + Processes> Host for FolderH
 
     fn remove(&mut self, order: &Order) -> Result<(), Failed>
         ensures own { RemovesOwn order.now.task self.old.own self.new.own result }
+        ensures unreaped { self.new.unreaped ≤ self.old.unreaped }
         ensures foreign { ¬ IsOwn self.old.own order.now.task → IsOk result }
         ensures pause { self.new.next_pause ≡ self.old.next_pause }
         ensures cause { CountsFault self.old.faults self.new.faults (IsErr result) }

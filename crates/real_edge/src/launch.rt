@@ -1,5 +1,8 @@
 //! The process of a task.
 
+ghost use Rattle.std.specs.Prelude.{◌≡◌, IfOk, string_bytes};
+ghost use Rattle.real_edge.specs.Control.{wrapper_text};
+
 use crate::control::{ControlFolder, text};
 use crate::programs::Programs;
 use std::alloc::{AllocError, Global};
@@ -61,7 +64,9 @@ fn run<R: Processes>(
 
 /// What the shell runs, with the control folder as its `$0`: the script, and then the exit code into a file that has its
 /// name once all of it was written.
-fn wrapper(alloc: Global, order: &Order) -> Result<String, AllocError> {
+fn wrapper(alloc: Global, order: &Order) -> Result<String, AllocError>
+    ensures { IfOk result (λ text. string_bytes text ≡ wrapper_text order.now.script order.now.keep_out) }
+{
     let script = if order.script.as_slice().starts_with(b"#!") {
         r#"chmod 700 "$0/script.sh"; "$0/script.sh""#
     } else {

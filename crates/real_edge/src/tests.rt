@@ -123,6 +123,18 @@ fn a_folder_is_made_with_the_script_and_removed_once(rt: HostRuntime) -> Result<
 }
 
 #[test]
+fn a_control_folder_is_named_by_its_task(rt: HostRuntime) -> Result<(), Fail> {
+    let mut order = order(&rt, "named", "true")?;
+    order.task = 43_981;
+    expect(&rt, answers(&rt, Life::First, &order).0, Made::Made);
+    expect_file(&rt, "named@tmp/durable-0000abcd/script.sh", b"true")?;
+    order.task = 16;
+    let control = ControlFolder::of(rt.alloc(), &order)?;
+    assert!(rt; control.path.ends_with("/named@tmp/durable-00000010"));
+    Ok(())
+}
+
+#[test]
 fn a_folder_is_made_once_and_a_task_started_once(rt: HostRuntime) -> Result<(), Fail> {
     let order = order(&rt, "once", "true")?;
     let mut host = FolderHost::new(&rt, Life::First);
@@ -387,15 +399,26 @@ fn disk<'a>(rt: &'a HostRuntime, name: &str) -> Result<FileDisk<'a, HostRuntime>
 }
 
 #[test]
+fn a_missing_file_has_no_bytes_and_is_not_made_by_a_sync(rt: HostRuntime) -> Result<(), Fail> {
+    let mut disk = disk(&rt, "missing.dat")?;
+    expect(&rt, (disk.len(), disk.sync()), (Ok(0), Ok(())));
+    expect(&rt, fs::exists(&rt, "missing.dat")?, false);
+    Ok(())
+}
+
+#[test]
 fn a_missing_file_is_made_by_the_first_write(rt: HostRuntime) -> Result<(), Fail> {
     let mut disk = disk(&rt, "made.dat")?;
-    expect(&rt, (disk.len(), disk.sync()), (Ok(0), Ok(())));
-    expect(&rt, fs::exists(&rt, "made.dat")?, false);
-    assert_eq!(rt; disk.write_at(0, b"hello"), Ok(()));
-    let rest = [disk.write_at(4, b"!!"), disk.sync()];
-    expect(&rt, rest, [Ok(()), Ok(())]);
+    let written = [disk.write_at(0, b"hello"), disk.write_at(4, b"!!")];
+    expect(&rt, written, [Ok(()), Ok(())]);
     expect_file(&rt, "made.dat", b"hell!!")?;
-    expect(&rt, self::disk(&rt, "made.dat")?.len(), Ok(6));
+    Ok(())
+}
+
+#[test]
+fn the_length_of_a_file_that_is_there(rt: HostRuntime) -> Result<(), Fail> {
+    put(&rt, "there.dat", "hell!!")?;
+    expect(&rt, disk(&rt, "there.dat")?.len(), Ok(6));
     Ok(())
 }
 

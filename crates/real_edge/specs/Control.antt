@@ -1,0 +1,47 @@
+-- The control folder of a task, its files, and what its shell runs, as texts (docs/HOSTS.md). This product's own rules.
+use Rattle.std.specs.Prelude.{◌++◌, ◌-◌, ℕ, Bool, true, false, List, length, replicate, codes, nat_eq}
+use Rattle.std.specs.List.{starts_with}
+use Rattle.std.specs.Fmt.{digits}
+use Rattle.task_host.specs.declared.order.Stream.{Stream}
+use Rattle.task_host.specs.declared.order.Stream.TheVariants.{Log, Out}
+
+-- the folder that holds the control folders of a workspace
+abbrev pub parent_of : List ℕ → List ℕ
+parent_of workspace = workspace ++ codes "@tmp"
+
+-- a task's number in eight lower hexadecimal digits, with the digit 0, which is 48, in front where it has fewer
+abbrev pub eight_digits : ℕ → List ℕ
+eight_digits task = let number = digits 16 false task in replicate (8 - length number) 48 ++ number
+
+-- the control folder of a task
+abbrev pub control_folder : List ℕ → ℕ → List ℕ
+control_folder workspace task = parent_of workspace ++ codes "/durable-" ++ eight_digits task
+
+-- a file in it
+abbrev pub file_in : List ℕ → List ℕ → List ℕ
+file_in folder name = folder ++ codes "/" ++ name
+
+-- the file that a task writes a stream to
+abbrev pub stream_file : Stream → List ℕ
+stream_file Log = codes "jenkins-log.txt"
+stream_file Out = codes "output.txt"
+
+-- a script that begins so names its own interpreter
+abbrev pub names_interpreter : List ℕ → Bool
+names_interpreter script = starts_with nat_eq script (codes "#!")
+
+-- what runs the script, in the words of the shell
+abbrev pub runs_script : Bool → List ℕ
+runs_script true = codes "chmod 700 \"$0/script.sh\"; \"$0/script.sh\""
+runs_script false = codes "sh -xe \"$0/script.sh\""
+
+-- where the script's output goes: apart from the log where the step keeps it
+abbrev pub streams : Bool → List ℕ
+streams true = codes "> \"$0/output.txt\" 2> \"$0/jenkins-log.txt\""
+streams false = codes "> \"$0/jenkins-log.txt\" 2>&1"
+
+-- what the shell runs, with the control folder as its `$0`
+abbrev pub wrapper_text : List ℕ → Bool → List ℕ
+wrapper_text script keeps_out =
+    codes "( " ++ runs_script (names_interpreter script) ++ codes " ) " ++ streams keeps_out
+    ++ codes "; echo $? > \"$0/jenkins-result.tmp\"; mv \"$0/jenkins-result.tmp\" \"$0/jenkins-result.txt\""
