@@ -1,11 +1,11 @@
 -- Reading and writing item after item.
 use Rattle.std.proofs.Common.{◌≡◌, ℕ, zero, suc, ◌+◌, ◌-◌, ◌<◌, List, [], ◌∷◌, ◌++◌, length, get_or, take, Ok, Err, refl, sym, ap, subst, ◌∙◌, arith, append_assoc}
 use Rattle.std.proofs.lemmas.List.{append-nil}
-use Rattle.std.proofs.Math.Seq.{take-suc}
 use Rattle.field_form.specs.declared.refusal.FormRefusal.{FormRefusal}
 use Rattle.field_form.specs.declared.refusal.FormRefusal.TheVariants as refusal
 use Rattle.field_form.specs.Reading.{Read, Refuses}
-use Rattle.field_form.specs.Forms.{Form, AllBehind, spelled, read_items}
+use Rattle.byte_form.specs.Fields.{u32_spelling}
+use Rattle.field_form.specs.Forms.{Form, AllBehind, spelled, read_items, Written}
 
 module _ {V : Type 0} (behind : List V → Form V) (count i : ℕ) (before : List V) (bytes : List ℕ) (at : ℕ) (lt : i < count) where
   more : count - i ≡ suc (count - (i + 1))
@@ -49,9 +49,14 @@ pub all_behind : {V : Type 0} (P : List V → V → Type 0) (before xs : List V)
 all_behind {V} P before [] x rest h = subst (λ (l : List V). P l x) (sym (append-nil before)) h.0
 all_behind {V} P before (y ∷ xs) x rest h = subst (λ (l : List V). P l x) (append_assoc before (y ∷ []) xs) (all_behind P (before ++ y ∷ []) xs x rest h.1)
 
--- the first items and one more
-pub spelled_more : {V : Type 0} (behind : List V → Form V) (xs : List V) (i : ℕ) (d : V) → i < length xs → spelled behind [] (take (suc i) xs) ≡ spelled behind [] (take i xs) ++ (behind (take i xs)).spelling (get_or xs i d)
-spelled_more {V} behind xs i d lt = ap (spelled behind []) (take-suc xs i d lt) ∙ spelled_push behind [] (take i xs) (get_or xs i d)
+-- behind the number of all items and those written so far, one more was written
+pub written_behind : (count : ℕ) (start old new so_far one : List ℕ) → old ≡ start ++ (u32_spelling count ++ so_far) → new ≡ old ++ one → new ≡ start ++ (u32_spelling count ++ (so_far ++ one))
+written_behind count start old new so_far one e is =
+    let u = u32_spelling count in
+    is ∙ ap (λ (l : List ℕ). l ++ one) e ∙ append_assoc start (u ++ so_far) one ∙ ap (λ (l : List ℕ). start ++ l) (append_assoc u so_far one)
 
-pub all_more : {V : Type 0} (P : List V → V → Type 0) (xs : List V) (i : ℕ) (d : V) → i < length xs → AllBehind P [] (take i xs) → P (take i xs) (get_or xs i d) → AllBehind P [] (take (suc i) xs)
-all_more {V} P xs i d lt h p = subst (AllBehind P []) (sym (take-suc xs i d lt)) (all_push P [] (take i xs) (get_or xs i d) h p)
+pub written_more : {V : Type 0} (behind : List V → Form V) (count : ℕ) (start old new : List ℕ) (before : List V) (x : V) → old ≡ start ++ (u32_spelling count ++ spelled behind [] before) → Written (behind before) x old new
+    → new ≡ start ++ (u32_spelling count ++ spelled behind [] (before ++ x ∷ []))
+written_more {V} behind count start old new before x so_far w =
+    written_behind count start old new (spelled behind [] before) ((behind before).spelling x) so_far w.spelled
+    ∙ ap (λ (l : List ℕ). start ++ (u32_spelling count ++ l)) (sym (spelled_push behind [] before x))

@@ -1,8 +1,9 @@
-use Rattle.std.proofs.Common.{◌≡◌, ◌<◌, ℕ, suc, List, [], ◌++◌, length, take, get_or, sym, ap, ◌∙◌, subst, append_assoc, add-one, arith}
+use Rattle.std.proofs.Common.{◌≡◌, suc, List, [], ◌∷◌, ◌++◌, length, take, sym, ap, ◌∙◌, subst, add-one, arith}
 use Rattle.std.proofs.lemmas.List.{take_all}
+use Rattle.std.proofs.Math.Seq.{take-suc}
 use Rattle.byte_form.specs.Fields.{u32_spelling}
 use Rattle.field_form.specs.Forms.{AllBehind, spelled}
-use Rattle.field_form.proofs.Lists.{all_at, all_more, spelled_more}
+use Rattle.field_form.proofs.Lists.{all_at, all_push, written_more}
 use Rattle.field_form.proofs.list.put_list.Goals as goal
 
 pub spell-requires : goal.spell-requires
@@ -19,21 +20,15 @@ loop-place-preserved g c =
     let items = c.as_slice-items.result.now in
     let place = c.loop-place.place in
     let item = c.index-items-place.result in
-    let behind = g.L.Listing.behind in
-    let lt : place < length items = c.loop-place-test.true in
-    let is = c.index-items-place.is in
+    let P = λ (before : List g.row.T.Denot) (x : g.row.T.Denot). (g.L.Listing.behind before).Fits x in
+    let one_more : take place items ++ item ∷ [] ≡ take (suc place) items = ap (λ (x : g.row.T.Denot). take place items ++ x ∷ []) c.index-items-place.is ∙ sym (take-suc items place item c.loop-place-test.true) in
     let w = c.in_ok-spell.ensures in
     let inv = c.loop-place.invariant in
-    let P = λ (before : List g.row.T.Denot) (x : g.row.T.Denot). (g.L.Listing.behind before).Fits x in
-    let fits : P (take place items) (get_or items place item) = subst (P (take place items)) is w.fits in
-    let u = u32_spelling (length items) in
-    let f = spelled behind [] (take place items) in
-    let s = (behind (take place items)).spelling item in
+    let new = c.spell.new.out.items in
     let start = c.args.out.now.items in
-    let more : spelled behind [] (take (suc place) items) ≡ f ++ s = spelled_more behind items place item lt ∙ ap (λ (x : g.row.T.Denot). f ++ (behind (take place items)).spelling x) (sym is) in
     rw add-one (
-      w.spelled ∙ ap (λ (l : List ℕ). l ++ s) inv.0 ∙ append_assoc start (u ++ f) s ∙ ap (λ (l : List ℕ). start ++ l) (append_assoc u f s ∙ ap (λ (l : List ℕ). u ++ l) (sym more)),
-      all_more P items place item lt inv.1 fits,
+      subst (λ (l : List g.row.T.Denot). new ≡ start ++ (u32_spelling (length items) ++ spelled g.L.Listing.behind [] l)) one_more (written_more g.L.Listing.behind (length items) start _ new (take place items) item inv.0 w),
+      subst (AllBehind P []) one_more (all_push P [] (take place items) item inv.1 w.fits),
     )
 
 pub returns : goal.returns

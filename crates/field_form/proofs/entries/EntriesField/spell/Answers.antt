@@ -1,4 +1,4 @@
-use Rattle.std.proofs.Common.{◌≡◌, ◌<◌, List, ℕ, pos, [], ◌++◌, length, take, sym, ap, ◌∙◌, subst, append_assoc, add-one, arith, get_or}
+use Rattle.std.proofs.Common.{◌≡◌, ◌<◌, List, ℕ, pos, [], ◌++◌, length, take, sym, ap, ◌∙◌, subst, add-one, arith, get_or}
 use Rattle.std.proofs.lemmas.List.{take_all}
 use Rattle.std.specs.List.{AllByRecursion}
 use Rattle.byte_form.specs.Fields.{u32_spelling}
@@ -8,7 +8,8 @@ use Rattle.model_values.specs.declared.key.Key.{Key}
 use Rattle.model_values.specs.declared.key.Key.TheVariants as key
 use Rattle.model_values.specs.declared.value.Value.{Value}
 use Rattle.model_values.specs.declared.value.Value.TheVariants as value
-use Rattle.field_form.proofs.Lists.{spelled_more}
+use Rattle.std.proofs.Math.Seq.{take-suc}
+use Rattle.field_form.proofs.Lists.{spelled_push, written_behind}
 use Rattle.field_form.proofs.NewKeys.{all_fit, one_more_fits}
 use Rattle.field_form.proofs.entries.EntriesField.spell.Goals as goal
 
@@ -19,15 +20,13 @@ loop-place-preserved c =
     let i = c.loop-place.place in
     let lt : i < length es = omega (arith, c.loop-place-test.true, c.len-count.ensures.len) in
     let e = get_or es i d in
-    let w : Written entry_form e c.loop-place.out.items c.spell_entry.new.out.items = c.in_ok-spell_entry.ensures d in
-    let u = u32_spelling (length es) in
-    let f = spelled entry_behind [] (take i es) in
-    let s = entry_form.spelling e in
+    let new = c.spell_entry.new.out.items in
     let start = c.args.out.now.items in
-    let more = spelled_more entry_behind es i d lt in
+    let w : Written entry_form e c.loop-place.out.items new = c.in_ok-spell_entry.ensures d in
     let inv = c.loop-place.invariant in
+    let behind : new ≡ start ++ (u32_spelling (length es) ++ (spelled entry_behind [] (take i es) ++ entry_form.spelling e)) = written_behind (length es) start _ new (spelled entry_behind [] (take i es)) (entry_form.spelling e) inv.0 w.spelled in
     rw add-one (
-      w.spelled ∙ ap (λ (l : List ℕ). l ++ s) inv.0 ∙ append_assoc start (u ++ f) s ∙ ap (λ (l : List ℕ). start ++ l) (append_assoc u f s ∙ ap (λ (l : List ℕ). u ++ l) (sym more)),
+      behind ∙ ap (λ (l : List ℕ). start ++ (u32_spelling (length es) ++ l)) (sym (spelled_push entry_behind [] (take i es) e) ∙ ap (spelled entry_behind []) (sym (take-suc es i d lt))),
       one_more_fits entry_form.Fits es i d lt inv.1 w.fits,
     )
 

@@ -1,8 +1,8 @@
-use Rattle.std.proofs.Common.{◌≡◌, ℕ, List, [], ◌∷◌, ◌++◌, length, sym, ap, ◌∙◌, subst, append_assoc}
+use Rattle.std.proofs.Common.{◌≡◌, List, [], ◌∷◌, ◌++◌, length, sym, ap, ◌∙◌, subst, append_assoc}
 use Rattle.std.proofs.lemmas.List.{append-nil}
 use Rattle.byte_form.specs.Fields.{u32_spelling}
 use Rattle.field_form.specs.Forms.{AllBehind, spelled}
-use Rattle.field_form.proofs.Lists.{all_behind, all_push, spelled_push}
+use Rattle.field_form.proofs.Lists.{all_behind, all_push, written_more}
 use Rattle.field_form.proofs.list.ChainField.spell.Goals as goal
 
 pub spell-requires : goal.spell-requires
@@ -17,16 +17,10 @@ loop-item-preserved g c =
     let inv = c.loop-item.invariant in
     let item = c.in-Some.item.now in
     let w = c.in_ok-spell.ensures in
-    let form = g.T.Field.form in
-    let all = c.args.self.now in
-    let u = u32_spelling (length all) in
-    let f = spelled (λ (b : List g.row.T.Denot). form) [] inv.0 in
-    let s = form.spelling item in
-    let start = c.args.out.now.items in
-    let more = spelled_push (λ (b : List g.row.T.Denot). form) [] inv.0 item in (
+    let form = g.T.Field.form in (
       inv.0 ++ item ∷ [],
       append_assoc inv.0 (item ∷ []) c.in-Some.behind.now ∙ ap (λ (l : List g.row.T.Denot). inv.0 ++ l) (sym c.in-Some.ensures) ∙ inv.1,
-      w.spelled ∙ ap (λ (l : List ℕ). l ++ s) inv.2 ∙ append_assoc start (u ++ f) s ∙ ap (λ (l : List ℕ). start ++ l) (append_assoc u f s ∙ ap (λ (l : List ℕ). u ++ l) (sym more)),
+      written_more (λ (b : List g.row.T.Denot). form) (length c.args.self.now) c.args.out.now.items _ _ inv.0 item inv.2 w,
       all_push (λ (b : List g.row.T.Denot) (x : g.row.T.Denot). form.Fits x) [] inv.0 item inv.3 w.fits,
     )
 
