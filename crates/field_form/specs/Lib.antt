@@ -1,0 +1,13 @@
+pub mod Reading
+pub mod Forms
+pub mod Rules
+pub mod Places
+pub mod FieldLaws
+pub mod FormLaws
+pub mod Numbered
+pub mod Values
+pub mod Cells
+pub mod Flow
+pub mod Requests
+pub mod Waits
+pub mod Events
