@@ -1,5 +1,7 @@
 pub mod NodeLaws
 pub mod ShapedScripts
+pub mod Bounds
+pub mod Asked
 pub mod Flow
 pub mod Sources
 pub mod SoundStatements
@@ -22,4 +24,5 @@ pub mod Evaluation
 pub mod Resumption
 pub mod SoundThreads
 pub mod SoundSeats
+pub mod EventBounds
 pub mod SoundWorlds

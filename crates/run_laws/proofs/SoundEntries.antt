@@ -64,7 +64,7 @@ module _ (g : Setting) (real : Real g.script [] g.script) (shaped : Shaped g.scr
   closure_made : (u : Common) (env : Env) → EnvFits u.cells xs env → is_closure_form sh.form ≡ true → is_declaration sh.form ≡ false → Goes g sh.form u (operating (λ w. new_cell (limits w) (cells w) (ClosureCell k env)) ended)
   closure_made u env fit cl plain s at =
       let b : Before = record { l = limits s.world; rule = closure_rule g.script; h = cells s.world; given = CellsFit (closure_rule g.script) (cells s.world) × EnvFits (cells s.world) xs env; fit = λ x. x.0 } in
-      answer_goes g sh.form u (limits s.world) (IsIn HasClosure) (new_cell (limits s.world) (cells s.world) (ClosureCell k env)) s at (CellsFit (closure_rule g.script) (cells s.world) × EnvFits (cells s.world) xs env)
+      answer_goes g sh.form u (IsIn HasClosure) (new_cell (limits s.world) (cells s.world) (ClosureCell k env)) s at (CellsFit (closure_rule g.script) (cells s.world) × EnvFits (cells s.world) xs env)
       ((at.sound).cells, env_later u s.world.shared at.later xs env fit)
       (new_closure_grows b k env (λ x. ((place.below, ap (λ s. is_closure_form s.form) place.there ∙ cl, (x.1).names ∙ sym place.sees), (x.1).variables))) ended (λ v t q l is. (q, (closure_value t.world.shared.cells v is, plain)))
 

@@ -64,7 +64,7 @@ chain_within f e i xs = absurd (cc)
 
 module _ (g : Setting) where
   raised_moves : (n : ℕ) (w : World) → Sound g w → Moves g (raised n) w
-  raised_moves n w sound = moves_aside g (raised n) w sound refl refl refl refl
+  raised_moves n w sound = moves_aside g (raised n) w sound refl refl refl refl refl refl (omega arith)
 
   module _ (f : NodeForm) (plain : is_declaration f ≡ false) (u : Common) where
     pub value_form_goes : GoesWith g f u value
@@ -83,7 +83,7 @@ module _ (g : Setting) where
 
     compared_goes : (same : Bool) (go : Value → State → Result) → GoesWith g f u go → (x : Equality) → Goes g f u (compared same go x)
     compared_goes same go k' (Equal_is b n) = change_goes g f u (raised n) (raised_moves n) (go (Truth (if same then b else not b))) (λ s at. k' (Truth (if same then b else not b)) s at tt)
-    compared_goes same go k' (Stops limit n) = change_goes g f u (raised n) (raised_moves n) (Limited limit) (λ s at. tt)
+    compared_goes same go k' (Stops limit n) = change_goes g f u (raised n) (raised_moves n) (Limited limit) (λ s at. at)
 
     comparing_goes : (same : Bool) (x y : Value) (go : Value → State → Result) → GoesWith g f u go → Goes g f u (comparing same x y go)
     comparing_goes same x y go k' s at = compared_goes same go k' (equal (limits s.world) (cells s.world) x y s.world.shared.count) s at

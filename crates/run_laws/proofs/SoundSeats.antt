@@ -1,5 +1,5 @@
 -- A thread of a sound build, as an image holds it, goes on soundly with the answer that it is about to get.
-use Rattle.std.proofs.Common.{◌≡◌, refl, sym, subst, ℕ, List, [], ◌∷◌}
+use Rattle.std.proofs.Common.{◌≡◌, refl, sym, subst, ℕ, false, List, [], ◌∷◌}
 use Rattle.std.specs.Prelude.{slice_get, pos}
 use Rattle.std.specs.List.{AllByRecursion as AllAre}
 use Rattle.model_syntax.specs.declared.tree.Tree.{Tree}
@@ -20,7 +20,7 @@ use Rattle.model_run.specs.Nesting.{Spot, For_executor, For_task, For_person, Fo
 use Rattle.model_run.specs.Scoping.{names_for}
 use Rattle.model_run.specs.Fitting.{EnvFits, closure_rule, IsFlowNode, known, AnswerFits, EndFits, Seat, SeatFits, outermost, OutcomeFits}
 use Rattle.model_run.proofs.LaterLaws.{frame_wider}
-use Rattle.run_laws.specs.Soundness.{seen, Sits, At}
+use Rattle.run_laws.specs.Soundness.{SharedSound, seen, Sits, At}
 use Rattle.run_laws.specs.Evaluation.{HoldsAt}
 use Rattle.run_laws.proofs.Flow.{later_self}
 use Rattle.run_laws.proofs.Evaluation.{ScriptFacts, tree_facts}
@@ -35,24 +35,20 @@ all_sit : (root : Term) (u : Common) (fs : List Frame) → AllAre (FrameFits (kn
 all_sit root u [] a b = tt
 all_sit root u (f ∷ fs) a b = (record { fits = frame_wider (known u) (seen u) (known_seen u) root f a.0; names = b.0 }, all_sit root u fs a.1 b.1)
 
-pub outcomes_of : (u : Common) (ends : List BranchEnd) → AllAre (λ b. EndFits u b.end) ends → AllAre (λ b. OutcomeFits u b.end.outcome) ends
-outcomes_of u [] h = tt
-outcomes_of u (b ∷ bs) h = ((h.0).1, outcomes_of u bs h.1)
-
 answer_there : (g : Setting) (u : Common) (own : Own) → At g u (record { world = record { setting = g; shared = u; own = own }; replies = [] }) → (at : Spot) (f : Frame) (fs : List Frame) (x : Answer) → AnswerFits u at (f ∷ fs) x
     → HoldsAt g at u (Ended (Answered x) (record { world = record { setting = g; shared = u; own = own }; replies = [] }))
 answer_there g u own sound For_executor f fs (Granted x) h = (sound, tt)
 answer_there g u own sound For_task f fs (Done code out) h = (sound, tt)
 answer_there g u own sound For_person f fs (Decided proceed name) h = (sound, tt)
-answer_there g u own sound For_branches f fs (Joined ends) h = (sound, outcomes_of u ends h)
+answer_there g u own sound For_branches f fs (Joined ends) h = (sound, h)
 answer_there g u own sound at f fs x h = absurd h
 
 -- Its frames, in any state with these cells, variables and flow nodes.
-pub seat_goes : (g : Setting) (tree : Tree) → g.script ≡ term 0 (tree_node tree) → (u : Common) (seats : List Seat) (t : Seat) → CellsFit (closure_rule g.script) u.cells → AllAre (λ b. HasVariable (slice_get u.cells b.cell)) u.binding → SeatFits g u seats t
+pub seat_goes : (g : Setting) (tree : Tree) → g.script ≡ term 0 (tree_node tree) → (u : Common) (seats : List Seat) (t : Seat) → SharedSound g false u → SeatFits g u seats t
     → (n : ℕ) (own : Own) → IsFlowNode u.nodes own.head → (f : Frame) (fs : List Frame) → t.stack ≡ f ∷ fs → (x : Answer) → AnswerFits u (innermost g.script (outermost t.parent) t.stack) t.stack x
     → HoldsAt g (outermost t.parent) u (unwind g.script n t.stack (Ended (Answered x) (record { world = record { setting = g; shared = u; own = own }; replies = [] })))
-seat_goes g tree is u seats t cells binding fits n own head f fs stack x answer =
+seat_goes g tree is u seats t shared fits n own head f fs stack x answer =
     let sound : At g u (record { world = record { setting = g; shared = u; own = own }; replies = [] }) =
-    record { later = later_self u; sound = record { setting = refl; cells = cells; binding = binding; head = head }; alone = refl } in
+    record { later = later_self u; sound = record { setting = refl; narrow = shared.narrow; cells = shared.cells; binding = shared.binding; head = head; bounds = shared.bounds }; alone = refl } in
     unwind_goes g (subst ScriptFacts (sym is) (tree_facts tree)) n u t.stack (outermost t.parent) fits.nested (all_sit g.script u t.stack fits.frames fits.envs) _
     (answer_there g u own sound (innermost g.script (outermost t.parent) t.stack) f fs x (subst (λ st. AnswerFits u (innermost g.script (outermost t.parent) t.stack) st x) stack answer))

@@ -36,7 +36,7 @@ use Rattle.model_run.proofs.StatementLaws.{some_parts}
 use Rattle.model_run.proofs.Under.{both}
 use Rattle.model_run.proofs.Front.{front_itself}
 use Rattle.run_laws.specs.Soundness.{Shaped, may_declare, seen, Sits, declares_as, EndFits, At, Holds, Goes}
-use Rattle.run_laws.proofs.Flow.{end_then, later_self, there_then, at_self, holds_then, from_here, holds_as, end_as, at_moved, tick_goes, decide_goes, null_goes, value_goes, answer_goes, through_goes}
+use Rattle.run_laws.proofs.Flow.{end_then, later_self, there_then, at_self, holds_then, from_here, holds_as, end_as, at_moved, tick_goes, decide_goes, null_goes, value_goes, moves_cells, answer_with, answer_goes, through_goes}
 use Rattle.run_laws.proofs.Sources.{TurnFits, turn_names, behind_none, after_one_more, Place, Sources, sits_here, Quiet, quiet_part, quiet_names, quiet_after, no_declaration, part_goes, inner_goes}
 
 block_ends : (f : NodeForm) → is_block f ≡ true → is_declaration f ≡ false
@@ -141,18 +141,21 @@ module _ (g : Setting) where
 
   module _ (f : NodeForm) (u : Common) where
     -- a new variable with this value
-    pub variable_goes : (v : Value) (go : ℕ → State → Result) → There u.cells v → ((c : ℕ) (s : State) → At g u s → HasVariable (slice_get s.world.shared.cells c) → Holds g f u (go c s)) → Goes g f u (new_variable v go)
-    variable_goes v go there k s at =
-        answer_goes g f u (limits s.world) (IsIn HasVariable) _ s at (Given (closure_rule g.script) (cells s.world) (v ∷ [])) ((at.sound).cells, (there_then u s.world.shared at.later v there, tt))
+    pub variable_from : (v : Value) (go : ℕ → State → Result) → There u.cells v → (s : State) → At g u s → ((c : ℕ) (t : State) → At g u t → t.world.shared.binding ≡ s.world.shared.binding → HasVariable (slice_get t.world.shared.cells c) → Holds g f u (go c t)) → Holds g f u (new_variable v go s)
+    variable_from v go there s at k =
+        answer_with g f u (IsIn HasVariable) _ s at (Given (closure_rule g.script) (cells s.world) (v ∷ [])) ((at.sound).cells, (there_then u s.world.shared at.later v there, tt))
         (new_variables (limits s.world) (closure_rule g.script) (cells s.world) v) (λ c. go (cell_number c))
-        (λ c t at' l is. k (cell_number c) t at' (variable_in t.world.shared.cells c is))
+        (λ c t at' l same is. k (cell_number c) t at' same (variable_in t.world.shared.cells c is))
+
+    pub variable_goes : (v : Value) (go : ℕ → State → Result) → There u.cells v → ((c : ℕ) (s : State) → At g u s → HasVariable (slice_get s.world.shared.cells c) → Holds g f u (go c s)) → Goes g f u (new_variable v go)
+    variable_goes v go there k s at = variable_from v go there s at (λ c t at' same has. k c t at' has)
 
   pub declare_goes : (x : List ℕ) (u : Common) (v : Value) → There u.cells v → Goes g (form.Declare x) u (declare x v)
   declare_goes x u v there = variable_goes (form.Declare x) u v (λ c. Ended (Declared (record { name = x; cell = c }))) there (λ c s at has. (at, (refl, has)))
 
   pub throws_goes : (f : NodeForm) (u : Common) (v : Value) → There u.cells v → Goes g f u (throws v)
   throws_goes f u v there s at =
-      answer_goes g f u (limits s.world) (λ h v. ⊥) _ s at (Given (closure_rule g.script) (cells s.world) (v ∷ [])) ((at.sound).cells, (there_then u s.world.shared at.later v there, tt))
+      answer_goes g f u (λ h v. ⊥) _ s at (Given (closure_rule g.script) (cells s.world) (v ∷ [])) ((at.sound).cells, (there_then u s.world.shared at.later v there, tt))
       (throw_values (limits s.world) (closure_rule g.script) (cells s.world) v) ended (λ c t at' l is. absurd is)
 
 module _ (g : Setting) (shaped : Shaped g.script) (k : ℕ) (sh : Shape) (xs : Names) (place : Place g k sh xs) (a : Around) (src : Sources g shaped k sh xs place a) where
@@ -343,11 +346,11 @@ module _ (g : Setting) (shaped : Shaped g.script) (k : ℕ) (sh : Shape) (xs : N
 
     each_element_goes : (u : Common) (env : Env) (on : Value) (i : ℕ) → EnvFits u.cells xs env → There u.cells on → (t : Element) (s : State) → At g u s → TurnGrows (limits s.world) (closure_rule g.script) (cells s.world) (Given (closure_rule g.script) (cells s.world) (on ∷ [])) t → Holds g sh.form u (each_element a k x env on i t s)
     each_element_goes u env on i fit there Past s at grown = null_goes g sh.form u each_plain s at
-    each_element_goes u env on i fit there (Stops limit) s at grown = tt
+    each_element_goes u env on i fit there (Stops limit) s at grown = at
     each_element_goes u env on i fit there (Turns h args element) s at grown =
         let fits : CellsFit (closure_rule g.script) h × (AllAre (There h) args × AllAre (There h) element) = grown.fits ((at.sound).cells, (there_then u s.world.shared at.later on there, tt)) in
         let l1 : Later s.world.shared (put_cells h s.world).shared = record { cells = grown.later; nodes = front_itself s.world.shared.nodes } in
-        let at1 : At g u (with_world (put_cells h s.world) s) = at_moved g u (put_cells h) s at (record { later = l1; cells = fits.0; binding = variables_later (cells s.world) h grown.later s.world.shared.binding (at.sound).binding; head = (at.sound).head }) in
+        let at1 : At g u (with_world (put_cells h s.world) s) = at_moved g u (put_cells h) s at (moves_cells g s.world at.sound _ _ h grown fits.0) in
         from_here g sh.form u (each_body a k x env on i (value_at 0 args)) (with_world (put_cells h s.world) s) at1
         (each_body_goes (put_cells h s.world).shared env on i (value_at 0 args) (env_later u (put_cells h s.world).shared at1.later xs env fit) (there_then u (put_cells h s.world).shared at1.later on there) (all_index (There h) args 0 Null (fits.1).0 tt))
 

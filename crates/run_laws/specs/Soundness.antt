@@ -20,6 +20,7 @@ use Rattle.model_run.specs.FrameTable.{Up_to, is_block, is_target_form, is_decla
 use Rattle.model_run.specs.Nesting.{Sorts, FrameFits, shape_at}
 use Rattle.model_run.specs.Scoping.{names_for}
 use Rattle.model_run.specs.Fitting.{EnvFits, closure_rule, IsFlowNode, known, Later}
+use Rattle.run_laws.specs.Bounds.{Narrow, InBounds}
 
 -- The nodes of a script stand as those of a tree do, as far as names depend on it.
 abbrev pub may_declare : NodeForm → ℕ → Bool
@@ -69,14 +70,24 @@ EndFits f u Continued = Unit {0}
 EndFits f u (Declared b) = declares_as f b.name × HasVariable (slice_get u.cells b.cell)
 EndFits f u (Answered x) = ⊥
 
+-- The shared state of a build that has ended or not is sound: cells and binding variables name what is there, and what is counted
+-- stays in its bounds.
+pub record SharedSound (g : Setting) (ended : Bool) (u : Common) : Type 0 where
+  pub narrow : Narrow g.limits
+  pub cells : CellsFit (closure_rule g.script) u.cells
+  pub binding : AllAre (λ b. HasVariable (slice_get u.cells b.cell)) u.binding
+  pub bounds : InBounds ended g.site u
+
 module _ (g : Setting) where
   -- A sound world, as far as an evaluation depends on it: cells and binding variables name what is there, and so does the thread its
-  -- last flow node.
+  -- last flow node; and what is counted stays in its bounds.
   pub record Sound (w : World) : Type 0 where
     pub setting : w.setting ≡ g
+    pub narrow : Narrow g.limits
     pub cells : CellsFit (closure_rule g.script) w.shared.cells
     pub binding : AllAre (λ b. HasVariable (slice_get w.shared.cells b.cell)) w.shared.binding
     pub head : IsFlowNode w.shared.nodes w.own.head
+    pub bounds : InBounds false g.site w.shared
 
   -- a sound state, later than u, in which no answer is still to come
   pub record At (u : Common) (s : State) : Type 0 where
@@ -88,7 +99,7 @@ module _ (g : Setting) where
   abbrev pub Holds : NodeForm → Common → Result → Type 0
   Holds f u (Ended e s) = At u s × EndFits f s.world.shared e
   Holds f u (Waits asked path s) = At u s × AskedFits g.script s.world.shared asked × AllAre (Sits g.script s.world.shared) path
-  Holds f u (Limited k s) = Unit {0}
+  Holds f u (Limited k s) = At u s
   Holds f u Unfinished = Unit {0}
 
   abbrev pub Goes : NodeForm → Common → (State → Result) → Type 0
