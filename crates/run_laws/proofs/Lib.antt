@@ -26,3 +26,4 @@ pub mod SoundThreads
 pub mod SoundSeats
 pub mod EventBounds
 pub mod SoundWorlds
+pub mod SharedWorlds

@@ -8,6 +8,7 @@ use Rattle.model_syntax.specs.declared.node.NodeForm.{NodeForm}
 use Rattle.model_syntax.specs.declared.node.NodeForm.TheVariants as form
 use Rattle.model_syntax.specs.declared.tree.Tree.{Tree}
 use Rattle.model_syntax.specs.TreeNodes.{tree_node}
+use Rattle.model_values.specs.declared.limit.LimitKind.{LimitKind}
 use Rattle.model_values.specs.declared.limit.LimitKind.TheVariants.{GreenThreads, LogSize, TextLength}
 use Rattle.model_values.specs.declared.value.Outcome.{Outcome}
 use Rattle.model_run.specs.LogText.{raw}
@@ -230,9 +231,13 @@ module _ (g : Setting) (tree : Tree) (is : g.script ≡ term 0 (tree_node tree))
   ended_at Script u e s h = (h.0, outcome_there (shape_at g.script 0).form s.world.shared e h.1)
   ended_at (Closure k env start) u e s h = (h.0, outcome_there form.Block s.world.shared e h.1)
 
-  waits_at : (runs : Runs) (u : Common) (asked : Asked) (path : List Frame) (s : State) → HoldsAt g (outer_spot runs) u (Waits asked path s) → Holds g form.Block u (Waits asked path s)
+  pub waits_at : (runs : Runs) (u : Common) (asked : Asked) (path : List Frame) (s : State) → HoldsAt g (outer_spot runs) u (Waits asked path s) → Holds g form.Block u (Waits asked path s)
   waits_at Script u asked path s h = h
   waits_at (Closure k env start) u asked path s h = h
+
+  pub limited_at : (runs : Runs) (u : Common) (k : LimitKind) (s : State) → HoldsAt g (outer_spot runs) u (Limited k s) → At g u s
+  limited_at Script u k s h = h
+  limited_at (Closure j env start) u k s h = h
 
   at_waits : (runs : Runs) (u : Common) (asked : Asked) (path : List Frame) (s : State) → Holds g form.Block u (Waits asked path s) → HoldsAt g (outer_spot runs) u (Waits asked path s)
   at_waits Script u asked path s h = h
@@ -310,7 +315,7 @@ module _ (g : Setting) (tree : Tree) (is : g.script ≡ term 0 (tree_node tree))
     stopped_sound Unfinished is1 holds owns b m = tt
 
   -- a thread that is given its answer
-  pub given_runs : (u : Common) (x : Answer) → AnswerThere u x → (t : Thread) → SoundThread g u t → Stood g t → (hs : List Reply) → t.history ≡ hs → HoldsAt g (outer_spot t.runs) u (stands g (given_answer u x t))
+  given_runs : (u : Common) (x : Answer) → AnswerThere u x → (t : Thread) → SoundThread g u t → Stood g t → (hs : List Reply) → t.history ≡ hs → HoldsAt g (outer_spot t.runs) u (stands g (given_answer u x t))
   given_runs u x there t h st [] e =
       subst (λ (hs : List Reply). HoldsAt g (outer_spot t.runs) u (stands_from g t.runs t.own (hs ++ (record { shared = u; answer = x }) ∷ []))) (sym e)
       (begun_goes g tree is t.runs t.own (record { shared = u; answer = x }) h.runs h.shared h.head)
@@ -325,13 +330,16 @@ module _ (g : Setting) (tree : Tree) (is : g.script ≡ term 0 (tree_node tree))
         (record { later = stood.1; shared = h.shared; answer = there })))
   ]
 
-  pub given_owns : (u : Common) (x : Answer) (t : Thread) (hs : List Reply) → t.history ≡ hs → Owns g t.own.number t.own.calls (stands g (given_answer u x t))
+  given_owns : (u : Common) (x : Answer) (t : Thread) (hs : List Reply) → t.history ≡ hs → Owns g t.own.number t.own.calls (stands g (given_answer u x t))
   given_owns u x t [] e = subst (λ (hs : List Reply). Owns g t.own.number t.own.calls (stands_from g t.runs t.own (hs ++ (record { shared = u; answer = x }) ∷ []))) (sym e) (stands_owns g t.runs t.own (record { shared = u; answer = x }) [])
   given_owns u x t (first ∷ rs) e = subst (λ (hs : List Reply). Owns g t.own.number t.own.calls (stands_from g t.runs t.own (hs ++ (record { shared = u; answer = x }) ∷ []))) (sym e) (stands_owns g t.runs t.own first (rs ++ (record { shared = u; answer = x }) ∷ []))
 
+  pub given_of : (u : Common) (x : Answer) (t : Thread) → AnswerThere u x → SoundThread g u t → Stood g t → Given u (given_answer u x t)
+  given_of u x t there h st = record { stops = given_runs u x there t h st t.history refl; number = given_owns u x t t.history refl; runs = h.runs; head = h.head }
+
   pub resumed_sound : (b : Build) (x : Answer) (t : Thread) → AnswerThere b.shared x → SoundThread g b.shared t → Stood g t → AllSound b → AllSound (resumed g (given_answer b.shared x t) b)
   resumed_sound b x t there h st all =
-      let given : Given b.shared (given_answer b.shared x t) = record { stops = given_runs b.shared x there t h st t.history refl; number = given_owns b.shared x t t.history refl; runs = h.runs; head = h.head } in
+      let given : Given b.shared (given_answer b.shared x t) = given_of b.shared x t there h st in
       stopped_sound b.shared (given_answer b.shared x t) given (stands g (given_answer b.shared x t)) refl given.stops given.number
       (record b { threads = with_thread (λ old. given_answer b.shared x t) t.own.number b.threads }) (mid_begins (SoundThread g b.shared) (given_answer b.shared x t) b.threads all)
 
@@ -351,7 +359,7 @@ module _ (g : Setting) (tree : Tree) (is : g.script ≡ term 0 (tree_node tree))
   abbrev pub AllStand : Build → Type 0
   AllStand b = AllAre (Stood g) b.threads
 
-  pub taken_sound : (n : ℕ) → ((b : Build) → AllStand b → AllSound b → AllSound (settle n g b)) → (b : Build) → AllStand b → AllSound b → (o : Option Turn) → TurnSound b.shared o → AllSound (take_turn (settle n g) g b o)
+  taken_sound : (n : ℕ) → ((b : Build) → AllStand b → AllSound b → AllSound (settle n g b)) → (b : Build) → AllStand b → AllSound b → (o : Option Turn) → TurnSound b.shared o → AllSound (take_turn (settle n g) g b o)
   taken_sound n more b st all None h = all
   taken_sound n more b st all (Some turn) h =
       more (resumed g (given_answer b.shared turn.answer turn.thread) b) (given_stood g b.shared turn.answer turn.thread turn.thread.history refl (h.2).calls b st)
@@ -399,7 +407,7 @@ module _ (g : Setting) (tree : Tree) (is : g.script ≡ term 0 (tree_node tree))
   changed_sound (LostEvent task why) b all = ready_sound (thread_of task b.shared.requests) (Done (lost_code why) (kept_output (request_of b.shared.requests task))) (record b { shared = without_request task b.shared }) tt (aside b.shared (without_request task b.shared) refl refl refl (bounds_closed false g.site task b.shared b.shared.held) b.threads all)
   changed_sound (DecidedEvent request proceed name) b all = ready_sound (thread_of request b.shared.requests) (DecidedAnswer proceed name) (record b { shared = without_request request b.shared }) tt (aside b.shared (without_request request b.shared) refl refl refl (bounds_closed false g.site request b.shared b.shared.held) b.threads all)
 
-  event_sound : (b : Build) (e : Event) (x : Taken) → AllStand b → AllSound b → AllSound (after_event g b e x)
+  pub event_sound : (b : Build) (e : Event) (x : Taken) → AllStand b → AllSound b → AllSound (after_event g b e x)
   event_sound b e Accepted st all =
       settle_sound (turn_bound g.limits) (changed_by g e (uncounted b)) (changed_stood g e (uncounted b) st)
       (changed_sound e (uncounted b) (aside b.shared (uncounted b).shared refl refl refl (bounds_uncounted false g.site b.shared) b.threads all))
