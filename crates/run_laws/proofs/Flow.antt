@@ -55,7 +55,7 @@ module _ (u v : Common) (later : Later u v) where
   seen_then s x h = absurd h
 
   pub sits_then : (root : _) (f : Frame) → Sits root u f → Sits root v f
-  sits_then root f h = record { fits = frame_wider (seen u) (seen v) seen_then root f h.fits; names = env_later u v later _ f.env h.names }
+  sits_then root f h = record { fits = frame_wider (seen u) (seen v) seen_then root f h.fits; names = env_later u v later _ f.env h.names; numbers = h.numbers }
 
 pub end_then : (u v : Common) → Later u v → (f : NodeForm) (e : Ending) → EndFits f u e → EndFits f v e
 end_then u v l f (Normal x) h = (there_then u v l x h.0, h.1)

@@ -2,6 +2,7 @@ pub mod NodeLaws
 pub mod ShapedScripts
 pub mod Bounds
 pub mod Asked
+pub mod Sizes
 pub mod Flow
 pub mod Sources
 pub mod SoundStatements

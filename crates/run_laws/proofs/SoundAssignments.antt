@@ -217,7 +217,7 @@ module _ (g : Setting) (shaped : Shaped g.script) (k : ℕ) (sh : Shape) (xs : N
 
   assign_value_goes : is_assignment sh.form ≡ true → (u : Common) (env : Env) → EnvFits u.cells xs env → (kept : List Value) → length kept ≡ place_size (form_at sh.parts 0) + operator_count (operator_in sh.form) → AllAre (There u.cells) kept → Goes g sh.form u (assign_value a k sh env kept)
   assign_value_goes asg u env fit kept count there s at =
-      through_goes g sh.form form.Block u (frame kind.AssignValue k 0 env kept) (sits_here g shaped k sh xs place u kind.AssignValue 0 env kept asg (omega arith) (any_seen u _ kept count there) fit) (after_assigned sh kept env)
+      through_goes g sh.form form.Block u (frame kind.AssignValue k 0 env kept) (sits_here g shaped k sh xs place u kind.AssignValue 0 env kept asg (omega arith) (any_seen u _ kept count there) fit tt) (after_assigned sh kept env)
       (assigned_goes g sh.form plain sh u xs env fit kept there) (a.part First 1 env s) (part_goes g shaped k sh xs place a src quiet u env fit 1 (within 1) s at)
 
   assign_at_goes : is_assignment sh.form ≡ true → (o : Option Op) → operator_in sh.form ≡ o → (u : Common) (env : Env) → EnvFits u.cells xs env → (kept : List Value) → length kept ≡ place_size (form_at sh.parts 0) → AllAre (There u.cells) kept → Goes g sh.form u (assign_at a k sh env kept o)
@@ -259,13 +259,13 @@ module _ (g : Setting) (shaped : Shaped g.script) (k : ℕ) (sh : Shape) (xs : N
   after_receiver_goes form.ToIndex is tg some u env fit = value_goes g sh.form u _ (λ of s at there.
       let fit1 : EnvFits s.world.shared.cells xs env = env_later u s.world.shared at.later xs env fit in
       holds_then g sh.form u s.world.shared at.later _ (through_goes g sh.form form.Block s.world.shared (frame kind.TargetIndex k 0 env (of ∷ []))
-      (sits_here g shaped k sh xs place s.world.shared kind.TargetIndex 0 env (of ∷ []) (both _ _ ta (ap (λ t. nat_eq (place_size t) 2) is)) (omega arith) (there, tt) fit1) (after_index a k sh env of)
+      (sits_here g shaped k sh xs place s.world.shared kind.TargetIndex 0 env (of ∷ []) (both _ _ ta (ap (λ t. nat_eq (place_size t) 2) is)) (omega arith) (there, tt) fit1 tt) (after_index a k sh env of)
       (index_goes s.world.shared env fit1 of there (ap place_size is)) (a.part (Inside 1) 0 env s) (target_inner s.world.shared 1 env (ap has_inner is) (ap is_target is) fit1 s (at_self g u s at))))
   after_receiver_goes t is tg some u env fit = absurd (cc)
 
   receiver_frame : (t : NodeForm) → form_at sh.parts 0 ≡ t → is_target t ≡ true → has_inner t ≡ true → nat_lt 0 (place_size t) ≡ true → (u : Common) (env : Env) → EnvFits u.cells xs env → Goes g sh.form u (λ s. through (frame kind.TargetReceiver k 0 env []) (after_receiver a k sh env (form_at sh.parts 0)) (a.part (Inside 0) 0 env s))
   receiver_frame t is tg inside some u env fit s at = through_goes g sh.form form.Block u (frame kind.TargetReceiver k 0 env [])
-      (sits_here g shaped k sh xs place u kind.TargetReceiver 0 env [] (both _ _ ta (ap (λ t. nat_lt 0 (place_size t)) is ∙ some)) (omega arith) tt fit) (after_receiver a k sh env (form_at sh.parts 0))
+      (sits_here g shaped k sh xs place u kind.TargetReceiver 0 env [] (both _ _ ta (ap (λ t. nat_lt 0 (place_size t)) is ∙ some)) (omega arith) tt fit tt) (after_receiver a k sh env (form_at sh.parts 0))
       (after_receiver_goes (form_at sh.parts 0) refl (ap is_target is ∙ tg) (ap (λ t. nat_lt 0 (place_size t)) is ∙ some) u env fit) (a.part (Inside 0) 0 env s) (target_inner u 0 env (ap has_inner is ∙ inside) (ap is_target is ∙ tg) fit s at)
 
   pub receiver_goes : (t : NodeForm) → form_at sh.parts 0 ≡ t → is_target t ≡ true → (u : Common) (env : Env) → EnvFits u.cells xs env → Goes g sh.form u (receiver a k sh env t)

@@ -129,7 +129,7 @@ module _ (g : Setting) (shaped : Shaped g.script) (k : ℕ) (sh : Shape) (xs : N
               (λ i lt. subst (λ cs. HasVariable (slice_get cs (length h + i))) (sym is) (subst HasVariable (sym (get_behind h (map Variable vs) i)) (variable_there vs i (omega (arith, lt, many))))) fit1.variables;
         } in
         holds_then g form.Block u t.world.shared at.later _ (through_goes g form.Block form.Block t.world.shared (frame kind.CallBody k 0 env [])
-        (sits_here g shaped k sh xs place t.world.shared kind.CallBody 0 env [] cl (omega arith) tt fit1) after_call (call_end_goes g form.Block refl t.world.shared) (a.part First 0 (bind_all (parameters_of sh.form) (length h) env) t)
+        (sits_here g shaped k sh xs place t.world.shared kind.CallBody 0 env [] cl (omega arith) tt fit1 tt) after_call (call_end_goes g form.Block refl t.world.shared) (a.part First 0 (bind_all (parameters_of sh.form) (length h) env) t)
         (holds_as g (form_at sh.parts 0) form.Block t.world.shared _ (quiet_part g shaped k sh xs place quiet 0) refl
         (src.part t.world.shared 0 (bind_all (parameters_of sh.form) (length h) env) (subst (λ zs. EnvFits t.world.shared.cells zs (bind_all (parameters_of sh.form) (length h) env)) (sym inner_names) fit2) t (at_self g u t at))))
 
@@ -154,6 +154,6 @@ module _ (g : Setting) (shaped : Shaped g.script) (k : ℕ) (sh : Shape) (xs : N
   -- a branch's closure
   pub branched_goes : (f : NodeForm) → sh.form ≡ f → is_closure_form f ≡ true → (u : Common) (env : Env) → EnvFits u.cells xs env → (start : ℕ) → IsFlowNode u.nodes start → Goes g form.Block u (branched a k sh env start f)
   branched_goes (form.Closure heads) is cl u env fit start flow s at =
-      through_goes g form.Block form.Block u (frame kind.BranchBody k 0 env (whole start ∷ [])) (sits_here g shaped k sh xs place u kind.BranchBody 0 env (whole start ∷ []) (ap is_closure_form is) (omega arith) (flow, tt) fit) (after_branch start)
+      through_goes g form.Block form.Block u (frame kind.BranchBody k 0 env (whole start ∷ [])) (sits_here g shaped k sh xs place u kind.BranchBody 0 env (whole start ∷ []) (ap is_closure_form is) (omega arith) (flow, tt) fit tt) (after_branch start)
       (branch_end_goes g form.Block refl u start flow) (body a sh k env [] s) (body_goes (ap is_callable is) u env fit [] tt s at)
   branched_goes f is cl u env fit start flow s at = absurd (cc)

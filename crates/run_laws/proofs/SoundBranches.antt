@@ -1,5 +1,5 @@
 -- The step `parallel`, the ends of branches, and each step as it begins: sound from a sound state on.
-use Rattle.std.proofs.Common.{arith, ◌≡◌, refl, ℕ, Bool, true, false, List, [], ◌∷◌, ◌++◌, Option, Some, None}
+use Rattle.std.proofs.Common.{arith, ◌≡◌, refl, ℕ, Bool, true, false, List, [], ◌∷◌, ◌++◌, Option, Some, None, ◌<◌}
 use Rattle.std.specs.Prelude.{slice_get, codes, map, nat_lt, unwrap_or, if◌then◌else◌}
 use Rattle.std.specs.List.{AllByRecursion as AllAre}
 use Rattle.indexmap.specs.IndexMap.{insert_all}
@@ -37,14 +37,16 @@ use Rattle.model_run.specs.Around.{Around, Shape, frame, ended, cells, limits, w
 use Rattle.model_run.specs.Callables.{closure_in, closure_of}
 use Rattle.model_run.specs.FlowNodes.{next_node, noted_limit, noted_branch, branch_label, body_line, branch_name}
 use Rattle.model_run.specs.StepTable.{Given, given, Bound, Binds, Refuses, Stops_at, bind_step, text_given, is_true}
-use Rattle.model_run.specs.Steps.{text_or_empty, worsened, sh_in, place_of, with_callee, branches_of, branch_entries, branches_given, values_of, outcome_value, is_thrown, earlier, first_failure, thrown_by, joined_as, joined_branches, after_parallel, no_branches, fork_or_none, begin_branches, parallel, branch_failed, after_branch, atom_step, block_step, bound_step, begin_step, tries_given, overrides_of}
+use Rattle.model_run.specs.Steps.{text_or_empty, named_result, worsened, sh_in, place_of, with_callee, branches_of, branch_entries, branches_given, values_of, outcome_value, is_thrown, earlier, first_failure, thrown_by, joined_as, joined_branches, after_parallel, no_branches, fork_or_none, begin_branches, parallel, branch_failed, after_branch, atom_step, block_step, bound_step, begin_step, tries_given, overrides_of}
 use Rattle.model_run.specs.Labels.{kept_label}
 use Rattle.model_run.specs.FrameTable.{is_declaration, calls_step}
 use Rattle.model_run.specs.Scoping.{Names}
 use Rattle.model_run.specs.Fitting.{EnvFits, closure_rule, IsFlowNode, OutcomeFits, EndFits as JoinedEnd, Later}
 use Rattle.model_run.proofs.LaterLaws.{env_later}
 use Rattle.run_laws.specs.Soundness.{Shaped, BranchFits, EndFits, Sound, At, Holds, Goes}
+use Rattle.model_values.specs.Cells.{cell_size}
 use Rattle.run_laws.proofs.Asked.{ArgsAsk, BoundAsks, bound_asks}
+use Rattle.run_laws.proofs.Sizes.{rank_low, overrides_low}
 use Rattle.run_laws.proofs.Binding.{GivenThere, BoundThere, given_there, bound_there}
 use Rattle.run_laws.proofs.Flow.{answer_goes, all_there_then, there_then, node_then, at_self, holds_then, from_here, end_goes, null_goes, Moves, at_moved, wait_goes}
 use Rattle.run_laws.proofs.Sources.{Place, Sources, sits_here}
@@ -186,7 +188,7 @@ module _ (g : Setting) (f : NodeForm) (plain : is_declaration f ≡ false) where
 module _ (g : Setting) (shaped : Shaped g.script) (k : ℕ) (sh : Shape) (xs : Names) (place : Place g k sh xs) (a : Around) (src : Sources g shaped k sh xs place a) (plain : is_declaration sh.form ≡ false) (env : Env) where
   fork_goes : calls_step step.Parallel sh.form env ≡ true → (u : Common) → EnvFits u.cells xs env → (start : ℕ) → IsFlowNode u.nodes start → (bs : List Branch) → AllAre (BranchFits g.script u) bs → Goes g sh.form u (fork_or_none k env start bs)
   fork_goes cs u fit start flow [] h = no_branches_goes g sh.form plain u start flow
-  fork_goes cs u fit start flow (b ∷ bs) h = λ s at. wait_goes g sh.form u (frame kind.ParallelWait k 0 env (whole start ∷ [])) (sits_here g shaped k sh xs place u kind.ParallelWait 0 env (whole start ∷ []) cs (omega arith) (flow, tt) fit)
+  fork_goes cs u fit start flow (b ∷ bs) h = λ s at. wait_goes g sh.form u (frame kind.ParallelWait k 0 env (whole start ∷ [])) (sits_here g shaped k sh xs place u kind.ParallelWait 0 env (whole start ∷ []) cs (omega arith) (flow, tt) fit tt)
       (after_parallel start) (ForBranches (b ∷ bs)) s at (branch_then g u s.world.shared at.later (b ∷ bs) h)
 
   begin_goes : calls_step step.Parallel sh.form env ≡ true → (bs : List (List ℕ × Callee)) (u : Common) → EnvFits u.cells xs env → (start : ℕ) → IsFlowNode u.nodes start → (done : List Branch) → AllAre (BranchFits g.script u) done → Branches g u bs → Goes g sh.form u (begin_branches k env start done bs)
@@ -227,22 +229,22 @@ module _ (g : Setting) (shaped : Shaped g.script) (k : ℕ) (sh : Shape) (xs : N
   atom_step_goes s cs u fit w args asks = null_goes g sh.form u plain
 
   -- a step with a body
-  block_step_goes : (s : Step) → CallsIt s → (u : Common) → EnvFits u.cells xs env → (w : World) (args : Given) (f : Value) → u ≡ w.shared → GivenThere u.cells args → IsIn HasClosure u.cells f → ArgsAsk w s args → Goes g sh.form u (block_step a k env w args f s)
-  block_step_goes step.Stage cs u fit w args f e there is asks = stage_goes g shaped k sh xs place a src plain env cs u fit (text_or_empty w (codes "name") args) f
-  block_step_goes step.CatchError cs u fit w args f e there is asks = catch_error_goes g shaped k sh xs place a src plain env cs u fit (given (codes "message") args) (given_there u.cells (codes "message") args there) _ f
-  block_step_goes step.Retry cs u fit w args f e there is asks = retry_goes g shaped k sh xs place a src plain env cs u fit (tries_given (cells w) (given (codes "count") args)) f (closure_there u.cells f is)
-  block_step_goes step.Node cs u fit w args f e there is asks = node_goes g shaped k sh xs place a src plain env cs u fit (kept_label (text_given w (codes "label") args)) asks f is
-  block_step_goes step.Dir cs u fit w args f e there is asks = block_goes g sh.form u (codes "dir") _ (λ s at. dir_in_goes g shaped k sh xs place a src plain env cs u fit (text_or_empty w (codes "path") args) f s at (place_of s.world))
-  block_step_goes step.WithEnv cs u fit w args f e there is asks = with_env_goes g shaped k sh xs place a src plain env cs u fit (overrides_of (cells w) (given (codes "overrides") args)) f
-  block_step_goes s cs u fit w args f e there is asks = null_goes g sh.form u plain
+  block_step_goes : (s : Step) → CallsIt s → (u : Common) → EnvFits u.cells xs env → (w : World) (args : Given) (f : Value) → u ≡ w.shared → GivenThere u.cells args → IsIn HasClosure u.cells f → ArgsAsk w s args → AllAre (λ c. cell_size c < 2147483648) (cells w) → Goes g sh.form u (block_step a k env w args f s)
+  block_step_goes step.Stage cs u fit w args f e there is asks short = stage_goes g shaped k sh xs place a src plain env cs u fit (text_or_empty w (codes "name") args) f
+  block_step_goes step.CatchError cs u fit w args f e there is asks short = catch_error_goes g shaped k sh xs place a src plain env cs u fit (given (codes "message") args) (given_there u.cells (codes "message") args there) _ (rank_low (named_result (cells w) (given (codes "buildResult") args))) f
+  block_step_goes step.Retry cs u fit w args f e there is asks short = retry_goes g shaped k sh xs place a src plain env cs u fit (tries_given (cells w) (given (codes "count") args)) f (closure_there u.cells f is)
+  block_step_goes step.Node cs u fit w args f e there is asks short = node_goes g shaped k sh xs place a src plain env cs u fit (kept_label (text_given w (codes "label") args)) asks f is
+  block_step_goes step.Dir cs u fit w args f e there is asks short = block_goes g sh.form u (codes "dir") _ (λ s at. dir_in_goes g shaped k sh xs place a src plain env cs u fit (text_or_empty w (codes "path") args) f s at (place_of s.world))
+  block_step_goes step.WithEnv cs u fit w args f e there is asks short = with_env_goes g shaped k sh xs place a src plain env cs u fit (overrides_of (cells w) (given (codes "overrides") args)) (overrides_low (cells w) short (given (codes "overrides") args)) f
+  block_step_goes s cs u fit w args f e there is asks short = null_goes g sh.form u plain
 
-  bound_goes : (s : Step) → CallsIt s → (w : World) → EnvFits w.shared.cells xs env → (b : Bound) → BoundThere w.shared.cells b → BoundAsks w s b → Goes g sh.form w.shared (bound_step a k env s w b)
-  bound_goes s cs w fit (Binds args None) there asks = atom_step_goes s cs w.shared fit w args asks
-  bound_goes s cs w fit (Binds args (Some f)) there asks = block_step_goes s cs w.shared fit w args f refl there.0 there.1 asks
-  bound_goes s cs w fit (Refuses message) there asks = throwing_goes g sh.form w.shared IllegalArgument message
-  bound_goes s cs w fit (Stops_at limit) there asks = λ t at. at
+  bound_goes : (s : Step) → CallsIt s → (w : World) → EnvFits w.shared.cells xs env → (b : Bound) → BoundThere w.shared.cells b → BoundAsks w s b → AllAre (λ c. cell_size c < 2147483648) (cells w) → Goes g sh.form w.shared (bound_step a k env s w b)
+  bound_goes s cs w fit (Binds args None) there asks short = atom_step_goes s cs w.shared fit w args asks
+  bound_goes s cs w fit (Binds args (Some f)) there asks short = block_step_goes s cs w.shared fit w args f refl there.0 there.1 asks short
+  bound_goes s cs w fit (Refuses message) there asks short = throwing_goes g sh.form w.shared IllegalArgument message
+  bound_goes s cs w fit (Stops_at limit) there asks short = λ t at. at
 
   -- a step whose arguments have been evaluated
   pub begin_step_goes : (s : Step) → CallsIt s → (u : Common) → EnvFits u.cells xs env → (args : List Value) → AllAre (There u.cells) args → Goes g sh.form u (begin_step a k env s args)
   begin_step_goes s cs u fit args there t at = from_here g sh.form u (bound_step a k env s t.world (bind_step t.world s args)) t at
-      (bound_goes s cs t.world (env_later u t.world.shared at.later xs env fit) (bind_step t.world s args) (bound_there (closure_rule g.script) t.world s (at.sound).cells args (all_there_then u t.world.shared at.later args there)) (bound_asks t.world s args))
+      (bound_goes s cs t.world (env_later u t.world.shared at.later xs env fit) (bind_step t.world s args) (bound_there (closure_rule g.script) t.world s (at.sound).cells args (all_there_then u t.world.shared at.later args there)) (bound_asks t.world s args) ((at.sound).bounds).short)

@@ -221,7 +221,7 @@ module _ (g : Setting) (shaped : Shaped g.script) (k : ℕ) (sh : Shape) (xs : N
           let fit1 : EnvFits h xs env = env_later u (begun_turn h s.world).shared at1.later xs env fit in
           through_guard_goes g sh.form u (frame kind.WalkTurn k 0 env (on ∷ f ∷ whole i ∷ held_in_turn (walk_method sh.form) args element kept)) (after_walk_turn a env (walk_method sh.form) i on f (held_in_turn (walk_method sh.form) args element kept)) (may_count s.world) (begun_turn h) (a.call c.node args c.env) s at
           (λ none. holds_then g sh.form u (begun_turn h s.world).shared at1.later _ (through_goes g sh.form form.Block (begun_turn h s.world).shared (frame kind.WalkTurn k 0 env (on ∷ f ∷ whole i ∷ held_in_turn (walk_method sh.form) args element kept))
-          (sits_here g shaped k sh xs place (begun_turn h s.world).shared kind.WalkTurn 0 env (on ∷ f ∷ whole i ∷ held_in_turn (walk_method sh.form) args element kept) wa (omega arith) (ton1, (seen_then s.world.shared (begun_turn h s.world).shared l1 A_closure f fseen, (tt, held_seen (begun_turn h s.world).shared (walk_method sh.form) args element kept sized.0 sized.1 there))) fit1)
+          (sits_here g shaped k sh xs place (begun_turn h s.world).shared kind.WalkTurn 0 env (on ∷ f ∷ whole i ∷ held_in_turn (walk_method sh.form) args element kept) wa (omega arith) (ton1, (seen_then s.world.shared (begun_turn h s.world).shared l1 A_closure f fseen, (tt, held_seen (begun_turn h s.world).shared (walk_method sh.form) args element kept sized.0 sized.1 there))) fit1 tt)
           (after_walk_turn a env (walk_method sh.form) i on f (held_in_turn (walk_method sh.form) args element kept)) (walk_end_goes (begun_turn h s.world).shared env fit1 i on f (held_in_turn (walk_method sh.form) args element kept) ton1 tf1 there)
           (a.call c.node args c.env (with_world (begun_turn h s.world) s)) (src.call (begun_turn h s.world).shared c.node args c.env (callee_then g.script s.world.shared (begun_turn h s.world).shared l1 c.node c.env callee) (fits.1).0 (with_world (begun_turn h s.world) s) (at_self g u (with_world (begun_turn h s.world) s) at1))))
 

@@ -76,19 +76,19 @@ module _ (g : Setting) (real : Real g.script [] g.script) (shaped : Shaped g.scr
 
   each_first : (x : List ℕ) → Is (form.ForEach x) → (u : Common) (env : Env) → EnvFits u.cells xs env → Goes g sh.form u (λ s. through (frame kind.EachOver k 0 env []) (on_value (λ v. each_from a env v 0)) (a.part First 0 env s))
   each_first x is u env fit = under_goes g shaped k sh xs place a src sh.form u kind.EachOver 0 env [] (on_value (λ v. each_from a env v 0)) 0 (λ i. ap (λ f. may_declare f i) is) (ap (λ f. names_within f 0 xs) is) fit
-      (sits_here g shaped k sh xs place u kind.EachOver 0 env [] (ap is_each is) (omega arith) tt fit) (each_over_goes g shaped k sh xs place a src x is u env fit)
+      (sits_here g shaped k sh xs place u kind.EachOver 0 env [] (ap is_each is) (omega arith) tt fit tt) (each_over_goes g shaped k sh xs place a src x is u env fit)
 
   try_first : Is form.Try → (u : Common) (env : Env) → EnvFits u.cells xs env → Goes g sh.form u (λ s. through (frame kind.TryBlock k 0 env []) (after_try a k sh env) (a.part First 0 env s))
   try_first is u env fit = under_goes g shaped k sh xs place a src sh.form u kind.TryBlock 0 env [] (after_try a k sh env) 0 (λ i. ap (λ f. may_declare f i) is) (ap (λ f. names_within f 0 xs) is) fit
-      (sits_here g shaped k sh xs place u kind.TryBlock 0 env [] (ap (same_form form.Try) is) (omega arith) tt fit) (try_goes g shaped k sh xs place a src is u env fit)
+      (sits_here g shaped k sh xs place u kind.TryBlock 0 env [] (ap (same_form form.Try) is) (omega arith) tt fit tt) (try_goes g shaped k sh xs place a src is u env fit)
 
   throw_first : Is form.Throw → (u : Common) (env : Env) → EnvFits u.cells xs env → Goes g sh.form u (λ s. through (frame kind.ThrowValue k 0 env []) (on_value throws) (a.part First 0 env s))
   throw_first is u env fit = under_goes g shaped k sh xs place a src sh.form u kind.ThrowValue 0 env [] (on_value throws) 0 (λ i. ap (λ f. may_declare f i) is) (ap (λ f. names_within f 0 xs) is) fit
-      (sits_here g shaped k sh xs place u kind.ThrowValue 0 env [] (ap (same_form form.Throw) is) (omega arith) tt fit) (throw_end_goes g shaped k sh xs place a src u)
+      (sits_here g shaped k sh xs place u kind.ThrowValue 0 env [] (ap (same_form form.Throw) is) (omega arith) tt fit tt) (throw_end_goes g shaped k sh xs place a src u)
 
   -- the first part of the head of a `for`
   steps_first : Is form.ForSteps → (u : Common) (env : Env) → EnvFits u.cells xs env → 0 < arity sh → Goes g sh.form u (λ s. through (frame kind.StepsFirst k 0 env []) (after_steps_first a k env) (a.part First 0 env s))
-  steps_first is u env fit some s at = through_goes g sh.form (form_at sh.parts 0) u (frame kind.StepsFirst k 0 env []) (sits_here g shaped k sh xs place u kind.StepsFirst 0 env [] (ap (same_form form.ForSteps) is) (omega arith) tt fit) (after_steps_first a k env)
+  steps_first is u env fit some s at = through_goes g sh.form (form_at sh.parts 0) u (frame kind.StepsFirst k 0 env []) (sits_here g shaped k sh xs place u kind.StepsFirst 0 env [] (ap (same_form form.ForSteps) is) (omega arith) tt fit tt) (after_steps_first a k env)
       (λ e t q h. steps_first_goes g shaped k sh xs place a src is u env fit e t q h some) (a.part First 0 env s) (src.part u 0 env (subst (λ ys. EnvFits u.cells ys env) (sym (ap (λ f. names_within f 0 (names_after sh.parts 0 xs)) is ∙ none sh.parts)) fit) s at)
     where
       none : (fs : List NodeForm) → names_after fs 0 xs ≡ xs

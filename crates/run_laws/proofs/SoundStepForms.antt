@@ -46,7 +46,7 @@ use Rattle.model_run.specs.Labels.{label_fault}
 use Rattle.model_run.specs.Fitting.{EnvFits, closure_rule, IsFlowNode, RequestFits, Later}
 use Rattle.model_run.proofs.LaterLaws.{env_later}
 use Rattle.model_run.proofs.Front.{front_itself}
-use Rattle.run_laws.specs.Soundness.{Shaped, seen, Sits, EndFits, Sound, At, Holds, Goes}
+use Rattle.run_laws.specs.Soundness.{Shaped, seen, NumbersFit, Sits, EndFits, Sound, At, Holds, Goes}
 use Rattle.run_laws.proofs.Binding.{ThereIf}
 use Rattle.run_laws.specs.Bounds.{InBounds, HasRoom}
 use Rattle.run_laws.proofs.Asked.{IdFits, id_fits, number_low, found_number}
@@ -151,23 +151,23 @@ module _ (g : Setting) (shaped : Shaped g.script) (k : ℕ) (sh : Shape) (xs : N
   pub stage_goes : calls_step step.Stage sh.form env ≡ true → (u : Common) → EnvFits u.cells xs env → (name : List ℕ) (f : Value) → Goes g sh.form u (block (codes "stage") (seeing (λ w. calling (closure_of w f) (ended Null) (stage_body a k env name w))))
   stage_goes cs u fit name f = block_goes g sh.form u (codes "stage") _ (λ s at. closure_body kind.StageBody cs u f s at (stage_body a k env name s.world) (λ c callee.
       body_goes g shaped k sh xs place a src plain env kind.StageBody cs (omega arith) [] name u fit (after_body (codes "stage") s.world.own.head (next_node s.world)) s.world c s at refl refl callee
-      (let x = starts_seen g shaped k sh xs place a src plain env name s.world at.sound in (x.0, (x.1, tt))) (fit_noted g shaped k sh xs place a src plain env u fit name s at)
+      (let x = starts_seen g shaped k sh xs place a src plain env name s.world at.sound in (x.0, (x.1, tt))) (fit_noted g shaped k sh xs place a src plain env u fit name s at) tt
       (λ v l old new. body_end_goes g sh.form plain v (codes "stage") s.world.own.head (next_node s.world) old new)))
 
   if_then : (u v : Common) → Later u v → (o : Option Value) → ThereIf u.cells o → ThereIf v.cells o
   if_then u v l None h = tt
   if_then u v l (Some x) h = there_then u v l x h
 
-  pub catch_error_goes : calls_step step.CatchError sh.form env ≡ true → (u : Common) → EnvFits u.cells xs env → (o : Option Value) → ThereIf u.cells o → (r : ℕ) (f : Value)
+  pub catch_error_goes : calls_step step.CatchError sh.form env ≡ true → (u : Common) → EnvFits u.cells xs env → (o : Option Value) → ThereIf u.cells o → (r : ℕ) → r ≤ 4 → (f : Value)
       → Goes g sh.form u (operating (λ w. kept_text w o) (λ message. block (codes "catchError") (seeing (λ w. calling (closure_of w f) (ended Null) (catch_error_body a k env r message w)))))
-  catch_error_goes cs u fit o there r f s at =
+  catch_error_goes cs u fit o there r low f s at =
       answer_goes g sh.form u (IsNullOrIn HasText) (kept_text s.world o) s at (CellsFit (closure_rule g.script) (cells s.world) × ThereIf (cells s.world) o) ((at.sound).cells, if_then u s.world.shared at.later o there) (kept_grows g s.world o)
       (λ message. block (codes "catchError") (seeing (λ w. calling (closure_of w f) (ended Null) (catch_error_body a k env r message w))))
       (λ message t q l is. from_here g sh.form u (block (codes "catchError") (seeing (λ w. calling (closure_of w f) (ended Null) (catch_error_body a k env r message w)))) t q
       (block_goes g sh.form t.world.shared (codes "catchError") _ (λ s1 at1. closure_body kind.CatchErrorBody cs t.world.shared f s1 at1 (catch_error_body a k env r message s1.world) (λ c callee.
       body_goes g shaped k sh xs place a src plain env kind.CatchErrorBody cs (omega arith) (whole r ∷ message ∷ []) [] t.world.shared (env_later u t.world.shared q.later xs env fit) (after_catch_error s1.world.own.head (next_node s1.world) r message) s1.world c s1 at1 refl refl callee
       (let x = starts_seen g shaped k sh xs place a src plain env [] s1.world at1.sound in (x.0, (x.1, (tt, (seen_then t.world.shared (noted_body [] s1.world).shared (noted_later t.world.shared s1 at1) Text_or_null message (text_sort t.world.shared message is), tt)))))
-      (fit_noted g shaped k sh xs place a src plain env t.world.shared (env_later u t.world.shared q.later xs env fit) [] s1 at1)
+      (fit_noted g shaped k sh xs place a src plain env t.world.shared (env_later u t.world.shared q.later xs env fit) [] s1 at1) low
       (λ v l1 old new e t1 q1 h. catch_error_end g sh.form plain v s1.world.own.head (next_node s1.world) r old new message e t1 q1)))))
     where
       noted_later : (u : Common) (s : State) → At g u s → Later u (noted_body [] s.world).shared
@@ -178,19 +178,19 @@ module _ (g : Setting) (shaped : Shaped g.script) (k : ℕ) (sh : Shape) (xs : N
       (retry_with g shaped k sh xs place a src plain env cs m (after_retry a k env s.world.own.head f m) s.world.own.head s.world.shared (env_later u s.world.shared at.later xs env fit) (at.sound).head f (there_then u s.world.shared at.later f tf)
       (λ v l b new e t q h. after_retry_goes g shaped k sh xs place a src plain env cs m s.world.own.head v (env_later s.world.shared v l xs env (env_later u s.world.shared at.later xs env fit)) (node_then s.world.shared v l s.world.own.head (at.sound).head) f (there_then s.world.shared v l f (there_then u s.world.shared at.later f tf)) b new e t q h)))
 
-  pub with_env_goes : calls_step step.WithEnv sh.form env ≡ true → (u : Common) → EnvFits u.cells xs env → (ps : List Pair) (f : Value) → Goes g sh.form u (block (codes "withEnv") (seeing (λ w. changed (with_overrides ps) (calling (closure_of w f) (ended Null) (with_env_body a k env (length ps) w)))))
-  with_env_goes cs u fit ps f = block_goes g sh.form u (codes "withEnv") _ (λ s at.
+  pub with_env_goes : calls_step step.WithEnv sh.form env ≡ true → (u : Common) → EnvFits u.cells xs env → (ps : List Pair) → length ps ≤ 2147483647 → (f : Value) → Goes g sh.form u (block (codes "withEnv") (seeing (λ w. changed (with_overrides ps) (calling (closure_of w f) (ended Null) (with_env_body a k env (length ps) w)))))
+  with_env_goes cs u fit ps low f = block_goes g sh.form u (codes "withEnv") _ (λ s at.
       let at1 : At g u (with_world (with_overrides ps s.world) s) = at_moved g u (with_overrides ps) s at (moves_aside g (with_overrides ps) s.world at.sound refl refl refl refl refl refl (omega arith)) in
       let s1 : State = with_world (with_overrides ps s.world) s in
       calling_goes g sh.form plain u (closure_of s.world f) (with_world (with_overrides ps s.world) s) at1 (closure_fits g s.world f at.sound) (with_env_body a k env (length ps) s.world) (λ c e callee.
       body_goes g shaped k sh xs place a src plain env kind.WithEnvBody cs (omega arith) (whole (length ps) ∷ []) [] u fit (after_with_env s.world.own.head (next_node s.world) (length ps)) s.world c (with_world (with_overrides ps s.world) s) at1 refl refl callee
-      (let x = starts_seen g shaped k sh xs place a src plain env [] (with_world (with_overrides ps s.world) s).world at1.sound in (x.0, (x.1, (tt, tt)))) (fit_noted g shaped k sh xs place a src plain env u fit [] (with_world (with_overrides ps s.world) s) at1)
+      (let x = starts_seen g shaped k sh xs place a src plain env [] (with_world (with_overrides ps s.world) s).world at1.sound in (x.0, (x.1, (tt, tt)))) (fit_noted g shaped k sh xs place a src plain env u fit [] (with_world (with_overrides ps s.world) s) at1) low
       (λ v l old new e1 t q h. body_end_changed g sh.form plain v (codes "withEnv") s.world.own.head (next_node s.world) old new (without_overrides (length ps)) (λ w. refl) (λ w. refl) (λ w. refl) (λ w. refl) (λ w. refl) (λ w. refl) (λ w. omega arith) e1 t q h)))
 
   -- `node`
   pub node_goes : calls_step step.Node sh.form env ≡ true → (u : Common) → EnvFits u.cells xs env → (label : Option (List ℕ)) → label_fault label ≡ None → (f : Value) → IsIn HasClosure u.cells f → Goes g sh.form u (block (codes "node") (seeing (λ w. waiting_for (NodeRequest label) (frame kind.NodeWait k 0 env (f ∷ [])) (after_node_wait a k env f) w)))
   node_goes cs u fit label good f is = block_asks g sh.form u (codes "node") _ (λ s at room. waiting_goes u (NodeRequest label) (frame kind.NodeWait k 0 env (f ∷ [])) (after_node_wait a k env f) s at room good
-      (sits_here g shaped k sh xs place s.world.shared kind.NodeWait 0 env (f ∷ []) cs (omega arith) (seen_then u s.world.shared at.later A_closure f (closure_sort u f is), tt) (env_later u s.world.shared at.later xs env fit)))
+      (sits_here g shaped k sh xs place s.world.shared kind.NodeWait 0 env (f ∷ []) cs (omega arith) (seen_then u s.world.shared at.later A_closure f (closure_sort u f is), tt) (env_later u s.world.shared at.later xs env fit) tt))
 
   -- A change of the log and of the thread's own, which leaves cells, flow nodes and the last of them as they are.
   record Beside (w v : World) : Type 0 where
@@ -199,14 +199,14 @@ module _ (g : Setting) (shaped : Shaped g.script) (k : ℕ) (sh : Shape) (xs : N
     head : v.own.head ≡ w.own.head
 
   -- a body behind such changes, by the closure that was found before them
-  beside_body : (d : FrameKind) → (frame_row d sh 0 env).stands ≡ true → 0 < (frame_row d sh 0 env).limit → (frame_row d sh 0 env).values ≡ Flow_node ∷ Flow_node ∷ [] → (frame_row d sh 0 env).further ≡ No_more → frame_names d sh 0 xs ≡ xs
+  beside_body : (d : FrameKind) → (frame_row d sh 0 env).stands ≡ true → 0 < (frame_row d sh 0 env).limit → (frame_row d sh 0 env).values ≡ Flow_node ∷ Flow_node ∷ [] → (frame_row d sh 0 env).further ≡ No_more → frame_names d sh 0 xs ≡ xs → ((vs : List Value) → NumbersFit d vs)
       → (w : World) (u : Common) → EnvFits u.cells xs env → (go : Ending → State → Result) (c : Callee) (s : State) → At g u s → Beside w s.world → CalleeFits g.script s.world.shared c.node c.env
       → ((v : Common) → Later u v → IsFlowNode v.nodes w.own.head → IsFlowNode v.nodes (next_node w) → (e : Ending) (t : State) → At g v t → EndFits form.Block t.world.shared e → Holds g sh.form v (go e t)) → Holds g sh.form u (run_body a (frame d k 0 env (starts w)) go [] c s)
-  beside_body d stands low values further names w u fit go c s at beside callee ok =
+  beside_body d stands low values further names numbers w u fit go c s at beside callee ok =
       body_goes g shaped k sh xs place a src plain env d stands low [] [] u fit go w c s at (sym beside.head) (ap (λ ns. length ns + 2) (sym beside.nodes)) callee
       (subst (λ fu. ValuesFit (seen (noted_body [] s.world).shared) fu (frame_row d sh 0 env).values (starts s.world ++ [])) (sym further)
       (subst (λ vs. ValuesFit (seen (noted_body [] s.world).shared) No_more vs (starts s.world ++ [])) (sym values) (let x = starts_seen g shaped k sh xs place a src plain env [] s.world at.sound in (x.0, (x.1, tt)))))
-      (subst (λ ys. EnvFits (noted_body [] s.world).shared.cells ys env) (sym names) (fit_noted g shaped k sh xs place a src plain env u fit [] s at)) ok
+      (subst (λ ys. EnvFits (noted_body [] s.world).shared.cells ys env) (sym names) (fit_noted g shaped k sh xs place a src plain env u fit [] s at)) (numbers (starts s.world ++ [])) ok
 
   -- behind the body of `node`
   pub node_end_goes : (v : Common) (start body : ℕ) → IsFlowNode v.nodes start → IsFlowNode v.nodes body → (e : Ending) (t : State) → At g v t → EndFits form.Block t.world.shared e → Holds g sh.form v (after_node_body start body e t)
@@ -216,7 +216,7 @@ module _ (g : Setting) (shaped : Shaped g.script) (k : ℕ) (sh : Shape) (xs : N
 
   node_body_at : calls_step step.Node sh.form env ≡ true → (w : World) (u : Common) → EnvFits u.cells xs env → (o : Option Callee) (s : State) → At g u s → Beside w s.world → CalleeThere g.script s.world.shared o → Holds g sh.form u (calling o (ended Null) (node_body a k env w) s)
   node_body_at cs w u fit o s at beside there = calling_goes g sh.form plain u o s at there (node_body a k env w) (λ c e callee.
-      beside_body kind.NodeBody cs (omega arith) refl refl refl w u fit (after_node_body w.own.head (next_node w)) c s at beside callee
+      beside_body kind.NodeBody cs (omega arith) refl refl refl (λ vs. tt) w u fit (after_node_body w.own.head (next_node w)) c s at beside callee
       (λ v l old new e1 t q h. node_end_goes v w.own.head (next_node w) old new e1 t q h))
 
   node_runs_goes : calls_step step.Node sh.form env ≡ true → (u : Common) → EnvFits u.cells xs env → (f : Value) (h : Held) (s : State) → At g u s → (o : Option Executor) → Holds g sh.form u (node_runs a k env f s.world h o s)
@@ -256,7 +256,7 @@ module _ (g : Setting) (shaped : Shaped g.script) (k : ℕ) (sh : Shape) (xs : N
       (moves_aside g (λ w. with_folder (folder_of p.folder path) (with_line (codes "Running in " ++ folder_of p.folder path) w)) s.world at.sound refl refl refl refl refl refl (line_longer (codes "Running in " ++ folder_of p.folder path) s.world.shared.log)) in
       guard_here g sh.form u (line_limit (codes "Running in " ++ folder_of p.folder path) s.world) (with_line (codes "Running in " ++ folder_of p.folder path)) (changed (with_folder (folder_of p.folder path)) (calling (closure_of s.world f) (ended Null) (dir_body a k env s.world))) s at
       (λ none. calling_goes g sh.form plain u (closure_of s.world f) (with_world (with_folder (folder_of p.folder path) (with_line (codes "Running in " ++ folder_of p.folder path) s.world)) s) at2 (callee_same (closure_of s.world f) (closure_fits g s.world f at.sound)) (dir_body a k env s.world) (λ c e callee.
-      beside_body kind.DirBody cs (omega arith) refl refl refl s.world u fit (after_dir_body s.world.own.head (next_node s.world)) c (with_world (with_folder (folder_of p.folder path) (with_line (codes "Running in " ++ folder_of p.folder path) s.world)) s) at2 (record { cells = refl; nodes = refl; head = refl }) callee
+      beside_body kind.DirBody cs (omega arith) refl refl refl (λ vs. tt) s.world u fit (after_dir_body s.world.own.head (next_node s.world)) c (with_world (with_folder (folder_of p.folder path) (with_line (codes "Running in " ++ folder_of p.folder path) s.world)) s) at2 (record { cells = refl; nodes = refl; head = refl }) callee
       (λ v l old new e1 t q h. body_end_changed g sh.form plain v (codes "dir") s.world.own.head (next_node s.world) old new without_folder (λ w. refl) (λ w. refl) (λ w. refl) (λ w. refl) (λ w. refl) (λ w. refl) (λ w. omega arith) e1 t q h)))
     where
       callee_same : (o : Option Callee) → CalleeThere g.script s.world.shared o → CalleeThere g.script (with_line (codes "Running in " ++ folder_of p.folder path) s.world).shared o
@@ -267,7 +267,7 @@ module _ (g : Setting) (shaped : Shaped g.script) (k : ℕ) (sh : Shape) (xs : N
   pub sh_in_goes : calls_step step.Sh sh.form env ≡ true → (u : Common) → EnvFits u.cells xs env → (script : List ℕ) (status keep : Bool) (s : State) → At g u s → HasRoom s.world.shared → (o : Option StepPlace) → PlaceFits g o → Holds g sh.form u (sh_in k env script status keep s.world o s)
   sh_in_goes cs u fit script status keep s at room None there = no_node_goes u s at
   sh_in_goes cs u fit script status keep s at room (Some p) there = waiting_goes u (task_of s.world p script status keep) (frame kind.ShWait k 0 env (Truth status ∷ Truth keep ∷ [])) (after_sh (Truth status) (Truth keep)) s at room (there, omega arith)
-      (sits_here g shaped k sh xs place s.world.shared kind.ShWait 0 env (Truth status ∷ Truth keep ∷ []) cs (omega arith) (tt, (tt, tt)) (env_later u s.world.shared at.later xs env fit))
+      (sits_here g shaped k sh xs place s.world.shared kind.ShWait 0 env (Truth status ∷ Truth keep ∷ []) cs (omega arith) (tt, (tt, tt)) (env_later u s.world.shared at.later xs env fit) tt)
 
   -- behind the wait for a task
   sh_output_goes : (u : Common) (keep : Bool) (out : List ℕ) → Goes g sh.form u (sh_output keep out)
@@ -300,4 +300,4 @@ module _ (g : Setting) (shaped : Shaped g.script) (k : ℕ) (sh : Shape) (xs : N
 
   pub input_asks_goes : calls_step step.Input sh.form env ≡ true → (u : Common) → EnvFits u.cells xs env → (id : Option (List ℕ)) → IdFits id → (s : State) → At g u s → HasRoom s.world.shared → Holds g sh.form u (input_asks k env id s.world s)
   input_asks_goes cs u fit id good s at room = waiting_goes u _ (frame kind.InputWait k 0 env []) after_input s at room (id_fits id s.world.shared.next_request (number_low g.site s.world.shared (at.sound).bounds) good)
-      (sits_here g shaped k sh xs place s.world.shared kind.InputWait 0 env [] cs (omega arith) tt (env_later u s.world.shared at.later xs env fit))
+      (sits_here g shaped k sh xs place s.world.shared kind.InputWait 0 env [] cs (omega arith) tt (env_later u s.world.shared at.later xs env fit) tt)

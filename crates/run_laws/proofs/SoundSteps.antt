@@ -34,7 +34,7 @@ use Rattle.model_run.specs.Nesting.{ValuesFit}
 use Rattle.model_run.specs.Scoping.{Names, frame_names}
 use Rattle.model_run.specs.Fitting.{EnvFits, closure_rule, IsFlowNode, StartsAt, Later}
 use Rattle.model_run.proofs.LaterLaws.{env_later}
-use Rattle.run_laws.specs.Soundness.{Shaped, seen, Sits, EndFits, Sound, At, Holds, Goes}
+use Rattle.run_laws.specs.Soundness.{Shaped, seen, NumbersFit, Sits, EndFits, Sound, At, Holds, Goes}
 use Rattle.run_laws.specs.Bounds.{Narrow, HasRoom}
 use Rattle.run_laws.proofs.Bounds.{all_longer, line_longer, bounds_node, node_room, room_behind}
 use Rattle.run_laws.proofs.Flow.{later_then, there_then, node_then, end_then, end_as, at_self, holds_then, from_here, Moves, moves_aside, narrow_here, at_moved, change_goes, guard_with, guard_goes, null_goes, answer_goes, through_goes}
@@ -194,7 +194,7 @@ module _ (g : Setting) (shaped : Shaped g.script) (k : ℕ) (sh : Shape) (xs : N
         calling_goes g sh.form plain u (closure_of s.world f) s at (closure_fits g s.world f at.sound) (run_body a (frame kind.RetryBody k 0 env (whole start ∷ whole (next_node s.world) ∷ whole m ∷ f ∷ [])) (after (next_node s.world)) [])
         (λ c e callee. run_body_goes u (frame kind.RetryBody k 0 env (whole start ∷ whole (next_node s.world) ∷ whole m ∷ f ∷ [])) (after (next_node s.world)) [] c s at callee
         (sits_here g shaped k sh xs place (noted_body [] s.world).shared kind.RetryBody 0 env (whole start ∷ whole (next_node s.world) ∷ whole m ∷ f ∷ []) rs (omega arith)
-        (old_node s.world.shared.nodes _ start (node_then u s.world.shared at.later start flow), ((starts_seen [] s.world at.sound).1, (tt, (closure_seen s.world f c e, tt)))) (fit_noted u fit [] s at))
+        (old_node s.world.shared.nodes _ start (node_then u s.world.shared at.later start flow), ((starts_seen [] s.world at.sound).1, (tt, (closure_seen s.world f c e, tt)))) (fit_noted u fit [] s at) tt)
         (λ e1 t q h. ok (noted_body [] s.world).shared (later_then u s.world.shared (noted_body [] s.world).shared at.later (more_nodes s.world.shared (noted_body [] s.world).shared _ refl refl)) (next_node s.world) (starts_seen [] s.world at.sound).1 e1 t q h))
 
     retry_end_goes : (u : Common) (start : ℕ) → IsFlowNode u.nodes start → (e : Ending) → EndFits form.Block u e → Goes g sh.form u (retry_end start e)
@@ -226,12 +226,12 @@ module _ (g : Setting) (shaped : Shaped g.script) (k : ℕ) (sh : Shape) (xs : N
 
     -- the body of a step whose frame keeps its first flow nodes and these further values
     pub body_goes : (d : FrameKind) → (frame_row d sh 0 env).stands ≡ true → 0 < (frame_row d sh 0 env).limit → (more : List Value) → (label : List ℕ) (u : Common) → EnvFits u.cells xs env → (go : Ending → State → Result) (w : World) (c : Callee) (s : State) → At g u s → w.own.head ≡ s.world.own.head → next_node w ≡ next_node s.world → CalleeFits g.script s.world.shared c.node c.env
-        → ValuesFit (seen (noted_body label s.world).shared) (frame_row d sh 0 env).further (frame_row d sh 0 env).values (starts s.world ++ more) → EnvFits (noted_body label s.world).shared.cells (frame_names d sh 0 xs) env
+        → ValuesFit (seen (noted_body label s.world).shared) (frame_row d sh 0 env).further (frame_row d sh 0 env).values (starts s.world ++ more) → EnvFits (noted_body label s.world).shared.cells (frame_names d sh 0 xs) env → NumbersFit d (starts s.world ++ more)
         → ((v : Common) → Later u v → IsFlowNode v.nodes w.own.head → IsFlowNode v.nodes (next_node w) → (e : Ending) (t : State) → At g v t → EndFits form.Block t.world.shared e → Holds g sh.form v (go e t)) → Holds g sh.form u (run_body a (frame d k 0 env (starts w ++ more)) go label c s)
-    body_goes d stands low more label u fit go w c s at head next callee values names ok =
+    body_goes d stands low more label u fit go w c s at head next callee values names numbers ok =
         let e : starts s.world ++ more ≡ starts w ++ more = ap (λ vs. vs ++ more) (ap (λ n. whole n ∷ whole (next_node s.world) ∷ []) (sym head) ∙ ap (λ n. whole w.own.head ∷ whole n ∷ []) (sym next)) in
         subst (λ vs. Holds g sh.form u (run_body a (frame d k 0 env vs) go label c s)) e
         (run_body_goes u (frame d k 0 env (starts s.world ++ more)) go label c s at callee
-        (sits_here g shaped k sh xs place (noted_body label s.world).shared d 0 env (starts s.world ++ more) stands low values names)
+        (sits_here g shaped k sh xs place (noted_body label s.world).shared d 0 env (starts s.world ++ more) stands low values names numbers)
         (λ e1 t q h. ok (noted_body label s.world).shared (later_then u s.world.shared (noted_body label s.world).shared at.later (more_nodes s.world.shared (noted_body label s.world).shared _ refl refl))
         (subst (IsFlowNode (noted_body label s.world).shared.nodes) (sym head) (starts_seen label s.world at.sound).0) (subst (IsFlowNode (noted_body label s.world).shared.nodes) (sym next) (starts_seen label s.world at.sound).1) e1 t q h))

@@ -1,10 +1,11 @@
 -- An evaluation that begins in a sound state goes to a later one, ends with what is there, and waits inside frames that fit
 -- (this product's own).
-use Rattle.std.specs.Prelude.{◌≡◌, ◌<◌, ℕ, zero, suc, Bool, true, false, List, [], slice_get, pos}
+use Rattle.std.specs.Prelude.{◌≡◌, ◌<◌, ◌≤◌, ℕ, zero, suc, Bool, true, false, List, [], slice_get, pos}
 use Rattle.std.specs.List.{AllByRecursion as AllAre}
 use Rattle.model_syntax.specs.declared.node.NodeForm.{NodeForm}
 use Rattle.model_syntax.specs.declared.node.NodeForm.TheVariants as form
 use Rattle.model_values.specs.Fitting.{There, HasVariable, HasThrowable, CellsFit}
+use Rattle.model_values.specs.declared.value.Value.{Value}
 use Rattle.model_values.specs.declared.value.Value.TheVariants.{Int as Whole}
 use Rattle.model_run.specs.declared.ending.Ending.{Ending}
 use Rattle.model_run.specs.declared.ending.Ending.TheVariants.{Normal, Thrown, Returned, Broke, Continued, Declared, Answered}
@@ -12,10 +13,12 @@ use Rattle.model_run.specs.declared.ending.Branch.{Branch}
 use Rattle.model_run.specs.declared.ending.Asked.{Asked}
 use Rattle.model_run.specs.declared.ending.Asked.TheVariants.{ForRequest, ForBranches}
 use Rattle.model_run.specs.declared.frame.Frame.{Frame}
+use Rattle.model_run.specs.declared.frame.FrameKind.{FrameKind}
+use Rattle.model_run.specs.declared.frame.FrameKind.TheVariants as kind
 pub use Rattle.script_laws.specs.NodeParts.{is_target, is_operand}
 use Rattle.model_run.specs.Terms.{Term}
 use Rattle.model_run.specs.State.{Setting, Common, World, State, Result, Ended, Waits, Limited, Unfinished}
-use Rattle.model_run.specs.Around.{form_at, arity}
+use Rattle.model_run.specs.Around.{form_at, arity, position, value_at}
 use Rattle.model_run.specs.FrameTable.{Up_to, is_block, is_target_form, is_declaration, same_form}
 use Rattle.model_run.specs.Nesting.{Sorts, FrameFits, shape_at}
 use Rattle.model_run.specs.Scoping.{names_for}
@@ -41,10 +44,19 @@ abbrev pub seen : Common → Sorts
 seen u (Up_to n) (Whole (pos m)) = Unit {0}
 seen u s v = known u s v
 
+-- The numbers that a frame keeps are as small as the table says where they count what the build has: the position of a `for`, the result
+-- of `catchError`, the variables of `withEnv`. Those of `retry` and of a walk are whole numbers of the script, of any size.
+abbrev pub NumbersFit : FrameKind → List Value → Type 0
+NumbersFit kind.EachBody vs = position (value_at 1 vs) ≤ 2147483646
+NumbersFit kind.CatchErrorBody vs = position (value_at 2 vs) ≤ 4
+NumbersFit kind.WithEnvBody vs = position (value_at 2 vs) ≤ 2147483647
+NumbersFit d vs = Unit {0}
+
 -- A frame that fits, with its variables.
 pub record Sits (root : Term) (u : Common) (f : Frame) : Type 0 where
   pub fits : FrameFits (seen u) root f
   pub names : EnvFits u.cells (names_for root f) f.env
+  pub numbers : NumbersFit f.kind f.values
 
 -- A branch begins with a closure of the script, behind a flow node.
 pub record BranchFits (root : Term) (u : Common) (b : Branch) : Type 0 where
