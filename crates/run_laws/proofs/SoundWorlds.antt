@@ -166,7 +166,7 @@ open_joins : (u : Common) (n : ℕ) (bs : List Branch) → AllAre (λ j. EndIf u
 open_joins u n [] = tt
 open_joins u n (b ∷ bs) = (tt, open_joins u (suc n) bs)
 
-without_all : (P Q : Thread → Type 0) (n : ℕ) → ((t : Thread) → (t.own.number ≡ n → ⊥) → P t → Q t) → (ts : List Thread) → AllAre P ts → AllAre Q (without_thread n ts)
+pub without_all : (P Q : Thread → Type 0) (n : ℕ) → ((t : Thread) → (t.own.number ≡ n → ⊥) → P t → Q t) → (ts : List Thread) → AllAre P ts → AllAre Q (without_thread n ts)
 without_all P Q n other [] h = tt
 without_all P Q n other (t ∷ ts) h = one (nat_eq t.own.number n) refl (without_all P Q n other ts h.1)
   where
@@ -174,7 +174,7 @@ without_all P Q n other (t ∷ ts) h = one (nat_eq t.own.number n) refl (without
     one true e more = more
     one false e more = (other t (eqb-false _ _ e) h.0, more)
 
-all_more : (P : Thread → Type 0) (ts us : List Thread) → AllAre P ts → AllAre P us → AllAre P (ts ++ us)
+pub all_more : (P : Thread → Type 0) (ts us : List Thread) → AllAre P ts → AllAre P us → AllAre P (ts ++ us)
 all_more P [] us h k = k
 all_more P (t ∷ ts) us h k = (h.0, all_more P ts us h.1 k)
 
@@ -183,7 +183,7 @@ pub record Mid (P : Thread → Type 0) (n : ℕ) (t u : Thread) : Type 0 where
   pub mine : u.own.number ≡ n → u ≡ t
   pub others : (u.own.number ≡ n → ⊥) → P u
 
-mid_with : (P : Thread → Type 0) (n : ℕ) (t : Thread) (g : Thread → Thread) → ((u : Thread) → (g u).own.number ≡ u.own.number) → (ts : List Thread) → AllAre (Mid P n t) ts → AllAre (Mid P n (g t)) (with_thread g n ts)
+pub mid_with : (P : Thread → Type 0) (n : ℕ) (t : Thread) (g : Thread → Thread) → ((u : Thread) → (g u).own.number ≡ u.own.number) → (ts : List Thread) → AllAre (Mid P n t) ts → AllAre (Mid P n (g t)) (with_thread g n ts)
 mid_with P n t g same ts h = with_all (Mid P n t) (Mid P n (g t)) g n
     (λ u at m. record { mine = λ e. ap g (m.mine at); others = λ never. absurd (never (same u ∙ at)) })
     (λ u never m. record { mine = λ at. absurd (never at); others = m.others }) ts h
