@@ -1,5 +1,5 @@
 -- In every world in which no thread is about to go on, each thread stands as in a sound build, as far as it is proved.
-use Rattle.std.proofs.Common.{arith, ◌≡◌, ◌∙◌, ap, sym, subst, refl, ◌+◌, ℕ, zero, suc, true, false, List, [], ◌∷◌, map, Option, Some, None}
+use Rattle.std.proofs.Common.{◌≡◌, sym, subst, refl, ◌+◌, ℕ, zero, suc, true, List, [], ◌∷◌, Option, Some, None}
 use Rattle.std.specs.Prelude.{pos}
 use Rattle.std.specs.List.{AllByRecursion as AllAre}
 use Rattle.model_syntax.specs.declared.tree.Tree.{Tree}
@@ -16,7 +16,7 @@ use Rattle.model_run.specs.declared.wait.Join.{Join}
 use Rattle.model_run.specs.declared.wait.JoinEnd.{JoinEnd}
 use Rattle.model_run.specs.declared.wait.Wait.{Wait}
 use Rattle.model_run.specs.declared.wait.Wait.TheVariants.{Ready, Request as RequestWait, Branches as BranchesWait}
-use Rattle.model_run.specs.State.{Setting, Common, Env, State, Result, Waits}
+use Rattle.model_run.specs.State.{Setting, Common, Env, State, Waits}
 use Rattle.model_run.specs.Below.{Small}
 use Rattle.model_run.specs.Terms.{Term, term}
 use Rattle.model_run.specs.Around.{Shape, form_at}
@@ -24,11 +24,10 @@ use Rattle.model_run.specs.Assignments.{place_size, operator_in}
 use Rattle.model_run.specs.Threads.{Thread, stands}
 use Rattle.model_run.specs.World.{Build, world_in}
 use Rattle.model_run.specs.FrameTable.{Sort, Any, Up_to, Flag, Flow_node, A_closure, A_throwable, Text_or_null, Further, No_more, One_more, Any_more, any_values, current, count_of, key_count, operator_count, frame_row}
-use Rattle.model_run.specs.Nesting.{Spot, Begun, Any_body, Body_of, Any_branch, For_executor, For_task, For_person, For_branches as For_branches_spot, FurtherFit, ValuesFit, FrameFits, Nested, WaitsFor, innermost, shape_at}
+use Rattle.model_run.specs.Nesting.{Spot, For_executor, For_task, For_person, For_branches as For_branches_spot, FurtherFit, ValuesFit, FrameFits, Nested, WaitsFor, innermost, shape_at}
 use Rattle.model_run.specs.Scoping.{names_for}
 use Rattle.model_run.specs.Waiting.{Waiting, IsReady}
-use Rattle.model_run.specs.Fitting.{EnvFits, known, Seat, seat_at, seats_of, seat_of, outermost, ParentIs, JoinFits, BranchFits, IsOpen, WaitFits, StartFits}
-use Rattle.model_run.proofs.PathLaws.{outer_spot}
+use Rattle.model_run.specs.Fitting.{EnvFits, known, Seat, seat_at, seats_of, seat_of, outermost, ParentIs, JoinFits, BranchFits, WaitFits, StartFits}
 use Rattle.model_run.proofs.WaitingLaws.{world_waits}
 use Rattle.model_run.proofs.WorldLaws.{frames_chained, waits_there, waiting_nested}
 use Rattle.run_laws.specs.Bounds.{Narrow}

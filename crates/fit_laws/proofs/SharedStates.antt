@@ -1,9 +1,9 @@
 -- The shared state of every world that has begun is that of a sound build.
-use Rattle.std.proofs.Common.{arith, ◌≡◌, ◌<◌, ◌≤◌, ◌+◌, refl, ℕ, true, List}
+use Rattle.std.proofs.Common.{arith, ◌≡◌, true, List}
 use Rattle.model_syntax.specs.declared.tree.Tree.{Tree}
 use Rattle.model_syntax.specs.TreeNodes.{tree_node}
 use Rattle.model_run.specs.declared.event.Event.{Event}
-use Rattle.model_run.specs.State.{RunLimits, Setting}
+use Rattle.model_run.specs.State.{Setting}
 use Rattle.model_run.specs.Below.{Small}
 use Rattle.model_run.specs.Terms.{term}
 use Rattle.model_run.specs.World.{run_limits, world_in}

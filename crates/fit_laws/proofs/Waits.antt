@@ -1,5 +1,5 @@
 -- In every world a thread that waits for branches has asked for them; and a branch has a parent, the script has none.
-use Rattle.std.proofs.Common.{◌≡◌, ◌+◌, ap, sym, subst, refl, ℕ, zero, suc, Bool, true, false, List, [], ◌∷◌, ◌++◌, map, length, Option, Some, None}
+use Rattle.std.proofs.Common.{◌≡◌, ◌+◌, sym, subst, refl, ℕ, zero, suc, Bool, true, false, List, [], ◌∷◌, map, length, Option, Some, None}
 use Rattle.std.specs.Prelude.{nat_lt, if◌then◌else◌, fold}
 use Rattle.std.specs.List.{AllByRecursion as AllAre}
 use Rattle.model_values.specs.declared.limit.LimitKind.TheVariants.{GreenThreads, LogSize, TextLength}
@@ -9,7 +9,6 @@ use Rattle.model_run.specs.Taking.{request_of}
 use Rattle.model_run.specs.declared.wait.Answer.{Answer}
 use Rattle.model_run.specs.declared.wait.BranchEnd.{BranchEnd}
 use Rattle.model_run.specs.declared.wait.Join.{Join}
-use Rattle.model_run.specs.declared.wait.JoinEnd.{JoinEnd}
 use Rattle.model_run.specs.declared.wait.Wait.{Wait}
 use Rattle.model_run.specs.declared.wait.Wait.TheVariants.{Ready, Request as RequestWait, Branches as BranchesWait}
 use Rattle.model_run.specs.declared.event.Event.{Event}
@@ -26,7 +25,7 @@ use Rattle.model_run.specs.declared.ending.Asked.TheVariants.{ForRequest as For_
 use Rattle.model_run.specs.State.{RunLimits, Setting, Common, Own, State, Result, Ended, Waits, Limited, Unfinished}
 use Rattle.model_run.specs.Opened.{Owns}
 use Rattle.model_run.specs.Threads.{Thread, stands}
-use Rattle.model_run.specs.World.{Build, unbegun, with_thread, without_thread, waits_as, with_head, ready, branch_threads, joins_of, forked, forks, limit_met, join_end, ends_before, all_ended, joined_wait, join_wait, joins, outcome_of, thread_ended, script_ended, stopped_at, asked_by, stopped, given_answer, resumed, Turn, turn_if, first_ready, take_turn, settle, turn_bound, uncounted, changed_by, kept_output, with_taken, with_kept, change_request, output, after_event, after_one, answer_to, world_in}
+use Rattle.model_run.specs.World.{Build, unbegun, with_thread, waits_as, with_head, ready, branch_threads, joins_of, forked, forks, limit_met, join_end, ends_before, all_ended, joined_wait, join_wait, joins, outcome_of, thread_ended, script_ended, stopped_at, asked_by, stopped, given_answer, resumed, Turn, turn_if, first_ready, take_turn, settle, turn_bound, uncounted, changed_by, kept_output, with_taken, with_kept, change_request, output, after_event, after_one, answer_to, world_in}
 use Rattle.model_run.specs.Fitting.{outermost}
 use Rattle.model_run.proofs.PathLaws.{outer_spot}
 use Rattle.model_run.proofs.WaitingLaws.{with_all}

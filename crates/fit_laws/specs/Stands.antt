@@ -1,5 +1,5 @@
 -- How much of a sound build is proved of the world of every list of events (this product's own).
-use Rattle.std.specs.Prelude.{◌≡◌, ℕ, Bool, false, List, Option, None, map, length}
+use Rattle.std.specs.Prelude.{◌≡◌, false, List, None, map}
 use Rattle.std.specs.List.{AllByRecursion as AllAre}
 use Rattle.model_run.specs.declared.frame.FrameKind.{FrameKind}
 use Rattle.model_run.specs.declared.frame.FrameKind.TheVariants as kind

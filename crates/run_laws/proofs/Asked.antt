@@ -1,5 +1,5 @@
 -- What a step asks for can be answered: a label has no fault, and an id is not empty and has no blank.
-use Rattle.std.proofs.Common.{arith, ◌≡◌, ◌<◌, ◌≤◌, ◌+◌, ◌^◌, refl, sym, ap, subst, ◌∙◌, ℕ, suc, Bool, true, false, List, [], ◌∷◌, length, Option, Some, None, decimal}
+use Rattle.std.proofs.Common.{arith, ◌≡◌, ◌<◌, ◌^◌, refl, sym, ap, subst, ℕ, Bool, true, false, List, [], ◌∷◌, length, Option, Some, None, decimal}
 use Rattle.std.specs.Prelude.{codes, nat_eq, not, ◌||◌, if◌then◌else◌, find, option_map, unwrap_or}
 use Rattle.std.specs.List.{list_all}
 use Rattle.std.specs.Cmp.Lexicographic.{same_text as text_is}
@@ -18,7 +18,7 @@ use Rattle.model_run.specs.Around.{cells, limits}
 use Rattle.model_run.specs.LabelTokens.{is_blank}
 use Rattle.model_run.specs.Labels.{kept_label, label_fault}
 use Rattle.model_run.specs.Names.{same_text}
-use Rattle.model_run.specs.StepTable.{has_blank, Given, given, is_closure, Bound, Binds, Refuses, Stops_at, Fit, Fits, Bad, Meets, fits_if, is_identifier, fit_given, and_fits, all_fit, sort_of, parameters, takes_map, has_body, missing, unknown, both_returned, written_or, text_given, label_of, bind_label, bind_body, bind_missing, bind_returned, bind_fit, bind_known, named_or_main, bind_rest, split_last, bind_step}
+use Rattle.model_run.specs.StepTable.{has_blank, Given, given, Bound, Binds, Refuses, Stops_at, Fit, Fits, Bad, Meets, fits_if, is_identifier, fit_given, and_fits, all_fit, sort_of, parameters, takes_map, has_body, missing, unknown, both_returned, written_or, text_given, label_of, bind_label, bind_body, bind_missing, bind_returned, bind_fit, bind_known, named_or_main, bind_rest, split_last, bind_step}
 use Rattle.model_values.specs.Kinds.{kind}
 use Rattle.run_laws.specs.Bounds.{InBounds}
 

@@ -1,5 +1,5 @@
 -- Each event leaves the shared state in its bounds, before a thread goes on.
-use Rattle.std.proofs.Common.{arith, ◌≡◌, ◌≤◌, ◌+◌, refl, subst, ℕ, Bool, true, false, List, [], ◌∷◌, ◌++◌, filter, map, length, length-append}
+use Rattle.std.proofs.Common.{arith, ◌≡◌, ◌≤◌, ◌+◌, refl, subst, ℕ, Bool, true, false, List, [], ◌∷◌, filter, map, length, length-append}
 use Rattle.std.specs.Prelude.{if◌then◌else◌, nat_eq, not}
 use Rattle.std.specs.List.{AllByRecursion as AllAre}
 use Rattle.model_run.specs.declared.held.Held.{Held}

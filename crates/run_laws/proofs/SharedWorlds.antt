@@ -1,5 +1,5 @@
 -- In every world the shared state is sound by itself, also behind the end of a build.
-use Rattle.std.proofs.Common.{arith, ◌≡◌, ◌<◌, ◌≤◌, ◌+◌, ◌∙◌, ap, sym, subst, refl, ℕ, zero, suc, Bool, true, false, List, [], ◌∷◌, map, length, Option, Some, None}
+use Rattle.std.proofs.Common.{arith, ◌≡◌, ◌≤◌, ◌+◌, sym, subst, refl, ℕ, zero, suc, Bool, true, false, List, [], ◌∷◌, map, length, Option, Some, None}
 use Rattle.std.specs.Prelude.{nat_lt, if◌then◌else◌, fold, slice_get}
 use Rattle.std.specs.List.{AllByRecursion as AllAre}
 use Rattle.model_syntax.specs.declared.tree.Tree.{Tree}
@@ -14,7 +14,6 @@ use Rattle.model_run.specs.Taking.{request_of}
 use Rattle.model_run.specs.declared.result.BuildResult.{BuildResult}
 use Rattle.model_run.specs.declared.result.BuildResult.TheVariants.{Failure}
 use Rattle.model_run.specs.declared.wait.Answer.{Answer}
-use Rattle.model_run.specs.declared.wait.Answer.TheVariants.{Granted as GrantedAnswer, Done, Decided as DecidedAnswer}
 use Rattle.model_run.specs.declared.event.Event.{Event}
 use Rattle.model_run.specs.declared.event.Event.TheVariants.{Start as StartEvent, Granted as GrantedEvent, Output as OutputEvent, Exited as ExitedEvent, Lost as LostEvent, Decided as DecidedEvent}
 use Rattle.model_run.specs.declared.event.Stream.{Stream}
@@ -22,16 +21,16 @@ use Rattle.model_run.specs.declared.event.Stream.TheVariants.{Log as LogStream, 
 use Rattle.model_run.specs.declared.taken.Taken.{Taken}
 use Rattle.model_run.specs.declared.taken.Taken.TheVariants.{Accepted, NotOpen, WrongPlace, Finished}
 use Rattle.model_run.specs.declared.site.Executor.{Executor}
-use Rattle.model_run.specs.Terms.{Term, term}
+use Rattle.model_run.specs.Terms.{term}
 use Rattle.model_run.specs.declared.ending.Ending.{Ending}
 use Rattle.model_run.specs.declared.ending.Ending.TheVariants.{Normal, Thrown, Returned, Broke, Continued, Declared, Answered}
 use Rattle.model_run.specs.declared.ending.Branch.{Branch}
 use Rattle.model_run.specs.declared.ending.Asked.{Asked}
 use Rattle.model_run.specs.declared.ending.Asked.TheVariants.{ForRequest as For_request, ForBranches as For_branches}
-use Rattle.model_run.specs.State.{RunLimits, Setting, Common, Own, State, Result, Ended, Waits, Limited, Unfinished}
+use Rattle.model_run.specs.State.{RunLimits, Setting, Common, State, Result, Ended, Waits, Limited, Unfinished}
 use Rattle.model_run.specs.Below.{Small}
 use Rattle.model_run.specs.Grants.{executor_of}
-use Rattle.model_run.specs.Threads.{Runs, Thread, stands}
+use Rattle.model_run.specs.Threads.{Thread, stands}
 use Rattle.model_run.specs.Opened.{Owns}
 use Rattle.model_run.specs.Waiting.{Stood}
 use Rattle.model_run.specs.World.{Build, unbegun, end_node, finished, uncaught, uncaught_result, script_ended, limit_met, forked, forks, thread_ended, with_thread, with_head, stopped_at, asked_by, stopped, given_answer, resumed, Turn, first_ready, take_turn, settle, turn_bound, uncounted, changed_by, held_as, without_request, kept_output, with_taken, with_kept, change_request, output, after_event, after_one, answer_to, world_in}
@@ -45,7 +44,7 @@ use Rattle.run_laws.specs.Worlds.{SoundThread}
 use Rattle.run_laws.proofs.Bounds.{bounds_node}
 use Rattle.run_laws.proofs.EventBounds.{bounds_uncounted, bounds_closed, bounds_taken, bounds_kept, begun_shared}
 use Rattle.run_laws.proofs.Flow.{node_then}
-use Rattle.run_laws.proofs.SoundWorlds.{Mid, mid_begins, mid_ends, AllSound, AllStand, TurnSound, Given, given_of, ended_at, waits_at, limited_at, shared_of, headed, resumed_sound, first_sound, settle_sound, changed_sound, event_sound, aside}
+use Rattle.run_laws.proofs.SoundWorlds.{Mid, mid_begins, mid_ends, AllSound, AllStand, TurnSound, Given, given_of, ended_at, waits_at, limited_at, shared_of, headed, resumed_sound, first_sound, changed_sound, event_sound, aside}
 
 -- a running build's shared state fits an ended one too
 pub shared_any : (g : Setting) (ended : Bool) (u : Common) → SharedSound g false u → SharedSound g ended u

@@ -1,5 +1,5 @@
 -- How large positions and counts get: no larger than a text, a list or a map that is short.
-use Rattle.std.proofs.Common.{arith, ◌≡◌, ◌<◌, ◌≤◌, ◌+◌, refl, ap, subst, ℕ, zero, suc, Bool, true, false, List, [], ◌∷◌, ◌++◌, map, length, Option, Some, None}
+use Rattle.std.proofs.Common.{arith, ◌≡◌, ◌<◌, ◌≤◌, ◌+◌, refl, subst, ℕ, zero, suc, Bool, true, false, List, [], ◌∷◌, ◌++◌, length, Option, Some, None}
 use Rattle.std.specs.Prelude.{nat_eq, if◌then◌else◌, slice_get}
 use Rattle.std.specs.Fmt.{is_char_start}
 use Rattle.std.specs.List.{AllByRecursion as AllAre}
@@ -7,7 +7,7 @@ use Rattle.std.proofs.lemmas.Bool.{eqb-true}
 use Rattle.std.proofs.lemmas.List.{length-map}
 use Rattle.model_values.specs.Cells.{no_room, cell_size}
 use Rattle.model_values.specs.Characters.{byte_before, characters}
-use Rattle.model_values.specs.Kinds.{Kind, null, flag, number, text, items, pairs, closure, thrown, cell_kind, kind}
+use Rattle.model_values.specs.Kinds.{Kind, null, text, items, pairs, cell_kind, kind}
 use Rattle.model_values.specs.Limits.{Limits}
 use Rattle.model_values.specs.Walks.{Turn, Turns, Past, Stops, entry_map, key_value, key_cell, unless_full, element_turn, entry_turn, character_turn, loop_kind_turn, loop_turn}
 use Rattle.model_values.proofs.CellGrowth.{all_get}

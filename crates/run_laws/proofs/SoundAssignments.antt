@@ -16,7 +16,7 @@ use Rattle.model_values.proofs.CellGrowth.{Before, all_append, all_get, set_vari
 use Rattle.model_values.proofs.Growth.{operators, increments, decrements, reads, writes, property_reads, property_writes}
 use Rattle.model_values.proofs.IndexGrowth.{all_index}
 use Rattle.model_values.proofs.ThrowGrowth.{unknown_name_grows}
-use Rattle.model_values.proofs.LaterLaws.{later_itself, variables_later}
+use Rattle.model_values.proofs.LaterLaws.{later_itself}
 use Rattle.model_values.specs.declared.value.Value.{Value}
 use Rattle.model_values.specs.declared.value.Value.TheVariants.{Null, Int as Whole}
 use Rattle.model_values.specs.declared.cell.Cell.{Cell}

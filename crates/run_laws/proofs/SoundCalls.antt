@@ -13,7 +13,6 @@ use Rattle.model_values.specs.Later.{Grows, TurnGrows, AfterGrows, Given}
 use Rattle.model_values.proofs.Growth.{walk_turns, walk_ends}
 use Rattle.model_values.proofs.CellGrowth.{all_append, all_get}
 use Rattle.model_values.proofs.WalkGrowth.{after_grows}
-use Rattle.model_values.proofs.LaterLaws.{variables_later}
 use Rattle.model_values.specs.declared.value.Value.{Value}
 use Rattle.model_values.specs.declared.value.Value.TheVariants.{Null, Bool as Truth, Int as Whole, Cell as InCell}
 use Rattle.model_values.specs.declared.cell.Cell.{Cell}

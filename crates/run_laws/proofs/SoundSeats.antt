@@ -1,16 +1,14 @@
 -- A thread of a sound build, as an image holds it, goes on soundly with the answer that it is about to get.
-use Rattle.std.proofs.Common.{◌≡◌, refl, sym, subst, ℕ, false, List, [], ◌∷◌, ◌≤◌}
-use Rattle.std.specs.Prelude.{slice_get, pos}
+use Rattle.std.proofs.Common.{◌≡◌, refl, sym, subst, ℕ, false, List, [], ◌∷◌, ◌≤◌, Bool}
+use Rattle.std.specs.Prelude.{pos}
 use Rattle.std.specs.List.{AllByRecursion as AllAre}
 use Rattle.model_syntax.specs.declared.tree.Tree.{Tree}
 use Rattle.model_syntax.specs.TreeNodes.{tree_node}
-use Rattle.model_values.specs.Fitting.{HasVariable, CellsFit}
 use Rattle.model_values.specs.declared.value.Value.{Value}
 use Rattle.model_values.specs.declared.value.Value.TheVariants.{Int as Whole}
 use Rattle.model_run.specs.declared.frame.Frame.{Frame}
 use Rattle.model_run.specs.declared.wait.Answer.{Answer}
 use Rattle.model_run.specs.declared.wait.Answer.TheVariants.{Granted, Done, Decided, Joined}
-use Rattle.model_run.specs.declared.wait.BranchEnd.{BranchEnd}
 use Rattle.model_run.specs.declared.ending.Ending.TheVariants.{Answered}
 use Rattle.model_run.specs.Terms.{Term, term}
 use Rattle.model_run.specs.State.{Setting, Common, Own, Ended}
@@ -21,8 +19,9 @@ use Rattle.model_run.specs.Around.{position, value_at}
 use Rattle.model_run.specs.FrameTable.{Sort, Any, Up_to, Flow_node, Text_or_null, No_more, frame_row}
 use Rattle.model_run.specs.Nesting.{Spot, For_executor, For_task, For_person, For_branches, ValuesFit, FrameFits, shape_at, innermost}
 use Rattle.model_run.specs.Scoping.{names_for}
-use Rattle.model_run.specs.Fitting.{EnvFits, closure_rule, IsFlowNode, known, AnswerFits, EndFits, Seat, SeatFits, outermost, OutcomeFits}
+use Rattle.model_run.specs.Fitting.{EnvFits, IsFlowNode, known, AnswerFits, SharedFits, Seat, SeatFits, outermost}
 use Rattle.model_run.proofs.LaterLaws.{frame_wider}
+use Rattle.run_laws.specs.Bounds.{Narrow}
 use Rattle.run_laws.specs.Soundness.{SharedSound, NumbersFit, seen, Sits, At}
 use Rattle.run_laws.specs.Evaluation.{HoldsAt}
 use Rattle.run_laws.proofs.Flow.{later_self}
@@ -33,6 +32,15 @@ use Rattle.run_laws.proofs.Resumption.{unwind_goes}
 known_seen : (u : Common) (s : Sort) (v : Value) → known u s v → seen u s v
 known_seen u (Up_to n) (Whole (pos m)) h = tt
 known_seen u s v h = h
+
+-- the shared state of a sound build is sound by itself
+pub fits_shared : (g : Setting) (ended : Bool) (u : Common) → Narrow g.limits → SharedFits g ended u → SharedSound g ended u
+fits_shared g ended u narrow h = record {
+  narrow = narrow;
+  cells = h.cells;
+  binding = h.binding;
+  bounds = record { short = h.short; few_cells = h.few_cells; few_bytes = h.few_bytes; names = h.names; few_nodes = h.few_nodes; nodes = h.nodes; few_requests = h.few_requests; asks = h.asks };
+}
 
 -- numbers that the table bounds
 known_numbers : (root : Term) (u : Common) (f : Frame) → FrameFits (known u) root f → NumbersFit f.kind f.values

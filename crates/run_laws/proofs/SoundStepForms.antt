@@ -48,7 +48,7 @@ use Rattle.model_run.proofs.LaterLaws.{env_later}
 use Rattle.model_run.proofs.Front.{front_itself}
 use Rattle.run_laws.specs.Soundness.{Shaped, seen, NumbersFit, Sits, EndFits, Sound, At, Holds, Goes}
 use Rattle.run_laws.proofs.Binding.{ThereIf}
-use Rattle.run_laws.specs.Bounds.{InBounds, HasRoom}
+use Rattle.run_laws.specs.Bounds.{HasRoom}
 use Rattle.run_laws.proofs.Asked.{IdFits, id_fits, number_low, found_number}
 use Rattle.run_laws.proofs.Bounds.{line_longer, bounds_asks}
 use Rattle.run_laws.proofs.Flow.{end_goes, null_goes, change_goes, later_then, there_then, node_then, seen_then, holds_then, from_here, Moves, moves_aside, at_moved, answer_goes, wait_goes}

@@ -35,7 +35,7 @@ use Rattle.model_run.specs.Scoping.{Names, frame_names}
 use Rattle.model_run.specs.Fitting.{EnvFits, closure_rule, IsFlowNode, StartsAt, Later}
 use Rattle.model_run.proofs.LaterLaws.{env_later}
 use Rattle.run_laws.specs.Soundness.{Shaped, seen, NumbersFit, Sits, EndFits, Sound, At, Holds, Goes}
-use Rattle.run_laws.specs.Bounds.{Narrow, HasRoom}
+use Rattle.run_laws.specs.Bounds.{HasRoom}
 use Rattle.run_laws.proofs.Bounds.{all_longer, line_longer, bounds_node, node_room, room_behind}
 use Rattle.run_laws.proofs.Flow.{later_then, there_then, node_then, end_then, end_as, at_self, holds_then, from_here, Moves, moves_aside, narrow_here, at_moved, change_goes, guard_with, guard_goes, null_goes, answer_goes, through_goes}
 use Rattle.run_laws.proofs.Sources.{CalleeFits, Place, Sources, sits_here}

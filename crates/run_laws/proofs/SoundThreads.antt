@@ -1,12 +1,10 @@
 -- Threads: from its beginning, and with each answer, a thread goes to a later sound state, and waits inside frames that fit.
 use Rattle.std.proofs.Common.{◌≡◌, ◌<◌, refl, sym, ap, subst, ◌∙◌, ℕ, false, List, [], ◌∷◌, ◌++◌, length}
-use Rattle.std.specs.Prelude.{slice_get}
 use Rattle.std.specs.List.{AllByRecursion as AllAre}
 use Rattle.model_syntax.specs.declared.node.NodeForm.{NodeForm}
 use Rattle.model_syntax.specs.declared.node.NodeForm.TheVariants as form
 use Rattle.model_syntax.specs.declared.tree.Tree.{Tree}
 use Rattle.model_syntax.specs.TreeNodes.{tree_node}
-use Rattle.model_values.specs.Fitting.{HasVariable, CellsFit}
 use Rattle.model_run.specs.declared.frame.Frame.{Frame}
 use Rattle.model_run.specs.declared.wait.Answer.{Answer}
 use Rattle.model_run.specs.declared.ending.Ending.TheVariants.{Answered}
@@ -19,7 +17,7 @@ use Rattle.model_run.specs.Meaning.{ev, fuel, unwind}
 use Rattle.model_run.specs.Threads.{Runs, Script, Closure, evaluated, stands_from}
 use Rattle.model_run.specs.Nesting.{Spot, Begun, Any_body, Body_of, Any_branch, For_executor, For_task, For_person, For_branches, Nested, WaitsFor, innermost, shape_at}
 use Rattle.model_run.specs.Scoping.{names_around, names_at}
-use Rattle.model_run.specs.Fitting.{EnvFits, closure_rule, IsFlowNode, Later}
+use Rattle.model_run.specs.Fitting.{EnvFits, IsFlowNode, Later}
 use Rattle.model_run.proofs.PathLaws.{PathFrom, outer_spot, stands_paths}
 use Rattle.model_run.proofs.Structure.{thread_goes_on}
 use Rattle.model_run.proofs.WorldLaws.{frames_chained, waits_there}

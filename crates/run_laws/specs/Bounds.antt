@@ -1,5 +1,5 @@
 -- How far a build counts while it runs: no further than an image has room for (this product's own).
-use Rattle.std.specs.Prelude.{◌<◌, ◌≤◌, ℕ, suc, ◌+◌, Bool, length}
+use Rattle.std.specs.Prelude.{◌<◌, ◌≤◌, suc, ◌+◌, Bool, length}
 use Rattle.std.specs.List.{AllByRecursion as AllAre}
 use Rattle.model_values.specs.Cells.{heap_bytes, cell_size}
 use Rattle.model_run.specs.declared.site.Site.{Site}

@@ -6,7 +6,6 @@ use Rattle.model_syntax.specs.declared.node.NodeForm.TheVariants as form
 use Rattle.model_run.specs.declared.wait.Wait.{Wait}
 use Rattle.model_run.specs.declared.wait.Wait.TheVariants.{Ready, Request as RequestWait, Branches as BranchesWait}
 use Rattle.model_run.specs.declared.wait.JoinEnd.{JoinEnd}
-use Rattle.model_run.specs.Terms.{Term}
 use Rattle.model_run.specs.State.{Setting, Common, Result, Ended, Waits, Limited, Unfinished}
 use Rattle.model_run.specs.Threads.{Thread, stands}
 use Rattle.model_run.specs.Fitting.{IsFlowNode, EndFits as BranchEnded, Later}
