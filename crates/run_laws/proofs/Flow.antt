@@ -1,12 +1,12 @@
 -- What the combinators of evaluation keep: sound states, later and later, and frames that fit.
-use Rattle.std.proofs.Common.{arith, ◌≡◌, ◌<◌, ◌+◌, refl, sym, subst, ℕ, Bool, true, false, List, length, Option, Some, None}
+use Rattle.std.proofs.Common.{arith, ◌≡◌, ◌<◌, ◌≤◌, ◌+◌, refl, sym, subst, ℕ, Bool, true, false, List, length, Option, Some, None}
 use Rattle.std.specs.Prelude.{pos, slice_get}
 use Rattle.std.specs.List.{AllByRecursion as AllAre}
 use Rattle.model_syntax.specs.declared.node.NodeForm.{NodeForm}
 use Rattle.model_syntax.specs.declared.node.NodeForm.TheVariants as form
 use Rattle.model_values.specs.Cells.{Answer, Gives, Throws, Meets}
 use Rattle.model_values.specs.Fitting.{There, HasVariable, HasThrowable, CellsFit}
-use Rattle.model_values.specs.Later.{CellsLater, AnswerGrows}
+use Rattle.model_values.specs.Later.{CellsLater, Grows, AnswerGrows}
 use Rattle.model_values.specs.Truth.{truth}
 use Rattle.model_values.proofs.LaterLaws.{later_itself, later_on, there_later, text_later, closure_later, throwable_later, variable_later, variables_later, all_weaker}
 use Rattle.model_values.specs.declared.value.Value.{Value}
@@ -18,12 +18,14 @@ use Rattle.model_run.specs.declared.ending.Ending.TheVariants.{Normal, Thrown, R
 use Rattle.model_run.specs.declared.ending.Asked.{Asked}
 use Rattle.model_run.specs.declared.frame.Frame.{Frame}
 use Rattle.model_run.specs.State.{Setting, Common, World, State, Result, Ended, Waits, Limited, Unfinished, with_world, through, changed, choose, unless_limit, guarded, on_value, put_cells, answered, may_count, counted, tick, reply_to, awaiting}
-use Rattle.model_run.specs.Around.{ended, cells, deciding}
+use Rattle.model_run.specs.Around.{ended, cells, limits, deciding}
 use Rattle.model_run.specs.FrameTable.{Sort, Any, Up_to, Flag, Flow_node, A_closure, A_throwable, Text_or_null, is_declaration}
 use Rattle.model_run.specs.Fitting.{closure_rule, IsFlowNode, Later}
 use Rattle.model_run.proofs.Front.{front_itself, front_same, front_on, front_length}
 use Rattle.model_run.proofs.LaterLaws.{frame_wider, env_later}
+use Rattle.run_laws.specs.Bounds.{Narrow, InBounds}
 use Rattle.run_laws.specs.Soundness.{seen, Sits, AskedFits, declares_as, EndFits, Sound, At, Holds, Goes}
+use Rattle.run_laws.proofs.Bounds.{bounds_aside, bounds_cells}
 
 pub later_self : (u : Common) → Later u u
 later_self u = record { cells = later_itself u.cells; nodes = front_itself u.nodes }
@@ -53,7 +55,7 @@ module _ (u v : Common) (later : Later u v) where
   seen_then s x h = absurd h
 
   pub sits_then : (root : _) (f : Frame) → Sits root u f → Sits root v f
-  sits_then root f h = record { fits = frame_wider (seen u) (seen v) seen_then root f h.fits; names = env_later u v later _ f.env h.names }
+  sits_then root f h = record { fits = frame_wider (seen u) (seen v) seen_then root f h.fits; names = env_later u v later _ f.env h.names; numbers = h.numbers }
 
 pub end_then : (u v : Common) → Later u v → (f : NodeForm) (e : Ending) → EndFits f u e → EndFits f v e
 end_then u v l f (Normal x) h = (there_then u v l x h.0, h.1)
@@ -75,7 +77,7 @@ module _ (g : Setting) where
   pub holds_then : (f : NodeForm) (u v : Common) → Later u v → (r : Result) → Holds g f v r → Holds g f u r
   holds_then f u v l (Ended e s) h = (at_then u v l s h.0, h.1)
   holds_then f u v l (Waits asked path s) h = (at_then u v l s h.0, h.1, h.2)
-  holds_then f u v l (Limited k s) h = tt
+  holds_then f u v l (Limited k s) h = at_then u v l s h
   holds_then f u v l Unfinished h = tt
 
   -- go on from a state as from the beginning
@@ -99,7 +101,7 @@ module _ (g : Setting) where
   pub holds_as : (f f' : NodeForm) (u : Common) (r : Result) → is_declaration f ≡ false → is_declaration f' ≡ false → Holds g f u r → Holds g f' u r
   holds_as f f' u (Ended e s) plain plain' h = (h.0, end_as f f' s.world.shared e plain plain' h.1)
   holds_as f f' u (Waits asked path s) plain plain' h = h
-  holds_as f f' u (Limited k s) plain plain' h = tt
+  holds_as f f' u (Limited k s) plain plain' h = h
   holds_as f f' u Unfinished plain plain' h = tt
 
   -- A change that leaves a sound world sound, and later.
@@ -108,21 +110,38 @@ module _ (g : Setting) where
     pub cells : CellsFit (closure_rule g.script) (h w).shared.cells
     pub binding : AllAre (λ b. HasVariable (slice_get (h w).shared.cells b.cell)) (h w).shared.binding
     pub head : IsFlowNode (h w).shared.nodes (h w).own.head
+    pub bounds : InBounds false g.site (h w).shared
 
   pub at_moved : (u : Common) (h : World → World) (s : State) → At g u s → Moves h s.world → At g u (with_world (h s.world) s)
   at_moved u h s at m = record {
     later = later_then u s.world.shared (h s.world).shared at.later m.later;
-    sound = record { setting = (at.sound).setting; cells = m.cells; binding = m.binding; head = m.head };
+    sound = record { setting = (at.sound).setting; narrow = (at.sound).narrow; cells = m.cells; binding = m.binding; head = m.head; bounds = m.bounds };
     alone = at.alone;
   }
 
   -- a change of nothing that soundness speaks of
-  pub moves_aside : (h : World → World) (w : World) → Sound g w → (h w).shared.cells ≡ w.shared.cells → (h w).shared.binding ≡ w.shared.binding → (h w).shared.nodes ≡ w.shared.nodes → (h w).own.head ≡ w.own.head → Moves h w
-  moves_aside h w sound c b n o = record {
+  pub moves_aside : (h : World → World) (w : World) → Sound g w → (h w).shared.cells ≡ w.shared.cells → (h w).shared.binding ≡ w.shared.binding → (h w).shared.nodes ≡ w.shared.nodes → (h w).own.head ≡ w.own.head
+      → (h w).shared.requests ≡ w.shared.requests → (h w).shared.next_request ≡ w.shared.next_request → length w.shared.log ≤ length (h w).shared.log → Moves h w
+  moves_aside h w sound c b n o r q l = record {
     later = record { cells = subst (CellsLater w.shared.cells) (sym c) (later_itself w.shared.cells); nodes = front_same w.shared.nodes (h w).shared.nodes n };
     cells = subst (CellsFit (closure_rule g.script)) (sym c) sound.cells;
     binding = subst (λ cs. AllAre (λ x. HasVariable (slice_get cs x.cell)) (h w).shared.binding) (sym c) (subst (λ bs. AllAre (λ x. HasVariable (slice_get w.shared.cells x.cell)) bs) (sym b) sound.binding);
     head = subst (λ ns. IsFlowNode ns (h w).own.head) (sym n) (subst (IsFlowNode w.shared.nodes) (sym o) sound.head);
+    bounds = bounds_aside false g.site w.shared (h w).shared sound.bounds c b n r q l;
+  }
+
+  -- the limits of a sound world
+  pub narrow_here : (w : World) → Sound g w → Narrow w.setting.limits
+  narrow_here w sound = subst (λ (t : Setting). Narrow t.limits) (sym sound.setting) sound.narrow
+
+  -- cells that an operation on values makes
+  pub moves_cells : (w : World) → Sound g w → (given result : Type 0) (h : List Cell) → Grows (limits w) (closure_rule g.script) (cells w) given h result → CellsFit (closure_rule g.script) h → Moves (put_cells h) w
+  moves_cells w sound given result h grown fits = record {
+    later = record { cells = grown.later; nodes = front_itself w.shared.nodes };
+    cells = fits;
+    binding = variables_later (cells w) h grown.later w.shared.binding sound.binding;
+    head = sound.head;
+    bounds = bounds_cells g.site w.shared (limits w) (closure_rule g.script) given result h (narrow_here w sound).cells (narrow_here w sound).bytes grown sound.bounds;
   }
 
   module _ (f : NodeForm) (u : Common) where
@@ -130,14 +149,22 @@ module _ (g : Setting) where
     change_goes h moves go k s at = k _ (at_moved u h s at (moves s.world at.sound))
 
     pub unless_goes : (o : Option LimitKind) (go : State → Result) → Goes g f u go → Goes g f u (unless_limit o go)
-    unless_goes (Some k) go h s at = tt
+    unless_goes (Some k) go h s at = at
     unless_goes None go h s at = h s at
 
-    pub guard_goes : (limit : World → Option LimitKind) (h : World → World) → ((w : World) → Sound g w → Moves h w) → (go : State → Result) → Goes g f u go → Goes g f u (guarded limit h go)
-    guard_goes limit h moves go k s at = unless_goes (limit s.world) (changed h go) (change_goes h moves go k) s at
+    -- a change that is made where it meets no limit, from here
+    pub guard_with : (limit : World → Option LimitKind) (h : World → World) → ((w : World) → Later u w.shared → Sound g w → limit w ≡ None → Moves h w) → (go : State → Result) (s : State) → At g u s → (At g u (with_world (h s.world) s) → Holds g f u (go (with_world (h s.world) s))) → Holds g f u (guarded limit h go s)
+    guard_with limit h moves go s at k = one (limit s.world) refl
+      where
+        one : (o : Option LimitKind) → limit s.world ≡ o → Holds g f u (unless_limit o (changed h go) s)
+        one (Some x) e = at
+        one None e = k (at_moved u h s at (moves s.world at.later at.sound e))
+
+    pub guard_goes : (limit : World → Option LimitKind) (h : World → World) → ((w : World) → Later u w.shared → Sound g w → limit w ≡ None → Moves h w) → (go : State → Result) → Goes g f u go → Goes g f u (guarded limit h go)
+    guard_goes limit h moves go k s at = guard_with limit h moves go s at (λ at1. k (with_world (h s.world) s) at1)
 
     pub tick_goes : (go : State → Result) → Goes g f u go → Goes g f u (tick go)
-    tick_goes go k = guard_goes may_count counted (λ w sound. moves_aside counted w sound refl refl refl refl) go k
+    tick_goes go k = guard_goes may_count counted (λ w l sound none. moves_aside counted w sound refl refl refl refl refl refl (omega arith)) go k
 
     pub choose_goes : (b : Bool) (x y : State → Result) → Goes g f u x → Goes g f u y → Goes g f u (choose b x y)
     choose_goes true x y h k s at = h s at
@@ -165,25 +192,28 @@ module _ (g : Setting) where
     value_goes go k (Declared b) s at h = absurd h.0
     value_goes go k (Answered x) s at h = absurd h
 
-    -- an operation on values, whose answer is of a sort
-    pub answer_goes : (l : _) (sort : List Cell → Value → Type 0) (x : Answer) (s : State) → At g u s → (given : Type 0) → given → AnswerGrows l (closure_rule g.script) (cells s.world) given sort x → (go : Value → State → Result)
-        → ((v : Value) (t : State) → At g u t → Later s.world.shared t.world.shared → sort t.world.shared.cells v → Holds g f u (go v t)) → Holds g f u (answered x go s)
-    answer_goes l sort (Gives h v) s at given is grown go k =
+    -- an operation on values, whose answer is of a sort; it leaves binding variables
+    pub answer_with : (sort : List Cell → Value → Type 0) (x : Answer) (s : State) → At g u s → (given : Type 0) → given → AnswerGrows (limits s.world) (closure_rule g.script) (cells s.world) given sort x → (go : Value → State → Result)
+        → ((v : Value) (t : State) → At g u t → Later s.world.shared t.world.shared → t.world.shared.binding ≡ s.world.shared.binding → sort t.world.shared.cells v → Holds g f u (go v t)) → Holds g f u (answered x go s)
+    answer_with sort (Gives h v) s at given is grown go k =
         let fit : CellsFit (closure_rule g.script) h × sort h v = grown.fits is in
-        let l1 : Later s.world.shared (put_cells h s.world).shared = record { cells = grown.later; nodes = front_itself s.world.shared.nodes } in
-        k v (with_world (put_cells h s.world) s) (at_moved u (put_cells h) s at (record { later = l1; cells = fit.0; binding = variables_later (cells s.world) h grown.later s.world.shared.binding (at.sound).binding; head = (at.sound).head })) l1 fit.1
-    answer_goes l sort (Throws h c) s at given is grown go k =
+        let m : Moves (put_cells h) s.world = moves_cells s.world at.sound given (sort h v) h grown fit.0 in
+        k v (with_world (put_cells h s.world) s) (at_moved u (put_cells h) s at m) m.later refl fit.1
+    answer_with sort (Throws h c) s at given is grown go k =
         let fit : CellsFit (closure_rule g.script) h × HasThrowable (slice_get h c) = grown.fits is in
-        let l1 : Later s.world.shared (put_cells h s.world).shared = record { cells = grown.later; nodes = front_itself s.world.shared.nodes } in
-        (at_moved u (put_cells h) s at (record { later = l1; cells = fit.0; binding = variables_later (cells s.world) h grown.later s.world.shared.binding (at.sound).binding; head = (at.sound).head }), fit.1)
-    answer_goes l sort (Meets m) s at given is grown go k = tt
+        (at_moved u (put_cells h) s at (moves_cells s.world at.sound given (HasThrowable (slice_get h c)) h grown fit.0), fit.1)
+    answer_with sort (Meets m) s at given is grown go k = at
+
+    pub answer_goes : (sort : List Cell → Value → Type 0) (x : Answer) (s : State) → At g u s → (given : Type 0) → given → AnswerGrows (limits s.world) (closure_rule g.script) (cells s.world) given sort x → (go : Value → State → Result)
+        → ((v : Value) (t : State) → At g u t → Later s.world.shared t.world.shared → sort t.world.shared.cells v → Holds g f u (go v t)) → Holds g f u (answered x go s)
+    answer_goes sort x s at given is grown go k = answer_with sort x s at given is grown go (λ v t at1 later same there. k v t at1 later there)
 
   -- a part under a frame
   pub through_goes : (f f' : NodeForm) (u : Common) (x : Frame) → Sits g.script u x → (go : Ending → State → Result) → ((e : Ending) (s : State) → At g u s → EndFits f' s.world.shared e → Holds g f u (go e s)) → (r : Result) → Holds g f' u r → Holds g f u (through x go r)
   unfolding through
   through_goes f f' u x sits go k (Ended e s) h = k e s h.0 h.1
   through_goes f f' u x sits go k (Waits asked path s) h = (h.0, h.1, (sits_then u s.world.shared (h.0).later g.script x sits, h.2))
-  through_goes f f' u x sits go k (Limited l s) h = tt
+  through_goes f f' u x sits go k (Limited l s) h = h
   through_goes f f' u x sits go k Unfinished h = tt
 
   -- a wait under a frame

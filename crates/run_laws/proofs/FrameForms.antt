@@ -166,9 +166,25 @@ module _ (u : Common) where
   walk_kept m n (v ∷ f ∷ []) h = absurd h.1.1
   walk_kept m n (v ∷ f ∷ i ∷ vs) h = record { on = h.0; closure = closure_there f h.1.0; held = held_there m vs h.1.1.1 }
 
+  -- a flow node that stands first
+  pub first_kept : (fu : Further) (ss : List Sort) (vs : List Value) → ValuesFit (seen u) fu (Flow_node ∷ ss) vs → IsFlowNode u.nodes (position (value_at 0 vs))
+  first_kept fu ss [] h = absurd h
+  first_kept fu ss (v ∷ vs) h = flow_node v h.0
+
+  -- the first flow nodes of a block and of its body
+  pub record StartsKept (vs : List Value) : Type 0 where
+    pub start : IsFlowNode u.nodes (position (value_at 0 vs))
+    pub body : IsFlowNode u.nodes (position (value_at 1 vs))
+
+  pub starts_kept : (fu : Further) (ss : List Sort) (vs : List Value) → ValuesFit (seen u) fu (Flow_node ∷ Flow_node ∷ ss) vs → StartsKept vs
+  starts_kept fu ss [] h = absurd h
+  starts_kept fu ss (a ∷ []) h = absurd h.1
+  starts_kept fu ss (a ∷ b ∷ vs) h = record { start = flow_node a h.0; body = flow_node b h.1.0 }
+
   -- what the frame of `retry` keeps
   pub record RetryKept (vs : List Value) : Type 0 where
     pub start : IsFlowNode u.nodes (position (value_at 0 vs))
+    pub body : IsFlowNode u.nodes (position (value_at 1 vs))
     pub closure : There u.cells (value_at 3 vs)
 
   pub retry_kept : (n : ℕ) (vs : List Value) → ValuesFit (seen u) No_more (Flow_node ∷ Flow_node ∷ Up_to n ∷ A_closure ∷ []) vs → RetryKept vs
@@ -176,4 +192,4 @@ module _ (u : Common) where
   retry_kept n (a ∷ []) h = absurd h.1
   retry_kept n (a ∷ b ∷ []) h = absurd h.1.1
   retry_kept n (a ∷ b ∷ c ∷ []) h = absurd h.1.1.1
-  retry_kept n (a ∷ b ∷ c ∷ f ∷ vs) h = record { start = flow_node a h.0; closure = closure_there f h.1.1.1.0 }
+  retry_kept n (a ∷ b ∷ c ∷ f ∷ vs) h = record { start = flow_node a h.0; body = flow_node b h.1.0; closure = closure_there f h.1.1.1.0 }

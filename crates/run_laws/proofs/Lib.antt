@@ -1,5 +1,8 @@
 pub mod NodeLaws
 pub mod ShapedScripts
+pub mod Bounds
+pub mod Asked
+pub mod Sizes
 pub mod Flow
 pub mod Sources
 pub mod SoundStatements
@@ -22,4 +25,6 @@ pub mod Evaluation
 pub mod Resumption
 pub mod SoundThreads
 pub mod SoundSeats
+pub mod EventBounds
 pub mod SoundWorlds
+pub mod SharedWorlds

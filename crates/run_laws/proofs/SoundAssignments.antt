@@ -16,7 +16,7 @@ use Rattle.model_values.proofs.CellGrowth.{Before, all_append, all_get, set_vari
 use Rattle.model_values.proofs.Growth.{operators, increments, decrements, reads, writes, property_reads, property_writes}
 use Rattle.model_values.proofs.IndexGrowth.{all_index}
 use Rattle.model_values.proofs.ThrowGrowth.{unknown_name_grows}
-use Rattle.model_values.proofs.LaterLaws.{later_itself, variables_later}
+use Rattle.model_values.proofs.LaterLaws.{later_itself}
 use Rattle.model_values.specs.declared.value.Value.{Value}
 use Rattle.model_values.specs.declared.value.Value.TheVariants.{Null, Int as Whole}
 use Rattle.model_values.specs.declared.cell.Cell.{Cell}
@@ -38,9 +38,10 @@ use Rattle.model_run.proofs.LaterLaws.{env_later}
 use Rattle.model_run.proofs.Under.{both}
 use Rattle.model_run.proofs.Front.{front_itself}
 use Rattle.run_laws.specs.Soundness.{Shaped, seen, may_declare, is_target, EndFits, Sound, At, Holds, Goes}
-use Rattle.run_laws.proofs.Flow.{there_then, all_there_then, at_self, holds_then, from_here, Moves, moves_aside, at_moved, tick_goes, GoesWith, end_goes, value_goes, answer_goes, through_goes}
+use Rattle.run_laws.proofs.Bounds.{bounds_bound, unbound}
+use Rattle.run_laws.proofs.Flow.{there_then, all_there_then, at_self, holds_then, from_here, Moves, moves_aside, moves_cells, at_moved, tick_goes, GoesWith, end_goes, value_goes, answer_goes, through_goes}
 use Rattle.run_laws.proofs.Sources.{has_inner, Place, Sources, sits_here, Quiet, part_goes, inner_goes}
-use Rattle.run_laws.proofs.SoundStatements.{variable_goes}
+use Rattle.run_laws.proofs.SoundStatements.{variable_from}
 
 -- what a variable holds is there
 pub content_there : (rule : ℕ → List Binding → Type 0) (h : List Cell) (o : Option Cell) (c : ℕ) → slice_get h c ≡ o → CellsFit rule h → There h (content o)
@@ -89,10 +90,11 @@ module _ (g : Setting) where
   set_moves : (c : ℕ) (v : Value) (w : World) → Sound g w → There w.shared.cells v → Moves g (set_variable c v) w
   set_moves c v w sound there =
       let grown : Grows (limits w) (closure_rule g.script) (cells w) (Given (closure_rule g.script) (cells w) (v ∷ [])) (set_cell (cells w) c v) (Unit {0}) = set_variable_grows (before_of g w (v ∷ [])) c v (Unit {0}) (λ x. x.1.0) (λ x. tt) in
-      record { later = record { cells = grown.later; nodes = front_itself w.shared.nodes }; cells = (grown.fits (sound.cells, (there, tt))).0; binding = variables_later (cells w) (set_cell (cells w) c v) grown.later w.shared.binding sound.binding; head = sound.head }
+      let m : Moves g (put_cells (set_cell (cells w) c v)) w = moves_cells g w sound _ _ (set_cell (cells w) c v) grown (grown.fits (sound.cells, (there, tt))).0 in
+      record { later = m.later; cells = m.cells; binding = m.binding; head = m.head; bounds = m.bounds }
 
-  bound_moves : (x : List ℕ) (c : ℕ) (w : World) → Sound g w → HasVariable (slice_get w.shared.cells c) → Moves g (bound x c) w
-  bound_moves x c w sound has = record { later = record { cells = later_itself w.shared.cells; nodes = front_itself w.shared.nodes }; cells = sound.cells; binding = binding_with w.shared.cells x c w.shared.binding has sound.binding; head = sound.head }
+  bound_moves : (x : List ℕ) (c : ℕ) (w : World) → Sound g w → look x w.shared.binding ≡ None → HasVariable (slice_get w.shared.cells c) → Moves g (bound x c) w
+  bound_moves x c w sound new has = record { later = record { cells = later_itself w.shared.cells; nodes = front_itself w.shared.nodes }; cells = sound.cells; binding = binding_with w.shared.cells x c w.shared.binding has sound.binding; head = sound.head; bounds = bounds_bound x c g.site w sound.bounds new }
 
   -- the value of a name
   pub read_goes : (f : NodeForm) (u : Common) (x : List ℕ) (ys : Names) (env : Env) → EnvFits u.cells ys env → (go : Value → State → Result) → GoesWith g f u go → Goes g f u (operating (read_name x env) go)
@@ -100,24 +102,25 @@ module _ (g : Setting) where
     where
       found : (o : Option ℕ) → FoundVariable s.world.shared.cells o → Holds g f u (answered (read_cell s.world x o) go s)
       found (Some c) has =
-          let at1 : At g u (with_world (put_cells (cells s.world) s.world) s) = at_moved g u (put_cells (cells s.world)) s at (moves_aside g (put_cells (cells s.world)) s.world at.sound refl refl refl refl) in
+          let at1 : At g u (with_world (put_cells (cells s.world) s.world) s) = at_moved g u (put_cells (cells s.world)) s at (moves_aside g (put_cells (cells s.world)) s.world at.sound refl refl refl refl refl refl (omega arith)) in
           k' (variable s.world c) (with_world (put_cells (cells s.world) s.world) s) at1 (content_there (closure_rule g.script) (cells s.world) (slice_get (cells s.world) c) c refl (at.sound).cells)
-      found None has = answer_goes g f u (limits s.world) (λ h v. ⊥) (unknown_name (limits s.world) (cells s.world) x) s at (Given (closure_rule g.script) (cells s.world) []) ((at.sound).cells, tt)
+      found None has = answer_goes g f u (λ h v. ⊥) (unknown_name (limits s.world) (cells s.world) x) s at (Given (closure_rule g.script) (cells s.world) []) ((at.sound).cells, tt)
           (unknown_name_grows (before_of g s.world []) (λ h v. ⊥) x) go (λ v t q l is. absurd is)
 
-  write_cell_goes : (f : NodeForm) (u : Common) (x : List ℕ) (v : Value) → There u.cells v → (go : State → Result) → Goes g f u go → (o : Option ℕ) → Goes g f u (write_cell x v go o)
-  write_cell_goes f u x v there go k' (Some c) = λ s at. k' _ (at_moved g u (set_variable c v) s at (set_moves c v s.world at.sound (there_then u s.world.shared at.later v there)))
-  write_cell_goes f u x v there go k' None = variable_goes g f u v (λ c. changed (bound x c) go) there (λ c s at has. k' _ (at_moved g u (bound x c) s at (bound_moves x c s.world at.sound has)))
+  write_cell_goes : (f : NodeForm) (u : Common) (x : List ℕ) (v : Value) → There u.cells v → (go : State → Result) → Goes g f u go → (s : State) → At g u s → (o : Option ℕ) → (o ≡ None → look x s.world.shared.binding ≡ None) → Holds g f u (write_cell x v go o s)
+  write_cell_goes f u x v there go k' s at (Some c) new = k' _ (at_moved g u (set_variable c v) s at (set_moves c v s.world at.sound (there_then u s.world.shared at.later v there)))
+  write_cell_goes f u x v there go k' s at None new = variable_from g f u v (λ c. changed (bound x c) go) there s at (λ c t at1 same has.
+      k' _ (at_moved g u (bound x c) t at1 (bound_moves x c t.world at1.sound (ap (look x) same ∙ new refl) has)))
 
   -- a value is assigned to a name
   pub write_goes : (f : NodeForm) (u : Common) (x : List ℕ) (env : Env) (v : Value) → There u.cells v → (go : State → Result) → Goes g f u go → Goes g f u (write_name x env v go)
-  write_goes f u x env v there go k' s at = write_cell_goes f u x v there go k' (meant x env s.world) s at
+  write_goes f u x env v there go k' s at = write_cell_goes f u x v there go k' s at (meant x env s.world) (unbound (look x env) (look x s.world.shared.binding))
 
   -- an operation on values that are there gives what is there
   pub operate_goes : (f : NodeForm) (u : Common) (vs : List Value) → AllAre (There u.cells) vs → (sort : List Cell → Value → Type 0) → ((h : List Cell) (v : Value) → sort h v → There h v) → (op : World → Answer)
       → ((w : World) → AnswerGrows (limits w) (closure_rule g.script) (cells w) (Given (closure_rule g.script) (cells w) vs) sort (op w)) → (go : Value → State → Result) → GoesWith g f u go → Goes g f u (operating op go)
   operate_goes f u vs there sort wide op grows go k' s at =
-      answer_goes g f u (limits s.world) sort (op s.world) s at (Given (closure_rule g.script) (cells s.world) vs) ((at.sound).cells, all_there_then u s.world.shared at.later vs there) (grows s.world) go
+      answer_goes g f u sort (op s.world) s at (Given (closure_rule g.script) (cells s.world) vs) ((at.sound).cells, all_there_then u s.world.shared at.later vs there) (grows s.world) go
       (λ v t q l is. k' v t q (wide t.world.shared.cells v is))
 
   pub same : (h : List Cell) (v : Value) → There h v → There h v
@@ -214,7 +217,7 @@ module _ (g : Setting) (shaped : Shaped g.script) (k : ℕ) (sh : Shape) (xs : N
 
   assign_value_goes : is_assignment sh.form ≡ true → (u : Common) (env : Env) → EnvFits u.cells xs env → (kept : List Value) → length kept ≡ place_size (form_at sh.parts 0) + operator_count (operator_in sh.form) → AllAre (There u.cells) kept → Goes g sh.form u (assign_value a k sh env kept)
   assign_value_goes asg u env fit kept count there s at =
-      through_goes g sh.form form.Block u (frame kind.AssignValue k 0 env kept) (sits_here g shaped k sh xs place u kind.AssignValue 0 env kept asg (omega arith) (any_seen u _ kept count there) fit) (after_assigned sh kept env)
+      through_goes g sh.form form.Block u (frame kind.AssignValue k 0 env kept) (sits_here g shaped k sh xs place u kind.AssignValue 0 env kept asg (omega arith) (any_seen u _ kept count there) fit tt) (after_assigned sh kept env)
       (assigned_goes g sh.form plain sh u xs env fit kept there) (a.part First 1 env s) (part_goes g shaped k sh xs place a src quiet u env fit 1 (within 1) s at)
 
   assign_at_goes : is_assignment sh.form ≡ true → (o : Option Op) → operator_in sh.form ≡ o → (u : Common) (env : Env) → EnvFits u.cells xs env → (kept : List Value) → length kept ≡ place_size (form_at sh.parts 0) → AllAre (There u.cells) kept → Goes g sh.form u (assign_at a k sh env kept o)
@@ -256,13 +259,13 @@ module _ (g : Setting) (shaped : Shaped g.script) (k : ℕ) (sh : Shape) (xs : N
   after_receiver_goes form.ToIndex is tg some u env fit = value_goes g sh.form u _ (λ of s at there.
       let fit1 : EnvFits s.world.shared.cells xs env = env_later u s.world.shared at.later xs env fit in
       holds_then g sh.form u s.world.shared at.later _ (through_goes g sh.form form.Block s.world.shared (frame kind.TargetIndex k 0 env (of ∷ []))
-      (sits_here g shaped k sh xs place s.world.shared kind.TargetIndex 0 env (of ∷ []) (both _ _ ta (ap (λ t. nat_eq (place_size t) 2) is)) (omega arith) (there, tt) fit1) (after_index a k sh env of)
+      (sits_here g shaped k sh xs place s.world.shared kind.TargetIndex 0 env (of ∷ []) (both _ _ ta (ap (λ t. nat_eq (place_size t) 2) is)) (omega arith) (there, tt) fit1 tt) (after_index a k sh env of)
       (index_goes s.world.shared env fit1 of there (ap place_size is)) (a.part (Inside 1) 0 env s) (target_inner s.world.shared 1 env (ap has_inner is) (ap is_target is) fit1 s (at_self g u s at))))
   after_receiver_goes t is tg some u env fit = absurd (cc)
 
   receiver_frame : (t : NodeForm) → form_at sh.parts 0 ≡ t → is_target t ≡ true → has_inner t ≡ true → nat_lt 0 (place_size t) ≡ true → (u : Common) (env : Env) → EnvFits u.cells xs env → Goes g sh.form u (λ s. through (frame kind.TargetReceiver k 0 env []) (after_receiver a k sh env (form_at sh.parts 0)) (a.part (Inside 0) 0 env s))
   receiver_frame t is tg inside some u env fit s at = through_goes g sh.form form.Block u (frame kind.TargetReceiver k 0 env [])
-      (sits_here g shaped k sh xs place u kind.TargetReceiver 0 env [] (both _ _ ta (ap (λ t. nat_lt 0 (place_size t)) is ∙ some)) (omega arith) tt fit) (after_receiver a k sh env (form_at sh.parts 0))
+      (sits_here g shaped k sh xs place u kind.TargetReceiver 0 env [] (both _ _ ta (ap (λ t. nat_lt 0 (place_size t)) is ∙ some)) (omega arith) tt fit tt) (after_receiver a k sh env (form_at sh.parts 0))
       (after_receiver_goes (form_at sh.parts 0) refl (ap is_target is ∙ tg) (ap (λ t. nat_lt 0 (place_size t)) is ∙ some) u env fit) (a.part (Inside 0) 0 env s) (target_inner u 0 env (ap has_inner is ∙ inside) (ap is_target is ∙ tg) fit s at)
 
   pub receiver_goes : (t : NodeForm) → form_at sh.parts 0 ≡ t → is_target t ≡ true → (u : Common) (env : Env) → EnvFits u.cells xs env → Goes g sh.form u (receiver a k sh env t)

@@ -1,5 +1,5 @@
 -- The step `parallel`, the ends of branches, and each step as it begins: sound from a sound state on.
-use Rattle.std.proofs.Common.{arith, ◌≡◌, refl, ℕ, Bool, true, false, List, [], ◌∷◌, ◌++◌, Option, Some, None}
+use Rattle.std.proofs.Common.{arith, ◌≡◌, refl, ℕ, Bool, true, false, List, [], ◌∷◌, ◌++◌, Option, Some, None, ◌<◌}
 use Rattle.std.specs.Prelude.{slice_get, codes, map, nat_lt, unwrap_or, if◌then◌else◌}
 use Rattle.std.specs.List.{AllByRecursion as AllAre}
 use Rattle.indexmap.specs.IndexMap.{insert_all}
@@ -37,18 +37,22 @@ use Rattle.model_run.specs.Around.{Around, Shape, frame, ended, cells, limits, w
 use Rattle.model_run.specs.Callables.{closure_in, closure_of}
 use Rattle.model_run.specs.FlowNodes.{next_node, noted_limit, noted_branch, branch_label, body_line, branch_name}
 use Rattle.model_run.specs.StepTable.{Given, given, Bound, Binds, Refuses, Stops_at, bind_step, text_given, is_true}
-use Rattle.model_run.specs.Steps.{text_or_empty, worsened, sh_in, place_of, with_callee, branches_of, branch_entries, branches_given, values_of, outcome_value, is_thrown, earlier, first_failure, thrown_by, joined_as, joined_branches, after_parallel, no_branches, fork_or_none, begin_branches, parallel, branch_failed, after_branch, atom_step, block_step, bound_step, begin_step, tries_given, overrides_of}
+use Rattle.model_run.specs.Steps.{text_or_empty, named_result, worsened, sh_in, place_of, with_callee, branches_of, branch_entries, branches_given, values_of, outcome_value, is_thrown, earlier, first_failure, thrown_by, joined_as, joined_branches, after_parallel, no_branches, fork_or_none, begin_branches, parallel, branch_failed, after_branch, atom_step, block_step, bound_step, begin_step, tries_given, overrides_of}
+use Rattle.model_run.specs.Labels.{kept_label}
 use Rattle.model_run.specs.FrameTable.{is_declaration, calls_step}
 use Rattle.model_run.specs.Scoping.{Names}
-use Rattle.model_run.specs.Fitting.{EnvFits, closure_rule, IsFlowNode, OutcomeFits, Later}
+use Rattle.model_run.specs.Fitting.{EnvFits, closure_rule, IsFlowNode, OutcomeFits, EndFits as JoinedEnd, Later}
 use Rattle.model_run.proofs.LaterLaws.{env_later}
 use Rattle.run_laws.specs.Soundness.{Shaped, BranchFits, EndFits, Sound, At, Holds, Goes}
+use Rattle.model_values.specs.Cells.{cell_size}
+use Rattle.run_laws.proofs.Asked.{ArgsAsk, BoundAsks, bound_asks}
+use Rattle.run_laws.proofs.Sizes.{rank_low, overrides_low}
 use Rattle.run_laws.proofs.Binding.{GivenThere, BoundThere, given_there, bound_there}
 use Rattle.run_laws.proofs.Flow.{answer_goes, all_there_then, there_then, node_then, at_self, holds_then, from_here, end_goes, null_goes, Moves, at_moved, wait_goes}
 use Rattle.run_laws.proofs.Sources.{Place, Sources, sits_here}
 use Rattle.run_laws.proofs.SoundAssignments.{before_of, operate_goes}
-use Rattle.run_laws.proofs.SoundSteps.{new_node, branch_moves, end_body_goes, end_block_goes, end_branches_goes, atom_goes, block_goes, logging_goes, aside_goes, throwing_goes, ending_goes}
-use Rattle.run_laws.proofs.SoundStepForms.{guard_here, closure_there, stage_goes, catch_error_goes, retry_goes, with_env_goes, node_goes, dir_in_goes, sh_in_goes, input_asks_goes}
+use Rattle.run_laws.proofs.SoundSteps.{new_node, branch_moves, end_body_goes, end_block_goes, end_branches_goes, atom_goes, atom_asks, block_goes, logging_asks, logging_goes, aside_goes, throwing_goes, ending_goes}
+use Rattle.run_laws.proofs.SoundStepForms.{guard_here, place_fits, closure_there, stage_goes, catch_error_goes, retry_goes, with_env_goes, node_goes, dir_in_goes, sh_in_goes, input_asks_goes}
 
 -- closures of the script
 record IsClosure (g : Setting) (u : Common) (c : Callee) : Type 0 where
@@ -99,6 +103,15 @@ branches_then g u v l bs h = all_weaker _ _ (λ b c. record { rule = c.rule; var
 branch_then : (g : Setting) (u v : Common) → Later u v → (bs : List Branch) → AllAre (BranchFits g.script u) bs → AllAre (BranchFits g.script v) bs
 branch_then g u v l bs h = all_weaker _ _ (λ b c. record { closure = c.closure; variables = variables_later u.cells v.cells l.cells b.env c.variables; head = node_then u v l b.head c.head }) bs h
 
+-- the last flow nodes of branches that have ended
+pub end_nodes : (u : Common) (ends : List BranchEnd) → AllAre (λ b. JoinedEnd u b.end) ends → AllAre (IsFlowNode u.nodes) (map (λ b. b.end.node) ends)
+end_nodes u [] h = tt
+end_nodes u (b ∷ bs) h = ((h.0).0, end_nodes u bs h.1)
+
+pub end_outcomes : (u : Common) (ends : List BranchEnd) → AllAre (λ b. JoinedEnd u b.end) ends → AllAre (λ b. OutcomeFits u b.end.outcome) ends
+end_outcomes u [] h = tt
+end_outcomes u (b ∷ bs) h = ((h.0).1, end_outcomes u bs h.1)
+
 -- what branches ended with is there
 abbrev pub OutcomesFit : Common → List BranchEnd → Type 0
 OutcomesFit u ends = AllAre (λ b. OutcomeFits u b.end.outcome) ends
@@ -147,13 +160,13 @@ module _ (g : Setting) (f : NodeForm) (plain : is_declaration f ≡ false) where
   joined_as_goes u ends h (Some b) one = ending_goes g f plain u (thrown_by b.end.outcome) (thrown_fits u b.end.outcome one)
   joined_as_goes u ends h None one = λ s at.
       let b : Before = record { l = limits s.world; rule = closure_rule g.script; h = cells s.world; given = CellsFit (closure_rule g.script) (cells s.world) × AllAre (λ e. There (cells s.world) e.1) (values_of ends); fit = λ x. x.0 } in
-      answer_goes g f u (limits s.world) There (new_map (limits s.world) (cells s.world) (insert_all same_key [] (values_of ends))) s at (CellsFit (closure_rule g.script) (cells s.world) × AllAre (λ e. There (cells s.world) e.1) (values_of ends))
+      answer_goes g f u There (new_map (limits s.world) (cells s.world) (insert_all same_key [] (values_of ends))) s at (CellsFit (closure_rule g.script) (cells s.world) × AllAre (λ e. There (cells s.world) e.1) (values_of ends))
       ((at.sound).cells, values_there s.world.shared ends (outcomes_then u s.world.shared at.later ends h))
       (map_is_there b (new_map (limits s.world) (cells s.world) (insert_all same_key [] (values_of ends))) (new_map_grows b (insert_all same_key [] (values_of ends)) (λ x. all_inserts (There (cells s.world)) [] (values_of ends) tt x.1))) ended (λ v t q l is. (q, (is, plain)))
 
   -- behind the wait for branches
-  pub joined_goes : (u : Common) (start : ℕ) (ends : List BranchEnd) → OutcomesFit u ends → Goes g f u (joined_branches start (Joined ends))
-  joined_goes u start ends h = end_branches_goes g f u (codes "parallel") start (map (λ b. b.end.node) ends) (joined_as ends (first_failure ends)) (joined_as_goes u ends h (first_failure ends) (failure_fits u ends h))
+  pub joined_goes : (u : Common) (start : ℕ) → IsFlowNode u.nodes start → (ends : List BranchEnd) → AllAre (IsFlowNode u.nodes) (map (λ b. b.end.node) ends) → OutcomesFit u ends → Goes g f u (joined_branches start (Joined ends))
+  joined_goes u start flow ends old h = end_branches_goes g f u (codes "parallel") start flow (map (λ b. b.end.node) ends) old (joined_as ends (first_failure ends)) (joined_as_goes u ends h (first_failure ends) (failure_fits u ends h))
 
   -- the end of a branch
   failed_goes : (u : Common) (start : ℕ) (e : Ending) → EndFits form.Block u e → Goes g f u (branch_failed start e)
@@ -165,32 +178,30 @@ module _ (g : Setting) (f : NodeForm) (plain : is_declaration f ≡ false) where
   failed_goes u start (Declared b) h = ending_goes g f plain u (Declared b) h
   failed_goes u start (Answered x) h = ending_goes g f plain u (Answered x) h
 
-  pub branch_end_goes : (u : Common) (start : ℕ) (e : Ending) (s : State) → At g u s → EndFits form.Block s.world.shared e → Holds g f u (after_branch start e s)
-  branch_end_goes u start e s at h = from_here g f u (after_branch start e) s at (end_body_goes g f s.world.shared start (branch_failed start e) (failed_goes s.world.shared start e h))
+  pub branch_end_goes : (u : Common) (start : ℕ) → IsFlowNode u.nodes start → (e : Ending) (s : State) → At g u s → EndFits form.Block s.world.shared e → Holds g f u (after_branch start e s)
+  branch_end_goes u start flow e s at h = from_here g f u (after_branch start e) s at (end_body_goes g f s.world.shared start (node_then u s.world.shared at.later start flow) (branch_failed start e) (failed_goes s.world.shared start e h))
 
-  no_branches_goes : (u : Common) (start : ℕ) → Goes g f u (no_branches start)
-  no_branches_goes u start = logging_goes g f u (codes "No branches to run") _ (end_block_goes g f u (codes "parallel") start _
+  no_branches_goes : (u : Common) (start : ℕ) → IsFlowNode u.nodes start → Goes g f u (no_branches start)
+  no_branches_goes u start flow = logging_goes g f u (codes "No branches to run") _ (end_block_goes g f u (codes "parallel") start flow _
       (operate_goes g f u [] tt (IsIn HasMap) map_there (λ w. new_map (limits w) (cells w) []) (λ w. new_map_grows (before_of g w []) [] (λ x. tt)) ended (end_goes g f u plain)))
 
 module _ (g : Setting) (shaped : Shaped g.script) (k : ℕ) (sh : Shape) (xs : Names) (place : Place g k sh xs) (a : Around) (src : Sources g shaped k sh xs place a) (plain : is_declaration sh.form ≡ false) (env : Env) where
   fork_goes : calls_step step.Parallel sh.form env ≡ true → (u : Common) → EnvFits u.cells xs env → (start : ℕ) → IsFlowNode u.nodes start → (bs : List Branch) → AllAre (BranchFits g.script u) bs → Goes g sh.form u (fork_or_none k env start bs)
-  fork_goes cs u fit start flow [] h = no_branches_goes g sh.form plain u start
-  fork_goes cs u fit start flow (b ∷ bs) h = λ s at. wait_goes g sh.form u (frame kind.ParallelWait k 0 env (whole start ∷ [])) (sits_here g shaped k sh xs place u kind.ParallelWait 0 env (whole start ∷ []) cs (omega arith) (flow, tt) fit)
+  fork_goes cs u fit start flow [] h = no_branches_goes g sh.form plain u start flow
+  fork_goes cs u fit start flow (b ∷ bs) h = λ s at. wait_goes g sh.form u (frame kind.ParallelWait k 0 env (whole start ∷ [])) (sits_here g shaped k sh xs place u kind.ParallelWait 0 env (whole start ∷ []) cs (omega arith) (flow, tt) fit tt)
       (after_parallel start) (ForBranches (b ∷ bs)) s at (branch_then g u s.world.shared at.later (b ∷ bs) h)
 
   begin_goes : calls_step step.Parallel sh.form env ≡ true → (bs : List (List ℕ × Callee)) (u : Common) → EnvFits u.cells xs env → (start : ℕ) → IsFlowNode u.nodes start → (done : List Branch) → AllAre (BranchFits g.script u) done → Branches g u bs → Goes g sh.form u (begin_branches k env start done bs)
   begin_goes cs [] u fit start flow done h r = fork_goes cs u fit start flow done h
   begin_goes cs (b ∷ bs) u fit start flow done h r = λ s at.
-      let m : Moves g (noted_branch b.0) s.world = branch_moves g b.0 s.world at.sound in
+      guard_here g sh.form u (noted_limit (body_line (branch_label b.0)) s.world) (noted_branch b.0) (begin_branches k env start (done ++ (record { name = b.0; closure = (b.1).node; env = (b.1).env; head = next_node s.world }) ∷ []) bs) s at (λ none. (
+      let m : Moves g (noted_branch b.0) s.world = branch_moves g b.0 s.world at.sound none in
       let at1 : At g u (with_world (noted_branch b.0 s.world) s) = at_moved g u (noted_branch b.0) s at m in
-      let v : Common = (noted_branch b.0 s.world).shared in
       let c : IsClosure g (noted_branch b.0 s.world).shared b.1 = (branches_then g u (noted_branch b.0 s.world).shared at1.later (b ∷ bs) r).0 in
-      let one : Branch = record { name = b.0; closure = (b.1).node; env = (b.1).env; head = next_node s.world } in
-      guard_here g sh.form u (noted_limit (body_line (branch_label b.0)) s.world) (noted_branch b.0) (begin_branches k env start (done ++ (record { name = b.0; closure = (b.1).node; env = (b.1).env; head = next_node s.world }) ∷ []) bs) s
-      (holds_then g sh.form u (noted_branch b.0 s.world).shared at1.later _ (begin_goes cs bs (noted_branch b.0 s.world).shared (env_later u (noted_branch b.0 s.world).shared at1.later xs env fit) start (node_then u (noted_branch b.0 s.world).shared at1.later start flow)
+      holds_then g sh.form u (noted_branch b.0 s.world).shared at1.later _ (begin_goes cs bs (noted_branch b.0 s.world).shared (env_later u (noted_branch b.0 s.world).shared at1.later xs env fit) start (node_then u (noted_branch b.0 s.world).shared at1.later start flow)
       (done ++ (record { name = b.0; closure = (b.1).node; env = (b.1).env; head = next_node s.world }) ∷ [])
       (all_append (BranchFits g.script (noted_branch b.0 s.world).shared) done ((record { name = b.0; closure = (b.1).node; env = (b.1).env; head = next_node s.world }) ∷ []) (branch_then g u (noted_branch b.0 s.world).shared at1.later done h) (record { closure = c.rule; variables = c.variables; head = new_node s.world.shared.nodes _ }, tt))
-      (branches_then g u (noted_branch b.0 s.world).shared at1.later (b ∷ bs) r).1 (with_world (noted_branch b.0 s.world) s) (at_self g u (with_world (noted_branch b.0 s.world) s) at1)))
+      (branches_then g u (noted_branch b.0 s.world).shared at1.later (b ∷ bs) r).1 (with_world (noted_branch b.0 s.world) s) (at_self g u (with_world (noted_branch b.0 s.world) s) at1))))
 
   parallel_goes : calls_step step.Parallel sh.form env ≡ true → (u : Common) → EnvFits u.cells xs env → (args : Given) → Goes g sh.form u (parallel k env args)
   parallel_goes cs u fit args = block_goes g sh.form u (codes "parallel") _ (λ s at. from_here g sh.form u (begin_branches k env s.world.own.head [] (branches_given s.world (given (codes "branches") args))) s at
@@ -205,35 +216,35 @@ module _ (g : Setting) (shaped : Shaped g.script) (k : ℕ) (sh : Shape) (xs : N
   CallsIt s = calls_step s sh.form env ≡ true
 
   -- a step without a body
-  atom_step_goes : (s : Step) → CallsIt s → (u : Common) → EnvFits u.cells xs env → (w : World) (args : Given) → Goes g sh.form u (atom_step k env w args s)
-  atom_step_goes step.Println cs u fit w args = logging_goes g sh.form u (text_or_empty w (codes "value") args) (ended Null) (null_goes g sh.form u plain)
-  atom_step_goes step.Echo cs u fit w args = atom_goes g sh.form u (codes "echo") _ (logging_goes g sh.form u (text_or_empty w (codes "message") args) (ended Null) (null_goes g sh.form u plain))
-  atom_step_goes step.Error cs u fit w args = atom_goes g sh.form u (codes "error") _ (throwing_goes g sh.form u Abort (text_or_empty w (codes "message") args))
-  atom_step_goes step.MakeUnstable cs u fit w args = atom_goes g sh.form u (codes "unstable") _ (logging_goes g sh.form u (codes "WARNING: " ++ text_or_empty w (codes "message") args) (changed (worsened Unstable) (ended Null)) (aside_goes g sh.form u (worsened Unstable) (λ w. refl) (λ w. refl) (λ w. refl) (λ w. refl) (ended Null) (null_goes g sh.form u plain)))
-  atom_step_goes step.Sh cs u fit w args = atom_goes g sh.form u (codes "sh") (seeing (λ v. sh_in k env (text_or_empty w (codes "script") args) (is_true (cells w) (given (codes "returnStatus") args)) (is_true (cells w) (given (codes "returnStdout") args)) v (place_of v)))
-      (λ s at. sh_in_goes g shaped k sh xs place a src plain env cs u fit (text_or_empty w (codes "script") args) (is_true (cells w) (given (codes "returnStatus") args)) (is_true (cells w) (given (codes "returnStdout") args)) s at (place_of s.world))
-  atom_step_goes step.Input cs u fit w args = atom_goes g sh.form u (codes "input") _ (logging_goes g sh.form u (text_or_empty w (codes "message") args) _ (logging_goes g sh.form u (unwrap_or (text_given w (codes "ok") args) (codes "Proceed") ++ codes " or Abort") _
-      (λ s at. input_asks_goes g shaped k sh xs place a src plain env cs u fit (text_given w (codes "id") args) s at)))
-  atom_step_goes step.Parallel cs u fit w args = parallel_goes cs u fit args
-  atom_step_goes s cs u fit w args = null_goes g sh.form u plain
+  atom_step_goes : (s : Step) → CallsIt s → (u : Common) → EnvFits u.cells xs env → (w : World) (args : Given) → ArgsAsk w s args → Goes g sh.form u (atom_step k env w args s)
+  atom_step_goes step.Println cs u fit w args asks = logging_goes g sh.form u (text_or_empty w (codes "value") args) (ended Null) (null_goes g sh.form u plain)
+  atom_step_goes step.Echo cs u fit w args asks = atom_goes g sh.form u (codes "echo") _ (logging_goes g sh.form u (text_or_empty w (codes "message") args) (ended Null) (null_goes g sh.form u plain))
+  atom_step_goes step.Error cs u fit w args asks = atom_goes g sh.form u (codes "error") _ (throwing_goes g sh.form u Abort (text_or_empty w (codes "message") args))
+  atom_step_goes step.MakeUnstable cs u fit w args asks = atom_goes g sh.form u (codes "unstable") _ (logging_goes g sh.form u (codes "WARNING: " ++ text_or_empty w (codes "message") args) (changed (worsened Unstable) (ended Null)) (aside_goes g sh.form u (worsened Unstable) (λ w. refl) (λ w. refl) (λ w. refl) (λ w. refl) (λ w. refl) (λ w. refl) (λ w. omega arith) (ended Null) (null_goes g sh.form u plain)))
+  atom_step_goes step.Sh cs u fit w args asks = atom_asks g sh.form u (codes "sh") (seeing (λ v. sh_in k env (text_or_empty w (codes "script") args) (is_true (cells w) (given (codes "returnStatus") args)) (is_true (cells w) (given (codes "returnStdout") args)) v (place_of v)))
+      (λ s at room. sh_in_goes g shaped k sh xs place a src plain env cs u fit (text_or_empty w (codes "script") args) (is_true (cells w) (given (codes "returnStatus") args)) (is_true (cells w) (given (codes "returnStdout") args)) s at room (place_of s.world) (place_fits g s.world at.sound))
+  atom_step_goes step.Input cs u fit w args asks = atom_asks g sh.form u (codes "input") _ (logging_asks g sh.form u (text_or_empty w (codes "message") args) _ (logging_asks g sh.form u (unwrap_or (text_given w (codes "ok") args) (codes "Proceed") ++ codes " or Abort") _
+      (λ s at room. input_asks_goes g shaped k sh xs place a src plain env cs u fit (text_given w (codes "id") args) asks s at room)))
+  atom_step_goes step.Parallel cs u fit w args asks = parallel_goes cs u fit args
+  atom_step_goes s cs u fit w args asks = null_goes g sh.form u plain
 
   -- a step with a body
-  block_step_goes : (s : Step) → CallsIt s → (u : Common) → EnvFits u.cells xs env → (w : World) (args : Given) (f : Value) → u ≡ w.shared → GivenThere u.cells args → IsIn HasClosure u.cells f → Goes g sh.form u (block_step a k env w args f s)
-  block_step_goes step.Stage cs u fit w args f e there is = stage_goes g shaped k sh xs place a src plain env cs u fit (text_or_empty w (codes "name") args) f
-  block_step_goes step.CatchError cs u fit w args f e there is = catch_error_goes g shaped k sh xs place a src plain env cs u fit (given (codes "message") args) (given_there u.cells (codes "message") args there) _ f
-  block_step_goes step.Retry cs u fit w args f e there is = retry_goes g shaped k sh xs place a src plain env cs u fit (tries_given (cells w) (given (codes "count") args)) f (closure_there u.cells f is)
-  block_step_goes step.Node cs u fit w args f e there is = node_goes g shaped k sh xs place a src plain env cs u fit _ f is
-  block_step_goes step.Dir cs u fit w args f e there is = block_goes g sh.form u (codes "dir") _ (λ s at. dir_in_goes g shaped k sh xs place a src plain env cs u fit (text_or_empty w (codes "path") args) f s at (place_of s.world))
-  block_step_goes step.WithEnv cs u fit w args f e there is = with_env_goes g shaped k sh xs place a src plain env cs u fit (overrides_of (cells w) (given (codes "overrides") args)) f
-  block_step_goes s cs u fit w args f e there is = null_goes g sh.form u plain
+  block_step_goes : (s : Step) → CallsIt s → (u : Common) → EnvFits u.cells xs env → (w : World) (args : Given) (f : Value) → u ≡ w.shared → GivenThere u.cells args → IsIn HasClosure u.cells f → ArgsAsk w s args → AllAre (λ c. cell_size c < 2147483648) (cells w) → Goes g sh.form u (block_step a k env w args f s)
+  block_step_goes step.Stage cs u fit w args f e there is asks short = stage_goes g shaped k sh xs place a src plain env cs u fit (text_or_empty w (codes "name") args) f
+  block_step_goes step.CatchError cs u fit w args f e there is asks short = catch_error_goes g shaped k sh xs place a src plain env cs u fit (given (codes "message") args) (given_there u.cells (codes "message") args there) _ (rank_low (named_result (cells w) (given (codes "buildResult") args))) f
+  block_step_goes step.Retry cs u fit w args f e there is asks short = retry_goes g shaped k sh xs place a src plain env cs u fit (tries_given (cells w) (given (codes "count") args)) f (closure_there u.cells f is)
+  block_step_goes step.Node cs u fit w args f e there is asks short = node_goes g shaped k sh xs place a src plain env cs u fit (kept_label (text_given w (codes "label") args)) asks f is
+  block_step_goes step.Dir cs u fit w args f e there is asks short = block_goes g sh.form u (codes "dir") _ (λ s at. dir_in_goes g shaped k sh xs place a src plain env cs u fit (text_or_empty w (codes "path") args) f s at (place_of s.world))
+  block_step_goes step.WithEnv cs u fit w args f e there is asks short = with_env_goes g shaped k sh xs place a src plain env cs u fit (overrides_of (cells w) (given (codes "overrides") args)) (overrides_low (cells w) short (given (codes "overrides") args)) f
+  block_step_goes s cs u fit w args f e there is asks short = null_goes g sh.form u plain
 
-  bound_goes : (s : Step) → CallsIt s → (w : World) → EnvFits w.shared.cells xs env → (b : Bound) → BoundThere w.shared.cells b → Goes g sh.form w.shared (bound_step a k env s w b)
-  bound_goes s cs w fit (Binds args None) there = atom_step_goes s cs w.shared fit w args
-  bound_goes s cs w fit (Binds args (Some f)) there = block_step_goes s cs w.shared fit w args f refl there.0 there.1
-  bound_goes s cs w fit (Refuses message) there = throwing_goes g sh.form w.shared IllegalArgument message
-  bound_goes s cs w fit (Stops_at limit) there = λ t at. tt
+  bound_goes : (s : Step) → CallsIt s → (w : World) → EnvFits w.shared.cells xs env → (b : Bound) → BoundThere w.shared.cells b → BoundAsks w s b → AllAre (λ c. cell_size c < 2147483648) (cells w) → Goes g sh.form w.shared (bound_step a k env s w b)
+  bound_goes s cs w fit (Binds args None) there asks short = atom_step_goes s cs w.shared fit w args asks
+  bound_goes s cs w fit (Binds args (Some f)) there asks short = block_step_goes s cs w.shared fit w args f refl there.0 there.1 asks short
+  bound_goes s cs w fit (Refuses message) there asks short = throwing_goes g sh.form w.shared IllegalArgument message
+  bound_goes s cs w fit (Stops_at limit) there asks short = λ t at. at
 
   -- a step whose arguments have been evaluated
   pub begin_step_goes : (s : Step) → CallsIt s → (u : Common) → EnvFits u.cells xs env → (args : List Value) → AllAre (There u.cells) args → Goes g sh.form u (begin_step a k env s args)
   begin_step_goes s cs u fit args there t at = from_here g sh.form u (bound_step a k env s t.world (bind_step t.world s args)) t at
-      (bound_goes s cs t.world (env_later u t.world.shared at.later xs env fit) (bind_step t.world s args) (bound_there (closure_rule g.script) t.world s (at.sound).cells args (all_there_then u t.world.shared at.later args there)))
+      (bound_goes s cs t.world (env_later u t.world.shared at.later xs env fit) (bind_step t.world s args) (bound_there (closure_rule g.script) t.world s (at.sound).cells args (all_there_then u t.world.shared at.later args there)) (bound_asks t.world s args) ((at.sound).bounds).short)

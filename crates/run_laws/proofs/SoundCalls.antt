@@ -9,11 +9,10 @@ use Rattle.model_values.specs.Kinds.{kind}
 use Rattle.model_values.specs.MethodNames.{Method, Collect, Find, FindAll}
 use Rattle.model_values.specs.Walks.{Turn as Element, Turns, Past, Stops, turn, After, Keeps, Ends, at_end}
 use Rattle.model_values.specs.Fitting.{There, HasClosure, CellFits, CellsFit}
-use Rattle.model_values.specs.Later.{TurnGrows, AfterGrows, Given}
+use Rattle.model_values.specs.Later.{Grows, TurnGrows, AfterGrows, Given}
 use Rattle.model_values.proofs.Growth.{walk_turns, walk_ends}
 use Rattle.model_values.proofs.CellGrowth.{all_append, all_get}
 use Rattle.model_values.proofs.WalkGrowth.{after_grows}
-use Rattle.model_values.proofs.LaterLaws.{variables_later}
 use Rattle.model_values.specs.declared.value.Value.{Value}
 use Rattle.model_values.specs.declared.value.Value.TheVariants.{Null, Bool as Truth, Int as Whole, Cell as InCell}
 use Rattle.model_values.specs.declared.cell.Cell.{Cell}
@@ -24,7 +23,7 @@ use Rattle.model_run.specs.declared.frame.Frame.{Frame}
 use Rattle.model_run.specs.declared.frame.FrameKind.TheVariants as kind
 use Rattle.model_run.specs.declared.ending.Ending.{Ending}
 use Rattle.model_run.specs.Terms.{Term, Terms, Numbered, no_terms, and_then, form_of, parts_of, number_of}
-use Rattle.model_run.specs.State.{Setting, Common, World, State, Env, Result, Limited, with_world, through, changed, unless_limit, may_count}
+use Rattle.model_run.specs.State.{Setting, Common, World, State, Env, Result, Limited, with_world, through, changed, unless_limit, may_count, put_cells}
 use Rattle.model_run.specs.Around.{Around, Shape, frame, ended, cells, limits, whole}
 use Rattle.model_run.specs.Names.{variable}
 use Rattle.model_run.specs.Callables.{closure_in, closure_of, calling, function_if, function_in, function_named}
@@ -39,7 +38,8 @@ use Rattle.model_run.proofs.Walk.{closure_called}
 use Rattle.model_run.proofs.Front.{front_itself}
 use Rattle.run_laws.specs.Soundness.{Shaped, seen, EndFits, Sound, At, Holds, Goes}
 use Rattle.run_laws.proofs.NodeLaws.{Real, RealAll}
-use Rattle.run_laws.proofs.Flow.{there_then, all_there_then, seen_then, at_self, holds_then, from_here, holds_as, at_moved, tick_goes, end_goes, null_goes, value_goes, answer_goes, through_goes}
+use Rattle.run_laws.proofs.Bounds.{bounds_aside}
+use Rattle.run_laws.proofs.Flow.{there_then, all_there_then, seen_then, at_self, holds_then, from_here, holds_as, Moves, moves_cells, at_moved, tick_goes, end_goes, null_goes, value_goes, answer_goes, through_goes}
 use Rattle.run_laws.proofs.Sources.{CalleeFits, TurnFits, turn_names, Place, Sources, sits_here}
 use Rattle.run_laws.proofs.SoundAssignments.{before_of, operate_goes, same}
 
@@ -160,11 +160,17 @@ kept_there P FindAll n held h = all_drop P n held h
 kept_there P m n held h = h
 
 module _ (g : Setting) where
+  -- a turn is begun with the cells that it needs
+  turn_moves : (h : List Cell) (w : World) → Sound g w → (given result : Type 0) → Grows (limits w) (closure_rule g.script) (cells w) given h result → CellsFit (closure_rule g.script) h → Moves g (begun_turn h) w
+  turn_moves h w sound given result grown fits =
+      let m : Moves g (put_cells h) w = moves_cells g w sound given result h grown fits in
+      record { later = record { cells = grown.later; nodes = front_itself w.shared.nodes }; cells = fits; binding = m.binding; head = sound.head; bounds = bounds_aside false g.site (put_cells h w).shared (begun_turn h w).shared m.bounds refl refl refl refl refl (omega arith) }
+
   -- a call's body, behind a change that may meet a limit, under a frame
-  pub through_guard_goes : (f : NodeForm) (u : Common) (x : Frame) (go : Ending → State → Result) (o : Option LimitKind) (h : World → World) (body : State → Result) (s : State) → Holds g f u (through x go (body (with_world (h s.world) s))) → Holds g f u (through x go (unless_limit o (changed h body) s))
+  pub through_guard_goes : (f : NodeForm) (u : Common) (x : Frame) (go : Ending → State → Result) (o : Option LimitKind) (h : World → World) (body : State → Result) (s : State) → At g u s → (o ≡ None → Holds g f u (through x go (body (with_world (h s.world) s)))) → Holds g f u (through x go (unless_limit o (changed h body) s))
   unfolding through
-  through_guard_goes f u x go (Some k) h body s held = tt
-  through_guard_goes f u x go None h body s held = held
+  through_guard_goes f u x go (Some k) h body s at held = at
+  through_guard_goes f u x go None h body s at held = held refl
 
   pub calling_goes : (f : NodeForm) (plain : is_declaration f ≡ false) (u : Common) (o : Option Callee) (s : State) → At g u s → CalleeThere g.script s.world.shared o → (go : Callee → State → Result) → ((c : Callee) → o ≡ Some c → CalleeFits g.script s.world.shared c.node c.env → Holds g f u (go c s)) → Holds g f u (calling o (ended Null) go s)
   calling_goes f plain u (Some c) s at fit go k' = k' c refl fit
@@ -185,7 +191,7 @@ module _ (g : Setting) (shaped : Shaped g.script) (k : ℕ) (sh : Shape) (xs : N
         (subst (λ zs. EnvFits s.world.shared.cells zs env) (sym (ap (λ p. turn_names p sh.parts xs) is)) (env_later u s.world.shared at.later xs env fit))
         (subst (λ p. TurnFits p s.world.shared (on ∷ f ∷ kept)) (sym is) (there_then u s.world.shared at.later on ton, there_then u s.world.shared at.later f tf, grown sure)))
     walked_goes u env fit i on f ton tf s at given sure (Ends answer) grown =
-        answer_goes g sh.form u (limits s.world) There answer s at given sure grown ended (λ v t q l is1. (q, (is1, plain)))
+        answer_goes g sh.form u There answer s at given sure grown ended (λ v t q l is1. (q, (is1, plain)))
 
     pub walk_end_goes : (u : Common) (env : Env) → EnvFits u.cells xs env → (i : ℕ) (on f : Value) (held : List Value) → There u.cells on → There u.cells f → AllAre (There u.cells) held → (e : Ending) (s : State) → At g u s → EndFits form.Block s.world.shared e → Holds g sh.form u (after_walk_turn a env (walk_method sh.form) i on f held e s)
     walk_end_goes u env fit i on f held ton tf there = value_goes g sh.form u _ (λ v s at is1.
@@ -200,21 +206,21 @@ module _ (g : Setting) (shaped : Shaped g.script) (k : ℕ) (sh : Shape) (xs : N
           → (t : Element) → ElementFits t → TurnGrows (limits s.world) (closure_rule g.script) (cells s.world) (Given (closure_rule g.script) (cells s.world) (on ∷ [])) t → Holds g sh.form u (walk_turn a k env (walk_method sh.form) i on f kept c t s)
       walk_turn_goes u env fit i on f kept ton tf tk c s at callee fseen Past sized grown =
           operate_goes g sh.form u (on ∷ kept) (ton, tk) There (same g) (λ w. at_end (limits w) (cells w) (walk_method sh.form) on kept) (λ w. walk_ends (limits w) (closure_rule g.script) (cells w) (walk_method sh.form) on kept) ended (end_goes g sh.form u plain) s at
-      walk_turn_goes u env fit i on f kept ton tf tk c s at callee fseen (Stops limit) sized grown = tick_goes g sh.form u (Limited limit) (λ t q. tt) s at
+      walk_turn_goes u env fit i on f kept ton tf tk c s at callee fseen (Stops limit) sized grown = tick_goes g sh.form u (Limited limit) (λ t q. q) s at
       walk_turn_goes u env fit i on f kept ton tf tk c s at callee fseen (Turns h args element) sized grown =
           let fits : CellsFit (closure_rule g.script) h × (AllAre (There h) args × AllAre (There h) element) = grown.fits ((at.sound).cells, (there_then u s.world.shared at.later on ton, tt)) in
           let v : Common = (begun_turn h s.world).shared in
           let l1 : Later s.world.shared (begun_turn h s.world).shared = record { cells = grown.later; nodes = front_itself s.world.shared.nodes } in
           let s1 : State = with_world (begun_turn h s.world) s in
-          let at1 : At g u (with_world (begun_turn h s.world) s) = at_moved g u (begun_turn h) s at (record { later = l1; cells = fits.0; binding = variables_later (cells s.world) h grown.later s.world.shared.binding (at.sound).binding; head = (at.sound).head }) in
+          let at1 : At g u (with_world (begun_turn h s.world) s) = at_moved g u (begun_turn h) s at (turn_moves g h s.world at.sound _ _ grown fits.0) in
           let held : List Value = held_in_turn (walk_method sh.form) args element kept in
           let there : AllAre (There h) (held_in_turn (walk_method sh.form) args element kept) = held_there (There h) (walk_method sh.form) args element kept (fits.1).0 (fits.1).1 (all_there_then u (begun_turn h s.world).shared at1.later kept tk) in
           let ton1 : There h on = there_then u (begun_turn h s.world).shared at1.later on ton in
           let tf1 : There h f = there_then u (begun_turn h s.world).shared at1.later f tf in
           let fit1 : EnvFits h xs env = env_later u (begun_turn h s.world).shared at1.later xs env fit in
-          through_guard_goes g sh.form u (frame kind.WalkTurn k 0 env (on ∷ f ∷ whole i ∷ held_in_turn (walk_method sh.form) args element kept)) (after_walk_turn a env (walk_method sh.form) i on f (held_in_turn (walk_method sh.form) args element kept)) (may_count s.world) (begun_turn h) (a.call c.node args c.env) s
-          (holds_then g sh.form u (begun_turn h s.world).shared at1.later _ (through_goes g sh.form form.Block (begun_turn h s.world).shared (frame kind.WalkTurn k 0 env (on ∷ f ∷ whole i ∷ held_in_turn (walk_method sh.form) args element kept))
-          (sits_here g shaped k sh xs place (begun_turn h s.world).shared kind.WalkTurn 0 env (on ∷ f ∷ whole i ∷ held_in_turn (walk_method sh.form) args element kept) wa (omega arith) (ton1, (seen_then s.world.shared (begun_turn h s.world).shared l1 A_closure f fseen, (tt, held_seen (begun_turn h s.world).shared (walk_method sh.form) args element kept sized.0 sized.1 there))) fit1)
+          through_guard_goes g sh.form u (frame kind.WalkTurn k 0 env (on ∷ f ∷ whole i ∷ held_in_turn (walk_method sh.form) args element kept)) (after_walk_turn a env (walk_method sh.form) i on f (held_in_turn (walk_method sh.form) args element kept)) (may_count s.world) (begun_turn h) (a.call c.node args c.env) s at
+          (λ none. holds_then g sh.form u (begun_turn h s.world).shared at1.later _ (through_goes g sh.form form.Block (begun_turn h s.world).shared (frame kind.WalkTurn k 0 env (on ∷ f ∷ whole i ∷ held_in_turn (walk_method sh.form) args element kept))
+          (sits_here g shaped k sh xs place (begun_turn h s.world).shared kind.WalkTurn 0 env (on ∷ f ∷ whole i ∷ held_in_turn (walk_method sh.form) args element kept) wa (omega arith) (ton1, (seen_then s.world.shared (begun_turn h s.world).shared l1 A_closure f fseen, (tt, held_seen (begun_turn h s.world).shared (walk_method sh.form) args element kept sized.0 sized.1 there))) fit1 tt)
           (after_walk_turn a env (walk_method sh.form) i on f (held_in_turn (walk_method sh.form) args element kept)) (walk_end_goes (begun_turn h s.world).shared env fit1 i on f (held_in_turn (walk_method sh.form) args element kept) ton1 tf1 there)
           (a.call c.node args c.env (with_world (begun_turn h s.world) s)) (src.call (begun_turn h s.world).shared c.node args c.env (callee_then g.script s.world.shared (begun_turn h s.world).shared l1 c.node c.env callee) (fits.1).0 (with_world (begun_turn h s.world) s) (at_self g u (with_world (begun_turn h s.world) s) at1))))
 

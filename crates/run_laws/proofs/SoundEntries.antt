@@ -64,7 +64,7 @@ module _ (g : Setting) (real : Real g.script [] g.script) (shaped : Shaped g.scr
   closure_made : (u : Common) (env : Env) → EnvFits u.cells xs env → is_closure_form sh.form ≡ true → is_declaration sh.form ≡ false → Goes g sh.form u (operating (λ w. new_cell (limits w) (cells w) (ClosureCell k env)) ended)
   closure_made u env fit cl plain s at =
       let b : Before = record { l = limits s.world; rule = closure_rule g.script; h = cells s.world; given = CellsFit (closure_rule g.script) (cells s.world) × EnvFits (cells s.world) xs env; fit = λ x. x.0 } in
-      answer_goes g sh.form u (limits s.world) (IsIn HasClosure) (new_cell (limits s.world) (cells s.world) (ClosureCell k env)) s at (CellsFit (closure_rule g.script) (cells s.world) × EnvFits (cells s.world) xs env)
+      answer_goes g sh.form u (IsIn HasClosure) (new_cell (limits s.world) (cells s.world) (ClosureCell k env)) s at (CellsFit (closure_rule g.script) (cells s.world) × EnvFits (cells s.world) xs env)
       ((at.sound).cells, env_later u s.world.shared at.later xs env fit)
       (new_closure_grows b k env (λ x. ((place.below, ap (λ s. is_closure_form s.form) place.there ∙ cl, (x.1).names ∙ sym place.sees), (x.1).variables))) ended (λ v t q l is. (q, (closure_value t.world.shared.cells v is, plain)))
 
@@ -76,19 +76,19 @@ module _ (g : Setting) (real : Real g.script [] g.script) (shaped : Shaped g.scr
 
   each_first : (x : List ℕ) → Is (form.ForEach x) → (u : Common) (env : Env) → EnvFits u.cells xs env → Goes g sh.form u (λ s. through (frame kind.EachOver k 0 env []) (on_value (λ v. each_from a env v 0)) (a.part First 0 env s))
   each_first x is u env fit = under_goes g shaped k sh xs place a src sh.form u kind.EachOver 0 env [] (on_value (λ v. each_from a env v 0)) 0 (λ i. ap (λ f. may_declare f i) is) (ap (λ f. names_within f 0 xs) is) fit
-      (sits_here g shaped k sh xs place u kind.EachOver 0 env [] (ap is_each is) (omega arith) tt fit) (each_over_goes g shaped k sh xs place a src x is u env fit)
+      (sits_here g shaped k sh xs place u kind.EachOver 0 env [] (ap is_each is) (omega arith) tt fit tt) (each_over_goes g shaped k sh xs place a src x is u env fit)
 
   try_first : Is form.Try → (u : Common) (env : Env) → EnvFits u.cells xs env → Goes g sh.form u (λ s. through (frame kind.TryBlock k 0 env []) (after_try a k sh env) (a.part First 0 env s))
   try_first is u env fit = under_goes g shaped k sh xs place a src sh.form u kind.TryBlock 0 env [] (after_try a k sh env) 0 (λ i. ap (λ f. may_declare f i) is) (ap (λ f. names_within f 0 xs) is) fit
-      (sits_here g shaped k sh xs place u kind.TryBlock 0 env [] (ap (same_form form.Try) is) (omega arith) tt fit) (try_goes g shaped k sh xs place a src is u env fit)
+      (sits_here g shaped k sh xs place u kind.TryBlock 0 env [] (ap (same_form form.Try) is) (omega arith) tt fit tt) (try_goes g shaped k sh xs place a src is u env fit)
 
   throw_first : Is form.Throw → (u : Common) (env : Env) → EnvFits u.cells xs env → Goes g sh.form u (λ s. through (frame kind.ThrowValue k 0 env []) (on_value throws) (a.part First 0 env s))
   throw_first is u env fit = under_goes g shaped k sh xs place a src sh.form u kind.ThrowValue 0 env [] (on_value throws) 0 (λ i. ap (λ f. may_declare f i) is) (ap (λ f. names_within f 0 xs) is) fit
-      (sits_here g shaped k sh xs place u kind.ThrowValue 0 env [] (ap (same_form form.Throw) is) (omega arith) tt fit) (throw_end_goes g shaped k sh xs place a src u)
+      (sits_here g shaped k sh xs place u kind.ThrowValue 0 env [] (ap (same_form form.Throw) is) (omega arith) tt fit tt) (throw_end_goes g shaped k sh xs place a src u)
 
   -- the first part of the head of a `for`
   steps_first : Is form.ForSteps → (u : Common) (env : Env) → EnvFits u.cells xs env → 0 < arity sh → Goes g sh.form u (λ s. through (frame kind.StepsFirst k 0 env []) (after_steps_first a k env) (a.part First 0 env s))
-  steps_first is u env fit some s at = through_goes g sh.form (form_at sh.parts 0) u (frame kind.StepsFirst k 0 env []) (sits_here g shaped k sh xs place u kind.StepsFirst 0 env [] (ap (same_form form.ForSteps) is) (omega arith) tt fit) (after_steps_first a k env)
+  steps_first is u env fit some s at = through_goes g sh.form (form_at sh.parts 0) u (frame kind.StepsFirst k 0 env []) (sits_here g shaped k sh xs place u kind.StepsFirst 0 env [] (ap (same_form form.ForSteps) is) (omega arith) tt fit tt) (after_steps_first a k env)
       (λ e t q h. steps_first_goes g shaped k sh xs place a src is u env fit e t q h some) (a.part First 0 env s) (src.part u 0 env (subst (λ ys. EnvFits u.cells ys env) (sym (ap (λ f. names_within f 0 (names_after sh.parts 0 xs)) is ∙ none sh.parts)) fit) s at)
     where
       none : (fs : List NodeForm) → names_after fs 0 xs ≡ xs

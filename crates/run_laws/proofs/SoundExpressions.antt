@@ -64,7 +64,7 @@ chain_within f e i xs = absurd (cc)
 
 module _ (g : Setting) where
   raised_moves : (n : ℕ) (w : World) → Sound g w → Moves g (raised n) w
-  raised_moves n w sound = moves_aside g (raised n) w sound refl refl refl refl
+  raised_moves n w sound = moves_aside g (raised n) w sound refl refl refl refl refl refl (omega arith)
 
   module _ (f : NodeForm) (plain : is_declaration f ≡ false) (u : Common) where
     pub value_form_goes : GoesWith g f u value
@@ -83,7 +83,7 @@ module _ (g : Setting) where
 
     compared_goes : (same : Bool) (go : Value → State → Result) → GoesWith g f u go → (x : Equality) → Goes g f u (compared same go x)
     compared_goes same go k' (Equal_is b n) = change_goes g f u (raised n) (raised_moves n) (go (Truth (if same then b else not b))) (λ s at. k' (Truth (if same then b else not b)) s at tt)
-    compared_goes same go k' (Stops limit n) = change_goes g f u (raised n) (raised_moves n) (Limited limit) (λ s at. tt)
+    compared_goes same go k' (Stops limit n) = change_goes g f u (raised n) (raised_moves n) (Limited limit) (λ s at. at)
 
     comparing_goes : (same : Bool) (x y : Value) (go : Value → State → Result) → GoesWith g f u go → Goes g f u (comparing same x y go)
     comparing_goes same x y go k' s at = compared_goes same go k' (equal (limits s.world) (cells s.world) x y s.world.shared.count) s at
@@ -144,7 +144,7 @@ module _ (g : Setting) (shaped : Shaped g.script) (k : ℕ) (sh : Shape) (xs : N
 
   pub group_goes : Is form.Group → (u : Common) (env : Env) → EnvFits u.cells xs env → Goes g sh.form u (group a k env)
   group_goes is u env fit = under_goes g shaped k sh xs place a src sh.form u kind.GroupValue 0 env [] (on_value (λ v. value v)) 0 (λ i. ap (λ f. may_declare f i) is) (ap (λ f. names_within f 0 xs) is) fit
-      (sits_here g shaped k sh xs place u kind.GroupValue 0 env [] (ap (same_form form.Group) is) (omega arith) tt fit) (group_end_goes is u)
+      (sits_here g shaped k sh xs place u kind.GroupValue 0 env [] (ap (same_form form.Group) is) (omega arith) tt fit tt) (group_end_goes is u)
 
   -- `test ? v :` and `v ?:`
   module _ (is : Is form.Chosen) where
@@ -167,7 +167,7 @@ module _ (g : Setting) (shaped : Shaped g.script) (k : ℕ) (sh : Shape) (xs : N
 
     choice_frame : (u : Common) (m : ℕ) → suc m ≤ arity sh → (env : Env) → EnvFits u.cells xs env → (others : State → Result) → ((w : Common) → Later u w → Goes g sh.form w others) → (p : NodeForm) → form_at sh.parts (arity sh - suc m) ≡ p → is_choice p ≡ true → has_inner p ≡ true → names_within p 0 xs ≡ xs → Goes g sh.form u (choice_test a k sh m env others)
     choice_frame u m le env fit others go p e1 c inside names s at =
-        through_goes g sh.form form.Block u (frame kind.ChosenTest k m env []) (sits_here g shaped k sh xs place u kind.ChosenTest m env [] (both _ _ (ap (same_form form.Chosen) is) (ap is_choice e1 ∙ c)) (omega arith) tt fit)
+        through_goes g sh.form form.Block u (frame kind.ChosenTest k m env []) (sits_here g shaped k sh xs place u kind.ChosenTest m env [] (both _ _ (ap (same_form form.Chosen) is) (ap is_choice e1 ∙ c)) (omega arith) tt fit tt)
         (after_choice a sh m env others (form_at sh.parts (arity sh - suc m))) (choice_end_goes u m env fit others go (form_at sh.parts (arity sh - suc m)) refl (ap is_choice e1 ∙ c)) (a.part (Inside 0) (arity sh - suc m) env s)
         (inner_goes g shaped k sh xs place a src chosen_quiet u (arity sh - suc m) 0 p env e1 inside (chosen_within (arity sh - suc m)) (subst (λ zs. EnvFits u.cells zs env) (sym names) fit) s at)
 
@@ -188,7 +188,7 @@ module _ (g : Setting) (shaped : Shaped g.script) (k : ℕ) (sh : Shape) (xs : N
     pub operands_goes : (m : ℕ) → m ≤ arity sh → (u : Common) (env : Env) → EnvFits u.cells xs env → Goes g sh.form u (operands a k sh env m)
     operands_goes zero le u env fit = null_goes g sh.form u (chain_plain sh.form ch)
     operands_goes (suc m) le u env fit = under_goes g shaped k sh xs place a src sh.form u kind.ChainOperand m env [] (on_value (after_operand sh m (operands a k sh env m))) (arity sh - suc m) (λ i. chain_quiet sh.form ch i) (chain_within sh.form ch (arity sh - suc m) xs) fit
-        (sits_here g shaped k sh xs place u kind.ChainOperand m env [] ch (omega arith) tt fit) (operand_end m u env (operands_goes m (omega arith) u env fit))
+        (sits_here g shaped k sh xs place u kind.ChainOperand m env [] ch (omega arith) tt fit tt) (operand_end m u env (operands_goes m (omega arith) u env fit))
 
     pub operand_end_goes : (m : ℕ) → m ≤ arity sh → (u : Common) (env : Env) → EnvFits u.cells xs env → (e : Ending) (s : State) → At g u s → EndFits form.Block s.world.shared e → Holds g sh.form u (on_value (after_operand sh m (operands a k sh env m)) e s)
     operand_end_goes m le u env fit = operand_end m u env (operands_goes m le u env fit)
@@ -214,7 +214,7 @@ module _ (g : Setting) (shaped : Shaped g.script) (k : ℕ) (sh : Shape) (xs : N
     joined_goes zero le u env fit left there s at = (at, (there_then u s.world.shared at.later left there, joined_plain))
     joined_goes (suc m) le u env fit left there s at =
         let op : is_operand (form_at sh.parts (arity sh - suc m)) ≡ true = operand_there (arity sh - suc m) (arity sh - suc (suc m)) (omega arith) (omega arith) in
-        through_goes g sh.form form.Block u (frame kind.JoinedOperand k m env (left ∷ [])) (sits_here g shaped k sh xs place u kind.JoinedOperand m env (left ∷ []) (ap (same_form form.Joined) is) (omega arith) (there, tt) fit)
+        through_goes g sh.form form.Block u (frame kind.JoinedOperand k m env (left ∷ [])) (sits_here g shaped k sh xs place u kind.JoinedOperand m env (left ∷ []) (ap (same_form form.Joined) is) (omega arith) (there, tt) fit tt)
         (on_value (after_joined sh m left (joined a k sh env m)))
         (joined_end m u env fit left there (λ w l v t q isv. from_here g sh.form w (joined a k sh env m v) t q (joined_goes m (omega arith) t.world.shared env (env_later w t.world.shared q.later xs env (env_later u w l xs env fit)) v isv)))
         (a.part (Inside 0) (arity sh - suc m) env s)
@@ -231,7 +231,7 @@ module _ (g : Setting) (shaped : Shaped g.script) (k : ℕ) (sh : Shape) (xs : N
 
     pub joined_all_goes : (u : Common) (env : Env) → EnvFits u.cells xs env → Goes g sh.form u (joined_all a k sh env)
     joined_all_goes u env fit = under_goes g shaped k sh xs place a src sh.form u kind.JoinedFirst 0 env [] (on_value (joined a k sh env (arity sh - 1))) 0 joined_quiet (ap (λ f. names_within f 0 xs) is) fit
-        (sits_here g shaped k sh xs place u kind.JoinedFirst 0 env [] (ap (same_form form.Joined) is) (omega arith) tt fit) (joined_first_end u env fit)
+        (sits_here g shaped k sh xs place u kind.JoinedFirst 0 env [] (ap (same_form form.Joined) is) (omega arith) tt fit tt) (joined_first_end u env fit)
 
   -- signs before an operand
   pub prefixed_end : Is form.Prefixed → (u : Common) (e : Ending) (s : State) → At g u s → EndFits form.Block s.world.shared e → Holds g sh.form u (on_value (prefixed_by (reverse (prefixes_of sh.parts))) e s)
@@ -239,7 +239,7 @@ module _ (g : Setting) (shaped : Shaped g.script) (k : ℕ) (sh : Shape) (xs : N
 
   pub prefixed_goes : Is form.Prefixed → (u : Common) (env : Env) → EnvFits u.cells xs env → Goes g sh.form u (prefixed a k sh env)
   prefixed_goes is u env fit = under_goes g shaped k sh xs place a src sh.form u kind.PrefixedOperand 0 env [] (on_value (prefixed_by (reverse (prefixes_of sh.parts)))) (arity sh - 1) (λ i. ap (λ f. may_declare f i) is) (ap (λ f. names_within f (arity sh - 1) xs) is) fit
-      (sits_here g shaped k sh xs place u kind.PrefixedOperand 0 env [] (ap (same_form form.Prefixed) is) (omega arith) tt fit) (prefixed_end is u)
+      (sits_here g shaped k sh xs place u kind.PrefixedOperand 0 env [] (ap (same_form form.Prefixed) is) (omega arith) tt fit tt) (prefixed_end is u)
 
   -- a primary and its suffixes
   module _ (is : Is form.Suffixed) where
@@ -250,7 +250,7 @@ module _ (g : Setting) (shaped : Shaped g.script) (k : ℕ) (sh : Shape) (xs : N
     suffixed_names i = ap (names_within sh.form i) (quiet_names g shaped k sh xs place suffixed_quiet i) ∙ ap (λ f. names_within f i xs) is
 
     suffixed_sits : (u : Common) (m : ℕ) (env : Env) → m < suc (arity sh - 1) → EnvFits u.cells xs env → Sits g.script u (frame kind.SuffixedPart k m env [])
-    suffixed_sits u m env lt fit = sits_here g shaped k sh xs place u kind.SuffixedPart m env [] (ap (same_form form.Suffixed) is) lt tt fit
+    suffixed_sits u m env lt fit = sits_here g shaped k sh xs place u kind.SuffixedPart m env [] (ap (same_form form.Suffixed) is) lt tt fit tt
 
     pub suffixed_goes : (m : ℕ) → m ≤ arity sh - 1 → (u : Common) (env : Env) → EnvFits u.cells xs env → (v : Value) → There u.cells v → Goes g sh.form u (suffixed a k sh env m v)
     suffixed_goes zero le u env fit v there s at = (at, (there_then u s.world.shared at.later v there, ap is_declaration is))
@@ -272,4 +272,4 @@ module _ (g : Setting) (shaped : Shaped g.script) (k : ℕ) (sh : Shape) (xs : N
 
   pub indexed_goes : Is form.Index → (u : Common) (env : Env) → EnvFits u.cells xs env → (v : Value) → There u.cells v → Goes g sh.form u (indexed a k env v)
   indexed_goes is u env fit v there = under_goes g shaped k sh xs place a src sh.form u kind.IndexValue 0 env (v ∷ []) (on_value (index v)) 0 (λ i. ap (λ f. may_declare f i) is) (ap (λ f. names_within f 0 xs) is) fit
-      (sits_here g shaped k sh xs place u kind.IndexValue 0 env (v ∷ []) (ap (same_form form.Index) is) (omega arith) (there, tt) fit) (indexed_end is u v there)
+      (sits_here g shaped k sh xs place u kind.IndexValue 0 env (v ∷ []) (ap (same_form form.Index) is) (omega arith) (there, tt) fit tt) (indexed_end is u v there)

@@ -1,5 +1,5 @@
 -- Each form of node: sound from a sound state on.
-use Rattle.std.proofs.Common.{◌≡◌, refl, ap, ◌∙◌, ℕ, suc, Bool, true, false, List, [], ◌∷◌, Option, Some, None}
+use Rattle.std.proofs.Common.{arith, ◌≡◌, refl, ap, ◌∙◌, ℕ, suc, Bool, true, false, List, [], ◌∷◌, Option, Some, None}
 use Rattle.std.specs.Prelude.{slice_get, codes, unwrap_or, not, is_some}
 use Rattle.std.specs.List.{AllByRecursion as AllAre}
 use Rattle.model_syntax.specs.declared.node.NodeForm.{NodeForm}
@@ -66,9 +66,9 @@ module _ (g : Setting) (real : Real g.script [] g.script) (shaped : Shaped g.scr
   called_goes : (u : Common) → EnvFits u.cells xs env → (s : State) → At g u s → (on : Value) (args : List Value) → There u.cells on → AllAre (There u.cells) args → (x : Called) → CalledGrows (limits s.world) (closure_rule g.script) (cells s.world) (Given (closure_rule g.script) (cells s.world) (on ∷ args)) x
       → ((m : Method) (c : ℕ) → x ≡ Walks m c → HasClosure (slice_get s.world.shared.cells c) → Goes g sh.form s.world.shared (walk a k env (walk_method sh.form) 0 on (InCell c) [])) → Holds g sh.form u (called a k sh env s.world on args x s)
   called_goes u fit s at on args ton targs (Done answer n) grown walked =
-      let at1 : At g u (with_world (raised n (counted s.world)) s) = at_moved g u (λ w. raised n (counted w)) s at (moves_aside g (λ w. raised n (counted w)) s.world at.sound refl refl refl refl) in
-      guard_here g sh.form u (may_count s.world) counted (changed (raised n) (answered answer ended)) s
-      (answer_goes g sh.form u (limits s.world) There answer (with_world (raised n (counted s.world)) s) at1 (Given (closure_rule g.script) (cells s.world) (on ∷ args)) ((at.sound).cells, (there_then u s.world.shared at.later on ton, all_there_then u s.world.shared at.later args targs)) grown ended (λ v t q l is. (q, (is, plain))))
+      let at1 : At g u (with_world (raised n (counted s.world)) s) = at_moved g u (λ w. raised n (counted w)) s at (moves_aside g (λ w. raised n (counted w)) s.world at.sound refl refl refl refl refl refl (omega arith)) in
+      guard_here g sh.form u (may_count s.world) counted (changed (raised n) (answered answer ended)) s at
+      (λ none. answer_goes g sh.form u There answer (with_world (raised n (counted s.world)) s) at1 (Given (closure_rule g.script) (cells s.world) (on ∷ args)) ((at.sound).cells, (there_then u s.world.shared at.later on ton, all_there_then u s.world.shared at.later args targs)) grown ended (λ v t q l is. (q, (is, plain))))
   called_goes u fit s at on args ton targs (Walks m c) grown walked =
       from_here g sh.form u (tick (walk a k env (walk_method sh.form) 0 on (InCell c) [])) s at (tick_goes g sh.form s.world.shared (walk a k env (walk_method sh.form) 0 on (InCell c) []) (walked m c refl grown))
   called_goes u fit s at on args ton targs (CallsClosure c) grown walked = calling_goes g sh.form plain u (closure_of s.world (InCell c)) s at (closure_fits g s.world (InCell c) at.sound) (enter a args)

@@ -21,19 +21,19 @@ use Rattle.model_run.specs.Expressions.{choices}
 use Rattle.model_run.specs.Calls.{walk_method}
 use Rattle.model_run.specs.Steps.{without_folder, without_overrides, node_granted, sh_done, flag_at, input_decided, joined_branches}
 use Rattle.model_run.specs.Forms.{name_of, after_kind}
-use Rattle.model_run.specs.FrameTable.{Up_to, No_more, frame_row, gathers, same_form, is_declaration, is_target_form, is_assignment, calls_step, gathered_within, suffixed_within, current}
+use Rattle.model_run.specs.FrameTable.{Up_to, Text_or_null, No_more, frame_row, gathers, same_form, is_declaration, is_target_form, is_assignment, calls_step, gathered_within, suffixed_within, current}
 use Rattle.model_run.specs.Nesting.{MeetsRow}
 use Rattle.model_run.specs.Scoping.{Names, frame_names}
-use Rattle.model_run.specs.Fitting.{EnvFits}
+use Rattle.model_run.specs.Fitting.{EnvFits, IsFlowNode}
 use Rattle.model_run.proofs.LaterLaws.{env_later}
 use Rattle.model_run.proofs.Under.{first_of_both, second_of_both}
 use Rattle.run_laws.specs.Soundness.{Shaped, may_declare, seen, EndFits, At, Holds}
 use Rattle.run_laws.specs.Evaluation.{AnswerThere, IsAnswer, InsideFits}
 use Rattle.run_laws.proofs.NodeLaws.{Real}
-use Rattle.run_laws.proofs.Flow.{end_as, from_here, null_goes}
+use Rattle.run_laws.proofs.Flow.{node_then, end_as, from_here, null_goes}
 use Rattle.run_laws.proofs.Sources.{Place, Sources, no_declaration}
 use Rattle.run_laws.proofs.InsideForms.{target_there}
-use Rattle.run_laws.proofs.FrameForms.{closure_plain, if_is, while_is, steps_is, try_is, group_is, chosen_is, joined_is, prefixed_is, suffixed_is, index_is, return_is, throw_is, arm_is, computed_is, Named, each_is, declare_is, IsMethod, walk_is, not_so, first_there, thrown_there, any_many, WalkKept, walk_kept, RetryKept, retry_kept}
+use Rattle.run_laws.proofs.FrameForms.{closure_plain, if_is, while_is, steps_is, try_is, group_is, chosen_is, joined_is, prefixed_is, suffixed_is, index_is, return_is, throw_is, arm_is, computed_is, Named, each_is, declare_is, IsMethod, walk_is, not_so, first_there, thrown_there, first_kept, StartsKept, starts_kept, any_many, WalkKept, walk_kept, RetryKept, retry_kept}
 use Rattle.run_laws.proofs.SoundStatements.{statement_end_goes, if_test_goes, arms_goes, while_after_test, while_body_goes, steps_after_test, steps_first_goes, steps_again_goes, steps_body_goes, each_over_goes, each_body_end, finally_end_goes, catch_goes, try_goes, declare_end_goes, return_end_goes, throw_end_goes}
 use Rattle.run_laws.proofs.SoundAssignments.{target_plain, target_quiet, any_there, assigned_goes, index_goes, after_receiver_goes}
 use Rattle.run_laws.proofs.SoundExpressions.{chain_quiet, group_end_goes, choice_end_goes, choices_goes, operand_end_goes, joined_operand_end, joined_first_end, prefixed_end, suffixed_end, indexed_end}
@@ -42,7 +42,7 @@ use Rattle.run_laws.proofs.SoundCalls.{walk_end_goes}
 use Rattle.run_laws.proofs.SoundForms.{gathered_goes}
 use Rattle.run_laws.proofs.SoundSteps.{body_end_goes, body_end_changed, catch_error_end, after_retry_goes}
 use Rattle.run_laws.proofs.SoundStepForms.{node_granted_goes, node_end_goes, sh_done_goes, input_decided_goes}
-use Rattle.run_laws.proofs.SoundBranches.{joined_goes, branch_end_goes}
+use Rattle.run_laws.proofs.SoundBranches.{end_nodes, end_outcomes, joined_goes, branch_end_goes}
 use Rattle.run_laws.proofs.SoundBodies.{called_plain, called_quiet, call_end_goes}
 use Rattle.run_laws.proofs.Evaluates.{steps_some}
 
@@ -252,27 +252,37 @@ module _ (g : Setting) (real : Real g.script [] g.script) (shaped : Shaped g.scr
 
   -- steps
   stage_body : GoesOn kind.StageBody
-  stage_body left env vs u m fit = body_end_goes g sh.form (step_plain step.Stage sh.form env m.stands) u (codes "stage") (position (value_at 0 vs)) (position (value_at 1 vs))
+  stage_body left env vs u m fit =
+      let old : StartsKept u vs = starts_kept u No_more [] vs m.values in
+      body_end_goes g sh.form (step_plain step.Stage sh.form env m.stands) u (codes "stage") (position (value_at 0 vs)) (position (value_at 1 vs)) old.start old.body
 
   catch_error_body : GoesOn kind.CatchErrorBody
-  catch_error_body left env vs u m fit e s at h = catch_error_end g sh.form (step_plain step.CatchError sh.form env m.stands) u (position (value_at 0 vs)) (position (value_at 1 vs)) (position (value_at 2 vs)) (value_at 3 vs) e s at
+  catch_error_body left env vs u m fit e s at h =
+      let old : StartsKept u vs = starts_kept u No_more (Up_to 4 ∷ Text_or_null ∷ []) vs m.values in
+      catch_error_end g sh.form (step_plain step.CatchError sh.form env m.stands) u (position (value_at 0 vs)) (position (value_at 1 vs)) (position (value_at 2 vs)) old.start old.body (value_at 3 vs) e s at
 
   retry_body : GoesOn kind.RetryBody
   retry_body left env vs u m fit =
       let kept : RetryKept u vs = retry_kept u 2147483646 vs m.values in
-      after_retry_goes g shaped k sh xs place a src (step_plain step.Retry sh.form env m.stands) env m.stands (position (value_at 2 vs)) (position (value_at 0 vs)) u fit kept.start (value_at 3 vs) kept.closure (position (value_at 1 vs))
+      after_retry_goes g shaped k sh xs place a src (step_plain step.Retry sh.form env m.stands) env m.stands (position (value_at 2 vs)) (position (value_at 0 vs)) u fit kept.start (value_at 3 vs) kept.closure (position (value_at 1 vs)) kept.body
 
   node_wait : GoesOn kind.NodeWait
   node_wait left env vs u m fit = answered_goes u (node_granted a k env (value_at 0 vs)) (λ x s at there. node_granted_goes g shaped k sh xs place a src (step_plain step.Node sh.form env m.stands) env m.stands u fit (value_at 0 vs) x s at)
 
   node_body : GoesOn kind.NodeBody
-  node_body left env vs u m fit = node_end_goes g shaped k sh xs place a src (step_plain step.Node sh.form env m.stands) env u (position (value_at 0 vs)) (position (value_at 1 vs))
+  node_body left env vs u m fit =
+      let old : StartsKept u vs = starts_kept u No_more [] vs m.values in
+      node_end_goes g shaped k sh xs place a src (step_plain step.Node sh.form env m.stands) env u (position (value_at 0 vs)) (position (value_at 1 vs)) old.start old.body
 
   dir_body : GoesOn kind.DirBody
-  dir_body left env vs u m fit = body_end_changed g sh.form (step_plain step.Dir sh.form env m.stands) u (codes "dir") (position (value_at 0 vs)) (position (value_at 1 vs)) without_folder (λ w. refl) (λ w. refl) (λ w. refl) (λ w. refl)
+  dir_body left env vs u m fit =
+      let old : StartsKept u vs = starts_kept u No_more [] vs m.values in
+      body_end_changed g sh.form (step_plain step.Dir sh.form env m.stands) u (codes "dir") (position (value_at 0 vs)) (position (value_at 1 vs)) old.start old.body without_folder (λ w. refl) (λ w. refl) (λ w. refl) (λ w. refl) (λ w. refl) (λ w. refl) (λ w. omega arith)
 
   with_env_body : GoesOn kind.WithEnvBody
-  with_env_body left env vs u m fit = body_end_changed g sh.form (step_plain step.WithEnv sh.form env m.stands) u (codes "withEnv") (position (value_at 0 vs)) (position (value_at 1 vs)) (without_overrides (position (value_at 2 vs))) (λ w. refl) (λ w. refl) (λ w. refl) (λ w. refl)
+  with_env_body left env vs u m fit =
+      let old : StartsKept u vs = starts_kept u No_more (Up_to 2147483647 ∷ []) vs m.values in
+      body_end_changed g sh.form (step_plain step.WithEnv sh.form env m.stands) u (codes "withEnv") (position (value_at 0 vs)) (position (value_at 1 vs)) old.start old.body (without_overrides (position (value_at 2 vs))) (λ w. refl) (λ w. refl) (λ w. refl) (λ w. refl) (λ w. refl) (λ w. refl) (λ w. omega arith)
 
   sh_wait : GoesOn kind.ShWait
   sh_wait left env vs u m fit = answered_goes u (sh_done (flag_at (value_at 0 vs)) (flag_at (value_at 1 vs))) (λ x s at there. sh_done_goes g shaped k sh xs place a src (step_plain step.Sh sh.form env m.stands) env u (flag_at (value_at 0 vs)) (flag_at (value_at 1 vs)) x s at)
@@ -280,18 +290,19 @@ module _ (g : Setting) (real : Real g.script [] g.script) (shaped : Shaped g.scr
   input_wait : GoesOn kind.InputWait
   input_wait left env vs u m fit = answered_goes u input_decided (λ x s at there. input_decided_goes g shaped k sh xs place a src (step_plain step.Input sh.form env m.stands) env u x s at)
 
-  branches_end : is_declaration sh.form ≡ false → (u : Common) (start : ℕ) (x : Reply_answer) (s : State) → At g u s → AnswerThere s.world.shared x → Holds g sh.form u (joined_branches start x s)
-  branches_end plain u start (Joined ends) s at there = from_here g sh.form u (joined_branches start (Joined ends)) s at (joined_goes g sh.form plain s.world.shared start ends there)
-  branches_end plain u start Begin s at there = null_goes g sh.form u plain s at
-  branches_end plain u start (GrantedAnswer x) s at there = null_goes g sh.form u plain s at
-  branches_end plain u start (Done code out) s at there = null_goes g sh.form u plain s at
-  branches_end plain u start (DecidedAnswer proceed name) s at there = null_goes g sh.form u plain s at
+  branches_end : is_declaration sh.form ≡ false → (u : Common) (start : ℕ) → IsFlowNode u.nodes start → (x : Reply_answer) (s : State) → At g u s → AnswerThere s.world.shared x → Holds g sh.form u (joined_branches start x s)
+  branches_end plain u start flow (Joined ends) s at there = from_here g sh.form u (joined_branches start (Joined ends)) s at
+      (joined_goes g sh.form plain s.world.shared start (node_then u s.world.shared at.later start flow) ends (end_nodes s.world.shared ends there) (end_outcomes s.world.shared ends there))
+  branches_end plain u start flow Begin s at there = null_goes g sh.form u plain s at
+  branches_end plain u start flow (GrantedAnswer x) s at there = null_goes g sh.form u plain s at
+  branches_end plain u start flow (Done code out) s at there = null_goes g sh.form u plain s at
+  branches_end plain u start flow (DecidedAnswer proceed name) s at there = null_goes g sh.form u plain s at
 
   parallel_wait : GoesOn kind.ParallelWait
-  parallel_wait left env vs u m fit = answered_goes u (joined_branches (position (value_at 0 vs))) (branches_end (step_plain step.Parallel sh.form env m.stands) u (position (value_at 0 vs)))
+  parallel_wait left env vs u m fit = answered_goes u (joined_branches (position (value_at 0 vs))) (branches_end (step_plain step.Parallel sh.form env m.stands) u (position (value_at 0 vs)) (first_kept u No_more [] vs m.values))
 
   branch_body : GoesOn kind.BranchBody
-  branch_body left env vs u m fit = branch_end_goes g sh.form (closure_plain sh.form m.stands) u (position (value_at 0 vs))
+  branch_body left env vs u m fit = branch_end_goes g sh.form (closure_plain sh.form m.stands) u (position (value_at 0 vs)) (first_kept u No_more [] vs m.values)
 
   -- Every kind of frame.
   pub kind_goes : (d : FrameKind) → GoesOn d

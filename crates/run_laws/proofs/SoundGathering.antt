@@ -189,7 +189,7 @@ module _ (g : Setting) (shaped : Shaped g.script) (k : ℕ) (sh : Shape) (xs : N
   value_frame : (m : ℕ) → suc m ≤ arity sh → (u : Common) → EnvFits u.cells xs env → (vs : List Value) → AllAre (There u.cells) vs → (e : Entry) (p : NodeForm) → form_at sh.parts (arity sh - suc m) ≡ p → is_plain p ≡ false → length vs ≡ count_of sh env (arity sh - suc m) + key_count p → Next m → Goes g form.Block u (a.part e (arity sh - suc m) env) → Goes g sh.form u (gather_value a k sh env m vs (gathering m) e)
   value_frame m le u fit vs there e p is value count next part s at =
       let c : length vs ≡ count_of sh env (arity sh - suc m) + key_count (form_at sh.parts (arity sh - suc m)) = count ∙ ap (λ q. count_of sh env (arity sh - suc m) + key_count q) (sym is) in
-      through_goes g sh.form form.Block u (frame kind.Gathered k m env vs) (sits_here g shaped k sh xs place u kind.Gathered m env vs (both _ _ ga (ap (λ q. not (is_plain q)) is ∙ ap not value)) (omega arith) (any_seen u _ vs c there) fit)
+      through_goes g sh.form form.Block u (frame kind.Gathered k m env vs) (sits_here g shaped k sh xs place u kind.Gathered m env vs (both _ _ ga (ap (λ q. not (is_plain q)) is ∙ ap not value)) (omega arith) (any_seen u _ vs c there) fit tt)
       (after_gathered sh m vs (gathering m)) (gathered_end m le u fit vs there (ap is_plain is ∙ value) c next) (a.part e (arity sh - suc m) env s) (part s at)
 
   entry_value : (m : ℕ) → suc m ≤ arity sh → (u : Common) → EnvFits u.cells xs env → (vs : List Value) → AllAre (There u.cells) vs → (j : ℕ) (p : NodeForm) → form_at sh.parts (arity sh - suc m) ≡ p → has_inner p ≡ true → names_within p j xs ≡ xs → is_plain p ≡ false → length vs ≡ count_of sh env (arity sh - suc m) + key_count p → Next m → Goes g sh.form u (gather_value a k sh env m vs (gathering m) (Inside j))
@@ -210,7 +210,7 @@ module _ (g : Setting) (shaped : Shaped g.script) (k : ℕ) (sh : Shape) (xs : N
   gather_part_goes m le next u fit vs count there (form.NamedEntry t) is = entry_value m le u fit vs there 0 (form.NamedEntry t) is refl refl refl (omega (arith, count)) next
   gather_part_goes m le next u fit vs count there (form.NumberedEntry z) is = entry_value m le u fit vs there 0 (form.NumberedEntry z) is refl refl refl (omega (arith, count)) next
   gather_part_goes m le next u fit vs count there form.ComputedEntry is = λ s at.
-      through_goes g sh.form form.Block u (frame kind.GatheredKey k m env vs) (sits_here g shaped k sh xs place u kind.GatheredKey m env vs (both _ _ ga (ap is_computed is)) (omega arith) (any_seen u _ vs count there) fit)
+      through_goes g sh.form form.Block u (frame kind.GatheredKey k m env vs) (sits_here g shaped k sh xs place u kind.GatheredKey m env vs (both _ _ ga (ap is_computed is)) (omega arith) (any_seen u _ vs count there) fit tt)
       (after_key a k sh env m vs (gathering m)) (key_end m le u fit vs there is count next) (a.part (Inside 0) (arity sh - suc m) env s)
       (inner_goes g shaped k sh xs place a src quiet u (arity sh - suc m) 0 form.ComputedEntry env is refl (within (arity sh - suc m)) fit s at)
   gather_part_goes m le next u fit vs count there p is = value_frame m le u fit vs there First p is refl (omega (arith, count)) next (part_goes g shaped k sh xs place a src quiet u env fit (arity sh - suc m) (within (arity sh - suc m)))

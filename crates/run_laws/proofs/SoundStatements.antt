@@ -35,8 +35,9 @@ use Rattle.model_run.proofs.LaterLaws.{env_later}
 use Rattle.model_run.proofs.StatementLaws.{some_parts}
 use Rattle.model_run.proofs.Under.{both}
 use Rattle.model_run.proofs.Front.{front_itself}
-use Rattle.run_laws.specs.Soundness.{Shaped, may_declare, seen, Sits, declares_as, EndFits, At, Holds, Goes}
-use Rattle.run_laws.proofs.Flow.{end_then, later_self, there_then, at_self, holds_then, from_here, holds_as, end_as, at_moved, tick_goes, decide_goes, null_goes, value_goes, answer_goes, through_goes}
+use Rattle.run_laws.specs.Soundness.{Shaped, may_declare, seen, NumbersFit, Sits, declares_as, EndFits, At, Holds, Goes}
+use Rattle.run_laws.proofs.Sizes.{TurnLow, loop_low}
+use Rattle.run_laws.proofs.Flow.{end_then, later_self, there_then, at_self, holds_then, from_here, holds_as, end_as, at_moved, tick_goes, decide_goes, null_goes, value_goes, moves_cells, answer_with, answer_goes, through_goes}
 use Rattle.run_laws.proofs.Sources.{TurnFits, turn_names, behind_none, after_one_more, Place, Sources, sits_here, Quiet, quiet_part, quiet_names, quiet_after, no_declaration, part_goes, inner_goes}
 
 block_ends : (f : NodeForm) → is_block f ≡ true → is_declaration f ≡ false
@@ -141,18 +142,21 @@ module _ (g : Setting) where
 
   module _ (f : NodeForm) (u : Common) where
     -- a new variable with this value
-    pub variable_goes : (v : Value) (go : ℕ → State → Result) → There u.cells v → ((c : ℕ) (s : State) → At g u s → HasVariable (slice_get s.world.shared.cells c) → Holds g f u (go c s)) → Goes g f u (new_variable v go)
-    variable_goes v go there k s at =
-        answer_goes g f u (limits s.world) (IsIn HasVariable) _ s at (Given (closure_rule g.script) (cells s.world) (v ∷ [])) ((at.sound).cells, (there_then u s.world.shared at.later v there, tt))
+    pub variable_from : (v : Value) (go : ℕ → State → Result) → There u.cells v → (s : State) → At g u s → ((c : ℕ) (t : State) → At g u t → t.world.shared.binding ≡ s.world.shared.binding → HasVariable (slice_get t.world.shared.cells c) → Holds g f u (go c t)) → Holds g f u (new_variable v go s)
+    variable_from v go there s at k =
+        answer_with g f u (IsIn HasVariable) _ s at (Given (closure_rule g.script) (cells s.world) (v ∷ [])) ((at.sound).cells, (there_then u s.world.shared at.later v there, tt))
         (new_variables (limits s.world) (closure_rule g.script) (cells s.world) v) (λ c. go (cell_number c))
-        (λ c t at' l is. k (cell_number c) t at' (variable_in t.world.shared.cells c is))
+        (λ c t at' l same is. k (cell_number c) t at' same (variable_in t.world.shared.cells c is))
+
+    pub variable_goes : (v : Value) (go : ℕ → State → Result) → There u.cells v → ((c : ℕ) (s : State) → At g u s → HasVariable (slice_get s.world.shared.cells c) → Holds g f u (go c s)) → Goes g f u (new_variable v go)
+    variable_goes v go there k s at = variable_from v go there s at (λ c t at' same has. k c t at' has)
 
   pub declare_goes : (x : List ℕ) (u : Common) (v : Value) → There u.cells v → Goes g (form.Declare x) u (declare x v)
   declare_goes x u v there = variable_goes (form.Declare x) u v (λ c. Ended (Declared (record { name = x; cell = c }))) there (λ c s at has. (at, (refl, has)))
 
   pub throws_goes : (f : NodeForm) (u : Common) (v : Value) → There u.cells v → Goes g f u (throws v)
   throws_goes f u v there s at =
-      answer_goes g f u (limits s.world) (λ h v. ⊥) _ s at (Given (closure_rule g.script) (cells s.world) (v ∷ [])) ((at.sound).cells, (there_then u s.world.shared at.later v there, tt))
+      answer_goes g f u (λ h v. ⊥) _ s at (Given (closure_rule g.script) (cells s.world) (v ∷ [])) ((at.sound).cells, (there_then u s.world.shared at.later v there, tt))
       (throw_values (limits s.world) (closure_rule g.script) (cells s.world) v) ended (λ c t at' l is. absurd is)
 
 module _ (g : Setting) (shaped : Shaped g.script) (k : ℕ) (sh : Shape) (xs : Names) (place : Place g k sh xs) (a : Around) (src : Sources g shaped k sh xs place a) where
@@ -170,7 +174,7 @@ module _ (g : Setting) (shaped : Shaped g.script) (k : ℕ) (sh : Shape) (xs : N
   pub statements_goes : is_block sh.form ≡ true → (m : ℕ) → m ≤ arity sh → (u : Common) (v : Value) → There u.cells v → (env : Env) → EnvFits u.cells (names_after sh.parts (arity sh - m) xs) env → Goes g sh.form u (statements a k (arity sh) m v env)
   statements_goes at zero le u v there env fit s q = (q, (there_then u s.world.shared q.later v there, block_ends sh.form at))
   statements_goes at (suc m) le u v there env fit s q =
-      through_goes g sh.form (form_at sh.parts (arity sh - suc m)) u (frame kind.Statement k m env []) (sits_here g shaped k sh xs place u kind.Statement m env [] at (omega arith) tt fit) (on_statement env (statements a k (arity sh) m))
+      through_goes g sh.form (form_at sh.parts (arity sh - suc m)) u (frame kind.Statement k m env []) (sits_here g shaped k sh xs place u kind.Statement m env [] at (omega arith) tt fit tt) (on_statement env (statements a k (arity sh) m))
       (next_goes at m le u env fit (statements_goes at m (omega arith))) (a.part First (arity sh - suc m) env s)
       (src.part u (arity sh - suc m) env (subst (λ ys. EnvFits u.cells ys env) (sym (block_within sh.form at (arity sh - suc m) (names_after sh.parts (arity sh - suc m) xs))) fit) s q)
 
@@ -210,7 +214,7 @@ module _ (g : Setting) (shaped : Shaped g.script) (k : ℕ) (sh : Shape) (xs : N
 
     arm_goes : (u : Common) (m : ℕ) → suc m ≤ arity sh → (env : Env) → EnvFits u.cells xs env → (others : State → Result) → Goes g sh.form u others → (p : NodeForm) → form_at sh.parts (arity sh - suc m) ≡ p → Goes g sh.form u (arm a k sh m env others p)
     arm_goes u m le env fit others go form.Arm e s at =
-        through_goes g sh.form form.Block u (frame kind.IfTest k m env []) (sits_here g shaped k sh xs place u kind.IfTest m env [] (both _ _ (ap (same_form form.If) is) (ap is_arm e)) (omega arith) tt fit) (after_if_test a sh m env others)
+        through_goes g sh.form form.Block u (frame kind.IfTest k m env []) (sits_here g shaped k sh xs place u kind.IfTest m env [] (both _ _ (ap (same_form form.If) is) (ap is_arm e)) (omega arith) tt fit tt) (after_if_test a sh m env others)
         (λ e1 t q h. if_test_goes u m env fit e others go e1 t q h) (a.part (Inside 0) (arity sh - suc m) env s)
         (inner_goes g shaped k sh xs place a src if_quiet u (arity sh - suc m) 0 form.Arm env e refl (if_within (arity sh - suc m)) fit s at)
     arm_goes u m le env fit others go p e s at = if_part u (arity sh - suc m) env fit s at
@@ -235,14 +239,14 @@ module _ (g : Setting) (shaped : Shaped g.script) (k : ℕ) (sh : Shape) (xs : N
 
     pub while_test_goes : (u : Common) (env : Env) → EnvFits u.cells xs env → Goes g sh.form u (while_test a k env)
     while_test_goes u env fit = under_goes sh.form u kind.WhileTest 0 env [] (after_test a env) 0 while_quiet (ap (λ f. names_within f 0 xs) is) fit
-        (sits_here g shaped k sh xs place u kind.WhileTest 0 env [] (ap (same_form form.While) is) (omega arith) tt fit) (while_after_test u env fit)
+        (sits_here g shaped k sh xs place u kind.WhileTest 0 env [] (ap (same_form form.While) is) (omega arith) tt fit tt) (while_after_test u env fit)
 
     pub while_body_goes : (u : Common) (env : Env) → EnvFits u.cells xs env → (e : Ending) (s : State) → At g u s → EndFits form.Block s.world.shared e → Holds g sh.form u (on_turn (while_test a k env) e s)
     while_body_goes u env fit = turn_goes g sh.form while_plain u (while_test a k env) (while_test_goes u env fit)
 
     pub while_turn_goes : (u : Common) (env : Env) → EnvFits u.cells xs env → Goes g sh.form u (while_turn a k env)
     while_turn_goes u env fit = under_goes sh.form u kind.WhileBody 0 env [] (on_turn (while_test a k env)) 1 while_quiet (ap (λ f. names_within f 1 xs) is) fit
-        (sits_here g shaped k sh xs place u kind.WhileBody 0 env [] (ap (same_form form.While) is) (omega arith) tt fit) (while_body_goes u env fit)
+        (sits_here g shaped k sh xs place u kind.WhileBody 0 env [] (ap (same_form form.While) is) (omega arith) tt fit tt) (while_body_goes u env fit)
 
   -- `for (first; test; next) block`
   module _ (is : Is form.ForSteps) where
@@ -272,14 +276,14 @@ module _ (g : Setting) (shaped : Shaped g.script) (k : ℕ) (sh : Shape) (xs : N
     steps_again : (u : Common) (env : Env) → EnvFits u.cells (names_after sh.parts 1 xs) env → Goes g sh.form u (a.again 0 [] env)
     steps_again u env fit = src.again u 0 [] env steps_plain (subst (λ zs. EnvFits u.cells zs env) (sym (ap (λ f. turn_names f sh.parts xs) is)) fit) (subst (λ f. TurnFits f u []) (sym is) tt)
 
-    steps_sits : (u : Common) (d : FrameKind) (env : Env) → (frame_row d sh 0 env).stands ≡ true → 0 < (frame_row d sh 0 env).limit → ValuesFit (seen u) (frame_row d sh 0 env).further (frame_row d sh 0 env).values [] → EnvFits u.cells (frame_names d sh 0 xs) env → Sits g.script u (frame d k 0 env [])
-    steps_sits u d env stands low values fit = sits_here g shaped k sh xs place u d 0 env [] stands low values fit
+    steps_sits : (u : Common) (d : FrameKind) (env : Env) → (frame_row d sh 0 env).stands ≡ true → 0 < (frame_row d sh 0 env).limit → ValuesFit (seen u) (frame_row d sh 0 env).further (frame_row d sh 0 env).values [] → EnvFits u.cells (frame_names d sh 0 xs) env → NumbersFit d [] → Sits g.script u (frame d k 0 env [])
+    steps_sits u d env stands low values fit numbers = sits_here g shaped k sh xs place u d 0 env [] stands low values fit numbers
 
     pub steps_after_test : (u : Common) (env : Env) → EnvFits u.cells (names_after sh.parts 1 xs) env → (e : Ending) (s : State) → At g u s → EndFits form.Block s.world.shared e → Holds g sh.form u (after_test a env e s)
     steps_after_test u env fit = value_goes g sh.form u _ (λ v t q there. decide_goes g sh.form u v _ _ (tick_goes g sh.form u _ (steps_again u env fit)) (null_goes g sh.form u steps_plain) t q)
 
     steps_test_goes : (u : Common) (env : Env) → EnvFits u.cells (names_after sh.parts 1 xs) env → Goes g sh.form u (steps_test a k env)
-    steps_test_goes u env fit = steps_under u kind.StepsTest 0 env (steps_sits u kind.StepsTest env (ap (same_form form.ForSteps) is) (omega arith) tt fit) fit (after_test a env) (steps_after_test u env fit)
+    steps_test_goes u env fit = steps_under u kind.StepsTest 0 env (steps_sits u kind.StepsTest env (ap (same_form form.ForSteps) is) (omega arith) tt fit tt) fit (after_test a env) (steps_after_test u env fit)
 
     -- behind the first part of the head
     pub steps_first_goes : (u : Common) (env : Env) → EnvFits u.cells xs env → (e : Ending) (s : State) → At g u s → EndFits (form_at sh.parts 0) s.world.shared e → 0 < arity sh → Holds g sh.form u (after_steps_first a k env e s)
@@ -294,13 +298,13 @@ module _ (g : Setting) (shaped : Shaped g.script) (k : ℕ) (sh : Shape) (xs : N
         (λ v env1 t q there fit1. from_here g sh.form u (steps_test a k env1) t q (steps_test_goes t.world.shared env1 fit1)) e s at h
 
     steps_next_goes : (u : Common) (env : Env) → EnvFits u.cells (names_after sh.parts 1 xs) env → Goes g sh.form u (steps_next a k env)
-    steps_next_goes u env fit = steps_under u kind.StepsNext 1 env (steps_sits u kind.StepsNext env (ap (same_form form.ForSteps) is) (omega arith) tt fit) fit (after_steps_first a k env) (steps_again_goes u env fit)
+    steps_next_goes u env fit = steps_under u kind.StepsNext 1 env (steps_sits u kind.StepsNext env (ap (same_form form.ForSteps) is) (omega arith) tt fit tt) fit (after_steps_first a k env) (steps_again_goes u env fit)
 
     pub steps_body_goes : (u : Common) (env : Env) → EnvFits u.cells (names_after sh.parts 1 xs) env → (e : Ending) (s : State) → At g u s → EndFits form.Block s.world.shared e → Holds g sh.form u (on_turn (steps_next a k env) e s)
     steps_body_goes u env fit = turn_goes g sh.form steps_plain u (steps_next a k env) (steps_next_goes u env fit)
 
     pub steps_turn_goes : (u : Common) (env : Env) → EnvFits u.cells (names_after sh.parts 1 xs) env → Goes g sh.form u (steps_turn a k env)
-    steps_turn_goes u env fit = steps_under u kind.StepsBody 2 env (steps_sits u kind.StepsBody env (ap (same_form form.ForSteps) is) (omega arith) tt fit) fit (on_turn (steps_next a k env)) (steps_body_goes u env fit)
+    steps_turn_goes u env fit = steps_under u kind.StepsBody 2 env (steps_sits u kind.StepsBody env (ap (same_form form.ForSteps) is) (omega arith) tt fit tt) fit (on_turn (steps_next a k env)) (steps_body_goes u env fit)
 
   -- `for (x in e) block`
   module _ (x : List ℕ) (is : Is (form.ForEach x)) where
@@ -327,8 +331,8 @@ module _ (g : Setting) (shaped : Shaped g.script) (k : ℕ) (sh : Shape) (xs : N
     pub each_body_end : (u : Common) (env : Env) (on : Value) (i : ℕ) → EnvFits u.cells xs env → There u.cells on → (e : Ending) (s : State) → At g u s → EndFits form.Block s.world.shared e → Holds g sh.form u (on_turn (each_from a env on i) e s)
     each_body_end u env on i fit there = turn_goes g sh.form each_plain u (each_from a env on i) (each_from_goes u env on i fit there)
 
-    each_body_goes : (u : Common) (env : Env) (on : Value) (i : ℕ) (element : Value) → EnvFits u.cells xs env → There u.cells on → There u.cells element → Goes g sh.form u (each_body a k x env on i element)
-    each_body_goes u env on i element fit there here =
+    each_body_goes : (u : Common) (env : Env) (on : Value) (i : ℕ) (element : Value) → i ≤ 2147483646 → EnvFits u.cells xs env → There u.cells on → There u.cells element → Goes g sh.form u (each_body a k x env on i element)
+    each_body_goes u env on i element low fit there here =
         variable_goes g sh.form u element _ here (λ c s at has.
         let v : Common = s.world.shared in
         let fit1 : EnvFits s.world.shared.cells xs env = env_later u s.world.shared at.later xs env fit in
@@ -336,23 +340,23 @@ module _ (g : Setting) (shaped : Shaped g.script) (k : ℕ) (sh : Shape) (xs : N
         let inner : EnvFits s.world.shared.cells (x ∷ xs) (bind x c env) = bound_fits s.world.shared s.world.shared (later_self s.world.shared) x c xs env fit1 has in
         let names : names_within sh.form 1 (names_after sh.parts 1 xs) ≡ x ∷ xs = ap (names_within sh.form 1) (quiet_names g shaped k sh xs place each_quiet 1) ∙ ap (λ f. names_within f 1 xs) is in
         holds_then g sh.form u s.world.shared at.later _ (through_goes g sh.form form.Block s.world.shared (frame kind.EachBody k 0 env (on ∷ whole i ∷ []))
-        (sits_here g shaped k sh xs place s.world.shared kind.EachBody 0 env (on ∷ whole i ∷ []) (ap is_each is) (omega arith) (there1, (tt, tt)) fit1) (on_turn (each_from a env on (suc i)))
+        (sits_here g shaped k sh xs place s.world.shared kind.EachBody 0 env (on ∷ whole i ∷ []) (ap is_each is) (omega arith) (there1, (tt, tt)) fit1 low) (on_turn (each_from a env on (suc i)))
         (each_body_end s.world.shared env on (suc i) fit1 there1) (a.part First 1 (bind x c env) s)
         (holds_as g (form_at sh.parts 1) form.Block s.world.shared _ (quiet_part g shaped k sh xs place each_quiet 1) refl
         (src.part s.world.shared 1 (bind x c env) (subst (λ zs. EnvFits s.world.shared.cells zs (bind x c env)) (sym names) inner) s (at_self g u s at)))))
 
-    each_element_goes : (u : Common) (env : Env) (on : Value) (i : ℕ) → EnvFits u.cells xs env → There u.cells on → (t : Element) (s : State) → At g u s → TurnGrows (limits s.world) (closure_rule g.script) (cells s.world) (Given (closure_rule g.script) (cells s.world) (on ∷ [])) t → Holds g sh.form u (each_element a k x env on i t s)
-    each_element_goes u env on i fit there Past s at grown = null_goes g sh.form u each_plain s at
-    each_element_goes u env on i fit there (Stops limit) s at grown = tt
-    each_element_goes u env on i fit there (Turns h args element) s at grown =
+    each_element_goes : (u : Common) (env : Env) (on : Value) (i : ℕ) → EnvFits u.cells xs env → There u.cells on → (t : Element) (s : State) → At g u s → TurnLow i t → TurnGrows (limits s.world) (closure_rule g.script) (cells s.world) (Given (closure_rule g.script) (cells s.world) (on ∷ [])) t → Holds g sh.form u (each_element a k x env on i t s)
+    each_element_goes u env on i fit there Past s at low grown = null_goes g sh.form u each_plain s at
+    each_element_goes u env on i fit there (Stops limit) s at low grown = at
+    each_element_goes u env on i fit there (Turns h args element) s at low grown =
         let fits : CellsFit (closure_rule g.script) h × (AllAre (There h) args × AllAre (There h) element) = grown.fits ((at.sound).cells, (there_then u s.world.shared at.later on there, tt)) in
         let l1 : Later s.world.shared (put_cells h s.world).shared = record { cells = grown.later; nodes = front_itself s.world.shared.nodes } in
-        let at1 : At g u (with_world (put_cells h s.world) s) = at_moved g u (put_cells h) s at (record { later = l1; cells = fits.0; binding = variables_later (cells s.world) h grown.later s.world.shared.binding (at.sound).binding; head = (at.sound).head }) in
+        let at1 : At g u (with_world (put_cells h s.world) s) = at_moved g u (put_cells h) s at (moves_cells g s.world at.sound _ _ h grown fits.0) in
         from_here g sh.form u (each_body a k x env on i (value_at 0 args)) (with_world (put_cells h s.world) s) at1
-        (each_body_goes (put_cells h s.world).shared env on i (value_at 0 args) (env_later u (put_cells h s.world).shared at1.later xs env fit) (there_then u (put_cells h s.world).shared at1.later on there) (all_index (There h) args 0 Null (fits.1).0 tt))
+        (each_body_goes (put_cells h s.world).shared env on i (value_at 0 args) low (env_later u (put_cells h s.world).shared at1.later xs env fit) (there_then u (put_cells h s.world).shared at1.later on there) (all_index (There h) args 0 Null (fits.1).0 tt))
 
     pub each_turn_goes : (u : Common) (env : Env) (i : ℕ) (kept : List Value) → EnvFits u.cells xs env → There u.cells (value_at 0 kept) → Goes g sh.form u (each_turn a k x env i kept)
-    each_turn_goes u env i kept fit there s at = each_element_goes u env (value_at 0 kept) i fit there (loop_turn (limits s.world) (cells s.world) (value_at 0 kept) i) s at (loop_turns (limits s.world) (closure_rule g.script) (cells s.world) (value_at 0 kept) i)
+    each_turn_goes u env i kept fit there s at = each_element_goes u env (value_at 0 kept) i fit there (loop_turn (limits s.world) (cells s.world) (value_at 0 kept) i) s at (loop_low (limits s.world) (cells s.world) i ((at.sound).bounds).short (value_at 0 kept)) (loop_turns (limits s.world) (closure_rule g.script) (cells s.world) (value_at 0 kept) i)
 
   -- `try`
   module _ (is : Is form.Try) where
@@ -375,11 +379,11 @@ module _ (g : Setting) (shaped : Shaped g.script) (k : ℕ) (sh : Shape) (xs : N
 
     finally_behind_goes : (b : Bool) → has_finally sh ≡ b → (u : Common) (env : Env) → EnvFits u.cells xs env → (e : Ending) (s : State) → At g u s → EndFits form.Block u e → Holds g sh.form u (finally_behind a k sh env b e s)
     finally_behind_goes false fin u env fit e s at h = (at, end_as g form.Block sh.form s.world.shared e refl try_plain (end_then u s.world.shared at.later form.Block e h))
-    finally_behind_goes true fin u env fit (Normal v) s at h = finally_goes fin u kind.FinallyAfterValue env (v ∷ []) (Normal v) fit (sits_here g shaped k sh xs place u kind.FinallyAfterValue 0 env (v ∷ []) (finally_row true fin) (omega arith) (h.0, tt) fit) h s at
-    finally_behind_goes true fin u env fit (Thrown c) s at h = finally_goes fin u kind.FinallyAfterThrow env (InCell c ∷ []) (Thrown c) fit (sits_here g shaped k sh xs place u kind.FinallyAfterThrow 0 env (InCell c ∷ []) (finally_row true fin) (omega arith) (h, tt) fit) h s at
-    finally_behind_goes true fin u env fit (Returned v) s at h = finally_goes fin u kind.FinallyAfterReturn env (v ∷ []) (Returned v) fit (sits_here g shaped k sh xs place u kind.FinallyAfterReturn 0 env (v ∷ []) (finally_row true fin) (omega arith) (h, tt) fit) h s at
-    finally_behind_goes true fin u env fit Broke s at h = finally_goes fin u kind.FinallyAfterBreak env [] Broke fit (sits_here g shaped k sh xs place u kind.FinallyAfterBreak 0 env [] (finally_row true fin) (omega arith) tt fit) h s at
-    finally_behind_goes true fin u env fit Continued s at h = finally_goes fin u kind.FinallyAfterContinue env [] Continued fit (sits_here g shaped k sh xs place u kind.FinallyAfterContinue 0 env [] (finally_row true fin) (omega arith) tt fit) h s at
+    finally_behind_goes true fin u env fit (Normal v) s at h = finally_goes fin u kind.FinallyAfterValue env (v ∷ []) (Normal v) fit (sits_here g shaped k sh xs place u kind.FinallyAfterValue 0 env (v ∷ []) (finally_row true fin) (omega arith) (h.0, tt) fit tt) h s at
+    finally_behind_goes true fin u env fit (Thrown c) s at h = finally_goes fin u kind.FinallyAfterThrow env (InCell c ∷ []) (Thrown c) fit (sits_here g shaped k sh xs place u kind.FinallyAfterThrow 0 env (InCell c ∷ []) (finally_row true fin) (omega arith) (h, tt) fit tt) h s at
+    finally_behind_goes true fin u env fit (Returned v) s at h = finally_goes fin u kind.FinallyAfterReturn env (v ∷ []) (Returned v) fit (sits_here g shaped k sh xs place u kind.FinallyAfterReturn 0 env (v ∷ []) (finally_row true fin) (omega arith) (h, tt) fit tt) h s at
+    finally_behind_goes true fin u env fit Broke s at h = finally_goes fin u kind.FinallyAfterBreak env [] Broke fit (sits_here g shaped k sh xs place u kind.FinallyAfterBreak 0 env [] (finally_row true fin) (omega arith) tt fit tt) h s at
+    finally_behind_goes true fin u env fit Continued s at h = finally_goes fin u kind.FinallyAfterContinue env [] Continued fit (sits_here g shaped k sh xs place u kind.FinallyAfterContinue 0 env [] (finally_row true fin) (omega arith) tt fit tt) h s at
     finally_behind_goes true fin u env fit (Declared b) s at h = absurd h.0
     finally_behind_goes true fin u env fit (Answered x) s at h = absurd h
 
@@ -397,7 +401,7 @@ module _ (g : Setting) (shaped : Shaped g.script) (k : ℕ) (sh : Shape) (xs : N
         let fit1 : EnvFits s.world.shared.cells xs env = env_later u s.world.shared at.later xs env fit in
         let inner : EnvFits s.world.shared.cells (p.1 ∷ xs) (bind p.1 n env) = bound_fits s.world.shared s.world.shared (later_self s.world.shared) p.1 n xs env fit1 there in
         holds_then g sh.form u s.world.shared at.later _ (through_goes g sh.form form.Block s.world.shared (frame kind.TryCatch k (arity sh - suc p.0) env [])
-        (sits_here g shaped k sh xs place s.world.shared kind.TryCatch (arity sh - suc p.0) env [] (both _ _ (ap (same_form form.Try) is) (ap (λ j. is_catch (form_at sh.parts j)) here ∙ ap is_catch form_is)) (omega (arith, low)) tt fit1)
+        (sits_here g shaped k sh xs place s.world.shared kind.TryCatch (arity sh - suc p.0) env [] (both _ _ (ap (same_form form.Try) is) (ap (λ j. is_catch (form_at sh.parts j)) here ∙ ap is_catch form_is)) (omega (arith, low)) tt fit1 tt)
         (after_catch a k sh env) (catch_goes s.world.shared env fit1) (a.part (Inside 0) p.0 (bind p.1 n env) s)
         (inner_goes g shaped k sh xs place a src try_quiet s.world.shared p.0 0 (form.Catch by.caught p.1) (bind p.1 n env) form_is refl (try_within p.0) inner s (at_self g u s at))))
 
@@ -421,7 +425,7 @@ module _ (g : Setting) (shaped : Shaped g.script) (k : ℕ) (sh : Shape) (xs : N
     pub declaration_goes : (n : ℕ) → length sh.parts ≡ n → (u : Common) (env : Env) → EnvFits u.cells xs env → Goes g sh.form u (declaration a k n x env)
     declaration_goes zero e u env fit = λ s at. subst (λ f. Holds g f u (declare x Null s)) (sym is) (declare_goes g x u Null tt s at)
     declaration_goes (suc n) e u env fit = under_goes sh.form u kind.DeclareValue 0 env [] (on_value (declare x)) 0 (λ i. ap (λ f. may_declare f i) is) (ap (λ f. names_within f 0 xs) is) fit
-        (sits_here g shaped k sh xs place u kind.DeclareValue 0 env [] (both _ _ (ap is_declaration is) (some_parts sh.parts n e)) (omega arith) tt fit) (declare_end_goes u)
+        (sits_here g shaped k sh xs place u kind.DeclareValue 0 env [] (both _ _ (ap is_declaration is) (some_parts sh.parts n e)) (omega arith) tt fit tt) (declare_end_goes u)
 
   -- `return`, `return e`, `throw e`
   pub return_end_goes : (u : Common) → (e : Ending) (s : State) → At g u s → EndFits form.Block s.world.shared e → Holds g sh.form u (on_value returns e s)
@@ -430,7 +434,7 @@ module _ (g : Setting) (shaped : Shaped g.script) (k : ℕ) (sh : Shape) (xs : N
   pub return_goes : (n : ℕ) → Is form.Return → length sh.parts ≡ n → (u : Common) (env : Env) → EnvFits u.cells xs env → Goes g sh.form u (return_from a k n env)
   return_goes zero is e u env fit = λ s at. (at, tt)
   return_goes (suc n) is e u env fit = under_goes sh.form u kind.ReturnValue 0 env [] (on_value returns) 0 (λ i. ap (λ f. may_declare f i) is) (ap (λ f. names_within f 0 xs) is) fit
-      (sits_here g shaped k sh xs place u kind.ReturnValue 0 env [] (both _ _ (ap (same_form form.Return) is) (some_parts sh.parts n e)) (omega arith) tt fit) (return_end_goes u)
+      (sits_here g shaped k sh xs place u kind.ReturnValue 0 env [] (both _ _ (ap (same_form form.Return) is) (some_parts sh.parts n e)) (omega arith) tt fit tt) (return_end_goes u)
 
   pub throw_end_goes : (u : Common) → (e : Ending) (s : State) → At g u s → EndFits form.Block s.world.shared e → Holds g sh.form u (on_value throws e s)
   throw_end_goes u = value_goes g sh.form u throws (λ v t q there. from_here g sh.form u (throws v) t q (throws_goes g sh.form t.world.shared v there))

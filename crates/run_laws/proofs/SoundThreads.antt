@@ -1,12 +1,10 @@
 -- Threads: from its beginning, and with each answer, a thread goes to a later sound state, and waits inside frames that fit.
-use Rattle.std.proofs.Common.{◌≡◌, ◌<◌, refl, sym, ap, subst, ◌∙◌, ℕ, List, [], ◌∷◌, ◌++◌, length}
-use Rattle.std.specs.Prelude.{slice_get}
+use Rattle.std.proofs.Common.{◌≡◌, ◌<◌, refl, sym, ap, subst, ◌∙◌, ℕ, false, List, [], ◌∷◌, ◌++◌, length}
 use Rattle.std.specs.List.{AllByRecursion as AllAre}
 use Rattle.model_syntax.specs.declared.node.NodeForm.{NodeForm}
 use Rattle.model_syntax.specs.declared.node.NodeForm.TheVariants as form
 use Rattle.model_syntax.specs.declared.tree.Tree.{Tree}
 use Rattle.model_syntax.specs.TreeNodes.{tree_node}
-use Rattle.model_values.specs.Fitting.{HasVariable, CellsFit}
 use Rattle.model_run.specs.declared.frame.Frame.{Frame}
 use Rattle.model_run.specs.declared.wait.Answer.{Answer}
 use Rattle.model_run.specs.declared.ending.Ending.TheVariants.{Answered}
@@ -19,11 +17,11 @@ use Rattle.model_run.specs.Meaning.{ev, fuel, unwind}
 use Rattle.model_run.specs.Threads.{Runs, Script, Closure, evaluated, stands_from}
 use Rattle.model_run.specs.Nesting.{Spot, Begun, Any_body, Body_of, Any_branch, For_executor, For_task, For_person, For_branches, Nested, WaitsFor, innermost, shape_at}
 use Rattle.model_run.specs.Scoping.{names_around, names_at}
-use Rattle.model_run.specs.Fitting.{EnvFits, closure_rule, IsFlowNode, Later}
+use Rattle.model_run.specs.Fitting.{EnvFits, IsFlowNode, Later}
 use Rattle.model_run.proofs.PathLaws.{PathFrom, outer_spot, stands_paths}
 use Rattle.model_run.proofs.Structure.{thread_goes_on}
 use Rattle.model_run.proofs.WorldLaws.{frames_chained, waits_there}
-use Rattle.run_laws.specs.Soundness.{Sits, AskedFits, At, Holds}
+use Rattle.run_laws.specs.Soundness.{SharedSound, Sits, AskedFits, At, Holds}
 use Rattle.run_laws.specs.Evaluation.{AnswerThere, HoldsAt, RunsFit, ReplyFits}
 use Rattle.run_laws.proofs.NodeLaws.{Real}
 use Rattle.run_laws.proofs.Flow.{later_self, node_then, sits_then}
@@ -81,27 +79,27 @@ module _ (g : Setting) (tree : Tree) (is : g.script ≡ term 0 (tree_node tree))
       subst (λ t. Holds g (shape_at g.script 0).form u (ev g.script n First t [] s)) zero_is (ev_goes g facts n First 0 low u [] none s at)
 
   -- A thread that begins behind a sound shared state.
-  pub begun_goes : (runs : Runs) (own : Own) (first : Reply) → RunsFit g.script first.shared runs → CellsFit (closure_rule g.script) first.shared.cells → AllAre (λ b. HasVariable (slice_get first.shared.cells b.cell)) first.shared.binding → IsFlowNode first.shared.nodes own.head
+  pub begun_goes : (runs : Runs) (own : Own) (first : Reply) → RunsFit g.script first.shared runs → SharedSound g false first.shared → IsFlowNode first.shared.nodes own.head
       → HoldsAt g (outer_spot runs) first.shared (stands_from g runs own (first ∷ []))
-  begun_goes runs own first fit cells binding head =
+  begun_goes runs own first fit shared head =
       evaluated_goes (fuel 0) runs first.shared fit (record { world = record { setting = g; shared = first.shared; own = own }; replies = [] })
-      (record { later = later_self first.shared; sound = record { setting = refl; cells = cells; binding = binding; head = head }; alone = refl })
+      (record { later = later_self first.shared; sound = record { setting = refl; narrow = shared.narrow; cells = shared.cells; binding = shared.binding; head = head; bounds = shared.bounds }; alone = refl })
 
   -- the frames of a wait go on with its answer
-  path_goes : (n : ℕ) (at : Spot) (asked : Asked) (path : List Frame) (s : State) (u : Common) (r : Reply) → Nested g.script at path asked → Waiting g u asked path s → ReplyFits g.script s.world.shared r
+  path_goes : (n : ℕ) (at : Spot) (asked : Asked) (path : List Frame) (s : State) (u : Common) (r : Reply) → Nested g.script at path asked → Waiting g u asked path s → ReplyFits g s.world.shared r
       → HoldsAt g at r.shared (unwind g.script n path (Ended (Answered r.answer) (record { world = record { setting = s.world.setting; shared = r.shared; own = s.world.own }; replies = [] })))
   path_goes n at asked path s u r nested waits fits =
       unwind_goes g facts n r.shared path at (frames_chained g.script at path asked nested) (all_sits_then g s.world.shared r.shared fits.later path waits.2) _
       (answer_holds g (innermost g.script at path) asked (waits_there g.script at path asked nested) r.shared (record { world = record { setting = s.world.setting; shared = r.shared; own = s.world.own }; replies = [] })
       (record {
         later = later_self r.shared;
-        sound = record { setting = ((waits.0).sound).setting; cells = fits.cells; binding = fits.binding; head = node_then s.world.shared r.shared fits.later s.world.own.head ((waits.0).sound).head };
+        sound = record { setting = ((waits.0).sound).setting; narrow = (fits.shared).narrow; cells = (fits.shared).cells; binding = (fits.shared).binding; bounds = (fits.shared).bounds; head = node_then s.world.shared r.shared fits.later s.world.own.head ((waits.0).sound).head };
         alone = refl;
       }) r.answer fits.answer)
 
   -- A thread that waits soundly goes on soundly with an answer that fits, from the shared state with which it comes.
   pub answered_goes : Small g → (runs : Runs) (own : Own) (first : Reply) (rs : List Reply) (r : Reply) (u : Common) (asked : Asked) (path : List Frame) (s : State)
-      → stands_from g runs own (first ∷ rs) ≡ Waits asked path s → HoldsAt g (outer_spot runs) u (stands_from g runs own (first ∷ rs)) → ReplyFits g.script s.world.shared r
+      → stands_from g runs own (first ∷ rs) ≡ Waits asked path s → HoldsAt g (outer_spot runs) u (stands_from g runs own (first ∷ rs)) → ReplyFits g s.world.shared r
       → HoldsAt g (outer_spot runs) r.shared (stands_from g runs own (first ∷ (rs ++ r ∷ [])))
   answered_goes small runs own first rs r u asked path s stands holds fits =
       let nested : PathFrom g.script (outer_spot runs) (Waits asked path s) = subst (PathFrom g.script (outer_spot runs)) stands (stands_paths g (tree_node tree) is runs own first rs) in

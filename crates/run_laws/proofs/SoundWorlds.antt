@@ -8,6 +8,7 @@ use Rattle.model_syntax.specs.declared.node.NodeForm.{NodeForm}
 use Rattle.model_syntax.specs.declared.node.NodeForm.TheVariants as form
 use Rattle.model_syntax.specs.declared.tree.Tree.{Tree}
 use Rattle.model_syntax.specs.TreeNodes.{tree_node}
+use Rattle.model_values.specs.declared.limit.LimitKind.{LimitKind}
 use Rattle.model_values.specs.declared.limit.LimitKind.TheVariants.{GreenThreads, LogSize, TextLength}
 use Rattle.model_values.specs.declared.value.Outcome.{Outcome}
 use Rattle.model_run.specs.LogText.{raw}
@@ -52,21 +53,24 @@ use Rattle.model_run.proofs.OwnLaws.{stands_owns}
 use Rattle.model_run.proofs.PathLaws.{outer_spot}
 use Rattle.model_run.proofs.WaitingLaws.{with_all, given_stood, changed_stood, event_stood, world_waits}
 use Rattle.model_run.proofs.WorldLaws.{waiting_nested}
-use Rattle.run_laws.specs.Soundness.{Sits, BranchFits, EndFits, At, Holds}
+use Rattle.run_laws.specs.Bounds.{Narrow, InBounds}
+use Rattle.run_laws.specs.Soundness.{SharedSound, Sits, BranchFits, EndFits, At, Holds}
 use Rattle.run_laws.specs.Evaluation.{AnswerThere, HoldsAt, RunsFit}
-use Rattle.run_laws.specs.Worlds.{SharedSound, EndIf, AnswerSound, WaitThere, StandsSound, SoundThread}
+use Rattle.run_laws.specs.Worlds.{EndIf, WaitThere, StandsSound, SoundThread}
+use Rattle.run_laws.proofs.EventBounds.{bounds_uncounted, bounds_closed, bounds_taken, bounds_kept, begun_shared}
 use Rattle.run_laws.proofs.Flow.{later_self, later_then, node_then}
 use Rattle.run_laws.proofs.SoundBranches.{outcome_then}
-use Rattle.run_laws.proofs.SoundSeats.{outcomes_of}
 use Rattle.run_laws.proofs.SoundThreads.{all_sits_then, begun_goes, answered_goes}
 
 -- a change beside cells, variables and flow nodes
 later_aside : (u v : Common) → v.cells ≡ u.cells → v.nodes ≡ u.nodes → Later u v
 later_aside u v c n = record { cells = subst (CellsLater u.cells) (sym c) (later_itself u.cells); nodes = front_same u.nodes v.nodes n }
 
-shared_aside : (root : Term) (u v : Common) → v.cells ≡ u.cells → v.binding ≡ u.binding → SharedSound root u → SharedSound root v
-shared_aside root u v c d h = record {
-  cells = subst (CellsFit (closure_rule root)) (sym c) h.cells;
+shared_aside : (g : Setting) (u v : Common) → v.cells ≡ u.cells → v.binding ≡ u.binding → InBounds false g.site v → SharedSound g false u → SharedSound g false v
+shared_aside g u v c d bounds h = record {
+  narrow = h.narrow;
+  bounds = bounds;
+  cells = subst (CellsFit (closure_rule g.script)) (sym c) h.cells;
   binding = subst (λ cs. AllAre (λ b. HasVariable (slice_get cs b.cell)) v.binding) (sym c) (subst (λ bs. AllAre (λ b. HasVariable (slice_get u.cells b.cell)) bs) (sym d) h.binding);
 }
 
@@ -86,19 +90,12 @@ joins_then : (u v : Common) → Later u v → (js : List Join) → AllAre (λ j.
 joins_then u v l [] h = tt
 joins_then u v l (j ∷ js) h = (end_if_then u v l j.ended h.0, joins_then u v l js h.1)
 
-answer_then : (u v : Common) → Later u v → (x : Answer) → AnswerSound u x → AnswerSound v x
+answer_then : (u v : Common) → Later u v → (x : Answer) → AnswerThere u x → AnswerThere v x
 answer_then u v l (Joined ends) h = ends_then u v l ends h
 answer_then u v l Begin h = tt
 answer_then u v l (GrantedAnswer x) h = tt
 answer_then u v l (Done code out) h = tt
 answer_then u v l (DecidedAnswer proceed name) h = tt
-
-answer_there : (u : Common) (x : Answer) → AnswerSound u x → AnswerThere u x
-answer_there u (Joined ends) h = outcomes_of u ends h
-answer_there u Begin h = tt
-answer_there u (GrantedAnswer x) h = tt
-answer_there u (Done code out) h = tt
-answer_there u (DecidedAnswer proceed name) h = tt
 
 wait_then : (u v : Common) → Later u v → (w : Wait) → WaitThere u w → WaitThere v w
 wait_then u v l (Ready x) h = answer_then u v l x h
@@ -115,7 +112,7 @@ stands_then g u v l (Ended e s) h = tt
 stands_then g u v l (Limited k s) h = tt
 stands_then g u v l Unfinished h = tt
 
-sound_then : (g : Setting) (u v : Common) → Later u v → SharedSound g.script v → (t : Thread) → SoundThread g u t → SoundThread g v t
+sound_then : (g : Setting) (u v : Common) → Later u v → SharedSound g false v → (t : Thread) → SoundThread g u t → SoundThread g v t
 sound_then g u v l shared t h = record { shared = shared; runs = runs_then g.script u v l t.runs h.runs; head = node_then u v l t.own.head h.head; last = node_then u v l t.head h.last; wait = wait_then u v l t.wait h.wait; stood = stands_then g u v l (stands g t) h.stood }
 
 -- the same thread with another wait
@@ -169,7 +166,7 @@ open_joins : (u : Common) (n : ℕ) (bs : List Branch) → AllAre (λ j. EndIf u
 open_joins u n [] = tt
 open_joins u n (b ∷ bs) = (tt, open_joins u (suc n) bs)
 
-without_all : (P Q : Thread → Type 0) (n : ℕ) → ((t : Thread) → (t.own.number ≡ n → ⊥) → P t → Q t) → (ts : List Thread) → AllAre P ts → AllAre Q (without_thread n ts)
+pub without_all : (P Q : Thread → Type 0) (n : ℕ) → ((t : Thread) → (t.own.number ≡ n → ⊥) → P t → Q t) → (ts : List Thread) → AllAre P ts → AllAre Q (without_thread n ts)
 without_all P Q n other [] h = tt
 without_all P Q n other (t ∷ ts) h = one (nat_eq t.own.number n) refl (without_all P Q n other ts h.1)
   where
@@ -177,26 +174,26 @@ without_all P Q n other (t ∷ ts) h = one (nat_eq t.own.number n) refl (without
     one true e more = more
     one false e more = (other t (eqb-false _ _ e) h.0, more)
 
-all_more : (P : Thread → Type 0) (ts us : List Thread) → AllAre P ts → AllAre P us → AllAre P (ts ++ us)
+pub all_more : (P : Thread → Type 0) (ts us : List Thread) → AllAre P ts → AllAre P us → AllAre P (ts ++ us)
 all_more P [] us h k = k
 all_more P (t ∷ ts) us h k = (h.0, all_more P ts us h.1 k)
 
 -- While thread n has its turn: it is this one, and all others are as they were.
-record Mid (P : Thread → Type 0) (n : ℕ) (t u : Thread) : Type 0 where
-  mine : u.own.number ≡ n → u ≡ t
-  others : (u.own.number ≡ n → ⊥) → P u
+pub record Mid (P : Thread → Type 0) (n : ℕ) (t u : Thread) : Type 0 where
+  pub mine : u.own.number ≡ n → u ≡ t
+  pub others : (u.own.number ≡ n → ⊥) → P u
 
-mid_with : (P : Thread → Type 0) (n : ℕ) (t : Thread) (g : Thread → Thread) → ((u : Thread) → (g u).own.number ≡ u.own.number) → (ts : List Thread) → AllAre (Mid P n t) ts → AllAre (Mid P n (g t)) (with_thread g n ts)
+pub mid_with : (P : Thread → Type 0) (n : ℕ) (t : Thread) (g : Thread → Thread) → ((u : Thread) → (g u).own.number ≡ u.own.number) → (ts : List Thread) → AllAre (Mid P n t) ts → AllAre (Mid P n (g t)) (with_thread g n ts)
 mid_with P n t g same ts h = with_all (Mid P n t) (Mid P n (g t)) g n
     (λ u at m. record { mine = λ e. ap g (m.mine at); others = λ never. absurd (never (same u ∙ at)) })
     (λ u never m. record { mine = λ at. absurd (never at); others = m.others }) ts h
 
-mid_begins : (P : Thread → Type 0) (t : Thread) (ts : List Thread) → AllAre P ts → AllAre (Mid P t.own.number t) (with_thread (λ old. t) t.own.number ts)
+pub mid_begins : (P : Thread → Type 0) (t : Thread) (ts : List Thread) → AllAre P ts → AllAre (Mid P t.own.number t) (with_thread (λ old. t) t.own.number ts)
 mid_begins P t ts h = with_all P (Mid P t.own.number t) (λ old. t) t.own.number
     (λ u at m. record { mine = λ e. refl; others = λ never. absurd (never refl) })
     (λ u never m. record { mine = λ at. absurd (never at); others = λ x. m }) ts h
 
-mid_ends : (P Q : Thread → Type 0) → ((u : Thread) → P u → Q u) → (n : ℕ) (t : Thread) → Q t → (ts : List Thread) → AllAre (Mid P n t) ts → AllAre Q ts
+pub mid_ends : (P Q : Thread → Type 0) → ((u : Thread) → P u → Q u) → (n : ℕ) (t : Thread) → Q t → (ts : List Thread) → AllAre (Mid P n t) ts → AllAre Q ts
 mid_ends P Q up n t q [] h = tt
 mid_ends P Q up n t q (u ∷ us) h = (one (nat_eq u.own.number n) refl, mid_ends P Q up n t q us h.1)
   where
@@ -204,11 +201,11 @@ mid_ends P Q up n t q (u ∷ us) h = (one (nat_eq u.own.number n) refl, mid_ends
     one true e = subst Q (sym ((h.0).mine (eqb-true _ _ e))) q
     one false e = up u ((h.0).others (eqb-false _ _ e))
 
-module _ (g : Setting) (tree : Tree) (is : g.script ≡ term 0 (tree_node tree)) (small : Small g) where
-  abbrev AllSound : Build → Type 0
+module _ (g : Setting) (tree : Tree) (is : g.script ≡ term 0 (tree_node tree)) (small : Small g) (narrow : Narrow g.limits) where
+  abbrev pub AllSound : Build → Type 0
   AllSound b = AllAre (SoundThread g b.shared) b.threads
 
-  new_branches : (u : Common) → SharedSound g.script u → (parent : ℕ) (own : Own) (n : ℕ) (bs : List Branch) → AllAre (BranchFits g.script u) bs → AllAre (SoundThread g u) (branch_threads parent own n bs)
+  new_branches : (u : Common) → SharedSound g false u → (parent : ℕ) (own : Own) (n : ℕ) (bs : List Branch) → AllAre (BranchFits g.script u) bs → AllAre (SoundThread g u) (branch_threads parent own n bs)
   new_branches u shared parent own n [] h = tt
   new_branches u shared parent own n (b ∷ bs) h = (
     record {
@@ -223,27 +220,31 @@ module _ (g : Setting) (tree : Tree) (is : g.script ≡ term 0 (tree_node tree))
   )
 
   -- a result of a thread that was given an answer, with its number
-  record Given (u : Common) (t : Thread) : Type 0 where
-    stops : HoldsAt g (outer_spot t.runs) u (stands g t)
-    number : Owns g t.own.number t.own.calls (stands g t)
-    runs : RunsFit g.script u t.runs
-    head : IsFlowNode u.nodes t.own.head
+  pub record Given (u : Common) (t : Thread) : Type 0 where
+    pub stops : HoldsAt g (outer_spot t.runs) u (stands g t)
+    pub number : Owns g t.own.number t.own.calls (stands g t)
+    pub runs : RunsFit g.script u t.runs
+    pub head : IsFlowNode u.nodes t.own.head
 
   -- what a stop says, whatever the thread runs
-  ended_at : (runs : Runs) (u : Common) (e : Ending) (s : State) → HoldsAt g (outer_spot runs) u (Ended e s) → At g u s × OutcomeFits s.world.shared (outcome_of e)
+  pub ended_at : (runs : Runs) (u : Common) (e : Ending) (s : State) → HoldsAt g (outer_spot runs) u (Ended e s) → At g u s × OutcomeFits s.world.shared (outcome_of e)
   ended_at Script u e s h = (h.0, outcome_there (shape_at g.script 0).form s.world.shared e h.1)
   ended_at (Closure k env start) u e s h = (h.0, outcome_there form.Block s.world.shared e h.1)
 
-  waits_at : (runs : Runs) (u : Common) (asked : Asked) (path : List Frame) (s : State) → HoldsAt g (outer_spot runs) u (Waits asked path s) → Holds g form.Block u (Waits asked path s)
+  pub waits_at : (runs : Runs) (u : Common) (asked : Asked) (path : List Frame) (s : State) → HoldsAt g (outer_spot runs) u (Waits asked path s) → Holds g form.Block u (Waits asked path s)
   waits_at Script u asked path s h = h
   waits_at (Closure k env start) u asked path s h = h
+
+  pub limited_at : (runs : Runs) (u : Common) (k : LimitKind) (s : State) → HoldsAt g (outer_spot runs) u (Limited k s) → At g u s
+  limited_at Script u k s h = h
+  limited_at (Closure j env start) u k s h = h
 
   at_waits : (runs : Runs) (u : Common) (asked : Asked) (path : List Frame) (s : State) → Holds g form.Block u (Waits asked path s) → HoldsAt g (outer_spot runs) u (Waits asked path s)
   at_waits Script u asked path s h = h
   at_waits (Closure k env start) u asked path s h = h
 
-  shared_of : (u : Common) (s : State) → At g u s → SharedSound g.script s.world.shared
-  shared_of u s at = record { cells = (at.sound).cells; binding = (at.sound).binding }
+  pub shared_of : (u : Common) (s : State) → At g u s → SharedSound g false s.world.shared
+  shared_of u s at = record { narrow = (at.sound).narrow; cells = (at.sound).cells; binding = (at.sound).binding; bounds = (at.sound).bounds }
 
   -- the thread waits again
   again : (u : Common) (t : Thread) → Given u t → (asked : Asked) (path : List Frame) (s : State) → stands g t ≡ Waits asked path s → Holds g form.Block u (Waits asked path s) → (w : Wait) → WaitThere s.world.shared w → SoundThread g s.world.shared (waits_as w (with_head s.world.own.head t))
@@ -264,11 +265,11 @@ module _ (g : Setting) (tree : Tree) (is : g.script ≡ term 0 (tree_node tree))
       one false = h
 
   module _ (u : Common) (t : Thread) (given : Given u t) where
-    abbrev Others : Thread → Type 0
+    abbrev pub Others : Thread → Type 0
     Others = SoundThread g u
 
     -- with its last flow node
-    headed : (s : State) → s.world.own.number ≡ t.own.number → (b : Build) → AllAre (Mid Others t.own.number t) b.threads → AllAre (Mid Others t.own.number (with_head s.world.own.head t)) (stopped_at s.world b).threads
+    pub headed : (s : State) → s.world.own.number ≡ t.own.number → (b : Build) → AllAre (Mid Others t.own.number t) b.threads → AllAre (Mid Others t.own.number (with_head s.world.own.head t)) (stopped_at s.world b).threads
     headed s number b m = subst (λ n. AllAre (Mid Others t.own.number (with_head s.world.own.head t)) (with_thread (with_head s.world.own.head) n b.threads)) (sym number) (mid_with Others t.own.number t (with_head s.world.own.head) (λ x. refl) b.threads m)
 
     waiting : (s : State) → s.world.own.number ≡ t.own.number → (w : Wait) → SoundThread g s.world.shared (waits_as w (with_head s.world.own.head t)) → Later u s.world.shared → (ts : List Thread) → AllAre (Mid Others t.own.number (with_head s.world.own.head t)) ts
@@ -317,7 +318,7 @@ module _ (g : Setting) (tree : Tree) (is : g.script ≡ term 0 (tree_node tree))
   given_runs : (u : Common) (x : Answer) → AnswerThere u x → (t : Thread) → SoundThread g u t → Stood g t → (hs : List Reply) → t.history ≡ hs → HoldsAt g (outer_spot t.runs) u (stands g (given_answer u x t))
   given_runs u x there t h st [] e =
       subst (λ (hs : List Reply). HoldsAt g (outer_spot t.runs) u (stands_from g t.runs t.own (hs ++ (record { shared = u; answer = x }) ∷ []))) (sym e)
-      (begun_goes g tree is t.runs t.own (record { shared = u; answer = x }) h.runs (h.shared).cells (h.shared).binding h.head)
+      (begun_goes g tree is t.runs t.own (record { shared = u; answer = x }) h.runs h.shared h.head)
   given_runs u x there t h st (first ∷ rs) e = elim st.is [
     | inl new ↦ (let none : first ∷ rs ≡ [] = sym e ∙ new.none in absurd (cc))
     | inr w ↦ (
@@ -326,33 +327,36 @@ module _ (g : Setting) (tree : Tree) (is : g.script ≡ term 0 (tree_node tree))
         subst (λ (hs : List Reply). HoldsAt g (outer_spot t.runs) u (stands_from g t.runs t.own (hs ++ (record { shared = u; answer = x }) ∷ []))) (sym e)
         (answered_goes g tree is small t.runs t.own first rs (record { shared = u; answer = x }) w.state.world.shared w.asked w.path w.state from
         (subst (HoldsAt g (outer_spot t.runs) w.state.world.shared) (sym from) (at_waits t.runs w.state.world.shared w.asked w.path w.state stood.0))
-        (record { later = stood.1; cells = (h.shared).cells; binding = (h.shared).binding; answer = there })))
+        (record { later = stood.1; shared = h.shared; answer = there })))
   ]
 
   given_owns : (u : Common) (x : Answer) (t : Thread) (hs : List Reply) → t.history ≡ hs → Owns g t.own.number t.own.calls (stands g (given_answer u x t))
   given_owns u x t [] e = subst (λ (hs : List Reply). Owns g t.own.number t.own.calls (stands_from g t.runs t.own (hs ++ (record { shared = u; answer = x }) ∷ []))) (sym e) (stands_owns g t.runs t.own (record { shared = u; answer = x }) [])
   given_owns u x t (first ∷ rs) e = subst (λ (hs : List Reply). Owns g t.own.number t.own.calls (stands_from g t.runs t.own (hs ++ (record { shared = u; answer = x }) ∷ []))) (sym e) (stands_owns g t.runs t.own first (rs ++ (record { shared = u; answer = x }) ∷ []))
 
-  resumed_sound : (b : Build) (x : Answer) (t : Thread) → AnswerSound b.shared x → SoundThread g b.shared t → Stood g t → AllSound b → AllSound (resumed g (given_answer b.shared x t) b)
+  pub given_of : (u : Common) (x : Answer) (t : Thread) → AnswerThere u x → SoundThread g u t → Stood g t → Given u (given_answer u x t)
+  given_of u x t there h st = record { stops = given_runs u x there t h st t.history refl; number = given_owns u x t t.history refl; runs = h.runs; head = h.head }
+
+  pub resumed_sound : (b : Build) (x : Answer) (t : Thread) → AnswerThere b.shared x → SoundThread g b.shared t → Stood g t → AllSound b → AllSound (resumed g (given_answer b.shared x t) b)
   resumed_sound b x t there h st all =
-      let given : Given b.shared (given_answer b.shared x t) = record { stops = given_runs b.shared x (answer_there b.shared x there) t h st t.history refl; number = given_owns b.shared x t t.history refl; runs = h.runs; head = h.head } in
+      let given : Given b.shared (given_answer b.shared x t) = given_of b.shared x t there h st in
       stopped_sound b.shared (given_answer b.shared x t) given (stands g (given_answer b.shared x t)) refl given.stops given.number
       (record b { threads = with_thread (λ old. given_answer b.shared x t) t.own.number b.threads }) (mid_begins (SoundThread g b.shared) (given_answer b.shared x t) b.threads all)
 
-  abbrev TurnSound : Common → Option Turn → Type 0
+  abbrev pub TurnSound : Common → Option Turn → Type 0
   TurnSound u None = Unit {0}
-  TurnSound u (Some turn) = AnswerSound u turn.answer × SoundThread g u turn.thread × Stood g turn.thread
+  TurnSound u (Some turn) = AnswerThere u turn.answer × SoundThread g u turn.thread × Stood g turn.thread
 
   turn_sound : (u : Common) (t : Thread) (w : Wait) (rest : Option Turn) → WaitThere u w → SoundThread g u t → Stood g t → TurnSound u rest → TurnSound u (turn_if t w rest)
   turn_sound u t (Ready x) rest there h st more = (there, h, st)
   turn_sound u t (RequestWait r) rest there h st more = more
   turn_sound u t (BranchesWait js) rest there h st more = more
 
-  first_sound : (u : Common) (ts : List Thread) → AllAre (SoundThread g u) ts → AllAre (Stood g) ts → TurnSound u (first_ready ts)
+  pub first_sound : (u : Common) (ts : List Thread) → AllAre (SoundThread g u) ts → AllAre (Stood g) ts → TurnSound u (first_ready ts)
   first_sound u [] h st = tt
   first_sound u (t ∷ ts) h st = turn_sound u t t.wait (first_ready ts) (h.0).wait h.0 st.0 (first_sound u ts h.1 st.1)
 
-  abbrev AllStand : Build → Type 0
+  abbrev pub AllStand : Build → Type 0
   AllStand b = AllAre (Stood g) b.threads
 
   taken_sound : (n : ℕ) → ((b : Build) → AllStand b → AllSound b → AllSound (settle n g b)) → (b : Build) → AllStand b → AllSound b → (o : Option Turn) → TurnSound b.shared o → AllSound (take_turn (settle n g) g b o)
@@ -361,20 +365,20 @@ module _ (g : Setting) (tree : Tree) (is : g.script ≡ term 0 (tree_node tree))
       more (resumed g (given_answer b.shared turn.answer turn.thread) b) (given_stood g b.shared turn.answer turn.thread turn.thread.history refl (h.2).calls b st)
       (resumed_sound b turn.answer turn.thread h.0 h.1 h.2 all)
 
-  settle_sound : (n : ℕ) (b : Build) → AllStand b → AllSound b → AllSound (settle n g b)
+  pub settle_sound : (n : ℕ) (b : Build) → AllStand b → AllSound b → AllSound (settle n g b)
   unfolding settle
   settle_sound zero b st all = all
   settle_sound (suc n) b st all = taken_sound n (settle_sound n) b st all (first_ready b.threads) (first_sound b.shared b.threads all st)
 
   -- a change of the shared state beside cells, variables and flow nodes
-  aside_thread : (u v : Common) → v.cells ≡ u.cells → v.nodes ≡ u.nodes → v.binding ≡ u.binding → (t : Thread) → SoundThread g u t → SoundThread g v t
-  aside_thread u v c n d t h = sound_then g u v (later_aside u v c n) (shared_aside g.script u v c d h.shared) t h
+  aside_thread : (u v : Common) → v.cells ≡ u.cells → v.nodes ≡ u.nodes → v.binding ≡ u.binding → (InBounds false g.site u → InBounds false g.site v) → (t : Thread) → SoundThread g u t → SoundThread g v t
+  aside_thread u v c n d b t h = sound_then g u v (later_aside u v c n) (shared_aside g u v c d (b (h.shared).bounds) h.shared) t h
 
-  aside : (u v : Common) → v.cells ≡ u.cells → v.nodes ≡ u.nodes → v.binding ≡ u.binding → (ts : List Thread) → AllAre (SoundThread g u) ts → AllAre (SoundThread g v) ts
-  aside u v c n d [] h = tt
-  aside u v c n d (t ∷ ts) h = (aside_thread u v c n d t h.0, aside u v c n d ts h.1)
+  pub aside : (u v : Common) → v.cells ≡ u.cells → v.nodes ≡ u.nodes → v.binding ≡ u.binding → (InBounds false g.site u → InBounds false g.site v) → (ts : List Thread) → AllAre (SoundThread g u) ts → AllAre (SoundThread g v) ts
+  aside u v c n d b [] h = tt
+  aside u v c n d b (t ∷ ts) h = (aside_thread u v c n d b t h.0, aside u v c n d b ts h.1)
 
-  ready_sound : (n : ℕ) (x : Answer) (b : Build) → AnswerSound b.shared x → AllSound b → AllSound (ready n x b)
+  ready_sound : (n : ℕ) (x : Answer) (b : Build) → AnswerThere b.shared x → AllSound b → AllSound (ready n x b)
   ready_sound n x b there all = with_all (SoundThread g b.shared) (SoundThread g b.shared) (waits_as (Ready x)) n (λ t at h. with_wait g b.shared t (Ready x) there h) (λ t never h. h) b.threads all
 
   output_sound : (task : ℕ) (stream : Stream) (bytes : List ℕ) (b : Build) → AllSound b → AllSound (output g.limits task stream bytes b)
@@ -382,31 +386,31 @@ module _ (g : Setting) (tree : Tree) (is : g.script ≡ term 0 (tree_node tree))
     where
       one : (x : Bool) → AllSound (if x then limit_met LogSize b.shared b else record b { shared = change_request (with_taken (length bytes)) task (record b.shared { log = raw bytes b.shared.log }) })
       one true = tt
-      one false = aside b.shared (change_request (with_taken (length bytes)) task (record b.shared { log = raw bytes b.shared.log })) refl refl refl b.threads all
+      one false = aside b.shared (change_request (with_taken (length bytes)) task (record b.shared { log = raw bytes b.shared.log })) refl refl refl (bounds_taken false g.site task bytes b.shared) b.threads all
   output_sound task OutStream bytes b all = one (nat_lt g.limits.values.text (length (kept_output (request_of b.shared.requests task)) + length bytes))
     where
       one : (x : Bool) → AllSound (if x then limit_met TextLength b.shared b else record b { shared = change_request (with_kept bytes) task b.shared })
       one true = tt
-      one false = aside b.shared (change_request (with_kept bytes) task b.shared) refl refl refl b.threads all
+      one false = aside b.shared (change_request (with_kept bytes) task b.shared) refl refl refl (bounds_kept false g.site task bytes b.shared) b.threads all
 
   grant_sound : (request executor : ℕ) (o : Option Executor) (b : Build) → AllSound b → AllAre (SoundThread g (without_request request (held_as g.site request executor o b.shared))) b.threads
-  grant_sound request executor None b all = aside b.shared (without_request request b.shared) refl refl refl b.threads all
-  grant_sound request executor (Some x) b all = aside b.shared (without_request request (held_as g.site request executor (Some x) b.shared)) refl refl refl b.threads all
+  grant_sound request executor None b all = aside b.shared (without_request request b.shared) refl refl refl (bounds_closed false g.site request b.shared b.shared.held) b.threads all
+  grant_sound request executor (Some x) b all = aside b.shared (without_request request (held_as g.site request executor (Some x) b.shared)) refl refl refl (bounds_closed false g.site request b.shared (held_as g.site request executor (Some x) b.shared).held) b.threads all
 
-  changed_sound : (e : Event) (b : Build) → AllSound b → AllSound (changed_by g e b)
-  changed_sound (StartEvent script agents) b all = (record { shared = record { cells = tt; binding = tt }; runs = tt; head = (omega arith, omega arith); last = (omega arith, omega arith); wait = tt; stood = tt }, tt)
+  pub changed_sound : (e : Event) (b : Build) → AllSound b → AllSound (changed_by g e b)
+  changed_sound (StartEvent script agents) b all = (record { shared = begun_shared narrow; runs = tt; head = (omega arith, omega arith); last = (omega arith, omega arith); wait = tt; stood = tt }, tt)
   changed_sound (GrantedEvent request executor) b all =
       ready_sound (thread_of request (grant_to g.site request executor b).shared.requests) (GrantedAnswer executor) (record (grant_to g.site request executor b) { shared = without_request request (grant_to g.site request executor b).shared }) tt
       (grant_sound request executor (executor_of g.site executor) b all)
   changed_sound (OutputEvent task stream from bytes) b all = output_sound task stream bytes b all
-  changed_sound (ExitedEvent task code) b all = ready_sound (thread_of task b.shared.requests) (Done code (kept_output (request_of b.shared.requests task))) (record b { shared = without_request task b.shared }) tt (aside b.shared (without_request task b.shared) refl refl refl b.threads all)
-  changed_sound (LostEvent task why) b all = ready_sound (thread_of task b.shared.requests) (Done (lost_code why) (kept_output (request_of b.shared.requests task))) (record b { shared = without_request task b.shared }) tt (aside b.shared (without_request task b.shared) refl refl refl b.threads all)
-  changed_sound (DecidedEvent request proceed name) b all = ready_sound (thread_of request b.shared.requests) (DecidedAnswer proceed name) (record b { shared = without_request request b.shared }) tt (aside b.shared (without_request request b.shared) refl refl refl b.threads all)
+  changed_sound (ExitedEvent task code) b all = ready_sound (thread_of task b.shared.requests) (Done code (kept_output (request_of b.shared.requests task))) (record b { shared = without_request task b.shared }) tt (aside b.shared (without_request task b.shared) refl refl refl (bounds_closed false g.site task b.shared b.shared.held) b.threads all)
+  changed_sound (LostEvent task why) b all = ready_sound (thread_of task b.shared.requests) (Done (lost_code why) (kept_output (request_of b.shared.requests task))) (record b { shared = without_request task b.shared }) tt (aside b.shared (without_request task b.shared) refl refl refl (bounds_closed false g.site task b.shared b.shared.held) b.threads all)
+  changed_sound (DecidedEvent request proceed name) b all = ready_sound (thread_of request b.shared.requests) (DecidedAnswer proceed name) (record b { shared = without_request request b.shared }) tt (aside b.shared (without_request request b.shared) refl refl refl (bounds_closed false g.site request b.shared b.shared.held) b.threads all)
 
-  event_sound : (b : Build) (e : Event) (x : Taken) → AllStand b → AllSound b → AllSound (after_event g b e x)
+  pub event_sound : (b : Build) (e : Event) (x : Taken) → AllStand b → AllSound b → AllSound (after_event g b e x)
   event_sound b e Accepted st all =
       settle_sound (turn_bound g.limits) (changed_by g e (uncounted b)) (changed_stood g e (uncounted b) st)
-      (changed_sound e (uncounted b) (aside b.shared (uncounted b).shared refl refl refl b.threads all))
+      (changed_sound e (uncounted b) (aside b.shared (uncounted b).shared refl refl refl (bounds_uncounted false g.site b.shared) b.threads all))
   event_sound b e NotOpen st all = all
   event_sound b e (WrongPlace kept) st all = all
   event_sound b e Finished st all = all

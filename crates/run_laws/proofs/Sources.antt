@@ -15,7 +15,7 @@ use Rattle.model_run.specs.Nesting.{MeetsRow, ValuesFit, shape_at}
 use Rattle.model_run.specs.Scoping.{Names, names_within, names_behind, names_after, names_at, frame_names}
 use Rattle.model_run.specs.Fitting.{EnvFits, Later}
 pub use Rattle.run_laws.specs.Evaluation.{has_inner, CalleeFits, TurnFits, turn_names}
-use Rattle.run_laws.specs.Soundness.{Shaped, may_declare, seen, Sits, Goes}
+use Rattle.run_laws.specs.Soundness.{Shaped, may_declare, seen, NumbersFit, Sits, Goes}
 use Rattle.run_laws.proofs.Flow.{there_then, all_there_then, holds_as}
 
 pub turn_then : (f : NodeForm) (u v : Common) → Later u v → (kept : List Value) → TurnFits f u kept → TurnFits f v kept
@@ -61,8 +61,9 @@ module _ (g : Setting) (shaped : Shaped g.script) (k : ℕ) (sh : Shape) (xs : N
 
   -- a frame of this node that meets its row, with its variables
   pub sits_here : (u : Common) (d : FrameKind) (left : ℕ) (env : Env) (vs : List Value) → (frame_row d sh left env).stands ≡ true → left < (frame_row d sh left env).limit
-      → ValuesFit (seen u) (frame_row d sh left env).further (frame_row d sh left env).values vs → EnvFits u.cells (frame_names d sh left xs) env → Sits g.script u (frame d k left env vs)
-  sits_here u d left env vs stands low values names = record {
+      → ValuesFit (seen u) (frame_row d sh left env).further (frame_row d sh left env).values vs → EnvFits u.cells (frame_names d sh left xs) env → NumbersFit d vs → Sits g.script u (frame d k left env vs)
+  sits_here u d left env vs stands low values names numbers = record {
+    numbers = numbers;
     fits = record { node = place.below; meets = subst (λ s. MeetsRow (seen u) s (frame d k left env vs)) (sym place.there) (record { stands = stands; left = low; values = values }) };
     names = subst (λ ys. EnvFits u.cells ys env) (ap (λ s. frame_names d s left xs) (sym place.there) ∙ ap (frame_names d (shape_at g.script k) left) (sym place.sees)) names;
   }

@@ -1,9 +1,9 @@
 -- What an evaluation of a node begins with, and with what a frame goes on (this product's own).
-use Rattle.std.specs.Prelude.{◌≡◌, ◌<◌, ℕ, Bool, true, false, List, length, drop, slice_get}
+use Rattle.std.specs.Prelude.{◌≡◌, ◌<◌, ℕ, Bool, true, false, List, length, drop}
 use Rattle.std.specs.List.{AllByRecursion as AllAre}
 use Rattle.model_syntax.specs.declared.node.NodeForm.{NodeForm}
 use Rattle.model_syntax.specs.declared.node.NodeForm.TheVariants as form
-use Rattle.model_values.specs.Fitting.{There, HasVariable, CellsFit}
+use Rattle.model_values.specs.Fitting.{There}
 use Rattle.model_values.specs.declared.value.Value.{Value}
 use Rattle.model_run.specs.declared.wait.Answer.{Answer}
 use Rattle.model_run.specs.declared.wait.Answer.TheVariants.{Joined}
@@ -18,8 +18,8 @@ use Rattle.model_run.specs.FrameTable.{Within, Part, Executor_wait, Task_wait, P
 use Rattle.model_run.specs.Nesting.{Spot, Begun, For_executor, For_task, For_person, For_branches, shape_at}
 use Rattle.model_run.specs.Threads.{Runs, Script, Closure}
 use Rattle.model_run.specs.Scoping.{Names, names_at, names_within, names_after}
-use Rattle.model_run.specs.Fitting.{EnvFits, closure_rule, IsFlowNode, OutcomeFits, Later}
-use Rattle.run_laws.specs.Soundness.{EndFits, At, Holds}
+use Rattle.model_run.specs.Fitting.{EnvFits, IsFlowNode, EndFits as BranchEnded, Later}
+use Rattle.run_laws.specs.Soundness.{SharedSound, EndFits, At, Holds}
 
 -- the forms of parts that are evaluated part by part: an arm, a catch, an entry, an operand, and so on
 abbrev pub has_inner : NodeForm → Bool
@@ -69,9 +69,9 @@ ends_as First f = f
 ends_as (Turn i kept) f = f
 ends_as e f = form.Block
 
--- what branches ended with is there; of other answers nothing is asked here
+-- what branches ended with is there, and their last flow nodes; of other answers nothing is asked here
 abbrev pub AnswerThere : Common → Answer → Type 0
-AnswerThere u (Joined ends) = AllAre (λ b. OutcomeFits u b.end.outcome) ends
+AnswerThere u (Joined ends) = AllAre (λ b. BranchEnded u b.end) ends
 AnswerThere u x = Unit {0}
 
 abbrev pub IsAnswer : Common → Ending → Type 0
@@ -108,8 +108,7 @@ RunsFit root u Script = Unit {0}
 RunsFit root u (Closure k env start) = (k < length (nodes_of root)) × EntryFits root u (Branched start) k env
 
 -- A shared state behind u, as a thread is given it with its next answer: later and sound, and the answer names what is there.
-pub record ReplyFits (root : Term) (u : Common) (r : Reply) : Type 0 where
+pub record ReplyFits (g : Setting) (u : Common) (r : Reply) : Type 0 where
   pub later : Later u r.shared
-  pub cells : CellsFit (closure_rule root) r.shared.cells
-  pub binding : AllAre (λ b. HasVariable (slice_get r.shared.cells b.cell)) r.shared.binding
+  pub shared : SharedSound g false r.shared
   pub answer : AnswerThere r.shared r.answer

@@ -1,3 +1,4 @@
+pub mod Bounds
 pub mod Soundness
 pub mod Evaluation
 pub mod Worlds

@@ -1,0 +1,3 @@
+pub mod SharedStates
+pub mod Waits
+pub mod Seats

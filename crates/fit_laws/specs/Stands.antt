@@ -1,0 +1,60 @@
+-- How much of a sound build is proved of the world of every list of events (this product's own).
+use Rattle.std.specs.Prelude.{◌≡◌, false, List, None, map}
+use Rattle.std.specs.List.{AllByRecursion as AllAre}
+use Rattle.model_run.specs.declared.frame.FrameKind.{FrameKind}
+use Rattle.model_run.specs.declared.frame.FrameKind.TheVariants as kind
+use Rattle.model_run.specs.declared.ending.Asked.TheVariants.{ForBranches as For_branches}
+use Rattle.model_run.specs.declared.wait.Wait.{Wait}
+use Rattle.model_run.specs.declared.wait.Wait.TheVariants.{Ready, Request as RequestWait, Branches as BranchesWait}
+use Rattle.model_run.specs.State.{Setting, Common, Result, Waits}
+use Rattle.model_run.specs.Nesting.{Sorts, FrameFits, Chained, innermost}
+use Rattle.model_run.specs.Scoping.{names_for}
+use Rattle.model_run.specs.Threads.{Thread, stands}
+use Rattle.model_run.specs.World.{Build}
+use Rattle.model_run.specs.Fitting.{Rise, EnvFits, IsFlowNode, known, SharedFits, Seat, seat_of, seats_of, outermost, ParentFits, WaitFits, StartFits, IsWaitedFor}
+use Rattle.model_run.proofs.PathLaws.{outer_spot}
+use Rattle.run_laws.specs.Soundness.{seen}
+
+-- The sorts of values that a frame of a kind keeps: as in a sound build, but the numbers of `retry` and of a walk, which are whole numbers
+-- of the script, of any size.
+abbrev pub counted : FrameKind → Common → Sorts
+counted kind.RetryBody u = seen u
+counted kind.WalkTurn u = seen u
+counted d u = known u
+
+-- One thread, with all that a sound build asks of it (`SeatFits`) but contexts and held executors, that what a step or a walk calls is a
+-- closure, and the size of the numbers of `retry` and of a walk.
+pub record SeatStands (setting : Setting) (u : Common) (seats : List Seat) (t : Seat) : Type 0 where
+  pub head : IsFlowNode u.nodes t.head
+  pub parent : ParentFits seats t.number t.parent
+  pub frames : AllAre (λ f. FrameFits (counted f.kind u) setting.script f) t.stack
+  pub envs : AllAre (λ f. EnvFits u.cells (names_for setting.script f) f.env) t.stack
+  pub nested : Chained setting.script (outermost t.parent) t.stack
+  pub waits : WaitFits u seats t (innermost setting.script (outermost t.parent) t.stack) t.wait
+  pub start : StartFits setting.script u.cells t.parent t.stack t.start
+
+-- The threads of a build, where none is about to go on.
+pub record ThreadsStand (setting : Setting) (b : Build) : Type 0 where
+  pub numbers : Rise 0 b.next_thread (map (λ t. t.number) (seats_of setting b.threads))
+  pub main : b.ended ≡ false → seat_of (seats_of setting b.threads) 0 ≡ None → ⊥
+  pub threads : AllAre (SeatStands setting b.shared (seats_of setting b.threads)) (seats_of setting b.threads)
+  pub waited_for : AllAre (IsWaitedFor (seats_of setting b.threads)) b.shared.requests
+
+-- The shared state of every world that has begun is that of a sound build, whether it has ended or not.
+abbrev pub SharedStands : Setting → Build → Type 0
+SharedStands setting b = SharedFits setting b.ended b.shared
+
+-- where a thread waits for branches, its evaluation has asked for branches
+abbrev pub AsksBranches : Result → Type 0
+AsksBranches (Waits (For_branches bs) path s) = Unit {0}
+AsksBranches r = ⊥
+
+abbrev pub WaitAsks : Wait → Result → Type 0
+WaitAsks (BranchesWait js) r = AsksBranches r
+WaitAsks (Ready x) r = Unit {0}
+WaitAsks (RequestWait n) r = Unit {0}
+
+-- a branch has a parent, the script has none; and what a thread waits for is what its evaluation has asked for
+pub record WaitsSo (setting : Setting) (t : Thread) : Type 0 where
+  pub outer : outer_spot t.runs ≡ outermost t.parent
+  pub asks : WaitAsks t.wait (stands setting t)
