@@ -1,0 +1,15 @@
+pub mod ListLemmas
+pub mod TellLemmas
+pub mod GoesOnLemmas
+pub mod HoldLemmas
+pub mod StandLemmas
+pub mod ReadLemmas
+pub mod ThroughLemmas
+pub mod TurnLemmas
+pub mod ServeLemmas
+pub mod AwaitLemmas
+pub mod OpenLemmas
+pub mod WorkLemmas
+pub mod AnswerLemmas
+pub mod OperatorLemmas
+pub mod BlankLemmas

@@ -1,0 +1,153 @@
+-- How a serve ends, and what it has then delivered.
+use Rattle.std.proofs.Common.{◌≡◌, ◌⊎◌, ◌<◌, ◌≤◌, ◌-◌, ◌^◌, ◌++◌, ◌∷◌, [], ℕ, ℤ, List, Bool, true, false, length, drop, Option, Ok, Err, Result, inl, inr, sym, ap, ◌∙◌, refl, arith, subst, append-nil, if◌then◌else◌}
+use Rattle.device_faults.specs.declared.faults.Failed.{Failed}
+use Rattle.task_host.specs.Host.{Records, GoesOn}
+use Rattle.task_host.specs.declared.call.Call.TheVariants as call
+use Rattle.agent_worker.specs.declared.fault.TakeFault.{TakeFault}
+use Rattle.agent_worker.specs.declared.fault.TakeFault.TheVariants as take_fault
+use Rattle.agent_worker.specs.declared.gate.GateCall.{GateCall}
+use Rattle.agent_worker.specs.declared.task.Served.{Served}
+use Rattle.agent_worker.specs.declared.task.Served.TheVariants as served
+use Rattle.agent_worker.specs.Types.{Event, Why, Taken, Accepted, NotOpen, WrongPlace, Finished, Order, Stream, Call}
+use Rattle.agent_worker.specs.Gate.{Told, is_accepted}
+use Rattle.agent_worker.specs.Acts.{Act, Called, Reported, HasStream, kept, kept_before, accepted, output_in, latest_look, unreported, bytes_of, WasDone}
+use Rattle.agent_worker.specs.Causes.{FoundEnd, Exits, IsCaused}
+use Rattle.agent_worker.specs.Serving.{IsServe, EndsFor, exited, lost, served_by}
+use Rattle.agent_worker.specs.Delivering.{Holds, Delivers}
+use Rattle.agent_worker.specs.Serve.{Seen}
+use Rattle.agent_worker.specs.Standing.{Stands, ServesOn, Tells}
+use Rattle.agent_worker.proofs.ListLemmas.{stands-all}
+use Rattle.agent_worker.proofs.HoldLemmas.{grew-of, holds-on}
+use Rattle.agent_worker.proofs.GoesOnLemmas.{goes-nowhere}
+use Rattle.agent_worker.proofs.StandLemmas.{stands-called, stands-reported}
+use Rattle.agent_worker.proofs.ReadLemmas.{ends-told, done-accepted}
+
+abbrev empty : List ℕ
+empty = []
+
+if-same : (b : Bool) → (if b then empty else empty) ≡ empty
+if-same true = refl
+if-same false = refl
+
+none-added : (bytes : List ℕ) (b : Bool) → bytes ++ (if b then empty else empty) ≡ bytes
+none-added bytes b = ap (λ (more : List ℕ). bytes ++ more) (if-same b) ∙ append-nil bytes
+
+-- An exit that was accepted: all output was.
+all-at : (order : Order) (looks : ℕ) (output : Stream → List ℕ) (ended : Option ℤ) (past before : List Act) (code : ℤ) (stream : Stream)
+    → IsServe order looks (Reported (exited order code) (Ok Accepted) ∷ before)
+    → Holds order output ended past → latest_look past ≡ latest_look before → accepted stream past ≡ accepted stream before
+    → ((place : ℕ) → FoundEnd order stream place before → FoundEnd order stream place past)
+    → HasStream order stream → kept order stream past < 2 ^ 64 - 1
+    → drop (kept_before order stream) (output stream) ≡ accepted stream past
+all-at order looks output ended past before code stream lawful holds looks_same same found has small =
+    let exits = lawful.0.0.1 in
+    let le = holds.read_out code stream (kept order stream before) (looks_same ∙ exits.said) (found (kept order stream before) (exits.read_out stream has)) in
+    stands-all (kept_before order stream) (accepted stream past) (output stream) (holds.delivered stream small) (omega (arith, le, small, ap length same))
+
+-- What was reported of the output is so.
+pub delivers-of : (honest : Type 0) (order : Order) (looks : ℕ) (old now : Seen) (past : List Act) → Stands honest order looks old now past → honest → Delivers order past (now.output order.task)
+delivers-of honest order looks old now past stands is = record {
+  a_part = (stands.holds is).delivered;
+  all = λ code stream has by small. every code stream has by.before by.is small;
+}
+  where
+    every : (code : ℤ) (stream : Stream) → HasStream order stream → (before : List Act)
+        → (past ≡ Reported (exited order code) (Ok Accepted) ∷ before) ⊎ ((removed : Result (Unit {0}) Failed) × (past ≡ Called (call.Remove order removed) ∷ Reported (exited order code) (Ok Accepted) ∷ before))
+        → kept order stream past < 2 ^ 64 - 1 → drop (kept_before order stream) (now.output order.task stream) ≡ accepted stream past
+    every code stream has before (inl e) small =
+        all-at order looks (now.output order.task) (now.exited order.task) past before code stream (subst (IsServe order looks) e stands.lawful) (stands.holds is)
+        (ap latest_look e) (ap (accepted stream) e ∙ append-nil (accepted stream before)) (λ place found. subst (FoundEnd order stream place) (sym e) (inr (refl, found))) has small
+    every code stream has before (inr (removed, e)) small =
+        all-at order looks (now.output order.task) (now.exited order.task) past before code stream (subst (IsServe order looks) e stands.lawful).1 (stands.holds is)
+        (ap latest_look e) (ap (accepted stream) e ∙ append-nil (accepted stream before)) (λ place found. subst (FoundEnd order stream place) (sym e) (inr (refl, inr (refl, found)))) has small
+
+-- The end of a serve.
+pub serves-by : (honest : Type 0) (order : Order) (looks : ℕ) (old now : Seen) (past : List Act) (answer : Served) → (begun : List Act) → ((act : Act) → WasDone act begun → WasDone act past) → Stands honest order looks old now past → EndsFor order past answer → ServesOn honest order looks old now begun answer
+serves-by honest order looks old now past answer begun still stands ends = record {
+  still = still;
+  serve = record {
+    past = past;
+    shows = stands.shows;
+    lawful = stands.lawful;
+    ends = ends;
+    delivers = delivers-of honest order looks old now past stands;
+    goes_on = stands.goes_on;
+  };
+}
+
+-- a last event of the task
+abbrev pub IsLast : Order → Event → Type 0
+IsLast order event = ((code : ℤ) × (event ≡ exited order code)) ⊎ ((why : Why) × (event ≡ lost order why))
+
+last-gives-none : (order : Order) (event : Event) → IsLast order event → (stream : Stream) → output_in stream event ≡ []
+last-gives-none order event (inl (code, is)) stream = ap (output_in stream) is
+last-gives-none order event (inr (why, is)) stream = ap (output_in stream) is
+
+last-no-bytes : (order : Order) (event : Event) → IsLast order event → [] ≡ bytes_of event
+last-no-bytes order event (inl (code, is)) = sym (ap bytes_of is)
+last-no-bytes order event (inr (why, is)) = sym (ap bytes_of is)
+
+pub ends-last : (order : Order) (event : Event) (past : List Act) (answer : Result Taken TakeFault) → IsLast order event → EndsFor order (Reported event answer ∷ past) (served_by answer)
+ends-last order event past (Ok Accepted) last = (event, record { before = past; is = inl refl }, last)
+ends-last order event past (Ok NotOpen) last = ends-told order event past (Ok NotOpen) (λ e. cc)
+ends-last order event past (Ok (WrongPlace place)) last = ends-told order event past (Ok (WrongPlace place)) (λ e. cc)
+ends-last order event past (Ok Finished) last = ends-told order event past (Ok Finished) (λ e. cc)
+ends-last order event past (Err take_fault.Memory) last = tt
+ends-last order event past (Err take_fault.Disk) last = ends-told order event past (Err take_fault.Disk) (λ e. cc)
+ends-last order event past (Err (take_fault.Full len add)) last = ends-told order event past (Err (take_fault.Full len add)) (λ e. cc)
+ends-last order event past (Err take_fault.Stopped) last = ends-told order event past (Err take_fault.Stopped) (λ e. cc)
+
+-- The report of a last event.
+pub stands-last : (honest : Type 0) (order : Order) (looks : ℕ) (old now : Seen) (past : List Act) (event : Event) (answer : Result Taken TakeFault) (told : Option (List Told)) (reports : Option (List GateCall)) (ending : Served)
+    → Stands honest order looks old now past → (tells : Tells event now.told told now.reports reports ending) → IsCaused order looks past event → IsLast order event → unreported past ≡ []
+    → Stands honest order looks old (record now { told = told; reports = reports }) (Reported event tells.answer ∷ past)
+stands-last honest order looks old now past event answer told reports ending stands tells caused last all =
+    stands-reported honest order looks old now past event tells.answer told reports stands tells.told_so tells.called caused (all ∙ last-no-bytes order event last)
+    (λ is holds. holds-on order (now.output order.task) (now.output order.task) (now.exited order.task) (now.exited order.task) past (Reported event tells.answer) same refl found
+    (grew-of order.task now.exited now.exited now.output now.output (goes-nowhere order.task now.exited now.output)) holds)
+  where
+    same : (s : Stream) → accepted s (Reported event tells.answer ∷ past) ≡ accepted s past
+    same s = ap (λ (bytes : List ℕ). accepted s past ++ (if is_accepted tells.answer then bytes else [])) (last-gives-none order event last s) ∙ none-added (accepted s past) (is_accepted tells.answer)
+
+    found : (s : Stream) (p : ℕ) → FoundEnd order s p (Reported event tells.answer ∷ past) → FoundEnd order s p past ⊎ (length (now.output order.task s) ≤ p)
+    found s p (inl e) = cc
+    found s p (inr (none, rest)) = inl rest
+
+pub serves-last : (honest : Type 0) (order : Order) (looks : ℕ) (old now : Seen) (past : List Act) (event : Event) (told : Option (List Told)) (reports : Option (List GateCall)) (ending : Served)
+    → (begun : List Act) → ((act : Act) → WasDone act begun → WasDone act past)
+    → Stands honest order looks old now past → Tells event now.told told now.reports reports ending → IsCaused order looks past event → IsLast order event → unreported past ≡ []
+    → ServesOn honest order looks old (record now { told = told; reports = reports }) begun ending
+serves-last honest order looks old now past event told reports ending begun still stands tells caused last all =
+    serves-by honest order looks old (record now { told = told; reports = reports }) (Reported event tells.answer ∷ past) ending begun (λ act done. inr (still act done))
+    (stands-last honest order looks old now past event tells.answer told reports ending stands tells caused last all)
+    (subst (EndsFor order (Reported event tells.answer ∷ past)) (sym tells.means) (ends-last order event past tells.answer last))
+
+-- The exit was accepted, and the folder removed.
+pub serves-removed : (honest before : Type 0) (order : Order) (looks : ℕ) (old now : Seen) (past : List Act) (code : ℤ) (told : Option (List Told)) (reports : Option (List GateCall)) (ending : Served)
+    (removed : Result (Unit {0}) Failed) (calls : Option (List Call)) (output : ℕ → Stream → List ℕ) (exited_now : ℕ → Option ℤ)
+    → Stands before order looks old now past → (event : Event) → event ≡ exited order code → Tells event now.told told now.reports reports ending → ending ≡ served.Done → Exits order code past → unreported past ≡ []
+    → (honest → before) → Records now.calls calls (call.Remove order removed) → (before → GoesOn order.task now.exited exited_now now.output output)
+    → ServesOn honest order looks old (record { calls = calls; told = told; reports = reports; output = output; exited = exited_now }) past served.Done
+serves-removed honest before order looks old now past code told reports ending removed calls output exited_now stands event is_exit tells_so done exits all is_honest kept_call goes =
+    let tells = subst (λ (e : Event). Tells e now.told told now.reports reports ending) is_exit tells_so in
+    let accepted_so = done-accepted tells.answer (sym tells.means ∙ done) in
+    let next = Reported (exited order code) (Ok Accepted) ∷ past in
+    let mid = record now { told = told; reports = reports } in
+    let reported = subst (λ (a : Result Taken TakeFault). Stands before order looks old mid (Reported (exited order code) a ∷ past)) accepted_so
+    (stands-last before order looks old now past (exited order code) tells.answer told reports ending stands tells (refl, exits) (inl (code, refl)) all) in
+    let gone = stands-called honest before order looks old mid next (call.Remove order removed) calls output exited_now reported is_honest kept_call (refl, (code, past, refl)) goes
+    (λ is holds. holds-on order (now.output order.task) (output order.task) (now.exited order.task) (exited_now order.task) next (Called (call.Remove order removed)) (λ s. refl) refl found
+    (grew-of order.task now.exited exited_now now.output output (goes is)) holds) in
+    serves-by honest order looks old (record { calls = calls; told = told; reports = reports; output = output; exited = exited_now }) (Called (call.Remove order removed) ∷ next) served.Done past (λ act done. inr (inr done)) gone
+    (exited order code, record { before = past; is = inr (removed, refl) }, inl (code, refl))
+  where
+    found : (s : Stream) (p : ℕ) → FoundEnd order s p (Called (call.Remove order removed) ∷ Reported (exited order code) (Ok Accepted) ∷ past) → FoundEnd order s p (Reported (exited order code) (Ok Accepted) ∷ past) ⊎ (length (output order.task s) ≤ p)
+    found s p (inl e) = cc
+    found s p (inr (none, rest)) = inl rest
+
+-- The report of an exit.
+pub serves-exited : (honest : Type 0) (order : Order) (looks : ℕ) (old now : Seen) (past : List Act) (code : ℤ) (event : Event) (told : Option (List Told)) (reports : Option (List GateCall)) (ending : Served)
+    → Stands honest order looks old now past → event ≡ exited order code → Tells event now.told told now.reports reports ending → Exits order code past → unreported past ≡ []
+    → ServesOn honest order looks old (record now { told = told; reports = reports }) past ending
+serves-exited honest order looks old now past code event told reports ending stands is tells exits all =
+    serves-last honest order looks old now past (exited order code) told reports ending past (λ act done. done) stands (subst (λ (e : Event). Tells e now.told told now.reports reports ending) is tells) (refl, exits) (inl (code, refl)) all

@@ -1,0 +1,34 @@
+-- What is told after a call was told before it.
+use Rattle.std.proofs.Common.{List, Bool, refl, ap, ◌∙◌, Option, Some, None}
+use Rattle.task_host.specs.Host.{Records}
+use Rattle.agent_worker.specs.Types.{Call}
+use Rattle.agent_worker.specs.Gate.{Becomes, Adds, Stays}
+use Rattle.agent_worker.specs.Serve.{KeepsGate}
+
+pub becomes : {A : Type 0} (f g : List A → List A) (a b c : Option (List A)) → Becomes f a b → Becomes g b c → Becomes (λ list. g (f list)) a c
+becomes f g a b None first second = tt
+becomes f g a None (Some c) first second = absurd second
+becomes f g None (Some b) (Some c) first second = absurd first
+becomes f g (Some a) (Some b) (Some c) first second = second ∙ ap g first
+
+-- a host's call
+pub records : (old now : Option (List Call)) (call : Call) → Records old now call → Adds call old now
+records old None call is = tt
+records old (Some now) call is = is
+
+pub stays : {A : Type 0} (a : Option (List A)) → Stays a a
+stays None = tt
+stays (Some list) = refl
+
+pub stays-on : {A : Type 0} (a b c : Option (List A)) → Stays a b → Stays b c → Stays a c
+stays-on a b c first second = becomes (λ list. list) (λ list. list) a b c first second
+
+pub keeps-gate : {Order Line : Type 0} (claimed : Option (List Order)) (lines : Option (List Line)) (is_open : Bool) → KeepsGate claimed claimed lines lines is_open is_open
+keeps-gate claimed lines is_open = record { claimed_stay = stays claimed; lines_stay = stays lines; open_stays = refl }
+
+pub keeps-gate-on : {Order Line : Type 0} (c c' c'' : Option (List Order)) (l l' l'' : Option (List Line)) (o o' o'' : Bool) → KeepsGate c c' l l' o o' → KeepsGate c' c'' l' l'' o' o'' → KeepsGate c c'' l l'' o o''
+keeps-gate-on c c' c'' l l' l'' o o' o'' first second = record {
+  claimed_stay = stays-on c c' c'' first.claimed_stay second.claimed_stay;
+  lines_stay = stays-on l l' l'' first.lines_stay second.lines_stay;
+  open_stays = second.open_stays ∙ first.open_stays;
+}

@@ -1,0 +1,21 @@
+use Rattle.std.proofs.Common.{◌≡◌, ◌<◌, ◌↔◌, List}
+use Rattle.agent_worker.specs.Acts.{Act}
+use Rattle.agent_worker.specs.Serving.{Opened}
+use Rattle.agent_worker.specs.Serve.{Seen, seen, KeepsGate}
+use Rattle.agent_worker.specs.Standing.{Stands}
+use Rattle.agent_worker.proofs.AwaitLemmas.{Awaits}
+use Rattle.agent_worker.proofs.task.watch.Given as goal
+
+abbrev pub invariant-loop : goal.invariant-loop
+invariant-loop g l = record {
+  next : (goal.iterator-loop g).can_next l.iterator';
+  finite : (goal.iterator-loop g).is_finite l.iterator';
+  few : l.vain < l.looks;
+  awaits : (old : Seen) (past : List Act) → Opened l.order past
+      → Stands (g.H.Host.honest l.fn.host) l.order l.looks old (seen g.H.Host.calls g.H.Host.output g.H.Host.exited g.G.Gate.told g.G.Gate.calls l.fn.host l.fn.gate) past
+      → Awaits (g.H.Host.honest l.host) l.order l.looks old (seen g.H.Host.calls g.H.Host.output g.H.Host.exited g.G.Gate.told g.G.Gate.calls l.host l.gate) l.log l.out l.vain past;
+  gate : KeepsGate (g.G.Gate.claimed l.fn.gate) (g.G.Gate.claimed l.gate) (g.G.Gate.lines l.fn.gate) (g.G.Gate.lines l.gate) (g.G.Gate.is_open l.fn.gate) (g.G.Gate.is_open l.gate);
+  launches : g.H.Host.launches l.host ≡ g.H.Host.launches l.fn.host;
+  folders : g.H.Host.honest l.fn.host → g.H.Host.dirs l.host ≡ g.H.Host.dirs l.fn.host;
+  honest : g.H.Host.honest l.host ↔ g.H.Host.honest l.fn.host;
+}

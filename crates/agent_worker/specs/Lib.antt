@@ -1,0 +1,16 @@
+pub mod Types
+pub mod AnswerLine
+pub mod Gate
+pub mod Acts
+pub mod Causes
+pub mod Serving
+pub mod Delivering
+pub mod Folders
+pub mod Serve
+pub mod Standing
+pub mod Reading
+pub mod Turning
+pub mod Working
+pub mod AnswerBytes
+pub mod Operating
+pub mod MemberWork

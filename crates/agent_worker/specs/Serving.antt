@@ -1,0 +1,78 @@
+-- What a serve does: each thing that it does may follow what it did before, and it ends for a reason.
+use Rattle.std.specs.Prelude.{◌≡◌, ◌≢◌, ◌⊎◌, ◌∷◌, [], List, ℕ, ℤ, Result, Ok, Err}
+use Rattle.device_faults.specs.declared.faults.Failed.{Failed}
+use Rattle.agent_worker.specs.Types.{Event, ExitedEvent, LostEvent, Taken, Accepted, NotOpen, WrongPlace, Finished}
+use Rattle.agent_worker.specs.Types.{Why, Order}
+use Rattle.task_host.specs.declared.call.Call.TheVariants as call
+use Rattle.task_host.specs.declared.answers.Made.TheVariants as made
+use Rattle.task_host.specs.declared.answers.Started.TheVariants as start
+use Rattle.agent_worker.specs.declared.fault.TakeFault.{TakeFault}
+use Rattle.agent_worker.specs.declared.fault.TakeFault.TheVariants as take_fault
+use Rattle.agent_worker.specs.declared.task.Served.{Served}
+use Rattle.agent_worker.specs.declared.task.Served.TheVariants as served
+use Rattle.agent_worker.specs.Acts.{Act, Called, Reported, HasStream, kept, unreported, bytes_of, made_dir, started, paused}
+use Rattle.agent_worker.specs.Causes.{IsCaused}
+
+-- The beginning of a serve: the folder was made and the task started, or the folder was there or may be.
+pub data Opened (order : Order) : List Act → Type 0 where
+  Starts : Opened order (started order start.Started ∷ made_dir order made.Made ∷ [])
+  Exists : Opened order (made_dir order made.Exists ∷ [])
+  Fails : Opened order (made_dir order made.Failed ∷ [])
+
+-- A turn may begin: after the beginning, and after a pause.
+abbrev pub MayLook : Order → List Act → Type 0
+MayLook order past = Opened order past ⊎ ((before : List Act) × (past ≡ paused ∷ before))
+
+-- The last events of a task.
+abbrev pub exited : Order → ℤ → Event
+exited order code = ExitedEvent order.task code
+
+abbrev pub lost : Order → Why → Event
+lost order why = LostEvent order.task why
+
+-- No last event has a cause: the serve goes on.
+pub record HasNoEnd (order : Order) (looks : ℕ) (past : List Act) : Type 0 where
+  pub not_exited : (code : ℤ) → IsCaused order looks past (exited order code) → ⊥
+  pub not_lost : (why : Why) → IsCaused order looks past (lost order why) → ⊥
+
+-- What may be done after this past. Every call is on the order, and every report has its cause: the folder is made
+-- first; the task is started only where its folder was made, and before any look; reads are from kept places; what a read
+-- gave is reported before anything else is done; a pause comes only where no last event has a cause; the folder is
+-- removed only after the exit was accepted.
+abbrev pub MayDo : Order → ℕ → List Act → Act → Type 0
+MayDo order looks past (Called (call.MakeDir o answer)) = (o ≡ order) × (past ≡ [])
+MayDo order looks past (Called (call.Start o answer)) = (o ≡ order) × (past ≡ made_dir order made.Made ∷ [])
+MayDo order looks past (Called (call.Look o answer)) = (o ≡ order) × MayLook order past
+MayDo order looks past (Called (call.Read o stream «from» room answer)) = (o ≡ order) × HasStream order stream × («from» ≡ kept order stream past) × (room ≡ 65536) × (unreported past ≡ [])
+MayDo order looks past (Called call.Pause) = HasNoEnd order looks past × (unreported past ≡ [])
+MayDo order looks past (Called (call.Remove o answer)) = (o ≡ order) × ((code : ℤ) × (before : List Act) × (past ≡ Reported (exited order code) (Ok Accepted) ∷ before))
+MayDo order looks past (Reported event answer) = IsCaused order looks past event × (unreported past ≡ bytes_of event)
+
+-- All of it may be done.
+abbrev pub IsServe : Order → ℕ → List Act → Type 0
+IsServe order looks [] = Unit {0}
+IsServe order looks (act ∷ past) = MayDo order looks past act × IsServe order looks past
+
+-- The last report was answered so, but for a removal after it.
+pub record EndsBy (order : Order) (event : Event) (answer : Result Taken TakeFault) (past : List Act) : Type 0 where
+  pub before : List Act
+  pub is : (past ≡ Reported event answer ∷ before)
+      ⊎ ((removed : Result (Unit {0}) Failed) × (past ≡ Called (call.Remove order removed) ∷ Reported event answer ∷ before))
+
+-- Why a serve ended.
+abbrev pub EndsFor : Order → List Act → Served → Type 0
+EndsFor order past served.Done = (event : Event) × EndsBy order event (Ok Accepted) past × (((code : ℤ) × (event ≡ exited order code)) ⊎ ((why : Why) × (event ≡ lost order why)))
+EndsFor order past served.Finished = (event : Event) × (taken : Taken) × EndsBy order event (Ok taken) past × (taken ≢ Accepted)
+EndsFor order past served.Stopped = (event : Event) × (fault : TakeFault) × EndsBy order event (Err fault) past × (fault ≢ take_fault.Memory)
+EndsFor order past served.Memory = Unit {0}
+
+-- how a serve ends by the answer to its last report
+abbrev pub served_by : Result Taken TakeFault → Served
+served_by (Ok Accepted) = served.Done
+served_by (Ok NotOpen) = served.Finished
+served_by (Ok (WrongPlace place)) = served.Finished
+served_by (Ok Finished) = served.Finished
+served_by (Err take_fault.Memory) = served.Memory
+served_by (Err take_fault.Disk) = served.Stopped
+served_by (Err (take_fault.Full len add)) = served.Stopped
+served_by (Err take_fault.Stopped) = served.Stopped

@@ -1,0 +1,155 @@
+-- What an executor's work is: claims, the serves of the orders that they gave, and pauses; the latest first.
+use Rattle.std.specs.Prelude.{◌≡◌, ◌⊎◌, ◌∷◌, ◌++◌, [], List, ℕ, ℤ, Option, IsSome}
+use Rattle.task_host.specs.Host.{GoesOn}
+use Rattle.task_host.specs.declared.call.Call.TheVariants as call
+use Rattle.agent_worker.specs.Types.{Order, Stream, Call}
+use Rattle.agent_worker.specs.declared.gate.Claim.{Claim}
+use Rattle.agent_worker.specs.declared.gate.Claim.TheVariants as claim
+use Rattle.agent_worker.specs.declared.gate.GateCall.{GateCall}
+use Rattle.agent_worker.specs.declared.gate.GateCall.TheVariants as gate_call
+use Rattle.agent_worker.specs.declared.task.Served.{Served}
+use Rattle.agent_worker.specs.declared.task.Served.TheVariants as served
+use Rattle.agent_worker.specs.declared.worked.Worked.{Worked}
+use Rattle.agent_worker.specs.declared.worked.Worked.TheVariants as worked
+use Rattle.agent_worker.specs.Gate.{Told, Claimed, claimed_in, Becomes}
+use Rattle.agent_worker.specs.Acts.{Act, with_calls, with_told, with_reports}
+use Rattle.agent_worker.specs.Serving.{IsServe, EndsFor}
+use Rattle.agent_worker.specs.Delivering.{Delivers}
+use Rattle.agent_worker.specs.Serve.{Tasks, tasks_at, LaunchesOnce, KeepsTasks}
+
+-- A claim with its answer; a serve of an order, with what was done and how it ended; a pause on the host; a halt.
+pub data Deed : Type 0 where
+  Claims : Claim → Deed
+  Serves : Order → List Act → Served → Deed
+  Pauses : Deed
+  Halts : Deed
+
+-- the list of a host's calls after this
+abbrev pub work_calls : List Deed → List Call → List Call
+work_calls [] old = old
+work_calls (Claims claim ∷ past) old = work_calls past old
+work_calls (Serves order acts answer ∷ past) old = with_calls acts (work_calls past old)
+work_calls (Pauses ∷ past) old = work_calls past old ++ call.Pause ∷ []
+work_calls (Halts ∷ past) old = work_calls past old
+
+-- the list of events that a gate tells after this
+abbrev pub work_told : List Deed → List Told → List Told
+work_told [] old = old
+work_told (Claims claim ∷ past) old = work_told past old
+work_told (Serves order acts answer ∷ past) old = with_told acts (work_told past old)
+work_told (Pauses ∷ past) old = work_told past old
+work_told (Halts ∷ past) old = work_told past old
+
+-- the list of a gate's calls after this, for this executor
+abbrev pub work_reports : ℕ → List Deed → List GateCall → List GateCall
+work_reports number [] old = old
+work_reports number (Claims claim ∷ past) old = work_reports number past old ++ gate_call.Claim number claim ∷ []
+work_reports number (Serves order acts answer ∷ past) old = with_reports acts (work_reports number past old)
+work_reports number (Pauses ∷ past) old = work_reports number past old
+work_reports number (Halts ∷ past) old = work_reports number past old ++ gate_call.Halt ∷ []
+
+-- the list of claimed orders after this
+abbrev pub work_claims : List Deed → List Claimed → List Claimed
+work_claims [] old = old
+work_claims (Claims claim ∷ past) old = work_claims past old ++ claimed_in claim
+work_claims (Serves order acts answer ∷ past) old = work_claims past old
+work_claims (Pauses ∷ past) old = work_claims past old
+work_claims (Halts ∷ past) old = work_claims past old
+
+-- every order that was served is of this executor
+abbrev pub AreOf : ℕ → List Deed → Type 0
+AreOf number [] = Unit {0}
+AreOf number (Claims claim ∷ past) = AreOf number past
+AreOf number (Serves order acts answer ∷ past) = (order.executor ≡ number) × AreOf number past
+AreOf number (Pauses ∷ past) = AreOf number past
+AreOf number (Halts ∷ past) = AreOf number past
+
+-- A claim may be made: first, after a pause, and after a serve that left the build going on.
+pub data MayClaim : List Deed → Type 0 where
+  First : MayClaim []
+  Paused : (past : List Deed) → MayClaim (Pauses ∷ past)
+  Done : (order : Order) (acts : List Act) (past : List Deed) → MayClaim (Serves order acts served.Done ∷ past)
+  Finished : (order : Order) (acts : List Act) (past : List Deed) → MayClaim (Serves order acts served.Finished ∷ past)
+
+-- What may be done after this: an order is served only directly after the claim that gave it; a pause comes only where a
+-- claim found others at work; a halt only where memory was wanting.
+abbrev pub MayWork : ℕ → List Deed → Deed → Type 0
+MayWork looks past (Claims claim) = MayClaim past
+MayWork looks past (Serves order acts answer) = ((before : List Deed) × (past ≡ Claims (claim.Order order) ∷ before)) × IsServe order looks acts × EndsFor order acts answer
+MayWork looks past Pauses = (busy : ℕ) × (before : List Deed) × (past ≡ Claims (claim.Idle busy) ∷ before)
+MayWork looks past Halts = (before : List Deed) × ((past ≡ Claims claim.Memory ∷ before) ⊎ ((order : Order) × (acts : List Act) × (past ≡ Serves order acts served.Memory ∷ before)))
+
+abbrev pub IsWork : ℕ → List Deed → Type 0
+IsWork looks [] = Unit {0}
+IsWork looks (deed ∷ past) = MayWork looks past deed × IsWork looks past
+
+-- Why the work ended.
+abbrev pub WorkEnds : List Deed → Worked → Type 0
+WorkEnds past worked.Rest = (before : List Deed) × (past ≡ Claims claim.Rest ∷ before)
+WorkEnds past worked.Stopped = (before : List Deed) × ((past ≡ Claims claim.Stopped ∷ before) ⊎ ((order : Order) × (acts : List Act) × (past ≡ Serves order acts served.Stopped ∷ before)))
+WorkEnds past worked.Memory = (before : List Deed) × (past ≡ Halts ∷ before)
+WorkEnds past worked.AnswersFailed = ⊥
+
+-- what the work does to the launches of a host, honest or not
+abbrev pub WorkLaunches : List Deed → List ℕ → List ℕ → Type 0
+WorkLaunches [] old now = now ≡ old
+WorkLaunches (Claims claim ∷ past) old now = WorkLaunches past old now
+WorkLaunches (Serves order acts answer ∷ past) old now = (mid : List ℕ) × WorkLaunches past old mid × LaunchesOnce order acts mid now
+WorkLaunches (Pauses ∷ past) old now = WorkLaunches past old now
+WorkLaunches (Halts ∷ past) old now = WorkLaunches past old now
+
+-- the launches and folders of a host, and what its tasks have written and have ended with
+pub record OnHost : Type 0 where
+  pub tasks : Tasks
+  pub output : ℕ → Stream → List ℕ
+  pub exited : ℕ → Option ℤ
+
+-- What a serve does to an honest host: to its launches and folders as `KeepsTasks` says; what was accepted of the output
+-- stands there; and no other task writes or ends.
+pub record ServesOnHost (order : Order) (acts : List Act) (answer : Served) (old now : OnHost) : Type 0 where
+  pub kept : KeepsTasks order answer old.tasks now.tasks
+  pub delivers : Delivers order acts (now.output order.task)
+  pub goes_on : GoesOn order.task old.exited now.exited old.output now.output
+
+-- what the work does to an honest host: one serve after the other, and nothing between them
+abbrev pub WorksOnHost : List Deed → OnHost → OnHost → Type 0
+WorksOnHost [] old now = now ≡ old
+WorksOnHost (Claims claim ∷ past) old now = WorksOnHost past old now
+WorksOnHost (Serves order acts answer ∷ past) old now = (mid : OnHost) × WorksOnHost past old mid × ServesOnHost order acts answer mid now
+WorksOnHost (Pauses ∷ past) old now = WorksOnHost past old now
+WorksOnHost (Halts ∷ past) old now = WorksOnHost past old now
+
+-- What host and gate tell of it, and what stands on the host.
+pub record Telling : Type 0 where
+  pub calls : Option (List Call)
+  pub told : Option (List Told)
+  pub reports : Option (List GateCall)
+  pub claimed : Option (List Claimed)
+  pub host : OnHost
+
+-- What was done so far, from the beginning of an executor's work.
+pub record WorksSoFar (number looks : ℕ) (honest : Type 0) (old now : Telling) (past : List Deed) : Type 0 where
+  pub calls : Becomes (work_calls past) old.calls now.calls
+  pub told : Becomes (work_told past) old.told now.told
+  pub reports : Becomes (work_reports number past) old.reports now.reports
+  pub claimed : Becomes (work_claims past) old.claimed now.claimed
+  pub lawful : IsWork looks past
+  -- the orders are of this executor, where the gate tells its claims
+  pub own : IsSome now.claimed → AreOf number past
+  pub launched : WorkLaunches past old.host.tasks.launches now.host.tasks.launches
+  pub on_host : honest → WorksOnHost past old.host now.host
+
+-- An executor's work.
+pub record Works (number looks : ℕ) (honest : Type 0) (old now : Telling) (answer : Worked) : Type 0 where
+  pub past : List Deed
+  pub so_far : WorksSoFar number looks honest old now past
+  pub ends : WorkEnds past answer
+
+module _ {H : Type 0} where
+  abbrev pub on_host : (H → List ℕ) → (H → List ℕ) → (H → ℕ → Stream → List ℕ) → (H → ℕ → Option ℤ) → H → OnHost
+  on_host launches dirs output exited host = record { tasks = tasks_at (launches host) (dirs host); output = output host; exited = exited host }
+
+module _ {H G : Type 0} where
+  abbrev pub telling : (H → Option (List Call)) → (H → List ℕ) → (H → List ℕ) → (H → ℕ → Stream → List ℕ) → (H → ℕ → Option ℤ) → (G → Option (List Told)) → (G → Option (List GateCall)) → (G → Option (List Claimed)) → H → G → Telling
+  telling calls launches dirs output exited told reports claimed host gate =
+      record { calls = calls host; told = told gate; reports = reports gate; claimed = claimed gate; host = on_host launches dirs output exited host }

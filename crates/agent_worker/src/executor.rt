@@ -1,0 +1,48 @@
+//! An executor: it claims the orders of its tasks and serves them.
+
+ghost use Rattle.std.specs.Prelude.{◌≡◌, ◌<◌, ◌↔◌};
+ghost use Rattle.agent_worker.specs.Gate.{Stays};
+ghost use Rattle.agent_worker.specs.Working.{Works, telling};
+
+use crate::{Claim, Gate, Served, Worked, serve};
+use std::sync::Wait;
+use task_host::Host;
+
+/// Claims and serves orders of an executor until there are none. Where others are at work it pauses, since what they
+/// report may give it a task.
+pub(crate) fn work_executor<R: Wait + AllocGlobal, G: Gate, H: Host>(
+    rt: &R,
+    gate: &mut G,
+    number: u32,
+    host: &mut H,
+    looks: u32,
+) -> Worked
+    requires looks { 0 < looks }
+    ensures works { Works number looks (H.honest host.old) (telling H.calls H.launches H.dirs H.output H.exited G.told G.calls G.claimed host.old gate.old)
+        (telling H.calls H.launches H.dirs H.output H.exited G.told G.calls G.claimed host.new gate.new) result }
+    ensures lines { Stays (G.lines gate.old) (G.lines gate.new) }
+    ensures is_open { G.is_open gate.new ≡ G.is_open gate.old }
+    ensures honest { H.honest host.new ↔ H.honest host.old }
+{
+    for _ in rt.forever() {
+        match gate.claim(number) {
+            Claim::Order(order) => match serve(rt, gate, host, order, looks) {
+                Served::Done => {}
+                Served::Finished => {}
+                Served::Stopped => return Worked::Stopped,
+                Served::Memory => {
+                    gate.halt();
+                    return Worked::Memory;
+                }
+            },
+            Claim::Idle { busy: _ } => host.pause(),
+            Claim::Rest => return Worked::Rest,
+            Claim::Stopped => return Worked::Stopped,
+            Claim::Memory => {
+                gate.halt();
+                return Worked::Memory;
+            }
+        }
+    }
+    unreachable!()
+}

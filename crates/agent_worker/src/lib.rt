@@ -1,0 +1,40 @@
+//! Workers: what an executor does with the orders of a build, and how the operator's answers come to it.
+//!
+//! A worker knows the build only through its [`Gate`]: it claims orders there, reports what became of their tasks, and
+//! hands over answer lines. It knows the machine only through its `Host`. [`serve`] sees one task from its folder to
+//! its end; [`work`] does the work of one [`Member`], an executor or the operator. Nobody spins: a worker that has to wait
+//! pauses on its host, or sleeps.
+//!
+//! What a worker reports it has seen in this very call. `specs/Causes` says, over the list of what was done, what each
+//! report rests on; `specs/Serving` says what may be done at all, and after what.
+//!
+//! ```text
+//! let mut member = Member::Executor { number: 0, host };
+//! match work(&rt, &mut gate, &mut member, 5) {
+//!     Worked::Rest => {}       // no task of this executor is left, and nobody else is at work
+//!     Worked::Stopped => {}    // the build is stopped: the gate says why
+//!     ..
+//! }
+//! ```
+#![tactic(auto)]
+
+mod answer_line;
+mod executor;
+mod fault;
+mod gate;
+mod member;
+mod operator;
+mod reading;
+mod task;
+mod turn;
+mod worked;
+
+pub use answer_line::{AnswerLine, answer_of};
+pub use fault::TakeFault;
+pub use gate::{Claim, Gate, GateCall, Heard, Inputs};
+pub use member::{Member, work};
+pub use task::{Served, serve};
+pub use worked::Worked;
+
+#[cfg(test)]
+mod tests;
