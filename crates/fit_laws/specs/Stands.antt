@@ -1,5 +1,5 @@
 -- How much of a sound build is proved of the world of every list of events (this product's own).
-use Rattle.std.specs.Prelude.{◌≡◌, false, List, None, map}
+use Rattle.std.specs.Prelude.{◌≡◌, ℕ, false, List, Option, Some, None, map}
 use Rattle.std.specs.List.{AllByRecursion as AllAre}
 use Rattle.model_run.specs.declared.frame.FrameKind.{FrameKind}
 use Rattle.model_run.specs.declared.frame.FrameKind.TheVariants as kind
@@ -9,10 +9,9 @@ use Rattle.model_run.specs.declared.wait.Wait.TheVariants.{Ready, Request as Req
 use Rattle.model_run.specs.State.{Setting, Common, Result, Waits}
 use Rattle.model_run.specs.Nesting.{Sorts, FrameFits, Chained, innermost}
 use Rattle.model_run.specs.Scoping.{names_for}
-use Rattle.model_run.specs.Threads.{Thread, stands}
+use Rattle.model_run.specs.Threads.{Runs, Script, Closure, Thread, stands}
 use Rattle.model_run.specs.World.{Build}
 use Rattle.model_run.specs.Fitting.{Rise, EnvFits, IsFlowNode, known, SharedFits, Seat, seat_of, seats_of, outermost, ParentFits, WaitFits, StartFits, IsWaitedFor}
-use Rattle.model_run.proofs.PathLaws.{outer_spot}
 use Rattle.run_laws.specs.Soundness.{seen}
 
 -- The sorts of values that a frame of a kind keeps: as in a sound build, but the numbers of `retry` and of a walk, which are whole numbers
@@ -54,7 +53,13 @@ WaitAsks (BranchesWait js) r = AsksBranches r
 WaitAsks (Ready x) r = Unit {0}
 WaitAsks (RequestWait n) r = Unit {0}
 
--- a branch has a parent, the script has none; and what a thread waits for is what its evaluation has asked for
+-- a branch has a parent, and the script has none
+abbrev pub HasParent : Runs → Option ℕ → Type 0
+HasParent Script None = Unit {0}
+HasParent (Closure k env head) (Some p) = Unit {0}
+HasParent runs parent = ⊥
+
+-- and what a thread waits for is what its evaluation has asked for
 pub record WaitsSo (setting : Setting) (t : Thread) : Type 0 where
-  pub outer : outer_spot t.runs ≡ outermost t.parent
+  pub parent : HasParent t.runs t.parent
   pub asks : WaitAsks t.wait (stands setting t)
