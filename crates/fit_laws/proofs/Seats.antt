@@ -42,19 +42,19 @@ use Rattle.fit_laws.proofs.Waits.{world_so}
 
 -- Kept values: a number that is small enough is known.
 module _ (u : Common) where
-  known_further : (fu : Further) (vs : List Value) → FurtherFit (seen u) fu vs → FurtherFit (known u) fu vs
+  pub known_further : (fu : Further) (vs : List Value) → FurtherFit (seen u) fu vs → FurtherFit (known u) fu vs
   known_further fu [] h = tt
   known_further No_more (v ∷ vs) h = h
   known_further One_more (v ∷ vs) h = h
   known_further Any_more (v ∷ vs) h = (h.0, known_further Any_more vs h.1)
 
-  abbrev NoNumbers : List Sort → Type 0
+  abbrev pub NoNumbers : List Sort → Type 0
   NoNumbers [] = Unit {0}
   NoNumbers (Up_to n ∷ ss) = ⊥
   NoNumbers (s ∷ ss) = NoNumbers ss
 
   -- where no sort is a number
-  known_values : (fu : Further) (ss : List Sort) (vs : List Value) → NoNumbers ss → ValuesFit (seen u) fu ss vs → ValuesFit (known u) fu ss vs
+  pub known_values : (fu : Further) (ss : List Sort) (vs : List Value) → NoNumbers ss → ValuesFit (seen u) fu ss vs → ValuesFit (known u) fu ss vs
   known_values fu [] vs none h = known_further fu vs h
   known_values fu (s ∷ ss) [] none h = absurd h
   known_values fu (Up_to n ∷ ss) (v ∷ vs) none h = absurd none
