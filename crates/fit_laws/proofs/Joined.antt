@@ -1,10 +1,10 @@
 -- With what is still to be shown every world is sound.
-use Rattle.std.proofs.Common.{◌≡◌, ◌≤◌, sym, subst, refl, ℕ, true, List, [], ◌∷◌, map, Option}
+use Rattle.std.proofs.Common.{◌≡◌, subst, refl, ℕ, true, List, [], ◌∷◌}
 use Rattle.std.specs.Prelude.{pos}
 use Rattle.std.specs.List.{AllByRecursion as AllAre}
 use Rattle.model_syntax.specs.declared.tree.Tree.{Tree}
 use Rattle.model_syntax.specs.TreeNodes.{tree_node}
-use Rattle.model_values.specs.MethodNames.{Method, Find, FindAll, Collect}
+use Rattle.model_values.specs.MethodNames.{Method, Find, FindAll}
 use Rattle.model_values.specs.declared.value.Value.{Value}
 use Rattle.model_values.specs.declared.value.Value.TheVariants.{Int as Whole}
 use Rattle.model_run.specs.declared.event.Event.{Event}
@@ -20,15 +20,15 @@ use Rattle.model_run.specs.Calls.{walk_method}
 use Rattle.model_run.specs.Terms.{Term, term}
 use Rattle.model_run.specs.Threads.{Thread, stands}
 use Rattle.model_run.specs.Waiting.{IsReady}
-use Rattle.model_run.specs.World.{Build, world_in}
-use Rattle.model_run.specs.FrameTable.{Any, Up_to, Flow_node, A_closure, Further, No_more, walk_values, walk_further, frame_row}
+use Rattle.model_run.specs.World.{world_in}
+use Rattle.model_run.specs.FrameTable.{Any, Up_to, Flow_node, A_closure, No_more, walk_values, walk_further, frame_row}
 use Rattle.model_run.specs.Nesting.{ValuesFit, FrameFits, shape_at}
 use Rattle.model_run.specs.Fitting.{known, Seat, SeatFits, seat_at, seats_of, NotReady, WorldFits}
 use Rattle.run_laws.specs.Bounds.{Narrow}
 use Rattle.run_laws.specs.Soundness.{seen}
 use Rattle.fit_laws.specs.Stands.{counted, SeatStands, ThreadsStand, SharedStands, SmallCount, SeatRest, Rest}
 use Rattle.fit_laws.proofs.SharedStates.{world_stands}
-use Rattle.fit_laws.proofs.Seats.{known_further, NoNumbers, known_values, threads_stand}
+use Rattle.fit_laws.proofs.Seats.{NoNumbers, known_values, threads_stand}
 
 module _ (u : Common) where
   retry_known : (vs : List Value) → ValuesFit (seen u) No_more (Flow_node ∷ Flow_node ∷ Up_to 2147483646 ∷ A_closure ∷ []) vs → SmallCount kind.RetryBody vs → ValuesFit (known u) No_more (Flow_node ∷ Flow_node ∷ Up_to 2147483646 ∷ A_closure ∷ []) vs

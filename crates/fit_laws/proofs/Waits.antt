@@ -27,7 +27,7 @@ use Rattle.model_run.specs.Opened.{Owns}
 use Rattle.model_run.specs.Threads.{Thread, stands}
 use Rattle.model_run.specs.World.{Build, unbegun, with_thread, waits_as, with_head, ready, branch_threads, joins_of, forked, forks, limit_met, join_end, ends_before, all_ended, joined_wait, join_wait, joins, outcome_of, thread_ended, script_ended, stopped_at, asked_by, stopped, given_answer, resumed, Turn, turn_if, first_ready, take_turn, settle, turn_bound, uncounted, changed_by, kept_output, with_taken, with_kept, change_request, output, after_event, after_one, answer_to, world_in}
 use Rattle.model_run.proofs.WaitingLaws.{with_all}
-use Rattle.run_laws.proofs.SoundWorlds.{Mid, mid_with, mid_begins, mid_ends, without_all, all_more}
+use Rattle.run_laws.proofs.SoundWorlds.{Mid, mid_with, mid_begins, mid_ends, without_thread_all, all_more}
 use Rattle.world_laws.proofs.Turns.{turn_owns}
 use Rattle.fit_laws.specs.Stands.{AsksBranches, WaitAsks, HasParent, WaitsSo}
 
@@ -94,7 +94,7 @@ module _ (g : Setting) where
     ended_so (Some p) e s b m =
         with_all (WaitsSo g) (WaitsSo g) (joins t.own.number s.world.own.head (outcome_of e)) p
         (λ x is h. with_wait x _ (join_asks t.own.number s.world.own.head (outcome_of e) x.wait (stands g x) h.asks) h) (λ x never h. h) _
-        (without_all (Mid (WaitsSo g) t.own.number (with_head s.world.own.head t)) (WaitsSo g) t.own.number (λ x never mid. mid.others never) (stopped_at s.world b).threads m)
+        (without_thread_all (Mid (WaitsSo g) t.own.number (with_head s.world.own.head t)) (WaitsSo g) t.own.number (λ x never mid. mid.others never) (stopped_at s.world b).threads m)
 
     asks_them : (asked : Asked) (bs : List Branch) (path : List _) (s : State) → stands g t ≡ Waits asked path s → asked ≡ For_branches bs → AsksBranches (stands g t)
     asks_them asked bs path s is same = subst AsksBranches (sym is) (subst (λ a. AsksBranches (Waits a path s)) (sym same) tt)
