@@ -1,3 +1,4 @@
 pub mod SharedStates
 pub mod Waits
 pub mod Seats
+pub mod Joined

@@ -21,13 +21,14 @@ use Rattle.model_run.specs.Below.{Small}
 use Rattle.model_run.specs.Terms.{Term, term}
 use Rattle.model_run.specs.Around.{Shape, form_at}
 use Rattle.model_run.specs.Assignments.{place_size, operator_in}
-use Rattle.model_run.specs.Threads.{Thread, stands}
+use Rattle.model_run.specs.Threads.{Runs, Script, Closure, Thread, stands}
 use Rattle.model_run.specs.World.{Build, world_in}
 use Rattle.model_run.specs.FrameTable.{Sort, Any, Up_to, Flag, Flow_node, A_closure, A_throwable, Text_or_null, Further, No_more, One_more, Any_more, any_values, current, count_of, key_count, operator_count, frame_row}
 use Rattle.model_run.specs.Nesting.{Spot, For_executor, For_task, For_person, For_branches as For_branches_spot, FurtherFit, ValuesFit, FrameFits, Nested, WaitsFor, innermost, shape_at}
 use Rattle.model_run.specs.Scoping.{names_for}
 use Rattle.model_run.specs.Waiting.{Waiting, IsReady}
 use Rattle.model_run.specs.Fitting.{EnvFits, known, Seat, seat_at, seats_of, seat_of, outermost, ParentIs, JoinFits, BranchFits, WaitFits, StartFits}
+use Rattle.model_run.proofs.PathLaws.{outer_spot}
 use Rattle.model_run.proofs.WaitingLaws.{world_waits}
 use Rattle.model_run.proofs.WorldLaws.{frames_chained, waits_there, waiting_nested}
 use Rattle.run_laws.specs.Bounds.{Narrow}
@@ -36,24 +37,24 @@ use Rattle.run_laws.specs.Worlds.{EndIf, WaitThere, SoundThread}
 use Rattle.run_laws.proofs.SoundWorlds.{world_sound, frames_now}
 use Rattle.world_laws.specs.Agreement.{WaitsAgree, SeatAgrees, SeatsAgree}
 use Rattle.world_laws.proofs.WorldThreads.{world_seats}
-use Rattle.fit_laws.specs.Stands.{counted, SeatStands, ThreadsStand, AsksBranches, WaitAsks, WaitsSo}
+use Rattle.fit_laws.specs.Stands.{counted, SeatStands, ThreadsStand, AsksBranches, WaitAsks, HasParent, WaitsSo}
 use Rattle.fit_laws.proofs.Waits.{world_so}
 
 -- Kept values: a number that is small enough is known.
 module _ (u : Common) where
-  known_further : (fu : Further) (vs : List Value) → FurtherFit (seen u) fu vs → FurtherFit (known u) fu vs
+  pub known_further : (fu : Further) (vs : List Value) → FurtherFit (seen u) fu vs → FurtherFit (known u) fu vs
   known_further fu [] h = tt
   known_further No_more (v ∷ vs) h = h
   known_further One_more (v ∷ vs) h = h
   known_further Any_more (v ∷ vs) h = (h.0, known_further Any_more vs h.1)
 
-  abbrev NoNumbers : List Sort → Type 0
+  abbrev pub NoNumbers : List Sort → Type 0
   NoNumbers [] = Unit {0}
   NoNumbers (Up_to n ∷ ss) = ⊥
   NoNumbers (s ∷ ss) = NoNumbers ss
 
   -- where no sort is a number
-  known_values : (fu : Further) (ss : List Sort) (vs : List Value) → NoNumbers ss → ValuesFit (seen u) fu ss vs → ValuesFit (known u) fu ss vs
+  pub known_values : (fu : Further) (ss : List Sort) (vs : List Value) → NoNumbers ss → ValuesFit (seen u) fu ss vs → ValuesFit (known u) fu ss vs
   known_values fu [] vs none h = known_further fu vs h
   known_values fu (s ∷ ss) [] none h = absurd h
   known_values fu (Up_to n ∷ ss) (v ∷ vs) none h = absurd none
@@ -129,6 +130,13 @@ branches_spot For_task (For_request r) h path s is = absurd is
 branches_spot For_person (For_request r) h path s is = absurd is
 branches_spot at asked h path s is = absurd h
 
+-- where the frames of a thread begin
+outer_is : (runs : Runs) (parent : Option ℕ) → HasParent runs parent → outer_spot runs ≡ outermost parent
+outer_is Script None h = refl
+outer_is Script (Some p) h = absurd h
+outer_is (Closure k env head) (Some p) h = refl
+outer_is (Closure k env head) None h = absurd h
+
 -- a branch that has begun has a frame
 begun_start : (root : Term) (h : List _) (parent : Option ℕ) (path : List Frame) (asked : Asked) → Nested root (outermost parent) path asked → StartFits root h parent path None
 begun_start root h None path asked nested = refl
@@ -148,7 +156,7 @@ module _ (g : Setting) (tree : Tree) (is : g.script ≡ term 0 (tree_node tree))
   module _ (u : Common) (seats : List Seat) where
     seat_stands : (t : Thread) → SoundThread g u t → Waiting g t → (IsReady t.wait → ⊥) → WaitsSo g t → SeatAgrees g.script u seats (seat_at t (stands g t)) → SeatStands g u seats (seat_at t (stands g t))
     seat_stands t sound w never so agrees =
-        let nested : Nested g.script (outermost t.parent) w.path w.asked = subst (λ at. Nested g.script at w.path w.asked) so.outer (waiting_nested g (tree_node tree) is t w) in
+        let nested : Nested g.script (outermost t.parent) w.path w.asked = subst (λ at. Nested g.script at w.path w.asked) (outer_is t.runs t.parent so.parent) (waiting_nested g (tree_node tree) is t w) in
         let sits : AllAre (Sits g.script u) w.path = frames_now g tree is small narrow u t sound w.asked w.path w.state w.stands_so in
         let agree : SeatAgrees g.script u seats (seat_at t (Waits w.asked w.path w.state)) = subst (λ r. SeatAgrees g.script u seats (seat_at t r)) w.stands_so agrees in
         subst (λ r. SeatStands g u seats (seat_at t r)) (sym w.stands_so) (record {

@@ -8,7 +8,7 @@ use Rattle.model_run.specs.Below.{Small}
 use Rattle.model_run.specs.Terms.{term}
 use Rattle.model_run.specs.World.{run_limits, world_in}
 use Rattle.run_laws.specs.Bounds.{Narrow}
-use Rattle.run_laws.specs.Soundness.{SharedSound}
+use Rattle.run_laws.specs.Worlds.{SharedSound}
 use Rattle.run_laws.proofs.SharedWorlds.{shared_sound}
 use Rattle.world_laws.specs.Agreement.{SharedAgrees}
 use Rattle.world_laws.proofs.WorldShared.{world_shared}

@@ -26,12 +26,10 @@ use Rattle.model_run.specs.State.{RunLimits, Setting, Common, Own, State, Result
 use Rattle.model_run.specs.Opened.{Owns}
 use Rattle.model_run.specs.Threads.{Thread, stands}
 use Rattle.model_run.specs.World.{Build, unbegun, with_thread, waits_as, with_head, ready, branch_threads, joins_of, forked, forks, limit_met, join_end, ends_before, all_ended, joined_wait, join_wait, joins, outcome_of, thread_ended, script_ended, stopped_at, asked_by, stopped, given_answer, resumed, Turn, turn_if, first_ready, take_turn, settle, turn_bound, uncounted, changed_by, kept_output, with_taken, with_kept, change_request, output, after_event, after_one, answer_to, world_in}
-use Rattle.model_run.specs.Fitting.{outermost}
-use Rattle.model_run.proofs.PathLaws.{outer_spot}
 use Rattle.model_run.proofs.WaitingLaws.{with_all}
-use Rattle.run_laws.proofs.SoundWorlds.{Mid, mid_with, mid_begins, mid_ends, without_all, all_more}
+use Rattle.run_laws.proofs.SoundWorlds.{Mid, mid_with, mid_begins, mid_ends, without_thread_all, all_more}
 use Rattle.world_laws.proofs.Turns.{turn_owns}
-use Rattle.fit_laws.specs.Stands.{AsksBranches, WaitAsks, WaitsSo}
+use Rattle.fit_laws.specs.Stands.{AsksBranches, WaitAsks, HasParent, WaitsSo}
 
 -- branches that have ended
 joined_asks : (js : List Join) (o : Option (List BranchEnd)) (r : Result) → AsksBranches r → WaitAsks (joined_wait js o) r
@@ -49,11 +47,11 @@ module _ (g : Setting) where
 
   -- the same thread with another wait
   with_wait : (t : Thread) (w : Wait) → WaitAsks w (stands g t) → WaitsSo g t → WaitsSo g (waits_as w t)
-  with_wait t w asks h = record { outer = h.outer; asks = asks }
+  with_wait t w asks h = record { parent = h.parent; asks = asks }
 
   new_branches : (parent : ℕ) (own : Own) (n : ℕ) (bs : List Branch) → AllAre (WaitsSo g) (branch_threads parent own n bs)
   new_branches parent own n [] = tt
-  new_branches parent own n (b ∷ bs) = (record { outer = refl; asks = tt }, new_branches parent own (suc n) bs)
+  new_branches parent own n (b ∷ bs) = (record { parent = tt; asks = tt }, new_branches parent own (suc n) bs)
 
   script_so : (e : Ending) (head : ℕ) (u : Common) (b : Build) → AllSo (script_ended e head u b)
   script_so (Normal x) head u b = tt
@@ -72,7 +70,7 @@ module _ (g : Setting) where
       one false = h
 
   -- a thread that has stopped
-  module _ (t : Thread) (outer : outer_spot t.runs ≡ outermost t.parent) where
+  module _ (t : Thread) (parent : HasParent t.runs t.parent) where
     abbrev Middle : Thread → List Thread → Type 0
     Middle x ts = AllAre (Mid (WaitsSo g) t.own.number x) ts
 
@@ -81,7 +79,7 @@ module _ (g : Setting) where
 
     waiting : (s : State) → s.world.own.number ≡ t.own.number → (w : Wait) → WaitAsks w (stands g t) → (ts : List Thread) → Middle (with_head s.world.own.head t) ts → AllAre (WaitsSo g) (with_thread (waits_as w) s.world.own.number ts)
     waiting s number w asks ts m =
-        mid_ends (WaitsSo g) (WaitsSo g) (λ x h. h) t.own.number (waits_as w (with_head s.world.own.head t)) (record { outer = outer; asks = asks }) (with_thread (waits_as w) s.world.own.number ts)
+        mid_ends (WaitsSo g) (WaitsSo g) (λ x h. h) t.own.number (waits_as w (with_head s.world.own.head t)) (record { parent = parent; asks = asks }) (with_thread (waits_as w) s.world.own.number ts)
         (subst (λ n. Middle (waits_as w (with_head s.world.own.head t)) (with_thread (waits_as w) n ts)) (sym number) (mid_with (WaitsSo g) t.own.number (with_head s.world.own.head t) (waits_as w) (λ x. refl) ts m))
 
     asked_so : (asked : Asked) (s : State) → s.world.own.number ≡ t.own.number → ((bs : List Branch) → asked ≡ For_branches bs → AsksBranches (stands g t)) → (limits : RunLimits) (b : Build) → Middle (with_head s.world.own.head t) b.threads → AllSo (asked_by limits s.world asked b)
@@ -96,7 +94,7 @@ module _ (g : Setting) where
     ended_so (Some p) e s b m =
         with_all (WaitsSo g) (WaitsSo g) (joins t.own.number s.world.own.head (outcome_of e)) p
         (λ x is h. with_wait x _ (join_asks t.own.number s.world.own.head (outcome_of e) x.wait (stands g x) h.asks) h) (λ x never h. h) _
-        (without_all (Mid (WaitsSo g) t.own.number (with_head s.world.own.head t)) (WaitsSo g) t.own.number (λ x never mid. mid.others never) (stopped_at s.world b).threads m)
+        (without_thread_all (Mid (WaitsSo g) t.own.number (with_head s.world.own.head t)) (WaitsSo g) t.own.number (λ x never mid. mid.others never) (stopped_at s.world b).threads m)
 
     asks_them : (asked : Asked) (bs : List Branch) (path : List _) (s : State) → stands g t ≡ Waits asked path s → asked ≡ For_branches bs → AsksBranches (stands g t)
     asks_them asked bs path s is same = subst AsksBranches (sym is) (subst (λ a. AsksBranches (Waits a path s)) (sym same) tt)
@@ -109,7 +107,7 @@ module _ (g : Setting) where
 
   resumed_so : (b : Build) (x : Answer) (t : Thread) → WaitsSo g t → AllSo b → AllSo (resumed g (given_answer b.shared x t) b)
   resumed_so b x t h all =
-      stopped_so (given_answer b.shared x t) h.outer (stands g (given_answer b.shared x t)) refl (turn_owns g t b.shared x)
+      stopped_so (given_answer b.shared x t) h.parent (stands g (given_answer b.shared x t)) refl (turn_owns g t b.shared x)
       (record b { threads = with_thread (λ old. given_answer b.shared x t) t.own.number b.threads }) (mid_begins (WaitsSo g) (given_answer b.shared x t) b.threads all)
 
   abbrev TurnSo : Option Turn → Type 0
@@ -150,7 +148,7 @@ module _ (g : Setting) where
       one false = all
 
   changed_so : (e : Event) (b : Build) → AllSo b → AllSo (changed_by g e b)
-  changed_so (StartEvent script agents) b all = (record { outer = refl; asks = tt }, tt)
+  changed_so (StartEvent script agents) b all = (record { parent = tt; asks = tt }, tt)
   changed_so (GrantedEvent request executor) b all = ready_so _ _ b all
   changed_so (OutputEvent task stream from bytes) b all = output_so task stream bytes b all
   changed_so (ExitedEvent task code) b all = ready_so _ _ b all

@@ -1,18 +1,20 @@
 -- How much of a sound build is proved of the world of every list of events (this product's own).
-use Rattle.std.specs.Prelude.{◌≡◌, false, List, None, map}
+use Rattle.std.specs.Prelude.{◌≡◌, ◌≤◌, ◌+◌, ℕ, false, List, ◌++◌, Option, Some, None, length, map, filter}
 use Rattle.std.specs.List.{AllByRecursion as AllAre}
 use Rattle.model_run.specs.declared.frame.FrameKind.{FrameKind}
 use Rattle.model_run.specs.declared.frame.FrameKind.TheVariants as kind
 use Rattle.model_run.specs.declared.ending.Asked.TheVariants.{ForBranches as For_branches}
 use Rattle.model_run.specs.declared.wait.Wait.{Wait}
 use Rattle.model_run.specs.declared.wait.Wait.TheVariants.{Ready, Request as RequestWait, Branches as BranchesWait}
+use Rattle.model_values.specs.declared.value.Value.{Value}
+use Rattle.model_run.specs.Around.{position, value_at}
+use Rattle.model_run.specs.Steps.{held_for}
 use Rattle.model_run.specs.State.{Setting, Common, Result, Waits}
-use Rattle.model_run.specs.Nesting.{Sorts, FrameFits, Chained, innermost}
+use Rattle.model_run.specs.Nesting.{Sorts, FrameFits, Chained, CallsClosures, innermost}
 use Rattle.model_run.specs.Scoping.{names_for}
-use Rattle.model_run.specs.Threads.{Thread, stands}
+use Rattle.model_run.specs.Threads.{Runs, Script, Closure, Thread, stands}
 use Rattle.model_run.specs.World.{Build}
-use Rattle.model_run.specs.Fitting.{Rise, EnvFits, IsFlowNode, known, SharedFits, Seat, seat_of, seats_of, outermost, ParentFits, WaitFits, StartFits, IsWaitedFor}
-use Rattle.model_run.proofs.PathLaws.{outer_spot}
+use Rattle.model_run.specs.Fitting.{Rise, EnvFits, IsFlowNode, known, SharedFits, Seat, seat_of, seats_of, outermost, ParentFits, WaitFits, StartFits, IsWaitedFor, Distinct, NotReady, context_above, holds_executor, holds_folder, own_held_of, concat_map}
 use Rattle.run_laws.specs.Soundness.{seen}
 
 -- The sorts of values that a frame of a kind keeps: as in a sound build, but the numbers of `retry` and of a walk, which are whole numbers
@@ -54,7 +56,34 @@ WaitAsks (BranchesWait js) r = AsksBranches r
 WaitAsks (Ready x) r = Unit {0}
 WaitAsks (RequestWait n) r = Unit {0}
 
--- a branch has a parent, the script has none; and what a thread waits for is what its evaluation has asked for
+-- a branch has a parent, and the script has none
+abbrev pub HasParent : Runs → Option ℕ → Type 0
+HasParent Script None = Unit {0}
+HasParent (Closure k env head) (Some p) = Unit {0}
+HasParent runs parent = ⊥
+
+-- and what a thread waits for is what its evaluation has asked for
 pub record WaitsSo (setting : Setting) (t : Thread) : Type 0 where
-  pub outer : outer_spot t.runs ≡ outermost t.parent
+  pub parent : HasParent t.runs t.parent
   pub asks : WaitAsks t.wait (stands setting t)
+
+-- the numbers of `retry` and of a walk are as small as the table says
+abbrev pub SmallCount : FrameKind → List Value → Type 0
+SmallCount kind.RetryBody vs = position (value_at 2 vs) ≤ 2147483646
+SmallCount kind.WalkTurn vs = position (value_at 2 vs) ≤ 2147483646
+SmallCount d vs = Unit {0}
+
+-- what is still to be shown of one thread
+pub record SeatRest (setting : Setting) (u : Common) (seats : List Seat) (t : Seat) : Type 0 where
+  pub closures : CallsClosures setting.script (outermost t.parent) t.stack
+  pub counts : AllAre (λ f. SmallCount f.kind f.values) t.stack
+  pub own_held : (own : List ℕ) × (t.context.held ≡ (context_above seats t.parent).held ++ own) × (length own ≡ length (filter (λ f. holds_executor f.kind) t.stack))
+  pub holds : AllAre (λ r. held_for r u.held ≡ None → ⊥) t.context.held
+  pub folders : length t.context.folders ≡ length (context_above seats t.parent).folders + length (filter (λ f. holds_folder f.kind) t.stack)
+
+-- What is still to be shown of the world of every list of events: with this it is sound.
+pub record Rest (setting : Setting) (b : Build) : Type 0 where
+  pub threads : AllAre (SeatRest setting b.shared (seats_of setting b.threads)) (seats_of setting b.threads)
+  pub differ : Distinct (concat_map (own_held_of b.shared (seats_of setting b.threads)) (seats_of setting b.threads))
+  pub few_threads : b.next_thread ≤ 100000000 + length b.shared.nodes
+  pub rests : AllAre (λ t. NotReady t.wait) (seats_of setting b.threads)

@@ -9,7 +9,7 @@ use Rattle.model_values.specs.declared.value.Value.TheVariants.{Null}
 use Rattle.model_run.specs.declared.ending.Entry.{Entry}
 use Rattle.model_run.specs.declared.ending.Entry.TheVariants.{First, Inside, On, Turn, Body, Branched}
 use Rattle.model_run.specs.Terms.{Term, Terms, Numbered, no_terms, and_then, form_of, forms_of, parts_of}
-use Rattle.model_run.specs.State.{Setting, Common, Env, Meaning}
+use Rattle.model_run.specs.State.{Common, Env, Meaning}
 use Rattle.model_run.specs.Around.{Around, Shape, form_at, arity, ended}
 use Rattle.model_run.specs.FrameTable.{is_declaration, is_callable, is_closure_form, same_form}
 use Rattle.model_run.specs.Forms.{start, suffix_on}
@@ -18,7 +18,7 @@ use Rattle.model_run.specs.Scoping.{Names, names_around, names_within, names_beh
 use Rattle.model_run.specs.Fitting.{EnvFits, IsFlowNode}
 use Rattle.model_run.proofs.Walk.{Again, Call, from}
 use Rattle.script_laws.specs.NodeParts.{is_function}
-use Rattle.run_laws.specs.Soundness.{Shaped, may_declare, Goes}
+use Rattle.run_laws.specs.Soundness.{Base, Open, within, Shaped, may_declare, Goes}
 use Rattle.run_laws.proofs.NodeLaws.{Real, RealAll, shaped as shape_from}
 use Rattle.run_laws.proofs.Flow.{holds_as, null_goes}
 use Rattle.run_laws.proofs.Sources.{has_inner, CalleeFits, TurnFits, turn_names, quiet_after, Place, Sources, quiet_part}
@@ -40,7 +40,7 @@ inner_quiet form.Block e i = absurd (cc)
 inner_quiet form.ForSteps e i = absurd (cc)
 inner_quiet f e i = refl
 
-module _ (g : Setting) where
+module _ (g : Base) where
   -- A node of this form as a part: from its beginning, by one of its own parts, and as a suffix on a value.
   pub record AsPart (run : Entry → Meaning) (f : NodeForm) (xs : Names) : Type 0 where
     pub first : (u : Common) (env : Env) → EnvFits u.cells xs env → Goes g f u (run First env)
@@ -66,7 +66,7 @@ module _ (g : Setting) where
   TurnsGo again = (xs : Names) (k : ℕ) (f : NodeForm) (ps : Terms) → Real g.script xs (Numbered k f ps) → (u : Common) (i : ℕ) (kept : List Value) (env : Env) → is_declaration f ≡ false → EnvFits u.cells (turn_names f (forms_of ps) (names_around f xs)) env → TurnFits f u kept → Goes g f u (again (Numbered k f ps) i kept env)
 
   abbrev pub CallsGo : Call → Type 0
-  CallsGo call = (u : Common) (n : ℕ) (args : List Value) (env : Env) → CalleeFits g.script u n env → AllAre (There u.cells) args → Goes g form.Block u (call n args env)
+  CallsGo call = (o : Open) (u : Common) (n : ℕ) (args : List Value) (env : Env) → CalleeFits g.script u n env → AllAre (There u.cells) args → Goes (within o g) form.Block u (call n args env)
 
   module _ (real : Real g.script [] g.script) (shaped : Shaped g.script) where
     -- the node, of this form, with what its parts, turns and calls do

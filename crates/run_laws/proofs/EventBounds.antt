@@ -12,7 +12,7 @@ use Rattle.model_run.specs.Fitting.{RequestFits}
 use Rattle.model_run.specs.LogText.{raw}
 use Rattle.model_run.specs.World.{begun, with_taken, with_kept, change_if, change_request}
 use Rattle.run_laws.specs.Bounds.{Narrow, InBounds}
-use Rattle.run_laws.specs.Soundness.{SharedSound}
+use Rattle.run_laws.specs.Worlds.{SharedSound}
 use Rattle.run_laws.proofs.Bounds.{all_longer, bounds_aside, bounds_beside}
 
 all_kept : {A : Type 0} (P : A → Type 0) (keep : A → Bool) (xs : List A) → AllAre P xs → AllAre P (filter keep xs)
@@ -68,5 +68,6 @@ begun_shared narrow = record {
   narrow = narrow;
   cells = tt;
   binding = tt;
+  held = tt;
   bounds = record { short = tt; few_cells = omega arith; few_bytes = omega arith; names = tt; few_nodes = omega arith; nodes = (refl, refl, tt, tt); few_requests = omega arith; asks = tt };
 }

@@ -10,9 +10,11 @@ use Rattle.model_values.specs.MethodNames.{Method, Collect, Find, FindAll}
 use Rattle.model_values.proofs.CellGrowth.{cell_there}
 use Rattle.model_values.specs.declared.value.Value.{Value}
 use Rattle.model_values.specs.declared.value.Value.TheVariants.{Null, Bool as Truth, Int as Whole, Cell as InCell}
-use Rattle.model_run.specs.State.{Common}
-use Rattle.model_run.specs.Around.{value_at, cell_number, position}
-use Rattle.model_run.specs.FrameTable.{is_closure_form, Sort, Any, Up_to, Flow_node, A_closure, A_throwable, Further, No_more, One_more, Any_more, same_form, is_each, is_arm, is_method, is_walk, is_computed, is_declaration, any_values, walk_values, walk_further}
+use Rattle.model_run.specs.declared.frame.FrameKind.{FrameKind}
+use Rattle.model_run.specs.declared.frame.FrameKind.TheVariants as kind
+use Rattle.model_run.specs.State.{Common, Env}
+use Rattle.model_run.specs.Around.{Shape, form_at, value_at, cell_number, position}
+use Rattle.model_run.specs.FrameTable.{Executor_wait, frame_row, suffixed_within, gathered_within, current, is_closure_form, Sort, Any, Up_to, Flow_node, A_closure, A_throwable, Further, No_more, One_more, Any_more, same_form, is_each, is_arm, is_method, is_walk, is_computed, is_declaration, any_values, walk_values, walk_further}
 use Rattle.model_run.specs.Nesting.{FurtherFit, ValuesFit}
 use Rattle.model_run.specs.Fitting.{IsFlowNode}
 use Rattle.model_run.proofs.Under.{first_of_both}
@@ -193,3 +195,20 @@ module _ (u : Common) where
   retry_kept n (a ∷ b ∷ []) h = absurd h.1.1
   retry_kept n (a ∷ b ∷ c ∷ []) h = absurd h.1.1.1
   retry_kept n (a ∷ b ∷ c ∷ f ∷ vs) h = record { start = flow_node a h.0; body = flow_node b h.1.0; closure = closure_there f h.1.1.1.0 }
+
+-- the frame that waits for an executor
+suffix_waits : (n : ℕ) → suffixed_within n ≡ Executor_wait → ⊥
+suffix_waits zero e = absurd (cc)
+suffix_waits (suc n) e = absurd (cc)
+
+gathered_waits : (i : ℕ) (f : NodeForm) → gathered_within i f ≡ Executor_wait → ⊥
+gathered_waits i (form.NamedEntry t) e = absurd (cc)
+gathered_waits i (form.NumberedEntry z) e = absurd (cc)
+gathered_waits i form.ComputedEntry e = absurd (cc)
+gathered_waits i f e = absurd (cc)
+
+pub executor_waits : (d : FrameKind) (sh : Shape) (left : ℕ) (env : Env) → (frame_row d sh left env).inside ≡ Executor_wait → d ≡ kind.NodeWait
+executor_waits kind.NodeWait sh left env e = refl
+executor_waits kind.SuffixedPart sh left env e = absurd (suffix_waits (current sh left) e)
+executor_waits kind.Gathered sh left env e = absurd (gathered_waits (current sh left) (form_at sh.parts (current sh left)) e)
+executor_waits d sh left env e = absurd (cc)

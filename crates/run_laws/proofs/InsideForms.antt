@@ -7,7 +7,7 @@ use Rattle.model_syntax.specs.declared.node.NodeForm.TheVariants as form
 use Rattle.model_values.specs.declared.value.Value.{Value}
 use Rattle.model_run.specs.declared.frame.FrameKind.{FrameKind}
 use Rattle.model_run.specs.declared.frame.FrameKind.TheVariants as kind
-use Rattle.model_run.specs.State.{Setting, Common, Env}
+use Rattle.model_run.specs.State.{Common, Env}
 use Rattle.model_run.specs.Around.{Shape, form_at, arity, frame}
 use Rattle.model_run.specs.Statements.{is_finally}
 use Rattle.model_run.specs.Assignments.{place_size}
@@ -15,7 +15,7 @@ use Rattle.model_run.specs.FrameTable.{Within, Inner, Suffix, frame_row, gathers
 use Rattle.model_run.specs.Nesting.{MeetsRow}
 use Rattle.model_run.specs.Scoping.{Names}
 use Rattle.model_run.proofs.Under.{first_of_both, second_of_both}
-use Rattle.run_laws.specs.Soundness.{Shaped, may_declare, is_target, is_operand, seen}
+use Rattle.run_laws.specs.Soundness.{Base, Shaped, may_declare, is_target, is_operand, seen}
 use Rattle.run_laws.specs.Evaluation.{has_inner}
 use Rattle.run_laws.proofs.Sources.{Place, no_declaration}
 use Rattle.run_laws.proofs.SoundExpressions.{operand_inner}
@@ -56,7 +56,7 @@ InsidePlain sh (Inner i j) = has_inner (form_at sh.parts i) ≡ true
 InsidePlain sh (Suffix i) = is_declaration (form_at sh.parts i) ≡ false
 InsidePlain sh w = Unit {0}
 
-module _ (g : Setting) (shaped : Shaped g.script) (k : ℕ) (sh : Shape) (xs : Names) (place : Place g k sh xs) where
+module _ (g : Base) (shaped : Shaped g.script) (k : ℕ) (sh : Shape) (xs : Names) (place : Place g k sh xs) where
   pub target_there : is_target_form sh.form ≡ true → is_target (form_at sh.parts 0) ≡ true
   target_there t = ap (λ s. is_target (form_at s.parts 0)) (sym place.there) ∙ shaped.targets k (ap (λ s. is_target_form s.form) place.there ∙ t)
 

@@ -26,7 +26,7 @@ use Rattle.model_values.specs.declared.operator.Op.{Op}
 use Rattle.model_run.specs.declared.frame.FrameKind.TheVariants as kind
 use Rattle.model_run.specs.declared.ending.Ending.{Ending}
 use Rattle.model_run.specs.declared.ending.Entry.TheVariants.{First, Inside}
-use Rattle.model_run.specs.State.{Setting, Common, World, State, Env, Result, with_world, through, changed, put_cells, operating, answered, tick}
+use Rattle.model_run.specs.State.{Common, World, State, Env, Result, with_world, through, changed, put_cells, operating, answered, tick}
 use Rattle.model_run.specs.Around.{Around, Shape, form_at, frame, ended, cells, limits, value_at}
 use Rattle.model_run.specs.Names.{look, meant, first_of, same_text, content, variable, read_cell, read_name, set_variable, with_binding, bound, write_cell, write_name}
 use Rattle.model_run.specs.Assignments.{read_target, write_target, write_counted, place_size, assign_by, operator_in, after_assigned, assign_value, assign_at, step_by, at_target, after_index, after_receiver, receiver, sign_operator}
@@ -37,9 +37,9 @@ use Rattle.model_run.specs.Fitting.{EnvFits, closure_rule}
 use Rattle.model_run.proofs.LaterLaws.{env_later}
 use Rattle.model_run.proofs.Under.{both}
 use Rattle.model_run.proofs.Front.{front_itself}
-use Rattle.run_laws.specs.Soundness.{Shaped, seen, may_declare, is_target, EndFits, Sound, At, Holds, Goes}
+use Rattle.run_laws.specs.Soundness.{Base, Shaped, seen, may_declare, is_target, EndFits, Sound, At, Holds, Goes}
 use Rattle.run_laws.proofs.Bounds.{bounds_bound, unbound}
-use Rattle.run_laws.proofs.Flow.{there_then, all_there_then, at_self, holds_then, from_here, Moves, moves_aside, moves_cells, at_moved, tick_goes, GoesWith, end_goes, value_goes, answer_goes, through_goes}
+use Rattle.run_laws.proofs.Flow.{same_on, there_then, all_there_then, at_self, holds_then, from_here, Moves, moves_aside, moves_cells, at_moved, tick_goes, GoesWith, end_goes, value_goes, answer_goes, through_goes}
 use Rattle.run_laws.proofs.Sources.{has_inner, Place, Sources, sits_here, Quiet, part_goes, inner_goes}
 use Rattle.run_laws.proofs.SoundStatements.{variable_from}
 
@@ -70,7 +70,7 @@ first_found : (h : List Cell) (o p : Option ℕ) → FoundVariable h o → Found
 first_found h (Some c) p a b = a
 first_found h None p a b = b
 
-pub meant_found : (g : Setting) (x : List ℕ) (ys : Names) (env : Env) (w : World) → Sound g w → EnvFits w.shared.cells ys env → FoundVariable w.shared.cells (meant x env w)
+pub meant_found : (g : Base) (x : List ℕ) (ys : Names) (env : Env) (w : World) → Sound g w → EnvFits w.shared.cells ys env → FoundVariable w.shared.cells (meant x env w)
 meant_found g x ys env w sound fit = first_found w.shared.cells _ _ (look_found w.shared.cells x env fit.variables) (look_found w.shared.cells x w.shared.binding sound.binding)
 
 binding_with : (h : List Cell) (x : List ℕ) (c : ℕ) (bs : List Binding) → HasVariable (slice_get h c) → AllAre (λ b. HasVariable (slice_get h b.cell)) bs → AllAre (λ b. HasVariable (slice_get h b.cell)) (with_binding x c bs)
@@ -82,19 +82,19 @@ binding_with h x c (b ∷ bs) has all = one (is_lt (slice_cmp nat_cmp x b.name))
     one false more = (all.0, more)
 
 -- what an operation on these values is given
-abbrev pub before_of : Setting → World → List Value → Before
+abbrev pub before_of : Base → World → List Value → Before
 before_of g w vs = record { l = limits w; rule = closure_rule g.script; h = cells w; given = Given (closure_rule g.script) (cells w) vs; fit = λ x. x.0 }
 
-module _ (g : Setting) where
+module _ (g : Base) where
   -- the variable in a cell gets a value
   set_moves : (c : ℕ) (v : Value) (w : World) → Sound g w → There w.shared.cells v → Moves g (set_variable c v) w
   set_moves c v w sound there =
       let grown : Grows (limits w) (closure_rule g.script) (cells w) (Given (closure_rule g.script) (cells w) (v ∷ [])) (set_cell (cells w) c v) (Unit {0}) = set_variable_grows (before_of g w (v ∷ [])) c v (Unit {0}) (λ x. x.1.0) (λ x. tt) in
       let m : Moves g (put_cells (set_cell (cells w) c v)) w = moves_cells g w sound _ _ (set_cell (cells w) c v) grown (grown.fits (sound.cells, (there, tt))).0 in
-      record { later = m.later; cells = m.cells; binding = m.binding; head = m.head; bounds = m.bounds }
+      record { later = m.later; cells = m.cells; binding = m.binding; head = m.head; bounds = m.bounds; same = m.same }
 
   bound_moves : (x : List ℕ) (c : ℕ) (w : World) → Sound g w → look x w.shared.binding ≡ None → HasVariable (slice_get w.shared.cells c) → Moves g (bound x c) w
-  bound_moves x c w sound new has = record { later = record { cells = later_itself w.shared.cells; nodes = front_itself w.shared.nodes }; cells = sound.cells; binding = binding_with w.shared.cells x c w.shared.binding has sound.binding; head = sound.head; bounds = bounds_bound x c g.site w sound.bounds new }
+  bound_moves x c w sound new has = record { later = record { cells = later_itself w.shared.cells; nodes = front_itself w.shared.nodes }; cells = sound.cells; binding = binding_with w.shared.cells x c w.shared.binding has sound.binding; head = sound.head; bounds = bounds_bound x c g.site w sound.bounds new; same = same_on g.around w (bound x c w) refl refl }
 
   -- the value of a name
   pub read_goes : (f : NodeForm) (u : Common) (x : List ℕ) (ys : Names) (env : Env) → EnvFits u.cells ys env → (go : Value → State → Result) → GoesWith g f u go → Goes g f u (operating (read_name x env) go)
@@ -102,7 +102,7 @@ module _ (g : Setting) where
     where
       found : (o : Option ℕ) → FoundVariable s.world.shared.cells o → Holds g f u (answered (read_cell s.world x o) go s)
       found (Some c) has =
-          let at1 : At g u (with_world (put_cells (cells s.world) s.world) s) = at_moved g u (put_cells (cells s.world)) s at (moves_aside g (put_cells (cells s.world)) s.world at.sound refl refl refl refl refl refl (omega arith)) in
+          let at1 : At g u (with_world (put_cells (cells s.world) s.world) s) = at_moved g u (put_cells (cells s.world)) s at (moves_aside g (put_cells (cells s.world)) s.world at.sound refl refl refl refl refl refl refl refl (omega arith)) in
           k' (variable s.world c) (with_world (put_cells (cells s.world) s.world) s) at1 (content_there (closure_rule g.script) (cells s.world) (slice_get (cells s.world) c) c refl (at.sound).cells)
       found None has = answer_goes g f u (λ h v. ⊥) (unknown_name (limits s.world) (cells s.world) x) s at (Given (closure_rule g.script) (cells s.world) []) ((at.sound).cells, tt)
           (unknown_name_grows (before_of g s.world []) (λ h v. ⊥) x) go (λ v t q l is. absurd is)
@@ -202,7 +202,7 @@ any_there u zero (v ∷ vs) h = absurd h
 any_there u (suc n) [] h = absurd h
 any_there u (suc n) (v ∷ vs) h = (h.0, any_there u n vs h.1)
 
-module _ (g : Setting) (shaped : Shaped g.script) (k : ℕ) (sh : Shape) (xs : Names) (place : Place g k sh xs) (a : Around) (src : Sources g shaped k sh xs place a) (ta : is_target_form sh.form ≡ true) where
+module _ (g : Base) (shaped : Shaped g.script) (k : ℕ) (sh : Shape) (xs : Names) (place : Place g k sh xs) (a : Around) (src : Sources g shaped k sh xs place a) (ta : is_target_form sh.form ≡ true) where
   plain : is_declaration sh.form ≡ false
   plain = target_plain sh.form ta
 
@@ -217,7 +217,7 @@ module _ (g : Setting) (shaped : Shaped g.script) (k : ℕ) (sh : Shape) (xs : N
 
   assign_value_goes : is_assignment sh.form ≡ true → (u : Common) (env : Env) → EnvFits u.cells xs env → (kept : List Value) → length kept ≡ place_size (form_at sh.parts 0) + operator_count (operator_in sh.form) → AllAre (There u.cells) kept → Goes g sh.form u (assign_value a k sh env kept)
   assign_value_goes asg u env fit kept count there s at =
-      through_goes g sh.form form.Block u (frame kind.AssignValue k 0 env kept) (sits_here g shaped k sh xs place u kind.AssignValue 0 env kept asg (omega arith) (any_seen u _ kept count there) fit tt) (after_assigned sh kept env)
+      through_goes g sh.form form.Block u (frame kind.AssignValue k 0 env kept) refl (sits_here g shaped k sh xs place u kind.AssignValue 0 env kept asg (omega arith) (any_seen u _ kept count there) fit tt) (after_assigned sh kept env)
       (assigned_goes g sh.form plain sh u xs env fit kept there) (a.part First 1 env s) (part_goes g shaped k sh xs place a src quiet u env fit 1 (within 1) s at)
 
   assign_at_goes : is_assignment sh.form ≡ true → (o : Option Op) → operator_in sh.form ≡ o → (u : Common) (env : Env) → EnvFits u.cells xs env → (kept : List Value) → length kept ≡ place_size (form_at sh.parts 0) → AllAre (There u.cells) kept → Goes g sh.form u (assign_at a k sh env kept o)
@@ -258,13 +258,13 @@ module _ (g : Setting) (shaped : Shaped g.script) (k : ℕ) (sh : Shape) (xs : N
   after_receiver_goes (form.ToName x) is tg some u env fit = absurd (cc)
   after_receiver_goes form.ToIndex is tg some u env fit = value_goes g sh.form u _ (λ of s at there.
       let fit1 : EnvFits s.world.shared.cells xs env = env_later u s.world.shared at.later xs env fit in
-      holds_then g sh.form u s.world.shared at.later _ (through_goes g sh.form form.Block s.world.shared (frame kind.TargetIndex k 0 env (of ∷ []))
+      holds_then g sh.form u s.world.shared at.later _ (through_goes g sh.form form.Block s.world.shared (frame kind.TargetIndex k 0 env (of ∷ [])) refl
       (sits_here g shaped k sh xs place s.world.shared kind.TargetIndex 0 env (of ∷ []) (both _ _ ta (ap (λ t. nat_eq (place_size t) 2) is)) (omega arith) (there, tt) fit1 tt) (after_index a k sh env of)
       (index_goes s.world.shared env fit1 of there (ap place_size is)) (a.part (Inside 1) 0 env s) (target_inner s.world.shared 1 env (ap has_inner is) (ap is_target is) fit1 s (at_self g u s at))))
   after_receiver_goes t is tg some u env fit = absurd (cc)
 
   receiver_frame : (t : NodeForm) → form_at sh.parts 0 ≡ t → is_target t ≡ true → has_inner t ≡ true → nat_lt 0 (place_size t) ≡ true → (u : Common) (env : Env) → EnvFits u.cells xs env → Goes g sh.form u (λ s. through (frame kind.TargetReceiver k 0 env []) (after_receiver a k sh env (form_at sh.parts 0)) (a.part (Inside 0) 0 env s))
-  receiver_frame t is tg inside some u env fit s at = through_goes g sh.form form.Block u (frame kind.TargetReceiver k 0 env [])
+  receiver_frame t is tg inside some u env fit s at = through_goes g sh.form form.Block u (frame kind.TargetReceiver k 0 env []) refl
       (sits_here g shaped k sh xs place u kind.TargetReceiver 0 env [] (both _ _ ta (ap (λ t. nat_lt 0 (place_size t)) is ∙ some)) (omega arith) tt fit tt) (after_receiver a k sh env (form_at sh.parts 0))
       (after_receiver_goes (form_at sh.parts 0) refl (ap is_target is ∙ tg) (ap (λ t. nat_lt 0 (place_size t)) is ∙ some) u env fit) (a.part (Inside 0) 0 env s) (target_inner u 0 env (ap has_inner is ∙ inside) (ap is_target is ∙ tg) fit s at)
 

@@ -23,7 +23,7 @@ use Rattle.model_run.specs.declared.frame.FrameKind.TheVariants as kind
 use Rattle.model_run.specs.declared.ending.Ending.{Ending}
 use Rattle.model_run.specs.declared.ending.Ending.TheVariants.{Normal, Thrown, Returned, Broke, Continued, Declared, Answered}
 use Rattle.model_run.specs.declared.ending.Entry.TheVariants.{First}
-use Rattle.model_run.specs.State.{Setting, Common, State, Env}
+use Rattle.model_run.specs.State.{Common, State, Env}
 use Rattle.model_run.specs.Around.{Around, Shape, form_at, frame, under, ended, cells, limits, whole}
 use Rattle.model_run.specs.Names.{bind, bind_all}
 use Rattle.model_run.specs.Callables.{parameters_of, arguments_for, call_limit, opened, closed, plain as plain_end, after_call, body_with, body}
@@ -33,7 +33,7 @@ use Rattle.model_run.specs.FrameTable.{is_declaration, is_callable, is_closure_f
 use Rattle.model_run.specs.Scoping.{Names, names_within, names_after, names_of}
 use Rattle.model_run.specs.Fitting.{EnvFits, closure_rule, IsFlowNode}
 use Rattle.model_run.proofs.LaterLaws.{env_later}
-use Rattle.run_laws.specs.Soundness.{Shaped, may_declare, EndFits, At, Holds, Goes}
+use Rattle.run_laws.specs.Soundness.{Base, Shaped, may_declare, EndFits, At, Holds, Goes}
 use Rattle.run_laws.proofs.Flow.{all_there_then, at_self, holds_then, holds_as, moves_aside, at_moved, guard_goes, end_goes, answer_goes, through_goes}
 use Rattle.run_laws.proofs.Sources.{Place, Sources, sits_here, Quiet, quiet_part, quiet_names}
 use Rattle.run_laws.proofs.SoundAssignments.{before_of, operate_goes}
@@ -107,10 +107,10 @@ plain_fits f p u Continued h = (tt, p)
 plain_fits f p u (Declared b) h = (tt, p)
 plain_fits f p u (Answered x) h = (tt, p)
 
-pub call_end_goes : (g : Setting) (f : NodeForm) → is_declaration f ≡ false → (u : Common) (e : Ending) (s : State) → At g u s → EndFits form.Block s.world.shared e → Holds g f u (after_call e s)
-call_end_goes g f p u e s at h = (at_moved g u closed s at (moves_aside g closed s.world at.sound refl refl refl refl refl refl (omega arith)), plain_fits f p s.world.shared e h)
+pub call_end_goes : (g : Base) (f : NodeForm) → is_declaration f ≡ false → (u : Common) (e : Ending) (s : State) → At g u s → EndFits form.Block s.world.shared e → Holds g f u (after_call e s)
+call_end_goes g f p u e s at h = (at_moved g u closed s at (moves_aside g closed s.world at.sound refl refl refl refl refl refl refl refl (omega arith)), plain_fits f p s.world.shared e h)
 
-module _ (g : Setting) (shaped : Shaped g.script) (k : ℕ) (sh : Shape) (xs : Names) (place : Place g k sh xs) (a : Around) (src : Sources g shaped k sh xs place a) where
+module _ (g : Base) (shaped : Shaped g.script) (k : ℕ) (sh : Shape) (xs : Names) (place : Place g k sh xs) (a : Around) (src : Sources g shaped k sh xs place a) where
   module _ (cl : is_callable sh.form ≡ true) where
     quiet : Quiet g shaped k sh xs place
     quiet i = called_quiet sh.form cl i
@@ -128,14 +128,14 @@ module _ (g : Setting) (shaped : Shaped g.script) (k : ℕ) (sh : Shape) (xs : N
           variables = variables_bound t.world.shared.cells (parameters_of sh.form) (length h) env
               (λ i lt. subst (λ cs. HasVariable (slice_get cs (length h + i))) (sym is) (subst HasVariable (sym (get_behind h (map Variable vs) i)) (variable_there vs i (omega (arith, lt, many))))) fit1.variables;
         } in
-        holds_then g form.Block u t.world.shared at.later _ (through_goes g form.Block form.Block t.world.shared (frame kind.CallBody k 0 env [])
+        holds_then g form.Block u t.world.shared at.later _ (through_goes g form.Block form.Block t.world.shared (frame kind.CallBody k 0 env []) refl
         (sits_here g shaped k sh xs place t.world.shared kind.CallBody 0 env [] cl (omega arith) tt fit1 tt) after_call (call_end_goes g form.Block refl t.world.shared) (a.part First 0 (bind_all (parameters_of sh.form) (length h) env) t)
         (holds_as g (form_at sh.parts 0) form.Block t.world.shared _ (quiet_part g shaped k sh xs place quiet 0) refl
         (src.part t.world.shared 0 (bind_all (parameters_of sh.form) (length h) env) (subst (λ zs. EnvFits t.world.shared.cells zs (bind_all (parameters_of sh.form) (length h) env)) (sym inner_names) fit2) t (at_self g u t at))))
 
     with_goes : (u : Common) (env : Env) → EnvFits u.cells xs env → (o : Option (List Value)) → Arguments (There u.cells) (parameters_of sh.form) o → Goes g form.Block u (body_with a sh k env o)
     with_goes u env fit None h = operate_goes g form.Block u [] tt (λ h v. ⊥) (λ h v bad. absurd bad) (λ w. no_method (limits w) (cells w) (closure 0) (codes "call")) (λ w. no_method_grows (before_of g w []) (λ h v. ⊥) (closure 0) (codes "call")) ended (end_goes g form.Block u refl)
-    with_goes u env fit (Some vs) h = guard_goes g form.Block u call_limit opened (λ w l sound none. moves_aside g opened w sound refl refl refl refl refl refl (omega arith)) _ (λ s at.
+    with_goes u env fit (Some vs) h = guard_goes g form.Block u call_limit opened (λ w l sound none. moves_aside g opened w sound refl refl refl refl refl refl refl refl (omega arith)) _ (λ s at.
         answer_goes g form.Block u (λ cs v. cs ≡ cells s.world ++ map Variable vs) (with_new (limits s.world) (cells s.world) (map Variable vs) (λ cs. Gives cs Null)) s at
         (Given (closure_rule g.script) (cells s.world) vs) ((at.sound).cells, all_there_then u s.world.shared at.later vs h.0)
         (gives_new (before_of g s.world vs) (λ cs v. cs ≡ cells s.world ++ map Variable vs) (map Variable vs) Null (λ given. variables_fit (closure_rule g.script) (cells s.world) (cells s.world ++ map Variable vs) (later_behind (cells s.world) (map Variable vs)) vs given.1) (λ given. refl))
@@ -154,6 +154,6 @@ module _ (g : Setting) (shaped : Shaped g.script) (k : ℕ) (sh : Shape) (xs : N
   -- a branch's closure
   pub branched_goes : (f : NodeForm) → sh.form ≡ f → is_closure_form f ≡ true → (u : Common) (env : Env) → EnvFits u.cells xs env → (start : ℕ) → IsFlowNode u.nodes start → Goes g form.Block u (branched a k sh env start f)
   branched_goes (form.Closure heads) is cl u env fit start flow s at =
-      through_goes g form.Block form.Block u (frame kind.BranchBody k 0 env (whole start ∷ [])) (sits_here g shaped k sh xs place u kind.BranchBody 0 env (whole start ∷ []) (ap is_closure_form is) (omega arith) (flow, tt) fit tt) (after_branch start)
+      through_goes g form.Block form.Block u (frame kind.BranchBody k 0 env (whole start ∷ [])) refl (sits_here g shaped k sh xs place u kind.BranchBody 0 env (whole start ∷ []) (ap is_closure_form is) (omega arith) (flow, tt) fit tt) (after_branch start)
       (branch_end_goes g form.Block refl u start flow) (body a sh k env [] s) (body_goes (ap is_callable is) u env fit [] tt s at)
   branched_goes f is cl u env fit start flow s at = absurd (cc)

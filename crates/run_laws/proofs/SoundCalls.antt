@@ -23,7 +23,7 @@ use Rattle.model_run.specs.declared.frame.Frame.{Frame}
 use Rattle.model_run.specs.declared.frame.FrameKind.TheVariants as kind
 use Rattle.model_run.specs.declared.ending.Ending.{Ending}
 use Rattle.model_run.specs.Terms.{Term, Terms, Numbered, no_terms, and_then, form_of, parts_of, number_of}
-use Rattle.model_run.specs.State.{Setting, Common, World, State, Env, Result, Limited, with_world, through, changed, unless_limit, may_count, put_cells}
+use Rattle.model_run.specs.State.{Common, World, State, Env, Result, Limited, with_world, through, changed, unless_limit, may_count, put_cells}
 use Rattle.model_run.specs.Around.{Around, Shape, frame, ended, cells, limits, whole}
 use Rattle.model_run.specs.Names.{variable}
 use Rattle.model_run.specs.Callables.{closure_in, closure_of, calling, function_if, function_in, function_named}
@@ -36,10 +36,10 @@ use Rattle.model_run.proofs.CallLaws.{OneOrTwo, ElementFits, kind_turn_fits}
 use Rattle.model_run.proofs.LaterLaws.{env_later}
 use Rattle.model_run.proofs.Walk.{closure_called}
 use Rattle.model_run.proofs.Front.{front_itself}
-use Rattle.run_laws.specs.Soundness.{Shaped, seen, EndFits, Sound, At, Holds, Goes}
+use Rattle.run_laws.specs.Soundness.{Base, Shaped, seen, EndFits, Sound, At, Holds, Goes, Stopped}
 use Rattle.run_laws.proofs.NodeLaws.{Real, RealAll}
 use Rattle.run_laws.proofs.Bounds.{bounds_aside}
-use Rattle.run_laws.proofs.Flow.{there_then, all_there_then, seen_then, at_self, holds_then, from_here, holds_as, Moves, moves_cells, at_moved, tick_goes, end_goes, null_goes, value_goes, answer_goes, through_goes}
+use Rattle.run_laws.proofs.Flow.{same_on, there_then, all_there_then, seen_then, at_self, holds_then, from_here, holds_as, Moves, moves_cells, at_moved, tick_goes, end_goes, null_goes, value_goes, answer_goes, through_goes, stopped_here}
 use Rattle.run_laws.proofs.Sources.{CalleeFits, TurnFits, turn_names, Place, Sources, sits_here}
 use Rattle.run_laws.proofs.SoundAssignments.{before_of, operate_goes, same}
 
@@ -51,10 +51,10 @@ CalleeThere root u (Some c) = CalleeFits root u c.node c.env
 pub callee_then : (root : Term) (u v : Common) → Later u v → (k : ℕ) (env : Env) → CalleeFits root u k env → CalleeFits root v k env
 callee_then root u v l k env h = record { below = h.below; callable = h.callable; variables = env_later u v l _ env h.variables }
 
-closure_cell_fits : (g : Setting) (u : Common) (k : ℕ) (env : Env) → CellFits (closure_rule g.script) u.cells (ClosureCell k env) → CalleeFits g.script u k env
+closure_cell_fits : (g : Base) (u : Common) (k : ℕ) (env : Env) → CellFits (closure_rule g.script) u.cells (ClosureCell k env) → CalleeFits g.script u k env
 closure_cell_fits g u k env h = record { below = (h.0).0; callable = closure_called _ (h.0).1; variables = record { names = (h.0).2; variables = h.1 } }
 
-closure_in_fits : (g : Setting) (u : Common) (o : Option Cell) (c : ℕ) → slice_get u.cells c ≡ o → CellsFit (closure_rule g.script) u.cells → CalleeThere g.script u (closure_in o)
+closure_in_fits : (g : Base) (u : Common) (o : Option Cell) (c : ℕ) → slice_get u.cells c ≡ o → CellsFit (closure_rule g.script) u.cells → CalleeThere g.script u (closure_in o)
 closure_in_fits g u (Some (ClosureCell k env)) c e fit = closure_cell_fits g u k env (all_get (CellFits (closure_rule g.script) u.cells) u.cells c (ClosureCell k env) e fit)
 closure_in_fits g u (Some (Variable v)) c e fit = tt
 closure_in_fits g u (Some (TextCell t)) c e fit = tt
@@ -63,7 +63,7 @@ closure_in_fits g u (Some (MapCell es)) c e fit = tt
 closure_in_fits g u (Some (ThrownCell d m)) c e fit = tt
 closure_in_fits g u None c e fit = tt
 
-pub closure_fits : (g : Setting) (w : World) (v : Value) → Sound g w → CalleeThere g.script w.shared (closure_of w v)
+pub closure_fits : (g : Base) (w : World) (v : Value) → Sound g w → CalleeThere g.script w.shared (closure_of w v)
 closure_fits g w (InCell c) sound = closure_in_fits g w.shared (slice_get (cells w) c) c refl sound.cells
 closure_fits g w Null sound = tt
 closure_fits g w (Truth b) sound = tt
@@ -108,10 +108,10 @@ function_in_fits root u x f i ys (and_then t ts) h = function_if_fits root u x (
 parts_fit : (root : Term) (u : Common) (x : List ℕ) (ys : Names) (t : Term) → Real root ys t → CalleeThere root u (function_in x (parts_of t))
 parts_fit root u x ys (Numbered k f ps) h = function_in_fits root u x f 0 (names_around f ys) ps h.4
 
-pub function_fits : (g : Setting) → Real g.script [] g.script → (x : List ℕ) (w : World) → Sound g w → CalleeThere g.script w.shared (function_named x w)
+pub function_fits : (g : Base) → Real g.script [] g.script → (x : List ℕ) (w : World) → Sound g w → CalleeThere g.script w.shared (function_named x w)
 function_fits g real x w sound = subst (λ r. CalleeThere g.script w.shared (function_in x (parts_of r))) (ap (λ s. s.script) (sym sound.setting)) (parts_fit g.script w.shared x [] g.script real)
 
-pub binding_fits : (g : Setting) (x : List ℕ) (w : World) → Sound g w → (o : Option ℕ) → CalleeThere g.script w.shared (option_and_then (λ c. closure_of w (variable w c)) o)
+pub binding_fits : (g : Base) (x : List ℕ) (w : World) → Sound g w → (o : Option ℕ) → CalleeThere g.script w.shared (option_and_then (λ c. closure_of w (variable w c)) o)
 binding_fits g x w sound (Some c) = closure_fits g w (variable w c) sound
 binding_fits g x w sound None = tt
 
@@ -159,15 +159,15 @@ kept_there P Find n held h = tt
 kept_there P FindAll n held h = all_drop P n held h
 kept_there P m n held h = h
 
-module _ (g : Setting) where
+module _ (g : Base) where
   -- a turn is begun with the cells that it needs
   turn_moves : (h : List Cell) (w : World) → Sound g w → (given result : Type 0) → Grows (limits w) (closure_rule g.script) (cells w) given h result → CellsFit (closure_rule g.script) h → Moves g (begun_turn h) w
   turn_moves h w sound given result grown fits =
       let m : Moves g (put_cells h) w = moves_cells g w sound given result h grown fits in
-      record { later = record { cells = grown.later; nodes = front_itself w.shared.nodes }; cells = fits; binding = m.binding; head = sound.head; bounds = bounds_aside false g.site (put_cells h w).shared (begun_turn h w).shared m.bounds refl refl refl refl refl (omega arith) }
+      record { later = record { cells = grown.later; nodes = front_itself w.shared.nodes }; cells = fits; binding = m.binding; head = sound.head; same = same_on g.around w (begun_turn h w) refl refl; bounds = bounds_aside false g.site (put_cells h w).shared (begun_turn h w).shared m.bounds refl refl refl refl refl (omega arith) }
 
   -- a call's body, behind a change that may meet a limit, under a frame
-  pub through_guard_goes : (f : NodeForm) (u : Common) (x : Frame) (go : Ending → State → Result) (o : Option LimitKind) (h : World → World) (body : State → Result) (s : State) → At g u s → (o ≡ None → Holds g f u (through x go (body (with_world (h s.world) s)))) → Holds g f u (through x go (unless_limit o (changed h body) s))
+  pub through_guard_goes : (f : NodeForm) (u : Common) (x : Frame) (go : Ending → State → Result) (o : Option LimitKind) (h : World → World) (body : State → Result) (s : State) → Stopped g u s → (o ≡ None → Holds g f u (through x go (body (with_world (h s.world) s)))) → Holds g f u (through x go (unless_limit o (changed h body) s))
   unfolding through
   through_guard_goes f u x go (Some k) h body s at held = at
   through_guard_goes f u x go None h body s at held = held refl
@@ -176,9 +176,9 @@ module _ (g : Setting) where
   calling_goes f plain u (Some c) s at fit go k' = k' c refl fit
   calling_goes f plain u None s at fit go k' = null_goes g f u plain s at
 
-module _ (g : Setting) (shaped : Shaped g.script) (k : ℕ) (sh : Shape) (xs : Names) (place : Place g k sh xs) (a : Around) (src : Sources g shaped k sh xs place a) (plain : is_declaration sh.form ≡ false) where
+module _ (g : Base) (shaped : Shaped g.script) (k : ℕ) (sh : Shape) (xs : Names) (place : Place g k sh xs) (a : Around) (src : Sources g shaped k sh xs place a) (plain : is_declaration sh.form ≡ false) where
   pub enter_goes : (u : Common) (args : List Value) (c : Callee) → AllAre (There u.cells) args → CalleeFits g.script u c.node c.env → Goes g sh.form u (enter a args c)
-  enter_goes u args c there fit = tick_goes g sh.form u (a.call c.node args c.env) (λ s at. holds_as g form.Block sh.form u _ refl plain (src.call u c.node args c.env fit there s at))
+  enter_goes u args c there fit = tick_goes g sh.form u (a.call c.node args c.env) (λ s at. holds_as g form.Block sh.form u _ refl plain (src.call g.around u c.node args c.env fit there s at))
 
   -- a walk
   module _ (access : Access) (name : List ℕ) (is : sh.form ≡ form.Method access name) where
@@ -206,7 +206,7 @@ module _ (g : Setting) (shaped : Shaped g.script) (k : ℕ) (sh : Shape) (xs : N
           → (t : Element) → ElementFits t → TurnGrows (limits s.world) (closure_rule g.script) (cells s.world) (Given (closure_rule g.script) (cells s.world) (on ∷ [])) t → Holds g sh.form u (walk_turn a k env (walk_method sh.form) i on f kept c t s)
       walk_turn_goes u env fit i on f kept ton tf tk c s at callee fseen Past sized grown =
           operate_goes g sh.form u (on ∷ kept) (ton, tk) There (same g) (λ w. at_end (limits w) (cells w) (walk_method sh.form) on kept) (λ w. walk_ends (limits w) (closure_rule g.script) (cells w) (walk_method sh.form) on kept) ended (end_goes g sh.form u plain) s at
-      walk_turn_goes u env fit i on f kept ton tf tk c s at callee fseen (Stops limit) sized grown = tick_goes g sh.form u (Limited limit) (λ t q. q) s at
+      walk_turn_goes u env fit i on f kept ton tf tk c s at callee fseen (Stops limit) sized grown = tick_goes g sh.form u (Limited limit) (λ t q. stopped_here g u t q) s at
       walk_turn_goes u env fit i on f kept ton tf tk c s at callee fseen (Turns h args element) sized grown =
           let fits : CellsFit (closure_rule g.script) h × (AllAre (There h) args × AllAre (There h) element) = grown.fits ((at.sound).cells, (there_then u s.world.shared at.later on ton, tt)) in
           let v : Common = (begun_turn h s.world).shared in
@@ -218,11 +218,11 @@ module _ (g : Setting) (shaped : Shaped g.script) (k : ℕ) (sh : Shape) (xs : N
           let ton1 : There h on = there_then u (begun_turn h s.world).shared at1.later on ton in
           let tf1 : There h f = there_then u (begun_turn h s.world).shared at1.later f tf in
           let fit1 : EnvFits h xs env = env_later u (begun_turn h s.world).shared at1.later xs env fit in
-          through_guard_goes g sh.form u (frame kind.WalkTurn k 0 env (on ∷ f ∷ whole i ∷ held_in_turn (walk_method sh.form) args element kept)) (after_walk_turn a env (walk_method sh.form) i on f (held_in_turn (walk_method sh.form) args element kept)) (may_count s.world) (begun_turn h) (a.call c.node args c.env) s at
-          (λ none. holds_then g sh.form u (begun_turn h s.world).shared at1.later _ (through_goes g sh.form form.Block (begun_turn h s.world).shared (frame kind.WalkTurn k 0 env (on ∷ f ∷ whole i ∷ held_in_turn (walk_method sh.form) args element kept))
+          through_guard_goes g sh.form u (frame kind.WalkTurn k 0 env (on ∷ f ∷ whole i ∷ held_in_turn (walk_method sh.form) args element kept)) (after_walk_turn a env (walk_method sh.form) i on f (held_in_turn (walk_method sh.form) args element kept)) (may_count s.world) (begun_turn h) (a.call c.node args c.env) s (stopped_here g u s at)
+          (λ none. holds_then g sh.form u (begun_turn h s.world).shared at1.later _ (through_goes g sh.form form.Block (begun_turn h s.world).shared (frame kind.WalkTurn k 0 env (on ∷ f ∷ whole i ∷ held_in_turn (walk_method sh.form) args element kept)) refl
           (sits_here g shaped k sh xs place (begun_turn h s.world).shared kind.WalkTurn 0 env (on ∷ f ∷ whole i ∷ held_in_turn (walk_method sh.form) args element kept) wa (omega arith) (ton1, (seen_then s.world.shared (begun_turn h s.world).shared l1 A_closure f fseen, (tt, held_seen (begun_turn h s.world).shared (walk_method sh.form) args element kept sized.0 sized.1 there))) fit1 tt)
           (after_walk_turn a env (walk_method sh.form) i on f (held_in_turn (walk_method sh.form) args element kept)) (walk_end_goes (begun_turn h s.world).shared env fit1 i on f (held_in_turn (walk_method sh.form) args element kept) ton1 tf1 there)
-          (a.call c.node args c.env (with_world (begun_turn h s.world) s)) (src.call (begun_turn h s.world).shared c.node args c.env (callee_then g.script s.world.shared (begun_turn h s.world).shared l1 c.node c.env callee) (fits.1).0 (with_world (begun_turn h s.world) s) (at_self g u (with_world (begun_turn h s.world) s) at1))))
+          (a.call c.node args c.env (with_world (begun_turn h s.world) s)) (src.call g.around (begun_turn h s.world).shared c.node args c.env (callee_then g.script s.world.shared (begun_turn h s.world).shared l1 c.node c.env callee) (fits.1).0 (with_world (begun_turn h s.world) s) (at_self g u (with_world (begun_turn h s.world) s) at1))))
 
       pub walk_goes : (u : Common) (env : Env) → EnvFits u.cells xs env → (i : ℕ) (on f : Value) (kept : List Value) → There u.cells on → There u.cells f → AllAre (There u.cells) kept → Goes g sh.form u (walk a k env (walk_method sh.form) i on f kept)
       walk_goes u env fit i on f kept ton tf tk s at = calling_goes g sh.form plain u (closure_of s.world f) s at (closure_fits g s.world f at.sound)

@@ -15,7 +15,7 @@ use Rattle.model_values.specs.declared.cell.Cell.TheVariants.{Closure as Closure
 use Rattle.model_run.specs.declared.frame.FrameKind.TheVariants as kind
 use Rattle.model_run.specs.declared.ending.Ending.TheVariants.{Broke, Continued}
 use Rattle.model_run.specs.declared.ending.Entry.TheVariants.{First}
-use Rattle.model_run.specs.State.{Setting, Common, World, Env, Ended, through, choose, operating, on_value}
+use Rattle.model_run.specs.State.{Common, World, Env, Ended, through, choose, operating, on_value}
 use Rattle.model_run.specs.Around.{Around, Shape, form_at, arity, frame, ended, cells, limits, value_at}
 use Rattle.model_run.specs.Names.{look}
 use Rattle.model_run.specs.Statements.{statements, after_steps_first, each_from, after_try, throws}
@@ -28,7 +28,7 @@ use Rattle.model_run.specs.Scoping.{Names, names_within, names_after}
 use Rattle.model_run.specs.Fitting.{EnvFits, closure_rule}
 use Rattle.model_run.proofs.LaterLaws.{env_later}
 use Rattle.model_run.proofs.Under.{both}
-use Rattle.run_laws.specs.Soundness.{Shaped, may_declare, is_target, Sound, Goes}
+use Rattle.run_laws.specs.Soundness.{Base, Shaped, may_declare, is_target, Sound, Goes}
 use Rattle.run_laws.proofs.NodeLaws.{Real}
 use Rattle.run_laws.proofs.Flow.{from_here, holds_as, tick_goes, end_goes, null_goes, answer_goes, through_goes}
 use Rattle.run_laws.proofs.Sources.{TurnFits, turn_names, Place, Sources, sits_here, part_goes}
@@ -43,7 +43,7 @@ called_count : (w : World) (o : Option ℕ) → length (called_value w o) ≡ (i
 called_count w None = refl
 called_count w (Some c) = refl
 
-called_there : (g : Setting) (w : World) → Sound g w → (o : Option ℕ) → AllAre (There (cells w)) (called_value w o)
+called_there : (g : Base) (w : World) → Sound g w → (o : Option ℕ) → AllAre (There (cells w)) (called_value w o)
 called_there g w sound None = tt
 called_there g w sound (Some c) = (content_there (closure_rule g.script) (cells w) (slice_get (cells w) c) c refl sound.cells, tt)
 
@@ -51,7 +51,7 @@ closure_value : (h : List Cell) (v : Value) → IsIn HasClosure h v → There h 
 closure_value h (InCell c) e = cell_there HasClosure (λ h. h) h c e
 closure_value h v e = absurd e
 
-module _ (g : Setting) (real : Real g.script [] g.script) (shaped : Shaped g.script) (k : ℕ) (sh : Shape) (xs : Names) (place : Place g k sh xs) (a : Around) (src : Sources g shaped k sh xs place a) where
+module _ (g : Base) (real : Real g.script [] g.script) (shaped : Shaped g.script) (k : ℕ) (sh : Shape) (xs : Names) (place : Place g k sh xs) (a : Around) (src : Sources g shaped k sh xs place a) where
   abbrev Is : NodeForm → Type 0
   Is f = sh.form ≡ f
 
@@ -75,20 +75,20 @@ module _ (g : Setting) (real : Real g.script [] g.script) (shaped : Shaped g.scr
       none fs = fit
 
   each_first : (x : List ℕ) → Is (form.ForEach x) → (u : Common) (env : Env) → EnvFits u.cells xs env → Goes g sh.form u (λ s. through (frame kind.EachOver k 0 env []) (on_value (λ v. each_from a env v 0)) (a.part First 0 env s))
-  each_first x is u env fit = under_goes g shaped k sh xs place a src sh.form u kind.EachOver 0 env [] (on_value (λ v. each_from a env v 0)) 0 (λ i. ap (λ f. may_declare f i) is) (ap (λ f. names_within f 0 xs) is) fit
+  each_first x is u env fit = under_goes g shaped k sh xs place a src sh.form u kind.EachOver refl 0 env [] (on_value (λ v. each_from a env v 0)) 0 (λ i. ap (λ f. may_declare f i) is) (ap (λ f. names_within f 0 xs) is) fit
       (sits_here g shaped k sh xs place u kind.EachOver 0 env [] (ap is_each is) (omega arith) tt fit tt) (each_over_goes g shaped k sh xs place a src x is u env fit)
 
   try_first : Is form.Try → (u : Common) (env : Env) → EnvFits u.cells xs env → Goes g sh.form u (λ s. through (frame kind.TryBlock k 0 env []) (after_try a k sh env) (a.part First 0 env s))
-  try_first is u env fit = under_goes g shaped k sh xs place a src sh.form u kind.TryBlock 0 env [] (after_try a k sh env) 0 (λ i. ap (λ f. may_declare f i) is) (ap (λ f. names_within f 0 xs) is) fit
+  try_first is u env fit = under_goes g shaped k sh xs place a src sh.form u kind.TryBlock refl 0 env [] (after_try a k sh env) 0 (λ i. ap (λ f. may_declare f i) is) (ap (λ f. names_within f 0 xs) is) fit
       (sits_here g shaped k sh xs place u kind.TryBlock 0 env [] (ap (same_form form.Try) is) (omega arith) tt fit tt) (try_goes g shaped k sh xs place a src is u env fit)
 
   throw_first : Is form.Throw → (u : Common) (env : Env) → EnvFits u.cells xs env → Goes g sh.form u (λ s. through (frame kind.ThrowValue k 0 env []) (on_value throws) (a.part First 0 env s))
-  throw_first is u env fit = under_goes g shaped k sh xs place a src sh.form u kind.ThrowValue 0 env [] (on_value throws) 0 (λ i. ap (λ f. may_declare f i) is) (ap (λ f. names_within f 0 xs) is) fit
+  throw_first is u env fit = under_goes g shaped k sh xs place a src sh.form u kind.ThrowValue refl 0 env [] (on_value throws) 0 (λ i. ap (λ f. may_declare f i) is) (ap (λ f. names_within f 0 xs) is) fit
       (sits_here g shaped k sh xs place u kind.ThrowValue 0 env [] (ap (same_form form.Throw) is) (omega arith) tt fit tt) (throw_end_goes g shaped k sh xs place a src u)
 
   -- the first part of the head of a `for`
   steps_first : Is form.ForSteps → (u : Common) (env : Env) → EnvFits u.cells xs env → 0 < arity sh → Goes g sh.form u (λ s. through (frame kind.StepsFirst k 0 env []) (after_steps_first a k env) (a.part First 0 env s))
-  steps_first is u env fit some s at = through_goes g sh.form (form_at sh.parts 0) u (frame kind.StepsFirst k 0 env []) (sits_here g shaped k sh xs place u kind.StepsFirst 0 env [] (ap (same_form form.ForSteps) is) (omega arith) tt fit tt) (after_steps_first a k env)
+  steps_first is u env fit some s at = through_goes g sh.form (form_at sh.parts 0) u (frame kind.StepsFirst k 0 env []) refl (sits_here g shaped k sh xs place u kind.StepsFirst 0 env [] (ap (same_form form.ForSteps) is) (omega arith) tt fit tt) (after_steps_first a k env)
       (λ e t q h. steps_first_goes g shaped k sh xs place a src is u env fit e t q h some) (a.part First 0 env s) (src.part u 0 env (subst (λ ys. EnvFits u.cells ys env) (sym (ap (λ f. names_within f 0 (names_after sh.parts 0 xs)) is ∙ none sh.parts)) fit) s at)
     where
       none : (fs : List NodeForm) → names_after fs 0 xs ≡ xs

@@ -24,7 +24,7 @@ use Rattle.model_values.specs.declared.operator.Op.TheVariants.{Plus, Minus, Tim
 use Rattle.model_run.specs.declared.frame.FrameKind.TheVariants as kind
 use Rattle.model_run.specs.declared.ending.Ending.{Ending}
 use Rattle.model_run.specs.declared.ending.Entry.TheVariants.{Inside, On}
-use Rattle.model_run.specs.State.{Setting, Common, World, State, Env, Result, Limited, tick, raised, on_value}
+use Rattle.model_run.specs.State.{Common, World, State, Env, Result, Limited, tick, raised, on_value}
 use Rattle.model_run.specs.Around.{Around, Shape, form_at, arity, frame, ended, cells, limits, deciding}
 use Rattle.model_run.specs.Expressions.{after_choice, choice_test, choice, choices, truth_value, stops_or, is_and, after_operand, operands, compared, comparing, computing, applying, operator_of, after_joined, joined, joined_all, prefixing, prefixes_of, prefixed_by, prefixed, suffixed, suffixed_all, safely, property, index, indexed, group}
 use Rattle.model_run.specs.Forms.{value}
@@ -33,8 +33,8 @@ use Rattle.model_run.specs.Scoping.{Names, names_within, names_after}
 use Rattle.model_run.specs.Fitting.{EnvFits, closure_rule, Later}
 use Rattle.model_run.proofs.LaterLaws.{env_later}
 use Rattle.model_run.proofs.Under.{both}
-use Rattle.run_laws.specs.Soundness.{Shaped, may_declare, is_operand, Sits, EndFits, Sound, At, Holds, Goes}
-use Rattle.run_laws.proofs.Flow.{later_self, there_then, from_here, holds_as, Moves, moves_aside, change_goes, tick_goes, decide_goes, GoesWith, end_goes, null_goes, value_goes, through_goes}
+use Rattle.run_laws.specs.Soundness.{Base, Shaped, may_declare, is_operand, Sits, EndFits, Sound, At, Holds, Goes}
+use Rattle.run_laws.proofs.Flow.{later_self, there_then, from_here, holds_as, Moves, moves_aside, change_goes, tick_goes, decide_goes, GoesWith, end_goes, null_goes, value_goes, through_goes, stopped_here}
 use Rattle.run_laws.proofs.Sources.{has_inner, Place, Sources, sits_here, Quiet, quiet_names, part_goes, inner_goes}
 use Rattle.run_laws.proofs.SoundAssignments.{before_of, operate_goes, same}
 use Rattle.run_laws.proofs.SoundStatements.{under_goes}
@@ -62,9 +62,9 @@ chain_within form.And e i xs = refl
 chain_within form.Or e i xs = refl
 chain_within f e i xs = absurd (cc)
 
-module _ (g : Setting) where
+module _ (g : Base) where
   raised_moves : (n : ℕ) (w : World) → Sound g w → Moves g (raised n) w
-  raised_moves n w sound = moves_aside g (raised n) w sound refl refl refl refl refl refl (omega arith)
+  raised_moves n w sound = moves_aside g (raised n) w sound refl refl refl refl refl refl refl refl (omega arith)
 
   module _ (f : NodeForm) (plain : is_declaration f ≡ false) (u : Common) where
     pub value_form_goes : GoesWith g f u value
@@ -83,7 +83,7 @@ module _ (g : Setting) where
 
     compared_goes : (same : Bool) (go : Value → State → Result) → GoesWith g f u go → (x : Equality) → Goes g f u (compared same go x)
     compared_goes same go k' (Equal_is b n) = change_goes g f u (raised n) (raised_moves n) (go (Truth (if same then b else not b))) (λ s at. k' (Truth (if same then b else not b)) s at tt)
-    compared_goes same go k' (Stops limit n) = change_goes g f u (raised n) (raised_moves n) (Limited limit) (λ s at. at)
+    compared_goes same go k' (Stops limit n) = change_goes g f u (raised n) (raised_moves n) (Limited limit) (λ s at. stopped_here g u s at)
 
     comparing_goes : (same : Bool) (x y : Value) (go : Value → State → Result) → GoesWith g f u go → Goes g f u (comparing same x y go)
     comparing_goes same x y go k' s at = compared_goes same go k' (equal (limits s.world) (cells s.world) x y s.world.shared.count) s at
@@ -134,7 +134,7 @@ module _ (g : Setting) where
     joined_value_goes sh m u left is go k' v s at there = from_here g f u (after_joined sh m left go v) s at
         (tick_goes g f s.world.shared (applying (operator_of (form_at sh.parts (arity sh - suc m))) left v go) (applying_goes f plain s.world.shared (operator_of (form_at sh.parts (arity sh - suc m))) left v (there_then u s.world.shared at.later left is) there go (k' s.world.shared at.later)))
 
-module _ (g : Setting) (shaped : Shaped g.script) (k : ℕ) (sh : Shape) (xs : Names) (place : Place g k sh xs) (a : Around) (src : Sources g shaped k sh xs place a) where
+module _ (g : Base) (shaped : Shaped g.script) (k : ℕ) (sh : Shape) (xs : Names) (place : Place g k sh xs) (a : Around) (src : Sources g shaped k sh xs place a) where
   abbrev Is : NodeForm → Type 0
   Is f = sh.form ≡ f
 
@@ -143,7 +143,7 @@ module _ (g : Setting) (shaped : Shaped g.script) (k : ℕ) (sh : Shape) (xs : N
   group_end_goes is u = value_goes g sh.form u value (value_form_goes g sh.form (ap is_declaration is) u)
 
   pub group_goes : Is form.Group → (u : Common) (env : Env) → EnvFits u.cells xs env → Goes g sh.form u (group a k env)
-  group_goes is u env fit = under_goes g shaped k sh xs place a src sh.form u kind.GroupValue 0 env [] (on_value (λ v. value v)) 0 (λ i. ap (λ f. may_declare f i) is) (ap (λ f. names_within f 0 xs) is) fit
+  group_goes is u env fit = under_goes g shaped k sh xs place a src sh.form u kind.GroupValue refl 0 env [] (on_value (λ v. value v)) 0 (λ i. ap (λ f. may_declare f i) is) (ap (λ f. names_within f 0 xs) is) fit
       (sits_here g shaped k sh xs place u kind.GroupValue 0 env [] (ap (same_form form.Group) is) (omega arith) tt fit tt) (group_end_goes is u)
 
   -- `test ? v :` and `v ?:`
@@ -167,7 +167,7 @@ module _ (g : Setting) (shaped : Shaped g.script) (k : ℕ) (sh : Shape) (xs : N
 
     choice_frame : (u : Common) (m : ℕ) → suc m ≤ arity sh → (env : Env) → EnvFits u.cells xs env → (others : State → Result) → ((w : Common) → Later u w → Goes g sh.form w others) → (p : NodeForm) → form_at sh.parts (arity sh - suc m) ≡ p → is_choice p ≡ true → has_inner p ≡ true → names_within p 0 xs ≡ xs → Goes g sh.form u (choice_test a k sh m env others)
     choice_frame u m le env fit others go p e1 c inside names s at =
-        through_goes g sh.form form.Block u (frame kind.ChosenTest k m env []) (sits_here g shaped k sh xs place u kind.ChosenTest m env [] (both _ _ (ap (same_form form.Chosen) is) (ap is_choice e1 ∙ c)) (omega arith) tt fit tt)
+        through_goes g sh.form form.Block u (frame kind.ChosenTest k m env []) refl (sits_here g shaped k sh xs place u kind.ChosenTest m env [] (both _ _ (ap (same_form form.Chosen) is) (ap is_choice e1 ∙ c)) (omega arith) tt fit tt)
         (after_choice a sh m env others (form_at sh.parts (arity sh - suc m))) (choice_end_goes u m env fit others go (form_at sh.parts (arity sh - suc m)) refl (ap is_choice e1 ∙ c)) (a.part (Inside 0) (arity sh - suc m) env s)
         (inner_goes g shaped k sh xs place a src chosen_quiet u (arity sh - suc m) 0 p env e1 inside (chosen_within (arity sh - suc m)) (subst (λ zs. EnvFits u.cells zs env) (sym names) fit) s at)
 
@@ -187,7 +187,7 @@ module _ (g : Setting) (shaped : Shaped g.script) (k : ℕ) (sh : Shape) (xs : N
 
     pub operands_goes : (m : ℕ) → m ≤ arity sh → (u : Common) (env : Env) → EnvFits u.cells xs env → Goes g sh.form u (operands a k sh env m)
     operands_goes zero le u env fit = null_goes g sh.form u (chain_plain sh.form ch)
-    operands_goes (suc m) le u env fit = under_goes g shaped k sh xs place a src sh.form u kind.ChainOperand m env [] (on_value (after_operand sh m (operands a k sh env m))) (arity sh - suc m) (λ i. chain_quiet sh.form ch i) (chain_within sh.form ch (arity sh - suc m) xs) fit
+    operands_goes (suc m) le u env fit = under_goes g shaped k sh xs place a src sh.form u kind.ChainOperand refl m env [] (on_value (after_operand sh m (operands a k sh env m))) (arity sh - suc m) (λ i. chain_quiet sh.form ch i) (chain_within sh.form ch (arity sh - suc m) xs) fit
         (sits_here g shaped k sh xs place u kind.ChainOperand m env [] ch (omega arith) tt fit tt) (operand_end m u env (operands_goes m (omega arith) u env fit))
 
     pub operand_end_goes : (m : ℕ) → m ≤ arity sh → (u : Common) (env : Env) → EnvFits u.cells xs env → (e : Ending) (s : State) → At g u s → EndFits form.Block s.world.shared e → Holds g sh.form u (on_value (after_operand sh m (operands a k sh env m)) e s)
@@ -214,7 +214,7 @@ module _ (g : Setting) (shaped : Shaped g.script) (k : ℕ) (sh : Shape) (xs : N
     joined_goes zero le u env fit left there s at = (at, (there_then u s.world.shared at.later left there, joined_plain))
     joined_goes (suc m) le u env fit left there s at =
         let op : is_operand (form_at sh.parts (arity sh - suc m)) ≡ true = operand_there (arity sh - suc m) (arity sh - suc (suc m)) (omega arith) (omega arith) in
-        through_goes g sh.form form.Block u (frame kind.JoinedOperand k m env (left ∷ [])) (sits_here g shaped k sh xs place u kind.JoinedOperand m env (left ∷ []) (ap (same_form form.Joined) is) (omega arith) (there, tt) fit tt)
+        through_goes g sh.form form.Block u (frame kind.JoinedOperand k m env (left ∷ [])) refl (sits_here g shaped k sh xs place u kind.JoinedOperand m env (left ∷ []) (ap (same_form form.Joined) is) (omega arith) (there, tt) fit tt)
         (on_value (after_joined sh m left (joined a k sh env m)))
         (joined_end m u env fit left there (λ w l v t q isv. from_here g sh.form w (joined a k sh env m v) t q (joined_goes m (omega arith) t.world.shared env (env_later w t.world.shared q.later xs env (env_later u w l xs env fit)) v isv)))
         (a.part (Inside 0) (arity sh - suc m) env s)
@@ -230,7 +230,7 @@ module _ (g : Setting) (shaped : Shaped g.script) (k : ℕ) (sh : Shape) (xs : N
     joined_first_end u env fit = value_goes g sh.form u _ (joined_with (arity sh - 1) (omega arith) u env fit)
 
     pub joined_all_goes : (u : Common) (env : Env) → EnvFits u.cells xs env → Goes g sh.form u (joined_all a k sh env)
-    joined_all_goes u env fit = under_goes g shaped k sh xs place a src sh.form u kind.JoinedFirst 0 env [] (on_value (joined a k sh env (arity sh - 1))) 0 joined_quiet (ap (λ f. names_within f 0 xs) is) fit
+    joined_all_goes u env fit = under_goes g shaped k sh xs place a src sh.form u kind.JoinedFirst refl 0 env [] (on_value (joined a k sh env (arity sh - 1))) 0 joined_quiet (ap (λ f. names_within f 0 xs) is) fit
         (sits_here g shaped k sh xs place u kind.JoinedFirst 0 env [] (ap (same_form form.Joined) is) (omega arith) tt fit tt) (joined_first_end u env fit)
 
   -- signs before an operand
@@ -238,7 +238,7 @@ module _ (g : Setting) (shaped : Shaped g.script) (k : ℕ) (sh : Shape) (xs : N
   prefixed_end is u = value_goes g sh.form u _ (prefixed_by_goes g sh.form (ap is_declaration is) (reverse (prefixes_of sh.parts)) u)
 
   pub prefixed_goes : Is form.Prefixed → (u : Common) (env : Env) → EnvFits u.cells xs env → Goes g sh.form u (prefixed a k sh env)
-  prefixed_goes is u env fit = under_goes g shaped k sh xs place a src sh.form u kind.PrefixedOperand 0 env [] (on_value (prefixed_by (reverse (prefixes_of sh.parts)))) (arity sh - 1) (λ i. ap (λ f. may_declare f i) is) (ap (λ f. names_within f (arity sh - 1) xs) is) fit
+  prefixed_goes is u env fit = under_goes g shaped k sh xs place a src sh.form u kind.PrefixedOperand refl 0 env [] (on_value (prefixed_by (reverse (prefixes_of sh.parts)))) (arity sh - 1) (λ i. ap (λ f. may_declare f i) is) (ap (λ f. names_within f (arity sh - 1) xs) is) fit
       (sits_here g shaped k sh xs place u kind.PrefixedOperand 0 env [] (ap (same_form form.Prefixed) is) (omega arith) tt fit tt) (prefixed_end is u)
 
   -- a primary and its suffixes
@@ -255,7 +255,7 @@ module _ (g : Setting) (shaped : Shaped g.script) (k : ℕ) (sh : Shape) (xs : N
     pub suffixed_goes : (m : ℕ) → m ≤ arity sh - 1 → (u : Common) (env : Env) → EnvFits u.cells xs env → (v : Value) → There u.cells v → Goes g sh.form u (suffixed a k sh env m v)
     suffixed_goes zero le u env fit v there s at = (at, (there_then u s.world.shared at.later v there, ap is_declaration is))
     suffixed_goes (suc m) le u env fit v there s at =
-        through_goes g sh.form form.Block u (frame kind.SuffixedPart k m env []) (suffixed_sits u m env (omega arith) fit) (on_value (suffixed a k sh env m))
+        through_goes g sh.form form.Block u (frame kind.SuffixedPart k m env []) refl (suffixed_sits u m env (omega arith) fit) (on_value (suffixed a k sh env m))
         (value_goes g sh.form u _ (λ v1 t q is1. from_here g sh.form u (suffixed a k sh env m v1) t q (suffixed_goes m (omega arith) t.world.shared env (env_later u t.world.shared q.later xs env fit) v1 is1)))
         (a.part (On v) (arity sh - suc m) env s) (src.suffix u (arity sh - suc m) env v there (subst (λ zs. EnvFits u.cells zs env) (sym (suffixed_names (arity sh - suc m))) fit) s at)
 
@@ -263,7 +263,7 @@ module _ (g : Setting) (shaped : Shaped g.script) (k : ℕ) (sh : Shape) (xs : N
     suffixed_end m le u env fit = value_goes g sh.form u _ (λ v1 t q is1. from_here g sh.form u (suffixed a k sh env m v1) t q (suffixed_goes m le t.world.shared env (env_later u t.world.shared q.later xs env fit) v1 is1))
 
     pub suffixed_all_goes : (u : Common) (env : Env) → EnvFits u.cells xs env → Goes g sh.form u (suffixed_all a k sh env)
-    suffixed_all_goes u env fit = under_goes g shaped k sh xs place a src sh.form u kind.SuffixedPart (arity sh - 1) env [] (on_value (suffixed a k sh env (arity sh - 1))) 0 suffixed_quiet (ap (λ f. names_within f 0 xs) is) fit
+    suffixed_all_goes u env fit = under_goes g shaped k sh xs place a src sh.form u kind.SuffixedPart refl (arity sh - 1) env [] (on_value (suffixed a k sh env (arity sh - 1))) 0 suffixed_quiet (ap (λ f. names_within f 0 xs) is) fit
         (suffixed_sits u (arity sh - 1) env (omega arith) fit) (suffixed_end (arity sh - 1) (omega arith) u env fit)
 
   -- `[i]`
@@ -271,5 +271,5 @@ module _ (g : Setting) (shaped : Shaped g.script) (k : ℕ) (sh : Shape) (xs : N
   indexed_end is u v there = value_goes g sh.form u _ (index_end_goes g sh.form (ap is_declaration is) u v there)
 
   pub indexed_goes : Is form.Index → (u : Common) (env : Env) → EnvFits u.cells xs env → (v : Value) → There u.cells v → Goes g sh.form u (indexed a k env v)
-  indexed_goes is u env fit v there = under_goes g shaped k sh xs place a src sh.form u kind.IndexValue 0 env (v ∷ []) (on_value (index v)) 0 (λ i. ap (λ f. may_declare f i) is) (ap (λ f. names_within f 0 xs) is) fit
+  indexed_goes is u env fit v there = under_goes g shaped k sh xs place a src sh.form u kind.IndexValue refl 0 env (v ∷ []) (on_value (index v)) 0 (λ i. ap (λ f. may_declare f i) is) (ap (λ f. names_within f 0 xs) is) fit
       (sits_here g shaped k sh xs place u kind.IndexValue 0 env (v ∷ []) (ap (same_form form.Index) is) (omega arith) (there, tt) fit tt) (indexed_end is u v there)

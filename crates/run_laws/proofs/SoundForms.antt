@@ -19,7 +19,7 @@ use Rattle.model_values.specs.declared.value.Value.TheVariants.{Null, Cell as In
 use Rattle.model_run.specs.declared.callee.Callee.{Callee}
 use Rattle.model_run.specs.declared.step.Step.{Step}
 use Rattle.model_run.specs.declared.step.Step.TheVariants as step
-use Rattle.model_run.specs.State.{Setting, Common, World, State, Env, with_world, changed, answered, may_count, counted, tick, raised}
+use Rattle.model_run.specs.State.{Common, World, State, Env, with_world, changed, answered, may_count, counted, tick, raised}
 use Rattle.model_run.specs.Around.{Around, Shape, ended, cells, limits}
 use Rattle.model_run.specs.Names.{look}
 use Rattle.model_run.specs.Callables.{closure_of, function_named}
@@ -33,41 +33,40 @@ use Rattle.model_run.specs.Fitting.{EnvFits, closure_rule}
 use Rattle.model_run.proofs.CallLaws.{method_walks}
 use Rattle.model_run.proofs.LaterLaws.{env_later}
 use Rattle.model_run.proofs.Under.{both}
-use Rattle.run_laws.specs.Soundness.{Shaped, Sound, At, Holds, Goes}
+use Rattle.run_laws.specs.Soundness.{Base, Shaped, Sound, At, Holds, Goes}
 use Rattle.run_laws.proofs.NodeLaws.{Real}
-use Rattle.run_laws.proofs.Flow.{there_then, all_there_then, from_here, moves_aside, at_moved, tick_goes, end_goes, null_goes, answer_goes}
+use Rattle.run_laws.proofs.Flow.{guard_here, there_then, all_there_then, from_here, moves_aside, at_moved, tick_goes, end_goes, null_goes, answer_goes, stopped_here}
 use Rattle.run_laws.proofs.Sources.{Place, Sources}
 use Rattle.run_laws.proofs.SoundAssignments.{before_of, operate_goes}
 use Rattle.run_laws.proofs.SoundCalls.{CalleeThere, closure_fits, function_fits, binding_fits, calling_goes, enter_goes, walk_goes}
 use Rattle.run_laws.proofs.SoundGathering.{list_goes, map_goes, text_goes, throwable_goes}
-use Rattle.run_laws.proofs.SoundStepForms.{guard_here}
 use Rattle.run_laws.proofs.SoundBranches.{CallsIt, begin_step_goes}
 
 -- what a name that is called means is there
-abbrev MeantThere : Setting → Common → List ℕ → Meant → Type 0
+abbrev MeantThere : Base → Common → List ℕ → Meant → Type 0
 MeantThere g u f (Callee_of c) = CalleeThere g.script u (Some c)
 MeantThere g u f (Step_of s) = step_named f ≡ Some s
 MeantThere g u f Nothing = Unit {0}
 
-step_there : (g : Setting) (u : Common) (f : List ℕ) (o : Option Step) → step_named f ≡ o → MeantThere g u f (meant_step o)
+step_there : (g : Base) (u : Common) (f : List ℕ) (o : Option Step) → step_named f ≡ o → MeantThere g u f (meant_step o)
 step_there g u f (Some s) e = e
 step_there g u f None e = tt
 
-binding_there : (g : Setting) (u : Common) (f : List ℕ) (o : Option Callee) → CalleeThere g.script u o → MeantThere g u f (meant_binding f o)
+binding_there : (g : Base) (u : Common) (f : List ℕ) (o : Option Callee) → CalleeThere g.script u o → MeantThere g u f (meant_binding f o)
 binding_there g u f (Some c) h = h
 binding_there g u f None h = step_there g u f (step_named f) refl
 
-function_there : (g : Setting) (w : World) (f : List ℕ) → Sound g w → (o : Option Callee) → CalleeThere g.script w.shared o → MeantThere g w.shared f (meant_function f w o)
+function_there : (g : Base) (w : World) (f : List ℕ) → Sound g w → (o : Option Callee) → CalleeThere g.script w.shared o → MeantThere g w.shared f (meant_function f w o)
 function_there g w f sound (Some c) h = h
 function_there g w f sound None h = binding_there g w.shared f (binding_closure f w) (binding_fits g f w sound (look f w.shared.binding))
 
-module _ (g : Setting) (real : Real g.script [] g.script) (shaped : Shaped g.script) (k : ℕ) (sh : Shape) (xs : Names) (place : Place g k sh xs) (a : Around) (src : Sources g shaped k sh xs place a) (plain : is_declaration sh.form ≡ false) (env : Env) where
+module _ (g : Base) (real : Real g.script [] g.script) (shaped : Shaped g.script) (k : ℕ) (sh : Shape) (xs : Names) (place : Place g k sh xs) (a : Around) (src : Sources g shaped k sh xs place a) (plain : is_declaration sh.form ≡ false) (env : Env) where
   -- what a method call comes to, at the state from which it was computed
   called_goes : (u : Common) → EnvFits u.cells xs env → (s : State) → At g u s → (on : Value) (args : List Value) → There u.cells on → AllAre (There u.cells) args → (x : Called) → CalledGrows (limits s.world) (closure_rule g.script) (cells s.world) (Given (closure_rule g.script) (cells s.world) (on ∷ args)) x
       → ((m : Method) (c : ℕ) → x ≡ Walks m c → HasClosure (slice_get s.world.shared.cells c) → Goes g sh.form s.world.shared (walk a k env (walk_method sh.form) 0 on (InCell c) [])) → Holds g sh.form u (called a k sh env s.world on args x s)
   called_goes u fit s at on args ton targs (Done answer n) grown walked =
-      let at1 : At g u (with_world (raised n (counted s.world)) s) = at_moved g u (λ w. raised n (counted w)) s at (moves_aside g (λ w. raised n (counted w)) s.world at.sound refl refl refl refl refl refl (omega arith)) in
-      guard_here g sh.form u (may_count s.world) counted (changed (raised n) (answered answer ended)) s at
+      let at1 : At g u (with_world (raised n (counted s.world)) s) = at_moved g u (λ w. raised n (counted w)) s at (moves_aside g (λ w. raised n (counted w)) s.world at.sound refl refl refl refl refl refl refl refl (omega arith)) in
+      guard_here g sh.form u (may_count s.world) counted (changed (raised n) (answered answer ended)) s (stopped_here g u s at)
       (λ none. answer_goes g sh.form u There answer (with_world (raised n (counted s.world)) s) at1 (Given (closure_rule g.script) (cells s.world) (on ∷ args)) ((at.sound).cells, (there_then u s.world.shared at.later on ton, all_there_then u s.world.shared at.later args targs)) grown ended (λ v t q l is. (q, (is, plain))))
   called_goes u fit s at on args ton targs (Walks m c) grown walked =
       from_here g sh.form u (tick (walk a k env (walk_method sh.form) 0 on (InCell c) [])) s at (tick_goes g sh.form s.world.shared (walk a k env (walk_method sh.form) 0 on (InCell c) []) (walked m c refl grown))

@@ -1,5 +1,5 @@
 -- Each kind of frame goes on soundly, where what stood inside it has ended soundly.
-use Rattle.std.proofs.Common.{arith, ◌≡◌, ◌≤◌, ◌-◌, refl, sym, ap, subst, ℕ, zero, suc, true, false, List, [], ◌∷◌}
+use Rattle.std.proofs.Common.{arith, ◌≡◌, ◌≤◌, ◌-◌, refl, sym, ap, subst, ℕ, zero, suc, Bool, true, false, List, [], ◌∷◌}
 use Rattle.std.specs.Prelude.{codes, drop, ◌&&◌}
 use Rattle.std.proofs.lemmas.Bool.{eqb-true}
 use Rattle.model_syntax.specs.declared.node.NodeForm.{NodeForm}
@@ -13,24 +13,26 @@ use Rattle.model_run.specs.declared.wait.Answer.{Answer as Reply_answer}
 use Rattle.model_run.specs.declared.wait.Answer.TheVariants.{Begin, Granted as GrantedAnswer, Done, Decided as DecidedAnswer, Joined}
 use Rattle.model_run.specs.declared.ending.Ending.{Ending}
 use Rattle.model_run.specs.declared.ending.Ending.TheVariants.{Normal, Thrown, Returned, Broke, Continued, Answered}
-use Rattle.model_run.specs.State.{Setting, Common, State, Env, Result, on_value, on_answer}
+use Rattle.model_run.specs.State.{Common, State, Env, Result, on_value, on_answer}
 use Rattle.model_run.specs.Around.{Around, Shape, form_at, arity, frame, value_at, cell_number, position}
 use Rattle.model_run.specs.Names.{declare}
 use Rattle.model_run.specs.Statements.{arms, has_finally, after_finally}
 use Rattle.model_run.specs.Expressions.{choices}
 use Rattle.model_run.specs.Calls.{walk_method}
-use Rattle.model_run.specs.Steps.{without_folder, without_overrides, node_granted, sh_done, flag_at, input_decided, joined_branches}
+use Rattle.model_run.specs.Steps.{without_folder, without_overrides, sh_done, flag_at, input_decided, joined_branches}
 use Rattle.model_run.specs.Forms.{name_of, after_kind}
-use Rattle.model_run.specs.FrameTable.{Up_to, Text_or_null, No_more, frame_row, gathers, same_form, is_declaration, is_target_form, is_assignment, calls_step, gathered_within, suffixed_within, current}
-use Rattle.model_run.specs.Nesting.{MeetsRow}
+use Rattle.model_run.specs.FrameTable.{Up_to, Text_or_null, Further, No_more, A_closure, frame_row, gathers, same_form, is_declaration, is_target_form, is_assignment, calls_step, gathered_within, suffixed_within, current}
+use Rattle.model_run.specs.Nesting.{MeetsRow, ValuesFit}
+use Rattle.model_values.specs.Fitting.{HasClosure, IsIn}
+use Rattle.model_values.specs.declared.value.Value.TheVariants.{Cell as InCell}
 use Rattle.model_run.specs.Scoping.{Names, frame_names}
-use Rattle.model_run.specs.Fitting.{EnvFits, IsFlowNode}
+use Rattle.model_run.specs.Fitting.{EnvFits, IsFlowNode, holds_executor}
 use Rattle.model_run.proofs.LaterLaws.{env_later}
 use Rattle.model_run.proofs.Under.{first_of_both, second_of_both}
-use Rattle.run_laws.specs.Soundness.{Shaped, may_declare, seen, EndFits, At, Holds}
-use Rattle.run_laws.specs.Evaluation.{AnswerThere, IsAnswer, InsideFits}
+use Rattle.run_laws.specs.Soundness.{Base, open_in, inside, Shaped, may_declare, seen, EndFits, At, Holds}
+use Rattle.run_laws.specs.Evaluation.{AnswerThere, IsAnswer, InsideFits, Grants, AllOfSite, unopened}
 use Rattle.run_laws.proofs.NodeLaws.{Real}
-use Rattle.run_laws.proofs.Flow.{node_then, end_as, from_here, null_goes}
+use Rattle.run_laws.proofs.Flow.{node_then, HasGone, end_as, from_here, null_goes}
 use Rattle.run_laws.proofs.Sources.{Place, Sources, no_declaration}
 use Rattle.run_laws.proofs.InsideForms.{target_there}
 use Rattle.run_laws.proofs.FrameForms.{closure_plain, if_is, while_is, steps_is, try_is, group_is, chosen_is, joined_is, prefixed_is, suffixed_is, index_is, return_is, throw_is, arm_is, computed_is, Named, each_is, declare_is, IsMethod, walk_is, not_so, first_there, thrown_there, first_kept, StartsKept, starts_kept, any_many, WalkKept, walk_kept, RetryKept, retry_kept}
@@ -41,10 +43,25 @@ use Rattle.run_laws.proofs.SoundGathering.{Next, gathers_plain, gathers_quiet, g
 use Rattle.run_laws.proofs.SoundCalls.{walk_end_goes}
 use Rattle.run_laws.proofs.SoundForms.{gathered_goes}
 use Rattle.run_laws.proofs.SoundSteps.{body_end_goes, body_end_changed, catch_error_end, after_retry_goes}
-use Rattle.run_laws.proofs.SoundStepForms.{node_granted_goes, node_end_goes, sh_done_goes, input_decided_goes}
+use Rattle.run_laws.proofs.SoundStepForms.{folder_left, node_granted_goes, node_end_goes, sh_done_goes, input_decided_goes}
 use Rattle.run_laws.proofs.SoundBranches.{end_nodes, end_outcomes, joined_goes, branch_end_goes}
 use Rattle.run_laws.proofs.SoundBodies.{called_plain, called_quiet, call_end_goes}
 use Rattle.run_laws.proofs.Evaluates.{steps_some}
+
+-- the frames of `node`
+abbrev pub of_node : FrameKind → Bool
+of_node kind.NodeWait = true
+of_node kind.NodeBody = true
+of_node d = false
+
+-- the closure that a frame keeps
+closure_first : (u : Common) (more : Further) (vs : List Value) → ValuesFit (seen u) more (A_closure ∷ []) vs → IsIn HasClosure u.cells (value_at 0 vs)
+closure_first u more [] h = absurd h
+closure_first u more (v ∷ vs) h = closure_is u v h.0
+  where
+    closure_is : (u : Common) (v : Value) → seen u A_closure v → IsIn HasClosure u.cells v
+    closure_is u (InCell c) h = h
+    closure_is u v h = absurd h
 
 step_plain : (s : Step) (f : NodeForm) (env : Env) → calls_step s f env ≡ true → is_declaration f ≡ false
 step_plain s (form.Call x) env e = refl
@@ -53,11 +70,11 @@ step_plain s f env e = absurd (cc)
 walk_plain : (f : NodeForm) → IsMethod f → is_declaration f ≡ false
 walk_plain f m = ap is_declaration m.is
 
-module _ (g : Setting) (real : Real g.script [] g.script) (shaped : Shaped g.script) (k : ℕ) (sh : Shape) (xs : Names) (place : Place g k sh xs) (a : Around) (src : Sources g shaped k sh xs place a) where
+module _ (g : Base) (real : Real g.script [] g.script) (shaped : Shaped g.script) (k : ℕ) (sh : Shape) (xs : Names) (place : Place g k sh xs) (a : Around) (src : Sources g shaped k sh xs place a) where
   -- a frame of this kind goes on
   abbrev pub GoesOn : FrameKind → Type 0
   GoesOn d = (left : ℕ) (env : Env) (vs : List Value) (u : Common) → MeetsRow (seen u) sh (frame d k left env vs) → EnvFits u.cells (frame_names d sh left xs) env
-      → (e : Ending) (s : State) → At g u s → InsideFits sh (frame_row d sh left env).inside s.world.shared e → Holds g sh.form u (after_kind a k sh left env vs d e s)
+      → (e : Ending) (s : State) → At (inside d g) u s → InsideFits sh (frame_row d sh left env).inside s.world.shared e → Holds g sh.form u (after_kind a k sh left env vs d e s)
 
   -- a part that is no declaration ends as a block does
   part_end : (i : ℕ) → may_declare sh.form i ≡ false → (w : Common) (e : Ending) → EndFits (form_at sh.parts i) w e → EndFits form.Block w e
@@ -266,23 +283,27 @@ module _ (g : Setting) (real : Real g.script [] g.script) (shaped : Shaped g.scr
       let kept : RetryKept u vs = retry_kept u 2147483646 vs m.values in
       after_retry_goes g shaped k sh xs place a src (step_plain step.Retry sh.form env m.stands) env m.stands (position (value_at 2 vs)) (position (value_at 0 vs)) u fit kept.start (value_at 3 vs) kept.closure (position (value_at 1 vs)) kept.body
 
-  node_wait : GoesOn kind.NodeWait
-  node_wait left env vs u m fit = answered_goes u (node_granted a k env (value_at 0 vs)) (λ x s at there. node_granted_goes g shaped k sh xs place a src (step_plain step.Node sh.form env m.stands) env m.stands u fit (value_at 0 vs) x s at)
+  -- behind the wait for an executor, which may open a body
+  pub node_wait : (left : ℕ) (env : Env) (vs : List Value) (u : Common) → MeetsRow (seen u) sh (frame kind.NodeWait k left env vs) → EnvFits u.cells (frame_names kind.NodeWait sh left xs) env
+      → (e : Ending) (s : State) → At (unopened g) u s → IsAnswer s.world.shared e → Grants s.world.shared.held g.around.gone e → AllOfSite g.site s.world.shared.held → Holds g sh.form u (after_kind a k sh left env vs kind.NodeWait e s)
+  node_wait left env vs u m fit (Answered x) s at is grants all = node_granted_goes g shaped k sh xs place a src (step_plain step.Node sh.form env m.stands) env m.stands u fit (value_at 0 vs) (closure_first u No_more vs m.values) x s at all grants
+  node_wait left env vs u m fit e s at is grants all = absurd is
 
-  node_body : GoesOn kind.NodeBody
-  node_body left env vs u m fit =
+  -- behind a `node` body
+  node_body : HasGone true g.around.gone → GoesOn kind.NodeBody
+  node_body some left env vs u m fit =
       let old : StartsKept u vs = starts_kept u No_more [] vs m.values in
-      node_end_goes g shaped k sh xs place a src (step_plain step.Node sh.form env m.stands) env u (position (value_at 0 vs)) (position (value_at 1 vs)) old.start old.body
+      node_end_goes g shaped k sh xs place a src (step_plain step.Node sh.form env m.stands) env some u (position (value_at 0 vs)) (position (value_at 1 vs)) old.start old.body
 
   dir_body : GoesOn kind.DirBody
   dir_body left env vs u m fit =
       let old : StartsKept u vs = starts_kept u No_more [] vs m.values in
-      body_end_changed g sh.form (step_plain step.Dir sh.form env m.stands) u (codes "dir") (position (value_at 0 vs)) (position (value_at 1 vs)) old.start old.body without_folder (λ w. refl) (λ w. refl) (λ w. refl) (λ w. refl) (λ w. refl) (λ w. refl) (λ w. omega arith)
+      body_end_changed g sh.form (step_plain step.Dir sh.form env m.stands) (open_in kind.DirBody g.around) u (codes "dir") (position (value_at 0 vs)) (position (value_at 1 vs)) old.start old.body without_folder (λ w. refl) (λ w. refl) (λ w. refl) (λ w. refl) (λ w. refl) (λ w. refl) (λ w. omega arith) (folder_left g.around)
 
   with_env_body : GoesOn kind.WithEnvBody
   with_env_body left env vs u m fit =
       let old : StartsKept u vs = starts_kept u No_more (Up_to 2147483647 ∷ []) vs m.values in
-      body_end_changed g sh.form (step_plain step.WithEnv sh.form env m.stands) u (codes "withEnv") (position (value_at 0 vs)) (position (value_at 1 vs)) old.start old.body (without_overrides (position (value_at 2 vs))) (λ w. refl) (λ w. refl) (λ w. refl) (λ w. refl) (λ w. refl) (λ w. refl) (λ w. omega arith)
+      body_end_changed g sh.form (step_plain step.WithEnv sh.form env m.stands) g.around u (codes "withEnv") (position (value_at 0 vs)) (position (value_at 1 vs)) old.start old.body (without_overrides (position (value_at 2 vs))) (λ w. refl) (λ w. refl) (λ w. refl) (λ w. refl) (λ w. refl) (λ w. refl) (λ w. omega arith) (λ w x. record { nodes = x.nodes; folders = x.folders; held = x.held })
 
   sh_wait : GoesOn kind.ShWait
   sh_wait left env vs u m fit = answered_goes u (sh_done (flag_at (value_at 0 vs)) (flag_at (value_at 1 vs))) (λ x s at there. sh_done_goes g shaped k sh xs place a src (step_plain step.Sh sh.form env m.stands) env u (flag_at (value_at 0 vs)) (flag_at (value_at 1 vs)) x s at)
@@ -304,51 +325,57 @@ module _ (g : Setting) (real : Real g.script [] g.script) (shaped : Shaped g.scr
   branch_body : GoesOn kind.BranchBody
   branch_body left env vs u m fit = branch_end_goes g sh.form (closure_plain sh.form m.stands) u (position (value_at 0 vs)) (first_kept u No_more [] vs m.values)
 
-  -- Every kind of frame.
-  pub kind_goes : (d : FrameKind) → GoesOn d
-  kind_goes kind.Statement = statement
-  kind_goes kind.IfTest = if_test
-  kind_goes kind.WhileTest = while_test
-  kind_goes kind.WhileBody = while_body
-  kind_goes kind.StepsFirst = steps_first
-  kind_goes kind.StepsTest = steps_test
-  kind_goes kind.StepsBody = steps_body
-  kind_goes kind.StepsNext = steps_next
-  kind_goes kind.EachOver = each_over
-  kind_goes kind.EachBody = each_body
-  kind_goes kind.TryBlock = try_block
-  kind_goes kind.TryCatch = try_catch
-  kind_goes kind.FinallyAfterValue = finally_value
-  kind_goes kind.FinallyAfterThrow = finally_throw
-  kind_goes kind.FinallyAfterReturn = finally_return
-  kind_goes kind.FinallyAfterBreak = finally_break
-  kind_goes kind.FinallyAfterContinue = finally_continue
-  kind_goes kind.DeclareValue = declare_value
-  kind_goes kind.TargetReceiver = target_receiver
-  kind_goes kind.TargetIndex = target_index
-  kind_goes kind.AssignValue = assign_value
-  kind_goes kind.ReturnValue = return_value
-  kind_goes kind.ThrowValue = throw_value
-  kind_goes kind.Gathered = gathered
-  kind_goes kind.GatheredKey = gathered_key
-  kind_goes kind.GroupValue = group_value
-  kind_goes kind.ChosenTest = chosen_test
-  kind_goes kind.ChainOperand = chain_operand
-  kind_goes kind.JoinedFirst = joined_first
-  kind_goes kind.JoinedOperand = joined_operand
-  kind_goes kind.PrefixedOperand = prefixed_operand
-  kind_goes kind.SuffixedPart = suffixed_part
-  kind_goes kind.IndexValue = index_value
-  kind_goes kind.CallBody = call_body
-  kind_goes kind.WalkTurn = walk_turn
-  kind_goes kind.StageBody = stage_body
-  kind_goes kind.CatchErrorBody = catch_error_body
-  kind_goes kind.RetryBody = retry_body
-  kind_goes kind.NodeWait = node_wait
-  kind_goes kind.NodeBody = node_body
-  kind_goes kind.DirBody = dir_body
-  kind_goes kind.WithEnvBody = with_env_body
-  kind_goes kind.ShWait = sh_wait
-  kind_goes kind.InputWait = input_wait
-  kind_goes kind.ParallelWait = parallel_wait
-  kind_goes kind.BranchBody = branch_body
+  -- Every kind of frame but those two.
+  kind_goes : (d : FrameKind) → of_node d ≡ false → GoesOn d
+  kind_goes kind.Statement e = statement
+  kind_goes kind.IfTest e = if_test
+  kind_goes kind.WhileTest e = while_test
+  kind_goes kind.WhileBody e = while_body
+  kind_goes kind.StepsFirst e = steps_first
+  kind_goes kind.StepsTest e = steps_test
+  kind_goes kind.StepsBody e = steps_body
+  kind_goes kind.StepsNext e = steps_next
+  kind_goes kind.EachOver e = each_over
+  kind_goes kind.EachBody e = each_body
+  kind_goes kind.TryBlock e = try_block
+  kind_goes kind.TryCatch e = try_catch
+  kind_goes kind.FinallyAfterValue e = finally_value
+  kind_goes kind.FinallyAfterThrow e = finally_throw
+  kind_goes kind.FinallyAfterReturn e = finally_return
+  kind_goes kind.FinallyAfterBreak e = finally_break
+  kind_goes kind.FinallyAfterContinue e = finally_continue
+  kind_goes kind.DeclareValue e = declare_value
+  kind_goes kind.TargetReceiver e = target_receiver
+  kind_goes kind.TargetIndex e = target_index
+  kind_goes kind.AssignValue e = assign_value
+  kind_goes kind.ReturnValue e = return_value
+  kind_goes kind.ThrowValue e = throw_value
+  kind_goes kind.Gathered e = gathered
+  kind_goes kind.GatheredKey e = gathered_key
+  kind_goes kind.GroupValue e = group_value
+  kind_goes kind.ChosenTest e = chosen_test
+  kind_goes kind.ChainOperand e = chain_operand
+  kind_goes kind.JoinedFirst e = joined_first
+  kind_goes kind.JoinedOperand e = joined_operand
+  kind_goes kind.PrefixedOperand e = prefixed_operand
+  kind_goes kind.SuffixedPart e = suffixed_part
+  kind_goes kind.IndexValue e = index_value
+  kind_goes kind.CallBody e = call_body
+  kind_goes kind.WalkTurn e = walk_turn
+  kind_goes kind.StageBody e = stage_body
+  kind_goes kind.CatchErrorBody e = catch_error_body
+  kind_goes kind.RetryBody e = retry_body
+  kind_goes kind.NodeWait e = absurd (cc)
+  kind_goes kind.NodeBody e = absurd (cc)
+  kind_goes kind.DirBody e = dir_body
+  kind_goes kind.WithEnvBody e = with_env_body
+  kind_goes kind.ShWait e = sh_wait
+  kind_goes kind.InputWait e = input_wait
+  kind_goes kind.ParallelWait e = parallel_wait
+  kind_goes kind.BranchBody e = branch_body
+
+  -- Every kind of frame but that of the wait for an executor.
+  pub frame_goes : (d : FrameKind) → HasGone (holds_executor d) g.around.gone → (d ≡ kind.NodeWait → ⊥) → GoesOn d
+  frame_goes kind.NodeWait some never = absurd (never refl)
+  frame_goes kind.NodeBody some never = node_body some
+  frame_goes d some never = kind_goes d refl

@@ -26,7 +26,7 @@ use Rattle.model_run.specs.declared.frame.FrameKind.TheVariants as kind
 use Rattle.model_run.specs.declared.ending.Ending.{Ending}
 use Rattle.model_run.specs.declared.ending.Entry.{Entry}
 use Rattle.model_run.specs.declared.ending.Entry.TheVariants.{First, Inside}
-use Rattle.model_run.specs.State.{Setting, Common, World, State, Env, Result}
+use Rattle.model_run.specs.State.{Common, World, State, Env, Result}
 use Rattle.model_run.specs.Around.{Around, Shape, form_at, arity, frame, ended, cells, limits}
 use Rattle.model_run.specs.Gathering.{is_call, is_named, closes_named, named_keys, keep_by, keep, after_gathered, gather_value, after_key, gather_part, gather, list_of, put_entry, and_entries, entries_of, map_from, map_of, text_parts, text_from, new_class, throwable_of}
 use Rattle.model_run.specs.Forms.{gathered}
@@ -35,7 +35,7 @@ use Rattle.model_run.specs.Scoping.{Names, names_within}
 use Rattle.model_run.specs.Fitting.{EnvFits, closure_rule}
 use Rattle.model_run.proofs.LaterLaws.{env_later}
 use Rattle.model_run.proofs.Under.{both}
-use Rattle.run_laws.specs.Soundness.{Shaped, may_declare, EndFits, At, Holds, Goes}
+use Rattle.run_laws.specs.Soundness.{Base, Shaped, may_declare, EndFits, At, Holds, Goes}
 use Rattle.run_laws.proofs.Flow.{all_there_then, from_here, tick_goes, end_goes, value_goes, through_goes}
 use Rattle.run_laws.proofs.Sources.{has_inner, Place, Sources, sits_here, Quiet, part_goes, inner_goes}
 use Rattle.run_laws.proofs.SoundAssignments.{before_of, operate_goes, same, any_seen}
@@ -120,7 +120,7 @@ entries_there P h (form.NumberedEntry z ∷ fs) (v ∷ vs) es p q = entries_ther
 entries_there P h (form.ComputedEntry ∷ fs) (key ∷ v ∷ vs) es p q = and_there P (entries_of h fs vs) (λ fs1 r. entries_there P h fs vs fs1 (p.1).1 r) (put_entry (key_of (kind h key)) v es) (put_there P (key_of (kind h key)) v es (p.1).0 q)
 entries_there P h fs vs es p q = q
 
-module _ (g : Setting) (f : NodeForm) (plain : is_declaration f ≡ false) (u : Common) (vs : List Value) (there : AllAre (There u.cells) vs) where
+module _ (g : Base) (f : NodeForm) (plain : is_declaration f ≡ false) (u : Common) (vs : List Value) (there : AllAre (There u.cells) vs) where
   pub list_goes : Goes g f u (list_of vs)
   list_goes = tick_goes g f u _ (operate_goes g f u vs there (IsIn HasList) list_there (λ w. new_list (limits w) (cells w) vs) (λ w. new_lists (limits w) (closure_rule g.script) (cells w) vs) ended (end_goes g f u plain))
 
@@ -137,7 +137,7 @@ module _ (g : Setting) (f : NodeForm) (plain : is_declaration f ≡ false) (u : 
   pub throwable_goes : (c : NewClass) → Goes g f u (throwable_of c vs)
   throwable_goes c = tick_goes g f u _ (operate_goes g f u [] tt (IsIn HasThrowable) throwable_there (λ w. new_throwable (limits w) (cells w) (new_class c) (slice_get vs 0)) (λ w. new_throwables (limits w) (closure_rule g.script) (cells w) (new_class c) (slice_get vs 0)) ended (end_goes g f u plain))
 
-module _ (g : Setting) (shaped : Shaped g.script) (k : ℕ) (sh : Shape) (xs : Names) (place : Place g k sh xs) (a : Around) (src : Sources g shaped k sh xs place a) (ga : gathers sh.form ≡ true) (env : Env) where
+module _ (g : Base) (shaped : Shaped g.script) (k : ℕ) (sh : Shape) (xs : Names) (place : Place g k sh xs) (a : Around) (src : Sources g shaped k sh xs place a) (ga : gathers sh.form ≡ true) (env : Env) where
   plain : is_declaration sh.form ≡ false
   plain = gathers_plain sh.form ga
 
@@ -189,7 +189,7 @@ module _ (g : Setting) (shaped : Shaped g.script) (k : ℕ) (sh : Shape) (xs : N
   value_frame : (m : ℕ) → suc m ≤ arity sh → (u : Common) → EnvFits u.cells xs env → (vs : List Value) → AllAre (There u.cells) vs → (e : Entry) (p : NodeForm) → form_at sh.parts (arity sh - suc m) ≡ p → is_plain p ≡ false → length vs ≡ count_of sh env (arity sh - suc m) + key_count p → Next m → Goes g form.Block u (a.part e (arity sh - suc m) env) → Goes g sh.form u (gather_value a k sh env m vs (gathering m) e)
   value_frame m le u fit vs there e p is value count next part s at =
       let c : length vs ≡ count_of sh env (arity sh - suc m) + key_count (form_at sh.parts (arity sh - suc m)) = count ∙ ap (λ q. count_of sh env (arity sh - suc m) + key_count q) (sym is) in
-      through_goes g sh.form form.Block u (frame kind.Gathered k m env vs) (sits_here g shaped k sh xs place u kind.Gathered m env vs (both _ _ ga (ap (λ q. not (is_plain q)) is ∙ ap not value)) (omega arith) (any_seen u _ vs c there) fit tt)
+      through_goes g sh.form form.Block u (frame kind.Gathered k m env vs) refl (sits_here g shaped k sh xs place u kind.Gathered m env vs (both _ _ ga (ap (λ q. not (is_plain q)) is ∙ ap not value)) (omega arith) (any_seen u _ vs c there) fit tt)
       (after_gathered sh m vs (gathering m)) (gathered_end m le u fit vs there (ap is_plain is ∙ value) c next) (a.part e (arity sh - suc m) env s) (part s at)
 
   entry_value : (m : ℕ) → suc m ≤ arity sh → (u : Common) → EnvFits u.cells xs env → (vs : List Value) → AllAre (There u.cells) vs → (j : ℕ) (p : NodeForm) → form_at sh.parts (arity sh - suc m) ≡ p → has_inner p ≡ true → names_within p j xs ≡ xs → is_plain p ≡ false → length vs ≡ count_of sh env (arity sh - suc m) + key_count p → Next m → Goes g sh.form u (gather_value a k sh env m vs (gathering m) (Inside j))
@@ -210,7 +210,7 @@ module _ (g : Setting) (shaped : Shaped g.script) (k : ℕ) (sh : Shape) (xs : N
   gather_part_goes m le next u fit vs count there (form.NamedEntry t) is = entry_value m le u fit vs there 0 (form.NamedEntry t) is refl refl refl (omega (arith, count)) next
   gather_part_goes m le next u fit vs count there (form.NumberedEntry z) is = entry_value m le u fit vs there 0 (form.NumberedEntry z) is refl refl refl (omega (arith, count)) next
   gather_part_goes m le next u fit vs count there form.ComputedEntry is = λ s at.
-      through_goes g sh.form form.Block u (frame kind.GatheredKey k m env vs) (sits_here g shaped k sh xs place u kind.GatheredKey m env vs (both _ _ ga (ap is_computed is)) (omega arith) (any_seen u _ vs count there) fit tt)
+      through_goes g sh.form form.Block u (frame kind.GatheredKey k m env vs) refl (sits_here g shaped k sh xs place u kind.GatheredKey m env vs (both _ _ ga (ap is_computed is)) (omega arith) (any_seen u _ vs count there) fit tt)
       (after_key a k sh env m vs (gathering m)) (key_end m le u fit vs there is count next) (a.part (Inside 0) (arity sh - suc m) env s)
       (inner_goes g shaped k sh xs place a src quiet u (arity sh - suc m) 0 form.ComputedEntry env is refl (within (arity sh - suc m)) fit s at)
   gather_part_goes m le next u fit vs count there p is = value_frame m le u fit vs there First p is refl (omega (arith, count)) next (part_goes g shaped k sh xs place a src quiet u env fit (arity sh - suc m) (within (arity sh - suc m)))

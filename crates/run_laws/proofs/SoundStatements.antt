@@ -23,21 +23,21 @@ use Rattle.model_run.specs.declared.frame.FrameKind.TheVariants as kind
 use Rattle.model_run.specs.declared.ending.Ending.{Ending}
 use Rattle.model_run.specs.declared.ending.Ending.TheVariants.{Normal, Thrown, Returned, Broke, Continued, Declared, Answered}
 use Rattle.model_run.specs.declared.ending.Entry.TheVariants.{First, Inside}
-use Rattle.model_run.specs.State.{Setting, Common, State, Env, Result, Ended, with_world, put_cells, on_value}
+use Rattle.model_run.specs.State.{Common, State, Env, Result, Ended, with_world, put_cells, on_value}
 use Rattle.model_run.specs.Around.{Around, Shape, form_at, arity, frame, under, ended, cells, limits, value_at, cell_number, whole, deciding}
 use Rattle.model_run.specs.Names.{new_variable, bind, declare}
 use Rattle.model_run.specs.Statements.{on_statement, statements, after_if_test, arm, arms, on_turn, after_test, while_test, while_turn, after_steps_first, steps_test, steps_next, steps_turn, each_next, each_from, each_body, each_element, each_turn, catching, catches, catch_if, catch_of, catch_among, catch_for, after_catch, after_try, finally_block, finally_behind, after_finally, has_finally, is_finally, return_from, returns, throws, declaration}
 use Rattle.model_run.specs.FrameTable.{frame_row, is_block, same_form, is_arm, is_catch, is_each, is_declaration, current}
 use Rattle.model_run.specs.Nesting.{ValuesFit}
 use Rattle.model_run.specs.Scoping.{frame_names, Names, names_within, names_behind, names_after, names_of}
-use Rattle.model_run.specs.Fitting.{EnvFits, closure_rule, Later}
+use Rattle.model_run.specs.Fitting.{EnvFits, closure_rule, Later, holds_folder}
 use Rattle.model_run.proofs.LaterLaws.{env_later}
 use Rattle.model_run.proofs.StatementLaws.{some_parts}
 use Rattle.model_run.proofs.Under.{both}
 use Rattle.model_run.proofs.Front.{front_itself}
-use Rattle.run_laws.specs.Soundness.{Shaped, may_declare, seen, NumbersFit, Sits, declares_as, EndFits, At, Holds, Goes}
+use Rattle.run_laws.specs.Soundness.{Base, Shaped, may_declare, seen, NumbersFit, Sits, declares_as, EndFits, At, Holds, Goes}
 use Rattle.run_laws.proofs.Sizes.{TurnLow, loop_low}
-use Rattle.run_laws.proofs.Flow.{end_then, later_self, there_then, at_self, holds_then, from_here, holds_as, end_as, at_moved, tick_goes, decide_goes, null_goes, value_goes, moves_cells, answer_with, answer_goes, through_goes}
+use Rattle.run_laws.proofs.Flow.{end_then, later_self, there_then, at_self, holds_then, from_here, holds_as, end_as, at_moved, tick_goes, decide_goes, null_goes, value_goes, moves_cells, answer_with, answer_goes, through_goes, stopped_here}
 use Rattle.run_laws.proofs.Sources.{TurnFits, turn_names, behind_none, after_one_more, Place, Sources, sits_here, Quiet, quiet_part, quiet_names, quiet_after, no_declaration, part_goes, inner_goes}
 
 block_ends : (f : NodeForm) → is_block f ≡ true → is_declaration f ≡ false
@@ -107,7 +107,7 @@ caught_for sh (Some (MapCell es)) = tt
 caught_for sh (Some (ClosureCell n env)) = tt
 caught_for sh None = tt
 
-module _ (g : Setting) where
+module _ (g : Base) where
   -- the ending of a statement of form p goes to the next ones, with one more name or none
   pub statement_goes : (f p : NodeForm) (u : Common) (ys : Names) (env : Env) → EnvFits u.cells ys env → (go : Value → Env → State → Result)
       → ((v : Value) (env : Env) (s : State) → At g u s → There s.world.shared.cells v → EnvFits s.world.shared.cells (names_behind p ys) env → Holds g f u (go v env s))
@@ -159,7 +159,7 @@ module _ (g : Setting) where
       answer_goes g f u (λ h v. ⊥) _ s at (Given (closure_rule g.script) (cells s.world) (v ∷ [])) ((at.sound).cells, (there_then u s.world.shared at.later v there, tt))
       (throw_values (limits s.world) (closure_rule g.script) (cells s.world) v) ended (λ c t at' l is. absurd is)
 
-module _ (g : Setting) (shaped : Shaped g.script) (k : ℕ) (sh : Shape) (xs : Names) (place : Place g k sh xs) (a : Around) (src : Sources g shaped k sh xs place a) where
+module _ (g : Base) (shaped : Shaped g.script) (k : ℕ) (sh : Shape) (xs : Names) (place : Place g k sh xs) (a : Around) (src : Sources g shaped k sh xs place a) where
   -- behind a statement, where the further ones go on
   next_goes : is_block sh.form ≡ true → (m : ℕ) → suc m ≤ arity sh → (u : Common) (env : Env) → EnvFits u.cells (names_after sh.parts (arity sh - suc m) xs) env
       → ((w : Common) (v : Value) → There w.cells v → (env : Env) → EnvFits w.cells (names_after sh.parts (arity sh - m) xs) env → Goes g sh.form w (statements a k (arity sh) m v env))
@@ -174,7 +174,7 @@ module _ (g : Setting) (shaped : Shaped g.script) (k : ℕ) (sh : Shape) (xs : N
   pub statements_goes : is_block sh.form ≡ true → (m : ℕ) → m ≤ arity sh → (u : Common) (v : Value) → There u.cells v → (env : Env) → EnvFits u.cells (names_after sh.parts (arity sh - m) xs) env → Goes g sh.form u (statements a k (arity sh) m v env)
   statements_goes at zero le u v there env fit s q = (q, (there_then u s.world.shared q.later v there, block_ends sh.form at))
   statements_goes at (suc m) le u v there env fit s q =
-      through_goes g sh.form (form_at sh.parts (arity sh - suc m)) u (frame kind.Statement k m env []) (sits_here g shaped k sh xs place u kind.Statement m env [] at (omega arith) tt fit tt) (on_statement env (statements a k (arity sh) m))
+      through_goes g sh.form (form_at sh.parts (arity sh - suc m)) u (frame kind.Statement k m env []) refl (sits_here g shaped k sh xs place u kind.Statement m env [] at (omega arith) tt fit tt) (on_statement env (statements a k (arity sh) m))
       (next_goes at m le u env fit (statements_goes at m (omega arith))) (a.part First (arity sh - suc m) env s)
       (src.part u (arity sh - suc m) env (subst (λ ys. EnvFits u.cells ys env) (sym (block_within sh.form at (arity sh - suc m) (names_after sh.parts (arity sh - suc m) xs))) fit) s q)
 
@@ -182,9 +182,9 @@ module _ (g : Setting) (shaped : Shaped g.script) (k : ℕ) (sh : Shape) (xs : N
   statement_end_goes at m le u env fit = next_goes at m le u env fit (statements_goes at m (omega arith))
 
   -- a part under a frame, in a node that sees for it what it sees itself
-  pub under_goes : (f : NodeForm) (u : Common) (d : FrameKind) (left : ℕ) (env : Env) (vs : List Value) → (go : Ending → State → Result) (i : ℕ) → Quiet g shaped k sh xs place → names_within sh.form i xs ≡ xs → EnvFits u.cells xs env
+  pub under_goes : (f : NodeForm) (u : Common) (d : FrameKind) → holds_folder d ≡ false → (left : ℕ) (env : Env) (vs : List Value) → (go : Ending → State → Result) (i : ℕ) → Quiet g shaped k sh xs place → names_within sh.form i xs ≡ xs → EnvFits u.cells xs env
       → Sits g.script u (frame d k left env vs) → ((e : Ending) (s : State) → At g u s → EndFits form.Block s.world.shared e → Holds g f u (go e s)) → Goes g f u (under a (frame d k left env vs) go First i env)
-  under_goes f u d left env vs go i q w fit sits k' s at = through_goes g f form.Block u (frame d k left env vs) sits go k' (a.part First i env s) (part_goes g shaped k sh xs place a src q u env fit i w s at)
+  under_goes f u d none left env vs go i q w fit sits k' s at = through_goes g f form.Block u (frame d k left env vs) none sits go k' (a.part First i env s) (part_goes g shaped k sh xs place a src q u env fit i w s at)
 
   -- a node that is none of the two forms that declare
   abbrev Is : NodeForm → Type 0
@@ -214,7 +214,7 @@ module _ (g : Setting) (shaped : Shaped g.script) (k : ℕ) (sh : Shape) (xs : N
 
     arm_goes : (u : Common) (m : ℕ) → suc m ≤ arity sh → (env : Env) → EnvFits u.cells xs env → (others : State → Result) → Goes g sh.form u others → (p : NodeForm) → form_at sh.parts (arity sh - suc m) ≡ p → Goes g sh.form u (arm a k sh m env others p)
     arm_goes u m le env fit others go form.Arm e s at =
-        through_goes g sh.form form.Block u (frame kind.IfTest k m env []) (sits_here g shaped k sh xs place u kind.IfTest m env [] (both _ _ (ap (same_form form.If) is) (ap is_arm e)) (omega arith) tt fit tt) (after_if_test a sh m env others)
+        through_goes g sh.form form.Block u (frame kind.IfTest k m env []) refl (sits_here g shaped k sh xs place u kind.IfTest m env [] (both _ _ (ap (same_form form.If) is) (ap is_arm e)) (omega arith) tt fit tt) (after_if_test a sh m env others)
         (λ e1 t q h. if_test_goes u m env fit e others go e1 t q h) (a.part (Inside 0) (arity sh - suc m) env s)
         (inner_goes g shaped k sh xs place a src if_quiet u (arity sh - suc m) 0 form.Arm env e refl (if_within (arity sh - suc m)) fit s at)
     arm_goes u m le env fit others go p e s at = if_part u (arity sh - suc m) env fit s at
@@ -238,14 +238,14 @@ module _ (g : Setting) (shaped : Shaped g.script) (k : ℕ) (sh : Shape) (xs : N
     while_after_test u env fit = value_goes g sh.form u _ (λ v t q there. decide_goes g sh.form u v _ _ (tick_goes g sh.form u _ (while_again u env fit)) (null_goes g sh.form u while_plain) t q)
 
     pub while_test_goes : (u : Common) (env : Env) → EnvFits u.cells xs env → Goes g sh.form u (while_test a k env)
-    while_test_goes u env fit = under_goes sh.form u kind.WhileTest 0 env [] (after_test a env) 0 while_quiet (ap (λ f. names_within f 0 xs) is) fit
+    while_test_goes u env fit = under_goes sh.form u kind.WhileTest refl 0 env [] (after_test a env) 0 while_quiet (ap (λ f. names_within f 0 xs) is) fit
         (sits_here g shaped k sh xs place u kind.WhileTest 0 env [] (ap (same_form form.While) is) (omega arith) tt fit tt) (while_after_test u env fit)
 
     pub while_body_goes : (u : Common) (env : Env) → EnvFits u.cells xs env → (e : Ending) (s : State) → At g u s → EndFits form.Block s.world.shared e → Holds g sh.form u (on_turn (while_test a k env) e s)
     while_body_goes u env fit = turn_goes g sh.form while_plain u (while_test a k env) (while_test_goes u env fit)
 
     pub while_turn_goes : (u : Common) (env : Env) → EnvFits u.cells xs env → Goes g sh.form u (while_turn a k env)
-    while_turn_goes u env fit = under_goes sh.form u kind.WhileBody 0 env [] (on_turn (while_test a k env)) 1 while_quiet (ap (λ f. names_within f 1 xs) is) fit
+    while_turn_goes u env fit = under_goes sh.form u kind.WhileBody refl 0 env [] (on_turn (while_test a k env)) 1 while_quiet (ap (λ f. names_within f 1 xs) is) fit
         (sits_here g shaped k sh xs place u kind.WhileBody 0 env [] (ap (same_form form.While) is) (omega arith) tt fit tt) (while_body_goes u env fit)
 
   -- `for (first; test; next) block`
@@ -269,9 +269,9 @@ module _ (g : Setting) (shaped : Shaped g.script) (k : ℕ) (sh : Shape) (xs : N
         holds_as g (form_at sh.parts (suc i)) form.Block u _ (no_declaration g shaped k sh xs place (suc i) (ap (λ f. may_declare f (suc i)) is)) refl
         (src.part u (suc i) env (subst (λ zs. EnvFits u.cells zs env) (sym (steps_names i)) fit) s at)
 
-    steps_under : (u : Common) (d : FrameKind) (i : ℕ) (env : Env) → Sits g.script u (frame d k 0 env []) → EnvFits u.cells (names_after sh.parts 1 xs) env → (go : Ending → State → Result)
+    steps_under : (u : Common) (d : FrameKind) → holds_folder d ≡ false → (i : ℕ) (env : Env) → Sits g.script u (frame d k 0 env []) → EnvFits u.cells (names_after sh.parts 1 xs) env → (go : Ending → State → Result)
         → ((e : Ending) (s : State) → At g u s → EndFits form.Block s.world.shared e → Holds g sh.form u (go e s)) → Goes g sh.form u (under a (frame d k 0 env []) go First (suc i) env)
-    steps_under u d i env sits fit go k' s at = through_goes g sh.form form.Block u (frame d k 0 env []) sits go k' (a.part First (suc i) env s) (steps_part u i env fit s at)
+    steps_under u d none i env sits fit go k' s at = through_goes g sh.form form.Block u (frame d k 0 env []) none sits go k' (a.part First (suc i) env s) (steps_part u i env fit s at)
 
     steps_again : (u : Common) (env : Env) → EnvFits u.cells (names_after sh.parts 1 xs) env → Goes g sh.form u (a.again 0 [] env)
     steps_again u env fit = src.again u 0 [] env steps_plain (subst (λ zs. EnvFits u.cells zs env) (sym (ap (λ f. turn_names f sh.parts xs) is)) fit) (subst (λ f. TurnFits f u []) (sym is) tt)
@@ -283,7 +283,7 @@ module _ (g : Setting) (shaped : Shaped g.script) (k : ℕ) (sh : Shape) (xs : N
     steps_after_test u env fit = value_goes g sh.form u _ (λ v t q there. decide_goes g sh.form u v _ _ (tick_goes g sh.form u _ (steps_again u env fit)) (null_goes g sh.form u steps_plain) t q)
 
     steps_test_goes : (u : Common) (env : Env) → EnvFits u.cells (names_after sh.parts 1 xs) env → Goes g sh.form u (steps_test a k env)
-    steps_test_goes u env fit = steps_under u kind.StepsTest 0 env (steps_sits u kind.StepsTest env (ap (same_form form.ForSteps) is) (omega arith) tt fit tt) fit (after_test a env) (steps_after_test u env fit)
+    steps_test_goes u env fit = steps_under u kind.StepsTest refl 0 env (steps_sits u kind.StepsTest env (ap (same_form form.ForSteps) is) (omega arith) tt fit tt) fit (after_test a env) (steps_after_test u env fit)
 
     -- behind the first part of the head
     pub steps_first_goes : (u : Common) (env : Env) → EnvFits u.cells xs env → (e : Ending) (s : State) → At g u s → EndFits (form_at sh.parts 0) s.world.shared e → 0 < arity sh → Holds g sh.form u (after_steps_first a k env e s)
@@ -298,13 +298,13 @@ module _ (g : Setting) (shaped : Shaped g.script) (k : ℕ) (sh : Shape) (xs : N
         (λ v env1 t q there fit1. from_here g sh.form u (steps_test a k env1) t q (steps_test_goes t.world.shared env1 fit1)) e s at h
 
     steps_next_goes : (u : Common) (env : Env) → EnvFits u.cells (names_after sh.parts 1 xs) env → Goes g sh.form u (steps_next a k env)
-    steps_next_goes u env fit = steps_under u kind.StepsNext 1 env (steps_sits u kind.StepsNext env (ap (same_form form.ForSteps) is) (omega arith) tt fit tt) fit (after_steps_first a k env) (steps_again_goes u env fit)
+    steps_next_goes u env fit = steps_under u kind.StepsNext refl 1 env (steps_sits u kind.StepsNext env (ap (same_form form.ForSteps) is) (omega arith) tt fit tt) fit (after_steps_first a k env) (steps_again_goes u env fit)
 
     pub steps_body_goes : (u : Common) (env : Env) → EnvFits u.cells (names_after sh.parts 1 xs) env → (e : Ending) (s : State) → At g u s → EndFits form.Block s.world.shared e → Holds g sh.form u (on_turn (steps_next a k env) e s)
     steps_body_goes u env fit = turn_goes g sh.form steps_plain u (steps_next a k env) (steps_next_goes u env fit)
 
     pub steps_turn_goes : (u : Common) (env : Env) → EnvFits u.cells (names_after sh.parts 1 xs) env → Goes g sh.form u (steps_turn a k env)
-    steps_turn_goes u env fit = steps_under u kind.StepsBody 2 env (steps_sits u kind.StepsBody env (ap (same_form form.ForSteps) is) (omega arith) tt fit tt) fit (on_turn (steps_next a k env)) (steps_body_goes u env fit)
+    steps_turn_goes u env fit = steps_under u kind.StepsBody refl 2 env (steps_sits u kind.StepsBody env (ap (same_form form.ForSteps) is) (omega arith) tt fit tt) fit (on_turn (steps_next a k env)) (steps_body_goes u env fit)
 
   -- `for (x in e) block`
   module _ (x : List ℕ) (is : Is (form.ForEach x)) where
@@ -339,7 +339,7 @@ module _ (g : Setting) (shaped : Shaped g.script) (k : ℕ) (sh : Shape) (xs : N
         let there1 : There s.world.shared.cells on = there_then u s.world.shared at.later on there in
         let inner : EnvFits s.world.shared.cells (x ∷ xs) (bind x c env) = bound_fits s.world.shared s.world.shared (later_self s.world.shared) x c xs env fit1 has in
         let names : names_within sh.form 1 (names_after sh.parts 1 xs) ≡ x ∷ xs = ap (names_within sh.form 1) (quiet_names g shaped k sh xs place each_quiet 1) ∙ ap (λ f. names_within f 1 xs) is in
-        holds_then g sh.form u s.world.shared at.later _ (through_goes g sh.form form.Block s.world.shared (frame kind.EachBody k 0 env (on ∷ whole i ∷ []))
+        holds_then g sh.form u s.world.shared at.later _ (through_goes g sh.form form.Block s.world.shared (frame kind.EachBody k 0 env (on ∷ whole i ∷ [])) refl
         (sits_here g shaped k sh xs place s.world.shared kind.EachBody 0 env (on ∷ whole i ∷ []) (ap is_each is) (omega arith) (there1, (tt, tt)) fit1 low) (on_turn (each_from a env on (suc i)))
         (each_body_end s.world.shared env on (suc i) fit1 there1) (a.part First 1 (bind x c env) s)
         (holds_as g (form_at sh.parts 1) form.Block s.world.shared _ (quiet_part g shaped k sh xs place each_quiet 1) refl
@@ -347,7 +347,7 @@ module _ (g : Setting) (shaped : Shaped g.script) (k : ℕ) (sh : Shape) (xs : N
 
     each_element_goes : (u : Common) (env : Env) (on : Value) (i : ℕ) → EnvFits u.cells xs env → There u.cells on → (t : Element) (s : State) → At g u s → TurnLow i t → TurnGrows (limits s.world) (closure_rule g.script) (cells s.world) (Given (closure_rule g.script) (cells s.world) (on ∷ [])) t → Holds g sh.form u (each_element a k x env on i t s)
     each_element_goes u env on i fit there Past s at low grown = null_goes g sh.form u each_plain s at
-    each_element_goes u env on i fit there (Stops limit) s at low grown = at
+    each_element_goes u env on i fit there (Stops limit) s at low grown = stopped_here g u s at
     each_element_goes u env on i fit there (Turns h args element) s at low grown =
         let fits : CellsFit (closure_rule g.script) h × (AllAre (There h) args × AllAre (There h) element) = grown.fits ((at.sound).cells, (there_then u s.world.shared at.later on there, tt)) in
         let l1 : Later s.world.shared (put_cells h s.world).shared = record { cells = grown.later; nodes = front_itself s.world.shared.nodes } in
@@ -369,9 +369,9 @@ module _ (g : Setting) (shaped : Shaped g.script) (k : ℕ) (sh : Shape) (xs : N
     try_within : (i : ℕ) → names_within sh.form i xs ≡ xs
     try_within i = ap (λ f. names_within f i xs) is
 
-    finally_goes : has_finally sh ≡ true → (u : Common) (d : FrameKind) (env : Env) (kept : List Value) (before : Ending) → EnvFits u.cells xs env → Sits g.script u (frame d k 0 env kept) → EndFits form.Block u before → Goes g sh.form u (finally_block a k sh env d kept before)
-    finally_goes fin u d env kept before fit sits b s at =
-        through_goes g sh.form form.Block u (frame d k 0 env kept) sits (after_finally before) (finally_end_goes g sh.form try_plain u before b) (a.part (Inside 0) (arity sh - 1) env s)
+    finally_goes : has_finally sh ≡ true → (u : Common) (d : FrameKind) → holds_folder d ≡ false → (env : Env) (kept : List Value) (before : Ending) → EnvFits u.cells xs env → Sits g.script u (frame d k 0 env kept) → EndFits form.Block u before → Goes g sh.form u (finally_block a k sh env d kept before)
+    finally_goes fin u d none env kept before fit sits b s at =
+        through_goes g sh.form form.Block u (frame d k 0 env kept) none sits (after_finally before) (finally_end_goes g sh.form try_plain u before b) (a.part (Inside 0) (arity sh - 1) env s)
         (inner_goes g shaped k sh xs place a src try_quiet u (arity sh - 1) 0 form.Finally env (finally_form _ fin) refl (try_within (arity sh - 1)) fit s at)
 
     finally_row : (b : Bool) → has_finally sh ≡ true → (same_form form.Try sh.form && has_finally sh) ≡ true
@@ -379,11 +379,11 @@ module _ (g : Setting) (shaped : Shaped g.script) (k : ℕ) (sh : Shape) (xs : N
 
     finally_behind_goes : (b : Bool) → has_finally sh ≡ b → (u : Common) (env : Env) → EnvFits u.cells xs env → (e : Ending) (s : State) → At g u s → EndFits form.Block u e → Holds g sh.form u (finally_behind a k sh env b e s)
     finally_behind_goes false fin u env fit e s at h = (at, end_as g form.Block sh.form s.world.shared e refl try_plain (end_then u s.world.shared at.later form.Block e h))
-    finally_behind_goes true fin u env fit (Normal v) s at h = finally_goes fin u kind.FinallyAfterValue env (v ∷ []) (Normal v) fit (sits_here g shaped k sh xs place u kind.FinallyAfterValue 0 env (v ∷ []) (finally_row true fin) (omega arith) (h.0, tt) fit tt) h s at
-    finally_behind_goes true fin u env fit (Thrown c) s at h = finally_goes fin u kind.FinallyAfterThrow env (InCell c ∷ []) (Thrown c) fit (sits_here g shaped k sh xs place u kind.FinallyAfterThrow 0 env (InCell c ∷ []) (finally_row true fin) (omega arith) (h, tt) fit tt) h s at
-    finally_behind_goes true fin u env fit (Returned v) s at h = finally_goes fin u kind.FinallyAfterReturn env (v ∷ []) (Returned v) fit (sits_here g shaped k sh xs place u kind.FinallyAfterReturn 0 env (v ∷ []) (finally_row true fin) (omega arith) (h, tt) fit tt) h s at
-    finally_behind_goes true fin u env fit Broke s at h = finally_goes fin u kind.FinallyAfterBreak env [] Broke fit (sits_here g shaped k sh xs place u kind.FinallyAfterBreak 0 env [] (finally_row true fin) (omega arith) tt fit tt) h s at
-    finally_behind_goes true fin u env fit Continued s at h = finally_goes fin u kind.FinallyAfterContinue env [] Continued fit (sits_here g shaped k sh xs place u kind.FinallyAfterContinue 0 env [] (finally_row true fin) (omega arith) tt fit tt) h s at
+    finally_behind_goes true fin u env fit (Normal v) s at h = finally_goes fin u kind.FinallyAfterValue refl env (v ∷ []) (Normal v) fit (sits_here g shaped k sh xs place u kind.FinallyAfterValue 0 env (v ∷ []) (finally_row true fin) (omega arith) (h.0, tt) fit tt) h s at
+    finally_behind_goes true fin u env fit (Thrown c) s at h = finally_goes fin u kind.FinallyAfterThrow refl env (InCell c ∷ []) (Thrown c) fit (sits_here g shaped k sh xs place u kind.FinallyAfterThrow 0 env (InCell c ∷ []) (finally_row true fin) (omega arith) (h, tt) fit tt) h s at
+    finally_behind_goes true fin u env fit (Returned v) s at h = finally_goes fin u kind.FinallyAfterReturn refl env (v ∷ []) (Returned v) fit (sits_here g shaped k sh xs place u kind.FinallyAfterReturn 0 env (v ∷ []) (finally_row true fin) (omega arith) (h, tt) fit tt) h s at
+    finally_behind_goes true fin u env fit Broke s at h = finally_goes fin u kind.FinallyAfterBreak refl env [] Broke fit (sits_here g shaped k sh xs place u kind.FinallyAfterBreak 0 env [] (finally_row true fin) (omega arith) tt fit tt) h s at
+    finally_behind_goes true fin u env fit Continued s at h = finally_goes fin u kind.FinallyAfterContinue refl env [] Continued fit (sits_here g shaped k sh xs place u kind.FinallyAfterContinue 0 env [] (finally_row true fin) (omega arith) tt fit tt) h s at
     finally_behind_goes true fin u env fit (Declared b) s at h = absurd h.0
     finally_behind_goes true fin u env fit (Answered x) s at h = absurd h
 
@@ -400,7 +400,7 @@ module _ (g : Setting) (shaped : Shaped g.script) (k : ℕ) (sh : Shape) (xs : N
         let here : current sh (arity sh - suc p.0) ≡ p.0 = omega (arith, low) in
         let fit1 : EnvFits s.world.shared.cells xs env = env_later u s.world.shared at.later xs env fit in
         let inner : EnvFits s.world.shared.cells (p.1 ∷ xs) (bind p.1 n env) = bound_fits s.world.shared s.world.shared (later_self s.world.shared) p.1 n xs env fit1 there in
-        holds_then g sh.form u s.world.shared at.later _ (through_goes g sh.form form.Block s.world.shared (frame kind.TryCatch k (arity sh - suc p.0) env [])
+        holds_then g sh.form u s.world.shared at.later _ (through_goes g sh.form form.Block s.world.shared (frame kind.TryCatch k (arity sh - suc p.0) env []) refl
         (sits_here g shaped k sh xs place s.world.shared kind.TryCatch (arity sh - suc p.0) env [] (both _ _ (ap (same_form form.Try) is) (ap (λ j. is_catch (form_at sh.parts j)) here ∙ ap is_catch form_is)) (omega (arith, low)) tt fit1 tt)
         (after_catch a k sh env) (catch_goes s.world.shared env fit1) (a.part (Inside 0) p.0 (bind p.1 n env) s)
         (inner_goes g shaped k sh xs place a src try_quiet s.world.shared p.0 0 (form.Catch by.caught p.1) (bind p.1 n env) form_is refl (try_within p.0) inner s (at_self g u s at))))
@@ -424,7 +424,7 @@ module _ (g : Setting) (shaped : Shaped g.script) (k : ℕ) (sh : Shape) (xs : N
 
     pub declaration_goes : (n : ℕ) → length sh.parts ≡ n → (u : Common) (env : Env) → EnvFits u.cells xs env → Goes g sh.form u (declaration a k n x env)
     declaration_goes zero e u env fit = λ s at. subst (λ f. Holds g f u (declare x Null s)) (sym is) (declare_goes g x u Null tt s at)
-    declaration_goes (suc n) e u env fit = under_goes sh.form u kind.DeclareValue 0 env [] (on_value (declare x)) 0 (λ i. ap (λ f. may_declare f i) is) (ap (λ f. names_within f 0 xs) is) fit
+    declaration_goes (suc n) e u env fit = under_goes sh.form u kind.DeclareValue refl 0 env [] (on_value (declare x)) 0 (λ i. ap (λ f. may_declare f i) is) (ap (λ f. names_within f 0 xs) is) fit
         (sits_here g shaped k sh xs place u kind.DeclareValue 0 env [] (both _ _ (ap is_declaration is) (some_parts sh.parts n e)) (omega arith) tt fit tt) (declare_end_goes u)
 
   -- `return`, `return e`, `throw e`
@@ -433,7 +433,7 @@ module _ (g : Setting) (shaped : Shaped g.script) (k : ℕ) (sh : Shape) (xs : N
 
   pub return_goes : (n : ℕ) → Is form.Return → length sh.parts ≡ n → (u : Common) (env : Env) → EnvFits u.cells xs env → Goes g sh.form u (return_from a k n env)
   return_goes zero is e u env fit = λ s at. (at, tt)
-  return_goes (suc n) is e u env fit = under_goes sh.form u kind.ReturnValue 0 env [] (on_value returns) 0 (λ i. ap (λ f. may_declare f i) is) (ap (λ f. names_within f 0 xs) is) fit
+  return_goes (suc n) is e u env fit = under_goes sh.form u kind.ReturnValue refl 0 env [] (on_value returns) 0 (λ i. ap (λ f. may_declare f i) is) (ap (λ f. names_within f 0 xs) is) fit
       (sits_here g shaped k sh xs place u kind.ReturnValue 0 env [] (both _ _ (ap (same_form form.Return) is) (some_parts sh.parts n e)) (omega arith) tt fit tt) (return_end_goes u)
 
   pub throw_end_goes : (u : Common) → (e : Ending) (s : State) → At g u s → EndFits form.Block s.world.shared e → Holds g sh.form u (on_value throws e s)

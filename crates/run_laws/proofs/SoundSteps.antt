@@ -1,6 +1,7 @@
 -- Steps: sound from a sound state on.
-use Rattle.std.proofs.Common.{arith, ◌≡◌, ◌<◌, ◌≤◌, ◌+◌, refl, sym, ap, subst, ◌∙◌, ℕ, zero, suc, Bool, true, false, List, [], ◌∷◌, ◌++◌, length, length-append, Option}
-use Rattle.std.specs.Prelude.{slice_get, codes, None}
+use Rattle.std.proofs.Common.{arith, ◌≡◌, ◌<◌, ◌≤◌, ◌+◌, refl, sym, ap, subst, ◌∙◌, ℕ, zero, suc, Bool, true, false, List, [], ◌∷◌, ◌++◌, length, length-append, Option, Some, None}
+use Rattle.model_values.specs.declared.limit.LimitKind.{LimitKind}
+use Rattle.std.specs.Prelude.{slice_get, codes}
 use Rattle.std.specs.List.{AllByRecursion as AllAre}
 use Rattle.model_syntax.specs.declared.node.NodeForm.{NodeForm}
 use Rattle.model_syntax.specs.declared.node.NodeForm.TheVariants as form
@@ -23,7 +24,7 @@ use Rattle.model_run.specs.declared.frame.FrameKind.{FrameKind}
 use Rattle.model_run.specs.declared.frame.FrameKind.TheVariants as kind
 use Rattle.model_run.specs.declared.ending.Ending.{Ending}
 use Rattle.model_run.specs.declared.ending.Ending.TheVariants.{Normal, Thrown, Returned, Broke, Continued, Declared, Answered}
-use Rattle.model_run.specs.State.{Setting, Common, World, State, Env, Result, Ended, with_world, changed, seeing, on_throw}
+use Rattle.model_run.specs.State.{Setting, Common, World, State, Env, Result, Ended, with_world, changed, unless_limit, guarded, seeing, on_throw}
 use Rattle.model_run.specs.Around.{Around, Shape, frame, ended, cells, limits, whole}
 use Rattle.model_run.specs.Callables.{closure_of}
 use Rattle.model_run.specs.FlowNodes.{next_node, with_line, line_limit, logging, noted, noted_limit, noting, atom, block, noted_body, body_limit, end_body, end_block, end_branches, noted_branch, branch_label, body_line, pipeline}
@@ -32,12 +33,12 @@ use Rattle.model_run.specs.Steps.{throwing, worsened, logging_all, run_body, sta
 use Rattle.model_run.specs.FrameTable.{Flow_node, is_declaration, frame_row}
 use Rattle.model_run.specs.Nesting.{ValuesFit}
 use Rattle.model_run.specs.Scoping.{Names, frame_names}
-use Rattle.model_run.specs.Fitting.{EnvFits, closure_rule, IsFlowNode, StartsAt, Later}
+use Rattle.model_run.specs.Fitting.{EnvFits, closure_rule, IsFlowNode, StartsAt, Later, holds_executor}
 use Rattle.model_run.proofs.LaterLaws.{env_later}
-use Rattle.run_laws.specs.Soundness.{Shaped, seen, NumbersFit, Sits, EndFits, Sound, At, Holds, Goes}
+use Rattle.run_laws.specs.Soundness.{Base, Open, within, open_in, inside, Stopped, Shaped, seen, NumbersFit, Sits, EndFits, Same, Sound, left, At, Holds, Goes}
 use Rattle.run_laws.specs.Bounds.{HasRoom}
 use Rattle.run_laws.proofs.Bounds.{all_longer, line_longer, bounds_node, node_room, room_behind}
-use Rattle.run_laws.proofs.Flow.{later_then, there_then, node_then, end_then, end_as, at_self, holds_then, from_here, Moves, moves_aside, narrow_here, at_moved, change_goes, guard_with, guard_goes, null_goes, answer_goes, through_goes}
+use Rattle.run_laws.proofs.Flow.{same_on, HasGone, at_over, guard_here, through_inside, later_then, there_then, node_then, end_then, end_as, at_self, holds_then, from_here, Moves, moves_aside, at_moved, change_goes, guard_with, guard_goes, null_goes, answer_goes}
 use Rattle.run_laws.proofs.Sources.{CalleeFits, Place, Sources, sits_here}
 use Rattle.run_laws.proofs.SoundCalls.{callee_then, closure_fits, closure_seen, through_guard_goes, calling_goes}
 
@@ -51,26 +52,28 @@ old_node nodes n m h = (h.0, let lt : m < length nodes + 2 = h.1 in omega (arith
 pub more_nodes : (u v : Common) (n : FlowNode) → v.cells ≡ u.cells → v.nodes ≡ u.nodes ++ n ∷ [] → Later u v
 more_nodes u v n c e = record { cells = subst (Rattle.model_values.specs.Later.CellsLater u.cells) (sym c) (later_itself u.cells); nodes = (n ∷ [], e) }
 
-module _ (g : Setting) where
-  -- where a flow node meets no limit the bound has room for it
-  few_here : (text : List ℕ) (w : World) → Sound g w → noted_limit text w ≡ None → length w.shared.nodes < 100000000
-  few_here text w sound none =
-      let low : length w.shared.nodes < w.setting.limits.flow_nodes = node_room text w none in
-      let most : w.setting.limits.flow_nodes ≤ 100000000 = (narrow_here g w sound).nodes in
-      omega (arith, low, most)
+module _ (g : Base) where
+  -- where a flow node meets no limit there was room for it
+  room_there : (text : List ℕ) (w : World) → Sound g w → noted_limit text w ≡ None → length w.shared.nodes < g.limits.flow_nodes
+  room_there text w sound none = subst (λ (x : Setting). length w.shared.nodes < x.limits.flow_nodes) sound.setting (node_room text w none)
 
-  noted_moves : (d : NodeKind) (name : List ℕ) (start : ℕ) (parents : World → List ℕ) (text : List ℕ) (w : World) → Sound g w → StartsAt d (next_node w) start → AllAre (IsFlowNode w.shared.nodes) (parents w) → noted_limit text w ≡ None → Moves g (λ w. noted d name start (parents w) text w) w
-  noted_moves d name start parents text w sound starts old none = record {
+  few_here : (text : List ℕ) (w : World) → Sound g w → noted_limit text w ≡ None → length w.shared.nodes < 100000000
+  few_here text w sound none = omega (arith, room_there text w sound none, (sound.narrow).nodes)
+
+  pub noted_moves : (d : NodeKind) (name : List ℕ) (start : ℕ) (parents : World → List ℕ) (text : List ℕ) (w : World) → Sound g w → StartsAt d (next_node w) start → AllAre (IsFlowNode w.shared.nodes) (parents w) → noted_limit text w ≡ None → Moves g (λ w. noted d name start (parents w) text w) w
+  noted_moves d name start parents text w sound begins old none = record {
     later = more_nodes w.shared (noted d name start (parents w) text w).shared _ refl refl;
     cells = sound.cells;
     binding = sound.binding;
     head = new_node w.shared.nodes _;
-    bounds = bounds_node false g.site w.shared (noted d name start (parents w) text w).shared (record { id = next_node w; kind = d; name = name; start = start; parents = parents w }) sound.bounds (few_here text w sound none) refl starts old refl refl refl refl (all_longer g.site (length w.shared.log) (length (line text w.shared.log)) (line_longer text w.shared.log) w.shared.requests (sound.bounds).asks);
+    same = same_on g.around w (noted d name start (parents w) text w) refl refl;
+    bounds = bounds_node false g.site w.shared (noted d name start (parents w) text w).shared (record { id = next_node w; kind = d; name = name; start = start; parents = parents w }) sound.bounds (few_here text w sound none) refl begins old refl refl refl refl
+        (all_longer g.site (length w.shared.log) (length (line text w.shared.log)) (line_longer text w.shared.log) w.shared.requests (sound.bounds).asks);
   }
 
   -- a line
   pub line_moves : (text : List ℕ) (w : World) → Sound g w → Moves g (with_line text) w
-  line_moves text w sound = moves_aside g (with_line text) w sound refl refl refl refl refl refl (line_longer text w.shared.log)
+  line_moves text w sound = moves_aside g (with_line text) w sound refl refl refl refl refl refl refl refl (line_longer text w.shared.log)
 
   pub branch_moves : (name : List ℕ) (w : World) → Sound g w → noted_limit (body_line (branch_label name)) w ≡ None → Moves g (noted_branch name) w
   branch_moves name w sound none = record {
@@ -78,25 +81,45 @@ module _ (g : Setting) where
     cells = sound.cells;
     binding = sound.binding;
     head = old_node w.shared.nodes _ w.own.head sound.head;
+    same = same_on g.around w (noted_branch name w) refl refl;
     bounds = bounds_node false g.site w.shared (noted_branch name w).shared (record { id = next_node w; kind = Body; name = branch_label name; start = 0; parents = w.own.head ∷ [] }) sound.bounds (few_here (body_line (branch_label name)) w sound none) refl refl (sound.head, tt) refl refl refl refl
         (all_longer g.site (length w.shared.log) (length (line (body_line (branch_label name)) w.shared.log)) (line_longer (body_line (branch_label name)) w.shared.log) w.shared.requests (sound.bounds).asks);
   }
 
+  -- behind a change that makes a flow node one less is left
+  pub noted_spends : (f : NodeForm) (u : Common) (text : List ℕ) (h : World → World) (n : FlowNode) (s : State) → Stopped g u s → (h s.world).shared.nodes ≡ s.world.shared.nodes ++ n ∷ [] → (go : State → Result)
+      → (noted_limit text s.world ≡ None → left g (h s.world).shared + 1 ≤ left g s.world.shared → Holds g f u (go (with_world (h s.world) s))) → Holds g f u (guarded (noted_limit text) h go s)
+  noted_spends f u text h n s at new go k' = one (noted_limit text s.world) refl
+    where
+      one : (o : Option LimitKind) → noted_limit text s.world ≡ o → Holds g f u (unless_limit o (changed h go) s)
+      one (Some k) e = at
+      one None e = k' e (omega (arith, room_there text s.world at.sound e, ap length new, length-append s.world.shared.nodes (n ∷ [])))
+
+module _ (g : Base) where
   module _ (f : NodeForm) (u : Common) where
     -- behind a new flow node there is room for a request
     abbrev pub GoesAsking : (State → Result) → Type 0
     GoesAsking go = (s : State) → At g u s → HasRoom s.world.shared → Holds g f u (go s)
 
     noting_asks : (d : NodeKind) (name : List ℕ) (start : ℕ) (text : List ℕ) (go : State → Result) → ((v : Common) → Later u v → StartsAt d (length v.nodes + 2) start) → GoesAsking go → Goes g f u (noting d name start text go)
-    noting_asks d name start text go starts k' s at =
-        guard_with g f u (noted_limit text) (λ w. noted d name start (w.own.head ∷ []) text w) (λ w l sound none. noted_moves d name start (λ w. w.own.head ∷ []) text w sound (starts w.shared l) (sound.head, tt) none) go s at
+    noting_asks d name start text go begins k' s at =
+        guard_with g f u (noted_limit text) (λ w. noted d name start (w.own.head ∷ []) text w) (λ w l sound none. noted_moves g d name start (λ w. w.own.head ∷ []) text w sound (begins w.shared l) (sound.head, tt) none) go s at
         (λ at1. k' (with_world (noted d name start (s.world.own.head ∷ []) text s.world) s) at1 (room_behind s.world.shared (noted d name start (s.world.own.head ∷ []) text s.world).shared _ ((at.sound).bounds).few_requests refl refl))
 
-    noting_goes : (d : NodeKind) (name : List ℕ) (start : ℕ) (text : List ℕ) (go : State → Result) → ((v : Common) → Later u v → StartsAt d (length v.nodes + 2) start) → Goes g f u go → Goes g f u (noting d name start text go)
-    noting_goes d name start text go starts k' = noting_asks d name start text go starts (λ s at room. k' s at)
+    pub noting_goes : (d : NodeKind) (name : List ℕ) (start : ℕ) (text : List ℕ) (go : State → Result) → ((v : Common) → Later u v → StartsAt d (length v.nodes + 2) start) → Goes g f u go → Goes g f u (noting d name start text go)
+    noting_goes d name start text go begins k' = noting_asks d name start text go begins (λ s at room. k' s at)
 
     pub end_body_goes : (start : ℕ) → IsFlowNode u.nodes start → (go : State → Result) → Goes g f u go → Goes g f u (end_body start go)
     end_body_goes start flow go k' = noting_goes EndBody [] start (pipeline (codes "}")) go (λ v l. node_then u v l start flow) k'
+
+    -- behind the end of a body, in which o is open, a change that closes it
+    pub end_body_over : (o : Open) (start : ℕ) → IsFlowNode u.nodes start → (h : World → World) → ((w : World) → (h w).shared.cells ≡ w.shared.cells) → ((w : World) → (h w).shared.binding ≡ w.shared.binding) → ((w : World) → (h w).shared.nodes ≡ w.shared.nodes) → ((w : World) → (h w).own.head ≡ w.own.head)
+        → ((w : World) → (h w).shared.requests ≡ w.shared.requests) → ((w : World) → (h w).shared.next_request ≡ w.shared.next_request) → ((w : World) → length w.shared.log ≤ length (h w).shared.log) → ((w : World) → Same o w → Same g.around (h w)) → (go : State → Result) → Goes g f u go → (s : State) → At (within o g) u s → Holds g f u (end_body start (changed h go) s)
+    end_body_over o start flow h c b n hd r q longer over go k' s at =
+        guard_here g f u (noted_limit (pipeline (codes "}")) s.world) (λ w. noted EndBody [] start (w.own.head ∷ []) (pipeline (codes "}")) w) (changed h go) s (record { later = at.later; sound = at.sound }) (λ none. (
+        let at1 : At (within o g) u (with_world (noted EndBody [] start (s.world.own.head ∷ []) (pipeline (codes "}")) s.world) s) =
+        at_moved (within o g) u (λ w. noted EndBody [] start (w.own.head ∷ []) (pipeline (codes "}")) w) s at (noted_moves (within o g) EndBody [] start (λ w. w.own.head ∷ []) (pipeline (codes "}")) s.world at.sound (node_then u s.world.shared at.later start flow) ((at.sound).head, tt) none) in
+        k' _ (at_over g o u h (with_world (noted EndBody [] start (s.world.own.head ∷ []) (pipeline (codes "}")) s.world) s) at1 (c _) (b _) (n _) (hd _) (r _) (q _) (longer _) (over _))))
 
     pub end_block_goes : (name : List ℕ) (start : ℕ) → IsFlowNode u.nodes start → (go : State → Result) → Goes g f u go → Goes g f u (end_block name start go)
     end_block_goes name start flow go k' = noting_goes EndBlock [] start (pipeline (codes "// " ++ name)) go (λ v l. node_then u v l start flow) k'
@@ -116,10 +139,10 @@ module _ (g : Setting) where
     -- a line leaves this room
     pub logging_asks : (text : List ℕ) (go : State → Result) → GoesAsking go → GoesAsking (logging text go)
     logging_asks text go k' s at room =
-        guard_with g f u (line_limit text) (with_line text) (λ w l sound none. line_moves text w sound) go s at (λ at1. k' (with_world (with_line text s.world) s) at1 room)
+        guard_with g f u (line_limit text) (with_line text) (λ w l sound none. line_moves g text w sound) go s at (λ at1. k' (with_world (with_line text s.world) s) at1 room)
 
     pub logging_goes : (text : List ℕ) (go : State → Result) → Goes g f u go → Goes g f u (logging text go)
-    logging_goes text go k' = guard_goes g f u (line_limit text) (with_line text) (λ w l sound none. line_moves text w sound) go k'
+    logging_goes text go k' = guard_goes g f u (line_limit text) (with_line text) (λ w l sound none. line_moves g text w sound) go k'
 
     logging_all_goes : (ts : List (List ℕ)) (go : State → Result) → Goes g f u go → Goes g f u (logging_all ts go)
     logging_all_goes [] go k' = k'
@@ -127,12 +150,12 @@ module _ (g : Setting) where
 
     pub end_branches_goes : (name : List ℕ) (start : ℕ) → IsFlowNode u.nodes start → (heads : List ℕ) → AllAre (IsFlowNode u.nodes) heads → (go : State → Result) → Goes g f u go → Goes g f u (end_branches name start heads go)
     end_branches_goes name start flow heads old go k' = guard_goes g f u (noted_limit (pipeline (codes "// " ++ name))) (noted EndBlock [] start heads (pipeline (codes "// " ++ name)))
-        (λ w l sound none. noted_moves EndBlock [] start (λ w. heads) (pipeline (codes "// " ++ name)) w sound (node_then u w.shared l start flow) (all_weaker _ _ (node_then u w.shared l) heads old) none) go k'
+        (λ w l sound none. noted_moves g EndBlock [] start (λ w. heads) (pipeline (codes "// " ++ name)) w sound (node_then u w.shared l start flow) (all_weaker _ _ (node_then u w.shared l) heads old) none) go k'
 
     -- a change that touches nothing of this
-    pub aside_goes : (h : World → World) → ((w : World) → (h w).shared.cells ≡ w.shared.cells) → ((w : World) → (h w).shared.binding ≡ w.shared.binding) → ((w : World) → (h w).shared.nodes ≡ w.shared.nodes) → ((w : World) → (h w).own.head ≡ w.own.head)
+    pub aside_goes : (h : World → World) → ((w : World) → (h w).shared.cells ≡ w.shared.cells) → ((w : World) → (h w).shared.binding ≡ w.shared.binding) → ((w : World) → (h w).shared.nodes ≡ w.shared.nodes) → ((w : World) → (h w).own.head ≡ w.own.head) → ((w : World) → (h w).own.context ≡ w.own.context) → ((w : World) → (h w).shared.held ≡ w.shared.held)
         → ((w : World) → (h w).shared.requests ≡ w.shared.requests) → ((w : World) → (h w).shared.next_request ≡ w.shared.next_request) → ((w : World) → length w.shared.log ≤ length (h w).shared.log) → (go : State → Result) → Goes g f u go → Goes g f u (changed h go)
-    aside_goes h c b n o r q l go k' = change_goes g f u h (λ w sound. moves_aside g h w sound (c w) (b w) (n w) (o w) (r w) (q w) (l w)) go k'
+    aside_goes h c b n o x y r q l go k' = change_goes g f u h (λ w sound. moves_aside g h w sound (c w) (b w) (n w) (o w) (x w) (y w) (r w) (q w) (l w)) go k'
 
     pub throwing_goes : (class : Class) (message : List ℕ) → Goes g f u (throwing class message)
     throwing_goes class message s at = answer_goes g f u (λ h v. ⊥) (throw (limits s.world) (cells s.world) class message) s at (GivenValues (closure_rule g.script) (cells s.world) []) ((at.sound).cells, tt) (throws (limits s.world) (closure_rule g.script) (cells s.world) class message) ended (λ v t q l is. absurd is)
@@ -147,18 +170,18 @@ module _ (g : Setting) where
         (end_body_goes f s.world.shared body (node_then u s.world.shared at.later body b) (end_block name start (Ended e))
         (end_block_goes f s.world.shared name start (node_then u s.world.shared at.later start a) (Ended e) (ending_goes s.world.shared e h)))
 
-    -- behind a body's end a change of the thread's own, and then the block's end
-    pub body_end_changed : (u : Common) (name : List ℕ) (start body : ℕ) → IsFlowNode u.nodes start → IsFlowNode u.nodes body → (h : World → World) → ((w : World) → (h w).shared.cells ≡ w.shared.cells) → ((w : World) → (h w).shared.binding ≡ w.shared.binding) → ((w : World) → (h w).shared.nodes ≡ w.shared.nodes) → ((w : World) → (h w).own.head ≡ w.own.head)
-        → ((w : World) → (h w).shared.requests ≡ w.shared.requests) → ((w : World) → (h w).shared.next_request ≡ w.shared.next_request) → ((w : World) → length w.shared.log ≤ length (h w).shared.log) → (e : Ending) (s : State) → At g u s → EndFits form.Block s.world.shared e → Holds g f u (end_body body (changed h (end_block name start (Ended e))) s)
-    body_end_changed u name start body old new h c b n o r q l e s at fits = from_here g f u (end_body body (changed h (end_block name start (Ended e)))) s at
-        (end_body_goes f s.world.shared body (node_then u s.world.shared at.later body new) (changed h (end_block name start (Ended e)))
-        (aside_goes f s.world.shared h c b n o r q l (end_block name start (Ended e)) (end_block_goes f s.world.shared name start (node_then u s.world.shared at.later start old) (Ended e) (ending_goes s.world.shared e fits))))
+    -- behind the end of a body, in which o is open, a change that closes it, and then the block's end
+    pub body_end_changed : (o : Open) (u : Common) (name : List ℕ) (start body : ℕ) → IsFlowNode u.nodes start → IsFlowNode u.nodes body → (h : World → World) → ((w : World) → (h w).shared.cells ≡ w.shared.cells) → ((w : World) → (h w).shared.binding ≡ w.shared.binding) → ((w : World) → (h w).shared.nodes ≡ w.shared.nodes) → ((w : World) → (h w).own.head ≡ w.own.head)
+        → ((w : World) → (h w).shared.requests ≡ w.shared.requests) → ((w : World) → (h w).shared.next_request ≡ w.shared.next_request) → ((w : World) → length w.shared.log ≤ length (h w).shared.log) → ((w : World) → Same o w → Same g.around (h w)) → (e : Ending) (s : State) → At (within o g) u s → EndFits form.Block s.world.shared e → Holds g f u (end_body body (changed h (end_block name start (Ended e))) s)
+    body_end_changed o u name start body old new h c b n hd r q l over e s at fits =
+        holds_then g f u s.world.shared at.later _
+        (end_body_over f s.world.shared o body (node_then u s.world.shared at.later body new) h c b n hd r q l over (end_block name start (Ended e)) (end_block_goes f s.world.shared name start (node_then u s.world.shared at.later start old) (Ended e) (ending_goes s.world.shared e fits)) s (at_self (within o g) u s at))
 
     catch_end_goes : (u : Common) (start : ℕ) → IsFlowNode u.nodes start → Goes g f u (catch_end start)
     catch_end_goes u start flow = end_block_goes f u (codes "catchError") start flow (ended Null) (null_goes g f u plain)
 
     caught_goes : (u : Common) (start r : ℕ) → IsFlowNode u.nodes start → (message : Value) (e : Ending) → Goes g f u (caught start r message e)
-    caught_goes u start r flow message (Thrown c) s at = logging_all_goes f u (message_lines (kind (cells s.world) message) ++ caught_lines (slice_get (cells s.world) c)) (changed (worsened (result_at r)) (catch_end start)) (aside_goes f u (worsened (result_at r)) (λ w. refl) (λ w. refl) (λ w. refl) (λ w. refl) (λ w. refl) (λ w. refl) (λ w. omega arith) (catch_end start) (catch_end_goes u start flow)) s at
+    caught_goes u start r flow message (Thrown c) s at = logging_all_goes f u (message_lines (kind (cells s.world) message) ++ caught_lines (slice_get (cells s.world) c)) (changed (worsened (result_at r)) (catch_end start)) (aside_goes f u (worsened (result_at r)) (λ w. refl) (λ w. refl) (λ w. refl) (λ w. refl) (λ w. refl) (λ w. refl) (λ w. refl) (λ w. refl) (λ w. omega arith) (catch_end start) (catch_end_goes u start flow)) s at
     caught_goes u start r flow message (Normal v) s at = catch_end_goes u start flow s at
     caught_goes u start r flow message (Returned v) s at = catch_end_goes u start flow s at
     caught_goes u start r flow message Broke s at = catch_end_goes u start flow s at
@@ -169,32 +192,32 @@ module _ (g : Setting) where
     pub catch_error_end : (u : Common) (start body r : ℕ) → IsFlowNode u.nodes start → IsFlowNode u.nodes body → (message : Value) (e : Ending) → Goes g f u (after_catch_error start body r message e)
     catch_error_end u start body r a b message e = end_body_goes f u body b (caught start r message e) (caught_goes u start r a message e)
 
-module _ (g : Setting) (shaped : Shaped g.script) (k : ℕ) (sh : Shape) (xs : Names) (place : Place g k sh xs) (a : Around) (src : Sources g shaped k sh xs place a) (plain : is_declaration sh.form ≡ false) where
+module _ (g : Base) (shaped : Shaped g.script) (k : ℕ) (sh : Shape) (xs : Names) (place : Place g k sh xs) (a : Around) (src : Sources g shaped k sh xs place a) (plain : is_declaration sh.form ≡ false) where
   -- A body behind its flow node, under a frame that sits there.
-  pub run_body_goes : (u : Common) (x : Frame) (go : Ending → State → Result) (label : List ℕ) (c : Callee) (s : State) → At g u s → CalleeFits g.script s.world.shared c.node c.env → Sits g.script (noted_body label s.world).shared x
-      → ((e : Ending) (t : State) → At g (noted_body label s.world).shared t → EndFits form.Block t.world.shared e → Holds g sh.form (noted_body label s.world).shared (go e t)) → Holds g sh.form u (run_body a x go label c s)
-  run_body_goes u x go label c s at callee sits k' =
-      through_guard_goes g sh.form u x go (body_limit label s.world) (noted_body label) (a.call c.node [] c.env) s at (λ none. (
-      let m : Moves g (noted_body label) s.world = noted_moves g Body label 0 (λ w. w.own.head ∷ []) (body_line label) s.world at.sound refl ((at.sound).head, tt) none in
-      let at1 : At g u (with_world (noted_body label s.world) s) = at_moved g u (noted_body label) s at m in
-      holds_then g sh.form u (noted_body label s.world).shared at1.later _ (through_goes g sh.form form.Block (noted_body label s.world).shared x sits go k' (a.call c.node [] c.env (with_world (noted_body label s.world) s))
-      (src.call (noted_body label s.world).shared c.node [] c.env (callee_then g.script s.world.shared (noted_body label s.world).shared m.later c.node c.env callee) tt (with_world (noted_body label s.world) s) (at_self g u (with_world (noted_body label s.world) s) at1)))))
+  pub run_body_goes : (u : Common) (x : Frame) → HasGone (holds_executor x.kind) g.around.gone → (go : Ending → State → Result) (label : List ℕ) (c : Callee) (s : State) → At (inside x.kind g) u s → CalleeFits g.script s.world.shared c.node c.env → Sits g.script (noted_body label s.world).shared x
+      → ((e : Ending) (t : State) → At (inside x.kind g) (noted_body label s.world).shared t → EndFits form.Block t.world.shared e → Holds g sh.form (noted_body label s.world).shared (go e t)) → Holds g sh.form u (run_body a x go label c s)
+  run_body_goes u x some go label c s at callee sits k' =
+      through_guard_goes g sh.form u x go (body_limit label s.world) (noted_body label) (a.call c.node [] c.env) s (record { later = at.later; sound = at.sound }) (λ none. (
+      let m : Moves (inside x.kind g) (noted_body label) s.world = noted_moves (inside x.kind g) Body label 0 (λ w. w.own.head ∷ []) (body_line label) s.world at.sound refl ((at.sound).head, tt) none in
+      let at1 : At (inside x.kind g) u (with_world (noted_body label s.world) s) = at_moved (inside x.kind g) u (noted_body label) s at m in
+      holds_then g sh.form u (noted_body label s.world).shared at1.later _ (through_inside g sh.form form.Block (noted_body label s.world).shared x some sits go k' (a.call c.node [] c.env (with_world (noted_body label s.world) s))
+      (src.call (open_in x.kind g.around) (noted_body label s.world).shared c.node [] c.env (callee_then g.script s.world.shared (noted_body label s.world).shared m.later c.node c.env callee) tt (with_world (noted_body label s.world) s) (at_self (inside x.kind g) u (with_world (noted_body label s.world) s) at1)))))
 
   module _ (env : Env) where
     -- the frame of a body: the first flow nodes of its block and of the body, and further values
     pub starts_seen : (label : List ℕ) (w : World) → Sound g w → (seen (noted_body label w).shared Flow_node (whole w.own.head)) × seen (noted_body label w).shared Flow_node (whole (next_node w))
     starts_seen label w sound = (old_node w.shared.nodes _ w.own.head sound.head, new_node w.shared.nodes _)
 
-    pub fit_noted : (u : Common) → EnvFits u.cells xs env → (label : List ℕ) (s : State) → At g u s → EnvFits (noted_body label s.world).shared.cells xs env
-    fit_noted u fit label s at = env_later u s.world.shared at.later xs env fit
+    pub fit_noted : (u : Common) → EnvFits u.cells xs env → (label : List ℕ) (s : State) → Later u s.world.shared → EnvFits (noted_body label s.world).shared.cells xs env
+    fit_noted u fit label s later = env_later u s.world.shared later xs env fit
 
     pub retry_with : (rs : (frame_row kind.RetryBody sh 0 env).stands ≡ true) → (m : ℕ) (after : ℕ → Ending → State → Result) → (start : ℕ) (u : Common) → EnvFits u.cells xs env → IsFlowNode u.nodes start → (f : Value) → There u.cells f
         → ((v : Common) → Later u v → (body : ℕ) → IsFlowNode v.nodes body → (e : Ending) (t : State) → At g v t → EndFits form.Block t.world.shared e → Holds g sh.form v (after body e t)) → Goes g sh.form u (retry_body after a k env start m f)
     retry_with rs m after start u fit flow f tf ok s at =
         calling_goes g sh.form plain u (closure_of s.world f) s at (closure_fits g s.world f at.sound) (run_body a (frame kind.RetryBody k 0 env (whole start ∷ whole (next_node s.world) ∷ whole m ∷ f ∷ [])) (after (next_node s.world)) [])
-        (λ c e callee. run_body_goes u (frame kind.RetryBody k 0 env (whole start ∷ whole (next_node s.world) ∷ whole m ∷ f ∷ [])) (after (next_node s.world)) [] c s at callee
+        (λ c e callee. run_body_goes u (frame kind.RetryBody k 0 env (whole start ∷ whole (next_node s.world) ∷ whole m ∷ f ∷ [])) tt (after (next_node s.world)) [] c s at callee
         (sits_here g shaped k sh xs place (noted_body [] s.world).shared kind.RetryBody 0 env (whole start ∷ whole (next_node s.world) ∷ whole m ∷ f ∷ []) rs (omega arith)
-        (old_node s.world.shared.nodes _ start (node_then u s.world.shared at.later start flow), ((starts_seen [] s.world at.sound).1, (tt, (closure_seen s.world f c e, tt)))) (fit_noted u fit [] s at) tt)
+        (old_node s.world.shared.nodes _ start (node_then u s.world.shared at.later start flow), ((starts_seen [] s.world at.sound).1, (tt, (closure_seen s.world f c e, tt)))) (fit_noted u fit [] s at.later) tt)
         (λ e1 t q h. ok (noted_body [] s.world).shared (later_then u s.world.shared (noted_body [] s.world).shared at.later (more_nodes s.world.shared (noted_body [] s.world).shared _ refl refl)) (next_node s.world) (starts_seen [] s.world at.sound).1 e1 t q h))
 
     retry_end_goes : (u : Common) (start : ℕ) → IsFlowNode u.nodes start → (e : Ending) → EndFits form.Block u e → Goes g sh.form u (retry_end start e)
@@ -225,13 +248,13 @@ module _ (g : Setting) (shaped : Shaped g.script) (k : ℕ) (sh : Shape) (xs : N
         (λ v l b new1 e1 t q h1. after_retry_goes rs m start v (env_later s.world.shared v l xs env fit1) (node_then s.world.shared v l start flow1) f (there_then s.world.shared v l f tf1) b new1 e1 t q h1)) e h))
 
     -- the body of a step whose frame keeps its first flow nodes and these further values
-    pub body_goes : (d : FrameKind) → (frame_row d sh 0 env).stands ≡ true → 0 < (frame_row d sh 0 env).limit → (more : List Value) → (label : List ℕ) (u : Common) → EnvFits u.cells xs env → (go : Ending → State → Result) (w : World) (c : Callee) (s : State) → At g u s → w.own.head ≡ s.world.own.head → next_node w ≡ next_node s.world → CalleeFits g.script s.world.shared c.node c.env
+    pub body_goes : (d : FrameKind) → HasGone (holds_executor d) g.around.gone → (frame_row d sh 0 env).stands ≡ true → 0 < (frame_row d sh 0 env).limit → (more : List Value) → (label : List ℕ) (u : Common) → EnvFits u.cells xs env → (go : Ending → State → Result) (w : World) (c : Callee) (s : State) → At (inside d g) u s → w.own.head ≡ s.world.own.head → next_node w ≡ next_node s.world → CalleeFits g.script s.world.shared c.node c.env
         → ValuesFit (seen (noted_body label s.world).shared) (frame_row d sh 0 env).further (frame_row d sh 0 env).values (starts s.world ++ more) → EnvFits (noted_body label s.world).shared.cells (frame_names d sh 0 xs) env → NumbersFit d (starts s.world ++ more)
-        → ((v : Common) → Later u v → IsFlowNode v.nodes w.own.head → IsFlowNode v.nodes (next_node w) → (e : Ending) (t : State) → At g v t → EndFits form.Block t.world.shared e → Holds g sh.form v (go e t)) → Holds g sh.form u (run_body a (frame d k 0 env (starts w ++ more)) go label c s)
-    body_goes d stands low more label u fit go w c s at head next callee values names numbers ok =
+        → ((v : Common) → Later u v → IsFlowNode v.nodes w.own.head → IsFlowNode v.nodes (next_node w) → (e : Ending) (t : State) → At (inside d g) v t → EndFits form.Block t.world.shared e → Holds g sh.form v (go e t)) → Holds g sh.form u (run_body a (frame d k 0 env (starts w ++ more)) go label c s)
+    body_goes d some stands low more label u fit go w c s at head next callee values names numbers ok =
         let e : starts s.world ++ more ≡ starts w ++ more = ap (λ vs. vs ++ more) (ap (λ n. whole n ∷ whole (next_node s.world) ∷ []) (sym head) ∙ ap (λ n. whole w.own.head ∷ whole n ∷ []) (sym next)) in
         subst (λ vs. Holds g sh.form u (run_body a (frame d k 0 env vs) go label c s)) e
-        (run_body_goes u (frame d k 0 env (starts s.world ++ more)) go label c s at callee
+        (run_body_goes u (frame d k 0 env (starts s.world ++ more)) some go label c s at callee
         (sits_here g shaped k sh xs place (noted_body label s.world).shared d 0 env (starts s.world ++ more) stands low values names numbers)
         (λ e1 t q h. ok (noted_body label s.world).shared (later_then u s.world.shared (noted_body label s.world).shared at.later (more_nodes s.world.shared (noted_body label s.world).shared _ refl refl))
         (subst (IsFlowNode (noted_body label s.world).shared.nodes) (sym head) (starts_seen label s.world at.sound).0) (subst (IsFlowNode (noted_body label s.world).shared.nodes) (sym next) (starts_seen label s.world at.sound).1) e1 t q h))

@@ -8,14 +8,14 @@ use Rattle.model_values.specs.declared.value.Value.{Value}
 use Rattle.model_run.specs.declared.frame.FrameKind.{FrameKind}
 use Rattle.model_run.specs.declared.ending.Entry.TheVariants.{First, Inside, On}
 use Rattle.model_run.specs.Terms.{nodes_of}
-use Rattle.model_run.specs.State.{Setting, Common, Env}
+use Rattle.model_run.specs.State.{Common, Env}
 use Rattle.model_run.specs.Around.{Around, Shape, form_at, frame}
 use Rattle.model_run.specs.FrameTable.{frame_row, is_declaration}
 use Rattle.model_run.specs.Nesting.{MeetsRow, ValuesFit, shape_at}
 use Rattle.model_run.specs.Scoping.{Names, names_within, names_behind, names_after, names_at, frame_names}
 use Rattle.model_run.specs.Fitting.{EnvFits, Later}
 pub use Rattle.run_laws.specs.Evaluation.{has_inner, CalleeFits, TurnFits, turn_names}
-use Rattle.run_laws.specs.Soundness.{Shaped, may_declare, seen, NumbersFit, Sits, Goes}
+use Rattle.run_laws.specs.Soundness.{Base, Open, within, Shaped, may_declare, seen, NumbersFit, Sits, Goes}
 use Rattle.run_laws.proofs.Flow.{there_then, all_there_then, holds_as}
 
 pub turn_then : (f : NodeForm) (u v : Common) → Later u v → (kept : List Value) → TurnFits f u kept → TurnFits f v kept
@@ -46,18 +46,18 @@ not_true true h = absurd (h refl)
 not_true false h = refl
 
 -- the node at which all this happens
-pub record Place (g : Setting) (k : ℕ) (sh : Shape) (xs : Names) : Type 0 where
+pub record Place (g : Base) (k : ℕ) (sh : Shape) (xs : Names) : Type 0 where
   pub below : k < length (nodes_of g.script)
   pub there : shape_at g.script k ≡ sh
   pub sees : names_at g.script k ≡ xs
 
-module _ (g : Setting) (shaped : Shaped g.script) (k : ℕ) (sh : Shape) (xs : Names) (place : Place g k sh xs) where
+module _ (g : Base) (shaped : Shaped g.script) (k : ℕ) (sh : Shape) (xs : Names) (place : Place g k sh xs) where
   pub record Sources (a : Around) : Type 0 where
     pub part : (u : Common) (i : ℕ) (env : Env) → EnvFits u.cells (names_within sh.form i (names_after sh.parts i xs)) env → Goes g (form_at sh.parts i) u (a.part First i env)
     pub inner : (u : Common) (i j : ℕ) (env : Env) → has_inner (form_at sh.parts i) ≡ true → EnvFits u.cells (names_within (form_at sh.parts i) j (names_within sh.form i (names_after sh.parts i xs))) env → Goes g form.Block u (a.part (Inside j) i env)
     pub suffix : (u : Common) (i : ℕ) (env : Env) (v : Value) → There u.cells v → EnvFits u.cells (names_within sh.form i (names_after sh.parts i xs)) env → Goes g form.Block u (a.part (On v) i env)
     pub again : (u : Common) (i : ℕ) (kept : List Value) (env : Env) → is_declaration sh.form ≡ false → EnvFits u.cells (turn_names sh.form sh.parts xs) env → TurnFits sh.form u kept → Goes g sh.form u (a.again i kept env)
-    pub call : (u : Common) (n : ℕ) (args : List Value) (env : Env) → CalleeFits g.script u n env → AllAre (There u.cells) args → Goes g form.Block u (a.call n args env)
+    pub call : (o : Open) (u : Common) (n : ℕ) (args : List Value) (env : Env) → CalleeFits g.script u n env → AllAre (There u.cells) args → Goes (within o g) form.Block u (a.call n args env)
 
   -- a frame of this node that meets its row, with its variables
   pub sits_here : (u : Common) (d : FrameKind) (left : ℕ) (env : Env) (vs : List Value) → (frame_row d sh left env).stands ≡ true → left < (frame_row d sh left env).limit

@@ -1,16 +1,20 @@
 -- What an evaluation of a node begins with, and with what a frame goes on (this product's own).
-use Rattle.std.specs.Prelude.{◌≡◌, ◌<◌, ℕ, Bool, true, false, List, length, drop}
+use Rattle.std.specs.Prelude.{◌≡◌, ◌<◌, ℕ, Bool, true, false, List, [], length, drop, None, slice_get}
 use Rattle.std.specs.List.{AllByRecursion as AllAre}
 use Rattle.model_syntax.specs.declared.node.NodeForm.{NodeForm}
 use Rattle.model_syntax.specs.declared.node.NodeForm.TheVariants as form
-use Rattle.model_values.specs.Fitting.{There}
+use Rattle.model_values.specs.Fitting.{There, HasVariable, CellsFit}
 use Rattle.model_values.specs.declared.value.Value.{Value}
 use Rattle.model_run.specs.declared.wait.Answer.{Answer}
-use Rattle.model_run.specs.declared.wait.Answer.TheVariants.{Joined}
+use Rattle.model_run.specs.declared.wait.Answer.TheVariants.{Granted, Joined}
 use Rattle.model_run.specs.declared.ending.Ending.{Ending}
 use Rattle.model_run.specs.declared.ending.Ending.TheVariants.{Answered}
 use Rattle.model_run.specs.declared.ending.Entry.{Entry}
 use Rattle.model_run.specs.declared.ending.Entry.TheVariants.{First, Inside, On, Turn, Body, Branched}
+use Rattle.model_run.specs.declared.held.Held.{Held}
+use Rattle.model_run.specs.declared.site.Site.{Site}
+use Rattle.model_run.specs.Grants.{executor_of}
+use Rattle.model_run.specs.Steps.{held_by}
 use Rattle.model_run.specs.Terms.{Term, nodes_of}
 use Rattle.model_run.specs.State.{Setting, Common, Reply, Env, Result, Ended}
 use Rattle.model_run.specs.Around.{Shape, form_at, value_at}
@@ -18,8 +22,9 @@ use Rattle.model_run.specs.FrameTable.{Within, Part, Executor_wait, Task_wait, P
 use Rattle.model_run.specs.Nesting.{Spot, Begun, For_executor, For_task, For_person, For_branches, shape_at}
 use Rattle.model_run.specs.Threads.{Runs, Script, Closure}
 use Rattle.model_run.specs.Scoping.{Names, names_at, names_within, names_after}
-use Rattle.model_run.specs.Fitting.{EnvFits, IsFlowNode, EndFits as BranchEnded, Later}
-use Rattle.run_laws.specs.Soundness.{SharedSound, EndFits, At, Holds}
+use Rattle.model_run.specs.Fitting.{EnvFits, IsFlowNode, EndFits as BranchEnded, Later, request_in, closure_rule}
+use Rattle.run_laws.specs.Bounds.{Narrow, InBounds}
+use Rattle.run_laws.specs.Soundness.{EndFits, Open, Base, within, At, Holds}
 
 -- the forms of parts that are evaluated part by part: an arm, a catch, an entry, an operand, and so on
 abbrev pub has_inner : NodeForm → Bool
@@ -87,20 +92,55 @@ InsideFits sh Person_wait u e = IsAnswer u e
 InsideFits sh Branches_wait u e = IsAnswer u e
 InsideFits sh w u e = EndFits form.Block u e
 
-module _ (g : Setting) where
+-- the request whose executor an answer grants
+abbrev pub granted_of : List Held → Answer → List ℕ
+granted_of held (Granted x) = request_in (held_by x held)
+granted_of held x = []
+
+-- with the answer an executor is granted for the request that is given back by the end, or none
+abbrev pub Grants : List Held → List ℕ → Ending → Type 0
+Grants held gone (Answered x) = granted_of held x ≡ gone
+Grants held gone e = ⊥
+
+-- each held executor is one of the site's
+abbrev pub AllOfSite : Site → List Held → Type 0
+AllOfSite site held = AllAre (λ h. executor_of site h.executor ≡ None → ⊥) held
+
+-- before a `node` body is opened
+abbrev pub unopened : Base → Base
+unopened g = within (record g.around { gone = [] }) g
+
+module _ (g : Base) where
   -- the answer to a wait
   abbrev pub IsAnswered : Common → Result → Type 0
   IsAnswered u (Ended e s) = At g u s × IsAnswer s.world.shared e
   IsAnswered u r = ⊥
 
+  -- the answer to the wait for an executor
+  abbrev pub IsGranted : Common → Result → Type 0
+  IsGranted u (Ended e s) = At (unopened g) u s × IsAnswer s.world.shared e × Grants s.world.shared.held g.around.gone e × AllOfSite g.site s.world.shared.held
+  IsGranted u r = ⊥
+
   -- What stands at a place inside frames comes to, that began behind u.
   abbrev pub HoldsAt : Spot → Common → Result → Type 0
   HoldsAt (Begun k) u r = Holds g (shape_at g.script k).form u r
-  HoldsAt For_executor u r = IsAnswered u r
+  HoldsAt For_executor u r = IsGranted u r
   HoldsAt For_task u r = IsAnswered u r
   HoldsAt For_person u r = IsAnswered u r
   HoldsAt For_branches u r = IsAnswered u r
   HoldsAt at u r = Holds g form.Block u r
+
+-- what an answer to the wait at a place opens: the body whose executor it grants, or nothing
+abbrev pub opened_at : Spot → List Held → Answer → List ℕ
+opened_at For_executor held x = granted_of held x
+opened_at at held x = []
+
+-- what is open around a thread, with the context around it, when a turn begins: its own bodies are these
+abbrev pub turn_open : List ℕ → ℕ → List Held → List ℕ → Open
+turn_open nodes folders was gone = record { nodes = nodes; folders = folders; was = was; gone = gone }
+
+abbrev pub based : Setting → Open → Base
+based g o = record { script = g.script; site = g.site; limits = g.limits; around = o }
 
 -- What a thread runs fits: of a branch its closure, which is one of the script's, and its flow node.
 abbrev pub RunsFit : Term → Common → Runs → Type 0
@@ -110,5 +150,8 @@ RunsFit root u (Closure k env start) = (k < length (nodes_of root)) × EntryFits
 -- A shared state behind u, as a thread is given it with its next answer: later and sound, and the answer names what is there.
 pub record ReplyFits (g : Setting) (u : Common) (r : Reply) : Type 0 where
   pub later : Later u r.shared
-  pub shared : SharedSound g false r.shared
+  pub narrow : Narrow g.limits
+  pub cells : CellsFit (closure_rule g.script) r.shared.cells
+  pub binding : AllAre (λ b. HasVariable (slice_get r.shared.cells b.cell)) r.shared.binding
+  pub bounds : InBounds false g.site r.shared
   pub answer : AnswerThere r.shared r.answer

@@ -281,7 +281,7 @@ module _ (setting : Setting) where
   task_open : (b : Build) (task : ℕ) → (if b.ended then Finished else if b.started then accepted_if (is_task (request_of b.shared.requests task)) else NotOpen) ≡ Accepted → IsOpenRequest task b.shared
   task_open b task e = open_if task b.shared.requests is_task refl (request_of b.shared.requests task) refl (if_accepted _ (answer_is b (accepted_if (is_task (request_of b.shared.requests task))) e))
 
-  changed_agrees : (x : Event) (b : Build) → answer_to setting b x ≡ Accepted → ThreadsAgree setting b → ThreadsAgree setting (changed_by setting x b)
+  pub changed_agrees : (x : Event) (b : Build) → answer_to setting b x ≡ Accepted → ThreadsAgree setting b → ThreadsAgree setting (changed_by setting x b)
   changed_agrees (StartEvent script agents) b e h = record { agree = record { numbers = (omega arith, omega arith, tt); requests = tt; parents = (refl, tt); waits = (tt, tt); awaited = tt }; kinds = (tt, tt); main = λ started going. inl (refl, tt) }
   changed_agrees (GrantedEvent request executor) b e h =
       let w = accepted_grant (standing setting b) executor (request_of b.shared.requests request) (answer_is b (granted (standing setting b) executor (request_of b.shared.requests request)) e) in
@@ -298,7 +298,7 @@ module _ (setting : Setting) where
     given_kinds b turn is h = with_all (ThreadKind setting b.shared.requests) (ThreadKind setting b.shared.requests) (λ old. given_answer b.shared turn.answer turn.thread) turn.thread.own.number
         (λ t at k. subst (λ w. KindAgrees b.shared.requests w (stands setting (given_answer b.shared turn.answer turn.thread))) (sym is.ready) tt) (λ t never k. k) b.threads h.kinds
 
-    turn_agrees : (b : Build) (turn : Turn) → IsTurn setting (places b.threads) turn → ThreadsAgree setting b → ThreadsAgree setting (resumed setting (given_answer b.shared turn.answer turn.thread) b)
+    pub turn_agrees : (b : Build) (turn : Turn) → IsTurn setting (places b.threads) turn → ThreadsAgree setting b → ThreadsAgree setting (resumed setting (given_answer b.shared turn.answer turn.thread) b)
     turn_agrees b turn is h =
         let t : Thread = given_answer b.shared turn.answer turn.thread in
         let same : places (with_thread (λ old. given_answer b.shared turn.answer turn.thread) turn.thread.own.number b.threads) ≡ places b.threads =

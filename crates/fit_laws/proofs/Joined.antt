@@ -1,0 +1,118 @@
+-- With what is still to be shown every world is sound.
+use Rattle.std.proofs.Common.{◌≡◌, subst, refl, ℕ, true, List, [], ◌∷◌}
+use Rattle.std.specs.Prelude.{pos}
+use Rattle.std.specs.List.{AllByRecursion as AllAre}
+use Rattle.model_syntax.specs.declared.tree.Tree.{Tree}
+use Rattle.model_syntax.specs.TreeNodes.{tree_node}
+use Rattle.model_values.specs.MethodNames.{Method, Find, FindAll}
+use Rattle.model_values.specs.declared.value.Value.{Value}
+use Rattle.model_values.specs.declared.value.Value.TheVariants.{Int as Whole}
+use Rattle.model_run.specs.declared.event.Event.{Event}
+use Rattle.model_run.specs.declared.frame.Frame.{Frame}
+use Rattle.model_run.specs.declared.frame.FrameKind.{FrameKind}
+use Rattle.model_run.specs.declared.frame.FrameKind.TheVariants as kind
+use Rattle.model_run.specs.declared.wait.Wait.{Wait}
+use Rattle.model_run.specs.declared.wait.Wait.TheVariants.{Ready, Request as RequestWait, Branches as BranchesWait}
+use Rattle.model_run.specs.State.{Setting, Common, Env, Result, Ended, Waits, Limited, Unfinished}
+use Rattle.model_run.specs.Around.{Shape}
+use Rattle.model_run.specs.Below.{Small}
+use Rattle.model_run.specs.Calls.{walk_method}
+use Rattle.model_run.specs.Terms.{Term, term}
+use Rattle.model_run.specs.Threads.{Thread, stands}
+use Rattle.model_run.specs.Waiting.{IsReady}
+use Rattle.model_run.specs.World.{world_in}
+use Rattle.model_run.specs.FrameTable.{Any, Up_to, Flow_node, A_closure, No_more, walk_values, walk_further, frame_row}
+use Rattle.model_run.specs.Nesting.{ValuesFit, FrameFits, shape_at}
+use Rattle.model_run.specs.Fitting.{known, Seat, SeatFits, seat_at, seats_of, NotReady, WorldFits}
+use Rattle.run_laws.specs.Bounds.{Narrow}
+use Rattle.run_laws.specs.Soundness.{seen}
+use Rattle.fit_laws.specs.Stands.{counted, SeatStands, ThreadsStand, SharedStands, SmallCount, SeatRest, Rest}
+use Rattle.fit_laws.proofs.SharedStates.{world_stands}
+use Rattle.fit_laws.proofs.Seats.{NoNumbers, known_values, threads_stand}
+
+module _ (u : Common) where
+  retry_known : (vs : List Value) → ValuesFit (seen u) No_more (Flow_node ∷ Flow_node ∷ Up_to 2147483646 ∷ A_closure ∷ []) vs → SmallCount kind.RetryBody vs → ValuesFit (known u) No_more (Flow_node ∷ Flow_node ∷ Up_to 2147483646 ∷ A_closure ∷ []) vs
+  retry_known [] h low = absurd h
+  retry_known (a ∷ []) h low = absurd h.1
+  retry_known (a ∷ b ∷ []) h low = absurd h.1.1
+  retry_known (a ∷ b ∷ Whole (pos m) ∷ vs) h low = (h.0, (h.1.0, (low, known_values u No_more (A_closure ∷ []) vs tt h.1.1.1)))
+  retry_known (a ∷ b ∷ c ∷ vs) h low = absurd h.1.1.0
+
+  held_unnumbered : (m : Method) → NoNumbers u (walk_values m)
+  held_unnumbered Find = tt
+  held_unnumbered FindAll = tt
+  held_unnumbered m = tt
+
+  walk_known : (m : Method) (vs : List Value) → ValuesFit (seen u) (walk_further m) (Any ∷ A_closure ∷ Up_to 2147483646 ∷ walk_values m) vs → SmallCount kind.WalkTurn vs → ValuesFit (known u) (walk_further m) (Any ∷ A_closure ∷ Up_to 2147483646 ∷ walk_values m) vs
+  walk_known m [] h low = absurd h
+  walk_known m (a ∷ []) h low = absurd h.1
+  walk_known m (a ∷ b ∷ []) h low = absurd h.1.1
+  walk_known m (a ∷ b ∷ Whole (pos i) ∷ vs) h low = (h.0, (h.1.0, (low, known_values u (walk_further m) (walk_values m) vs (held_unnumbered m) h.1.1.1)))
+  walk_known m (a ∷ b ∷ c ∷ vs) h low = absurd h.1.1.0
+
+  kind_small : (d : FrameKind) (sh : Shape) (left : ℕ) (env : Env) (vs : List Value) → ValuesFit (counted d u) (frame_row d sh left env).further (frame_row d sh left env).values vs → SmallCount d vs → ValuesFit (known u) (frame_row d sh left env).further (frame_row d sh left env).values vs
+  kind_small kind.RetryBody sh left env vs h low = retry_known vs h low
+  kind_small kind.WalkTurn sh left env vs h low = walk_known (walk_method sh.form) vs h low
+  kind_small d sh left env vs h low = h
+
+  frames_small : (root : Term) (fs : List Frame) → AllAre (λ f. FrameFits (counted f.kind u) root f) fs → AllAre (λ f. SmallCount f.kind f.values) fs → AllAre (FrameFits (known u) root) fs
+  frames_small root [] h low = tt
+  frames_small root (f ∷ fs) h low = (
+    record { node = (h.0).node; meets = record { stands = ((h.0).meets).stands; left = ((h.0).meets).left; values = kind_small f.kind (shape_at root f.node) f.left f.env f.values ((h.0).meets).values low.0 } },
+    frames_small root fs h.1 low.1,
+  )
+
+-- a thread waits as it does where it stands
+not_ready : (w : Wait) → NotReady w → IsReady w → ⊥
+not_ready (Ready x) rests r = rests
+not_ready (RequestWait n) rests r = r
+not_ready (BranchesWait js) rests r = r
+
+seat_wait : (t : Thread) (r : Result) → (seat_at t r).wait ≡ t.wait
+seat_wait t (Ended e s) = refl
+seat_wait t (Waits asked path s) = refl
+seat_wait t (Limited k s) = refl
+seat_wait t Unfinished = refl
+
+never_ready : (g : Setting) (ts : List Thread) → AllAre (λ t. NotReady t.wait) (seats_of g ts) → AllAre (λ t. IsReady t.wait → ⊥) ts
+never_ready g [] h = tt
+never_ready g (t ∷ ts) h = (not_ready t.wait (subst NotReady (seat_wait t (stands g t)) h.0), never_ready g ts h.1)
+
+module _ (g : Setting) (u : Common) (seats : List Seat) where
+  seats_fit : (ts : List Seat) → AllAre (SeatStands g u seats) ts → AllAre (SeatRest g u seats) ts → AllAre (SeatFits g u seats) ts
+  seats_fit [] h rest = tt
+  seats_fit (t ∷ ts) h rest = (
+    record {
+      head = (h.0).head;
+      parent = (h.0).parent;
+      frames = frames_small u g.script t.stack (h.0).frames (rest.0).counts;
+      envs = (h.0).envs;
+      nested = (h.0).nested;
+      closures = (rest.0).closures;
+      waits = (h.0).waits;
+      start = (h.0).start;
+      own_held = (rest.0).own_held;
+      holds = (rest.0).holds;
+      folders = (rest.0).folders;
+    },
+    seats_fit ts h.1 rest.1,
+  )
+
+module _ (g : Setting) (tree : Tree) (is : g.script ≡ term 0 (tree_node tree)) (small : Small g) (narrow : Narrow g.limits) where
+  -- Every world that has begun is sound, where it has what `Rest` says.
+  pub world_fits : (events : List Event) → (world_in g events).started ≡ true → Rest g (world_in g events) → WorldFits g (world_in g events)
+  world_fits events started rest =
+      let shared : SharedStands g (world_in g events) = world_stands g tree is small narrow events started in
+      let threads : ThreadsStand g (world_in g events) = threads_stand g tree is small narrow events started (never_ready g (world_in g events).threads rest.rests) in
+      record {
+        fits = record {
+          shared = shared;
+          numbers = threads.numbers;
+          few_threads = rest.few_threads;
+          main = threads.main;
+          threads = seats_fit g (world_in g events).shared (seats_of g (world_in g events).threads) (seats_of g (world_in g events).threads) threads.threads rest.threads;
+          differ = rest.differ;
+          waited_for = threads.waited_for;
+        };
+        rests = rest.rests;
+      }
