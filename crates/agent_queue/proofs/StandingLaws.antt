@@ -1,12 +1,12 @@
 -- What a queue stands for behind each of its calls, and that its own search is the grant of the definitions.
 use Rattle.std.proofs.Common.{◌≡◌, ℕ, suc, ◌+◌, ◌<◌, length, take, drop, get_or, slice_set, drop-cons, take-suc, length-take-le, add-one, Bool, true, false, List, [], ◌∷◌, ◌++◌, map, nat_eq, refl, sym, ap, ◌∙◌, subst, arith, Option, Some, None}
 use Rattle.std.specs.Prelude.{not, ◌&&◌, ◌||◌, find, cond, nat_lt, if◌then◌else◌, IfSome}
-use Rattle.std.specs.Option.{option_map}
+use Rattle.std.specs.Option.{option_map, is_none, is_some}
 use Rattle.std.specs.List.{list_any, filter, AllZip}
 use Rattle.std.proofs.lemmas.List.{length-map, map-append, append_assoc, append-nil, drop_all, take_all}
 use Rattle.std.proofs.lemmas.List.Folds.{list_any_more}
 use Rattle.label_expr.specs.declared.condition.LabelExpr.{LabelExpr}
-use Rattle.label_expr.specs.Conditions.{fits}
+use Rattle.label_expr.specs.Conditions.{fits, IsLabel}
 use Rattle.model_run.specs.declared.site.Site.{Site}
 use Rattle.model_run.specs.declared.site.Executor.{Executor}
 use Rattle.model_run.specs.declared.held.Held.{Held}
@@ -17,7 +17,8 @@ use Rattle.model_run.specs.Grants.{is_held, executor_fits, free_executor, execut
 use Rattle.agent_queue.specs.declared.seat.Seat.{Seat}
 use Rattle.agent_queue.specs.declared.seat.Asked.{Asked}
 use Rattle.agent_queue.specs.Seats.{is_free, is_holder, is_number, is_other, held_by, freed_by, takes, free_seat, or_next, next}
-use Rattle.agent_queue.specs.Standing.{holds_number, IsSeat, IsLabel, ask_before, asks, IsAsk}
+use Rattle.agent_queue.specs.declared.queue.Queue.{Queue}
+use Rattle.agent_queue.specs.Standing.{holds_number, IsSeat, IsTaken, ask_before, asks, IsAsk, StandsFor, first_unknown}
 
 -- who holds an executor behind a grant and behind a release
 or_swap : (a b c : Bool) → (a || (b || c)) ≡ (b || (a || c))
@@ -114,20 +115,30 @@ some_held (h ∷ held) n r some =
     by_first true b go e = refl
     by_first false b go e = go e
 
-free_is : (held : List Held) (n : ℕ) (o : Option ℕ) → ((r : ℕ) → holds_number held n r ≡ is_holder o r) → is_free o ≡ not (is_held held n)
-free_is held n None holds = ap not (sym (none_held held n holds))
-free_is held n (Some q) holds =
+taken_is : (held : List Held) (n : ℕ) (o : Option ℕ) → ((r : ℕ) → holds_number held n r ≡ is_holder o r) → is_held held n ≡ is_some o
+taken_is held n None holds = none_held held n holds
+taken_is held n (Some q) holds =
     let same : nat_eq q q ≡ true = grind arith in
-    ap not (sym (some_held held n q (holds q ∙ same)))
+    some_held held n q (holds q ∙ same)
 
-takes_is : (held : List Held) (x : Executor) (s : Seat) (label : Option (List ℕ)) (e : LabelExpr) → IsSeat held x s → IsLabel label e
+pub taken_stand : (held : List Held) (xs : List Executor) (seats : List Seat) → AllZip (IsSeat held) xs seats → AllZip (IsTaken held) xs seats
+taken_stand held [] [] stand = tt
+taken_stand held [] (s ∷ ss) stand = absurd stand
+taken_stand held (x ∷ xs) [] stand = absurd stand
+taken_stand held (x ∷ xs) (s ∷ ss) stand = ((stand.0.0, stand.0.1, taken_is held x.number s.holder stand.0.2), taken_stand held xs ss stand.1)
+
+free_is : (o : Option ℕ) → is_free o ≡ not (is_some o)
+free_is None = refl
+free_is (Some q) = refl
+
+takes_is : (held : List Held) (x : Executor) (s : Seat) (label : Option (List ℕ)) (e : LabelExpr) → IsTaken held x s → IsLabel label e
     → takes e s ≡ (not (is_held held x.number) && executor_fits label x)
-takes_is held x s label e (number, labels, holds) is =
-    ap (λ b. b && fits s.labels e) (free_is held x.number s.holder holds)
+takes_is held x s label e (number, labels, taken) is =
+    ap (λ b. b && fits s.labels e) (free_is s.holder ∙ ap not (sym taken))
     ∙ ap (λ ls. not (is_held held x.number) && fits ls e) labels
     ∙ ap (λ b. not (is_held held x.number) && b) (is (x.agent ∷ x.labels))
 
-free_law : (held : List Held) (label : Option (List ℕ)) (e : LabelExpr) → IsLabel label e → (xs : List Executor) (ss : List Seat) → AllZip (IsSeat held) xs ss
+free_law : (held : List Held) (label : Option (List ℕ)) (e : LabelExpr) → IsLabel label e → (xs : List Executor) (ss : List Seat) → AllZip (IsTaken held) xs ss
     → free_seat e ss ≡ option_map (λ x. x.number) (find (λ x. not (is_held held x.number) && executor_fits label x) xs)
 free_law held label e is [] [] stand = refl
 free_law held label e is [] (s ∷ ss) stand = absurd stand
@@ -144,14 +155,14 @@ or_is : (n : ℕ) (o : Option Executor) (t : Option (ℕ × ℕ)) → or_next n 
 or_is n None t = refl
 or_is n (Some x) t = refl
 
-module _ (site : Site) (held : List Held) (seats : List Seat) (stand : AllZip (IsSeat held) site.executors seats) where
+module _ (site : Site) (held : List Held) (seats : List Seat) (taken : AllZip (IsTaken held) site.executors seats) where
   grant_step : (n : ℕ) (q : Request) (rs : List OpenRequest) (waiting : List Asked)
       → ((ws : List Asked) → AllZip IsAsk (asks rs) ws → next seats ws ≡ grant site held rs)
       → AllZip IsAsk (ask_before n q (asks rs)) waiting → next seats waiting ≡ else_grant n (executor_for site held q) (grant site held rs)
   grant_step n (NodeRequest label) rs [] go all = absurd all
   grant_step n (NodeRequest label) rs (a ∷ waiting) go all =
       ap (λ m. or_next m (free_seat a.expr seats) (next seats waiting)) all.0.0
-      ∙ ap (λ o. or_next n o (next seats waiting)) (free_law held label a.expr all.0.1 site.executors seats stand)
+      ∙ ap (λ o. or_next n o (next seats waiting)) (free_law held label a.expr all.0.1 site.executors seats taken)
       ∙ or_is n (free_executor site held label) (next seats waiting)
       ∙ ap (else_grant n (free_executor site held label)) (go waiting all.1)
   grant_step n (TaskRequest executor workspace folder env script status keep_out taken out) rs waiting go all = go waiting all
@@ -162,7 +173,8 @@ module _ (site : Site) (held : List Held) (seats : List Seat) (stand : AllZip (I
   grant_is [] (a ∷ waiting) all = absurd all
   grant_is (r ∷ rs) waiting all = grant_step r.number r.request rs waiting (grant_is rs) all
 
-  -- a granted executor was free
+-- a granted executor was free
+module _ (site : Site) (held : List Held) (seats : List Seat) (stand : AllZip (IsSeat held) site.executors seats) where
   free_none : (o : Option ℕ) (r : ℕ) → is_free o ≡ true → is_holder o r ≡ false
   free_none None r e = refl
   free_none (Some q) r e = cc
@@ -195,23 +207,24 @@ module _ (site : Site) (held : List Held) (seats : List Seat) (stand : AllZip (I
   pub granted_free : (waiting : List Asked) (q n : ℕ) → Some (q, n) ≡ next seats waiting → (r : ℕ) → holds_number held n r ≡ false
   granted_free waiting q n e = subst (λ (p : Option (ℕ × ℕ)). IfSome p (λ g. IsFree g.1)) (sym e) (next_free waiting)
 
+-- who holds it changes neither its number nor its labels
+pub kept-number : (b : Bool) (q : ℕ) (seat : Seat) → (if b then record seat { holder = Some q } else seat).number ≡ seat.number
+kept-number true q seat = refl
+kept-number false q seat = refl
+
+pub kept-labels : (b : Bool) (q : ℕ) (seat : Seat) → (if b then record seat { holder = Some q } else seat).labels ≡ seat.labels
+kept-labels true q seat = refl
+kept-labels false q seat = refl
+
 -- the executor of a number is held
 module _ (n q : ℕ) (held after : List Held) (more : (m r : ℕ) → holds_number after m r ≡ ((nat_eq n m && nat_eq q r) || holds_number held m r)) (free : (r : ℕ) → holds_number held n r ≡ false) where
   held_seat : (x : Executor) (seat : Seat) → IsSeat held x seat → IsSeat after x (held_by n q seat)
   held_seat x seat (number, labels, holds) = (
-    same_number (is_number n seat),
-    same_labels (is_number n seat),
+    kept-number (is_number n seat) q seat ∙ number,
+    kept-labels (is_number n seat) q seat ∙ labels,
     λ r. more x.number r ∙ by_number (is_number n seat) refl r,
   )
     where
-      same_number : (b : Bool) → (if b then record seat { holder = Some q } else seat).number ≡ x.number
-      same_number true = number
-      same_number false = number
-
-      same_labels : (b : Bool) → (if b then record seat { holder = Some q } else seat).labels ≡ x.agent ∷ x.labels
-      same_labels true = labels
-      same_labels false = labels
-
       by_number : (b : Bool) → is_number n seat ≡ b → (r : ℕ) → ((nat_eq n x.number && nat_eq q r) || holds_number held x.number r) ≡ is_holder (if b then record seat { holder = Some q } else seat).holder r
       by_number true is r = let none = free r in grind (arith, is, number, none)
       by_number false is r = let same = holds r in grind (arith, is, number, same)
@@ -258,6 +271,68 @@ module _ (q : ℕ) where
   forgotten_stand (r ∷ rs) waiting all =
       subst (λ (ls : List (ℕ × Option (List ℕ))). AllZip IsAsk ls (filter (is_other q) waiting)) (sym (asks-cond (not (nat_eq r.number q)) r (filter (λ r. not (nat_eq r.number q)) rs)))
       (forgotten_step r.number r.request rs waiting (nat_eq r.number q) refl (forgotten_stand rs) all)
+
+-- the requests matter only by those of `node` steps
+pub stands_by_asks : (site : Site) (held : List Held) (requests others : List OpenRequest) (queue : Queue) → asks requests ≡ asks others → StandsFor site held requests queue → StandsFor site held others queue
+stands_by_asks site held requests others queue same stands =
+    (stands.0, subst (λ (ls : List (ℕ × Option (List ℕ))). AllZip IsAsk ls queue.waiting.items) same stands.1)
+
+-- whether a request holds something, by the executors and by the held list
+or_true : (b : Bool) → (b || true) ≡ true
+or_true true = refl
+or_true false = refl
+
+or_each : (p b r s t : Bool) → (((p && b) || r) || ((s && b) || t)) ≡ (((p || s) && b) || (r || t))
+or_each true true r s t = refl
+or_each true false r true t = refl
+or_each true false r false t = refl
+or_each false b r s t = or_swap r (s && b) t
+
+any_each : (a c : Executor → Bool) (b : Bool) (xs : List Executor) → list_any (λ x. (a x && b) || c x) xs ≡ ((list_any a xs && b) || list_any c xs)
+any_each a c b [] = refl
+any_each a c b (x ∷ xs) = ap (λ t. ((a x && b) || c x) || t) (any_each a c b xs) ∙ or_each (a x) b (c x) (list_any a xs) (list_any c xs)
+
+found_any : (n : ℕ) (xs : List Executor) → is_none (find (λ x. nat_eq x.number n) xs) ≡ false → list_any (λ x. nat_eq n x.number) xs ≡ true
+found_any n [] e = absurd (cc e)
+found_any n (x ∷ xs) e = by_first (nat_eq x.number n) refl (found_any n xs) e
+  where
+    by_first : (b : Bool) → nat_eq x.number n ≡ b → (is_none (find (λ y. nat_eq y.number n) xs) ≡ false → list_any (λ y. nat_eq n y.number) xs ≡ true) → is_none (cond b (Some x) (find (λ y. nat_eq y.number n) xs)) ≡ false → (nat_eq n x.number || list_any (λ y. nat_eq n y.number) xs) ≡ true
+    by_first true is go some =
+        let same : nat_eq n x.number ≡ true = grind (arith, is) in
+        ap (λ b. b || list_any (λ y. nat_eq n y.number) xs) same
+    by_first false is go some = ap (λ t. nat_eq n x.number || t) (go some) ∙ or_true (nat_eq n x.number)
+
+module _ (q : ℕ) where
+  seats_any : (held : List Held) (xs : List Executor) (seats : List Seat) → AllZip (IsSeat held) xs seats → list_any (λ s. is_holder s.holder q) seats ≡ list_any (λ x. holds_number held x.number q) xs
+  seats_any held [] [] stand = refl
+  seats_any held [] (s ∷ ss) stand = absurd stand
+  seats_any held (x ∷ xs) [] stand = absurd stand
+  seats_any held (x ∷ xs) (s ∷ ss) stand =
+      ap (λ b. b || list_any (λ t. is_holder t.holder q) ss) (sym (stand.0.2 q)) ∙ ap (λ b. holds_number held x.number q || b) (seats_any held xs ss stand.1)
+
+  none_any : (xs : List Executor) → false ≡ list_any (λ x. holds_number [] x.number q) xs
+  none_any [] = refl
+  none_any (x ∷ xs) = none_any xs
+
+  module _ (xs : List Executor) where
+    asked_any : (held : List Held) → option_map (λ h. h.executor) (find (λ h. is_none (find (λ x. nat_eq x.number h.executor) xs)) held) ≡ None
+        → list_any (λ h. nat_eq h.request q) held ≡ list_any (λ x. holds_number held x.number q) xs
+    asked_any [] e = none_any xs
+    asked_any (h ∷ held) e = by_first (is_none (find (λ x. nat_eq x.number h.executor) xs)) refl (asked_any held) e
+      where
+        by_first : (b : Bool) → is_none (find (λ x. nat_eq x.number h.executor) xs) ≡ b
+            → (option_map (λ o. o.executor) (find (λ o. is_none (find (λ x. nat_eq x.number o.executor) xs)) held) ≡ None → list_any (λ o. nat_eq o.request q) held ≡ list_any (λ x. holds_number held x.number q) xs)
+            → option_map (λ o. o.executor) (cond b (Some h) (find (λ o. is_none (find (λ x. nat_eq x.number o.executor) xs)) held)) ≡ None
+            → (nat_eq h.request q || list_any (λ o. nat_eq o.request q) held) ≡ list_any (λ x. (nat_eq h.executor x.number && nat_eq h.request q) || holds_number held x.number q) xs
+        by_first true is go none = absurd (cc none)
+        by_first false is go none =
+            ap (λ t. nat_eq h.request q || t) (go none)
+            ∙ ap (λ b. (b && nat_eq h.request q) || list_any (λ x. holds_number held x.number q) xs) (sym (found_any h.executor xs is))
+            ∙ sym (any_each (λ x. nat_eq h.executor x.number) (λ x. holds_number held x.number q) (nat_eq h.request q) xs)
+
+  pub holds_any : (site : Site) (held : List Held) (seats : List Seat) → AllZip (IsSeat held) site.executors seats → first_unknown site held ≡ None
+      → list_any (λ s. is_holder s.holder q) seats ≡ list_any (λ h. nat_eq h.request q) held
+  holds_any site held seats stand known = seats_any held site.executors seats stand ∙ sym (asked_any site.executors held known)
 
 -- a change of one element after the other
 set_there : (p q : List Seat) (x t : Seat) → slice_set (p ++ x ∷ q) (length p) t ≡ p ++ t ∷ q

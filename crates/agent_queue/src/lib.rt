@@ -14,12 +14,12 @@
 //! ```
 #![tactic(auto)]
 
-mod label;
 mod queue;
 mod refusal;
 mod seat;
 #[cfg(test)]
 mod tests;
+mod waiting;
 
 pub use queue::Queue;
 pub use refusal::QueueRefusal;

@@ -1,18 +1,18 @@
-ghost use Rattle.std.specs.Prelude.{◌≡◌, ◌∷◌, ◌++◌, [], ℕ, List, map, Option, Some, None, IfOk, IfErr, OnOk, OnErr, MatchOption};
-ghost use Rattle.std.specs.List.{list_any, AllByRecursion as AllAre};
+ghost use Rattle.std.specs.Prelude.{◌≡◌, ◌∷◌, ◌++◌, [], List, map, nat_eq, not, None, IfOk, IfErr, OnOk, OnErr};
+ghost use Rattle.std.specs.List.{filter, list_any, AllByRecursion as AllAre};
 ghost use Rattle.model_run.specs.declared.site.Site.{Site};
 ghost use Rattle.model_run.specs.declared.held.Held.{Held};
 ghost use Rattle.model_run.specs.declared.request.OpenRequest.{OpenRequest};
 ghost use Rattle.model_run.specs.Fitting.{Distinct};
 ghost use Rattle.model_run.specs.Grants.{grant, without_request};
-ghost use Rattle.agent_queue.specs.Seats.{is_holder, next};
-ghost use Rattle.agent_queue.specs.Standing.{StandsFor, IsAskOf, Granted, WithoutFault, first_unknown, IsRefusal};
+ghost use Rattle.agent_queue.specs.Seats.{is_holder};
+ghost use Rattle.agent_queue.specs.Standing.{GrantsAs, StandsFor, IsAskOf, Granted, WithoutFault, first_unknown, IsRefusal};
 
-use crate::label::read_label;
 use crate::refusal::QueueRefusal;
 use crate::seat::{Asked, Seat, forget, free, hold, hold_each, next};
+use crate::waiting::ask_each;
 use label_expr::LabelExpr;
-use model_run::{Held, OpenRequest, Request, Site};
+use model_run::{Held, OpenRequest, Site};
 use std::alloc::{AllocError, Global};
 
 /// The executors of a site, and the requests that wait for one.
@@ -39,8 +39,8 @@ impl Queue {
     }
 
     /// The queue of a build that goes on: each held executor is held by its request, and the open requests of `node`
-    /// steps wait in the order of the list. Their labels have no fault, and no executor stands twice among the held
-    /// ones, as in every build.
+    /// steps wait in the order of the list. Their labels have no fault. What it grants is said of any held executors;
+    /// who holds what only where no executor stands twice among the held ones, as in every build.
     ///
     /// `Unknown` comes exactly where a held executor is not of the site, and tells the first such in the list. `Memory`
     /// comes only where the memory was refused.
@@ -51,6 +51,7 @@ impl Queue {
         held: &[Held],
     ) -> Result<Queue, QueueRefusal>
         requires labels { AllAre (λ r. WithoutFault r.request) requests.now }
+        ensures grants { IfOk result (λ queue. GrantsAs site.now held.now requests.now queue) }
         ensures stands { IfOk result (λ queue. Distinct (map (λ h. h.executor) held.now) → StandsFor site.now held.now requests.now queue) }
         ensures known { IfOk result (λ _. first_unknown site.now held.now ≡ None) }
         ensures refused { IfErr result (λ refusal. IsRefusal (first_unknown site.now held.now) refusal) }
@@ -59,31 +60,8 @@ impl Queue {
         if let Some(executor) = hold_each(&mut queue.seats, held) {
             return Err(QueueRefusal::Unknown { executor });
         }
-        queue.ask_each(alloc, requests)?;
+        ask_each(alloc, &mut queue.waiting, requests)?;
         Ok(queue)
-    }
-
-    /// These requests of `node` steps wait behind all others, in their order.
-    fn ask_each(&mut self, alloc: Global, requests: &[OpenRequest]) -> Result<(), AllocError>
-        requires labels { AllAre (λ r. WithoutFault r.request) requests.now }
-        ensures { OnOk result ((site : Site) (held : List Held) → StandsFor site held [] self.old → StandsFor site held requests.now self.new) }
-    {
-        for request in requests {
-            self.ask_open(alloc, request)?;
-        }
-        Ok(())
-    }
-
-    /// A request waits behind all others where it is one of a `node` step.
-    fn ask_open(&mut self, alloc: Global, request: &OpenRequest) -> Result<(), AllocError>
-        requires label { WithoutFault request.now.request }
-        ensures { OnOk result ((site : Site) (held : List Held) (requests : List OpenRequest) → StandsFor site held requests self.old → StandsFor site held (requests ++ request.now ∷ []) self.new) }
-    {
-        if let Request::Node { label } = &request.request {
-            let expr = read_label(alloc, label)?;
-            self.ask(request.number, expr)?;
-        }
-        Ok(())
     }
 
     /// A request waits behind all others. `AllocError` where the memory was refused: then it does not wait.
@@ -95,9 +73,17 @@ impl Queue {
         Ok(())
     }
 
+    /// A request waits no longer, as at the end of a build; where it does not wait all stays as it is. It takes no memory.
+    pub fn cancel(&mut self, request: u32)
+        ensures { (site : Site) (held : List Held) (requests : List OpenRequest) → StandsFor site held requests self.old → StandsFor site held (filter (λ r. not (nat_eq r.number request)) requests) self.new }
+    {
+        forget(&mut self.waiting, request);
+    }
+
     /// Frees the executor that this request holds; `false` exactly where it holds none. It takes no memory.
     pub fn release(&mut self, request: u32) -> bool
         ensures freed { (site : Site) (held : List Held) (requests : List OpenRequest) → StandsFor site held requests self.old → StandsFor site (without_request request held) requests self.new }
+        ensures told { (site : Site) (held : List Held) (requests : List OpenRequest) → StandsFor site held requests self.old → first_unknown site held ≡ None → result ≡ list_any (λ h. nat_eq h.request request) held }
         ensures holds { result ≡ list_any (λ seat. is_holder seat.holder request) self.old.seats.items }
     {
         free(&mut self.seats, request)
@@ -107,6 +93,7 @@ impl Queue {
     /// executor. `None` exactly where no waiting request fits a free executor. It takes no memory.
     pub fn next_grant(&mut self) -> Option<(u32, u32)>
         ensures grant { (site : Site) (held : List Held) (requests : List OpenRequest) → StandsFor site held requests self.old → result ≡ grant site held requests }
+        ensures due { (site : Site) (held : List Held) (requests : List OpenRequest) → GrantsAs site held requests self.old → result ≡ grant site held requests }
         ensures after { (site : Site) (held : List Held) (requests : List OpenRequest) → StandsFor site held requests self.old → Granted site held requests result self.new }
     {
         let (request, number) = next(&self.seats, &self.waiting)?;

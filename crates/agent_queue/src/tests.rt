@@ -61,6 +61,14 @@ fn the_earliest_request_that_fits_is_served(rt: HostRuntime) -> Result<(), Fail>
 }
 
 #[test]
+fn a_cancelled_request_waits_no_longer(rt: HostRuntime) -> Result<(), Fail> {
+    let mut queue = two_for_one(rt.alloc())?;
+    queue.cancel(1);
+    assert_eq!(rt; queue.next_grant(), Some((2, 1)));
+    Ok(())
+}
+
+#[test]
 fn a_rebuilt_queue_goes_on(rt: HostRuntime) -> Result<(), Fail> {
     let alloc = rt.alloc();
     let held = [Held {

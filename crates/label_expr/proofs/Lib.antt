@@ -2,3 +2,4 @@ pub mod ConditionLaws
 pub mod TokenLaws
 pub mod GrammarLaws
 pub mod WholeLaws
+pub mod LabelLaws

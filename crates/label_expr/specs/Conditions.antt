@@ -1,9 +1,9 @@
--- What a parsed label says, as a formula, and which executors it fits.
-use Rattle.std.specs.Prelude.{ℕ, zero, suc, Bool, true, List, [], ◌∷◌}
+-- What a parsed label says, as a formula, and which executors it fits (the form of a parsed label is this product's own).
+use Rattle.std.specs.Prelude.{◌≡◌, ℕ, zero, suc, Bool, true, List, [], ◌∷◌, Option}
 use Rattle.label_expr.specs.declared.condition.Condition.{Condition, Condition-F, fold-Condition}
 use Rattle.label_expr.specs.declared.condition.LabelExpr.{LabelExpr}
 use Rattle.label_expr.specs.declared.condition.LabelExpr.TheVariants.{Any, Where}
-use Rattle.model_run.specs.Labels.{Formula, Named, Not, And, Or, Implies, Iff, holds}
+use Rattle.model_run.specs.Labels.{Formula, Named, Not, And, Or, Implies, Iff, holds, label_fits}
 
 -- a formula behind so many `!`
 abbrev pub negated : ℕ → Formula → Formula
@@ -15,6 +15,7 @@ abbrev pub joined : (Formula → Formula → Formula) → Formula → List Formu
 joined sign f [] = f
 joined sign f (g ∷ gs) = joined sign (sign f g) gs
 
+-- the formula of a condition, from those of its operands
 abbrev pub condition_step : Condition-F Formula → Formula
 condition_step (Condition-F.Label name) = Named name
 condition_step (Condition-F.Not signs f) = negated signs f
@@ -31,3 +32,7 @@ formula = fold-Condition Formula condition_step
 abbrev pub fits : List (List ℕ) → LabelExpr → Bool
 fits labels Any = true
 fits labels (Where condition) = holds labels (formula condition)
+
+-- this fits just the executors that a label says, whatever their labels
+abbrev pub IsLabel : Option (List ℕ) → LabelExpr → Type 0
+IsLabel label expr = (labels : List (List ℕ)) → fits labels expr ≡ label_fits labels label

@@ -1,5 +1,5 @@
--- What reading a label says: the tokens, the condition behind some of them, and the fault.
-use Rattle.std.specs.Prelude.{◌≡◌, ℕ, ◌+◌, zero, suc, Bool, false, ◌&&◌, codes, ◌≤◌, nat_eq, not, if◌then◌else◌, List, [], ◌∷◌, map, length, Result, Ok, Err}
+-- What reading a label says: the tokens, the condition behind some of them, and the fault (this product's own).
+use Rattle.std.specs.Prelude.{◌≡◌, ℕ, ◌+◌, zero, suc, Bool, false, ◌&&◌, codes, ◌≤◌, nat_eq, not, if◌then◌else◌, List, [], ◌∷◌, map, length, Option, Some, Result, Ok, Err}
 use denote.Bor.{Bor}
 use Rattle.std.specs.List.{prefix_len}
 use Rattle.label_expr.specs.declared.condition.Condition.{Condition}
@@ -28,15 +28,16 @@ sign_of sign.Close = tokens.CloseParen
 sign_of sign.Blank = tokens.Blank
 sign_of sign.Unknown = tokens.Unknown
 
+-- a token, by the names of the definitions
 abbrev pub token_of : Token → tokens.Token
 token_of (token.Name name) = tokens.Name name
 token_of (token.Sign sign) = sign_of sign
 
--- a token, its length, and that this is at least 1 and at most so many bytes
+-- the token read is this one, and its length is from 1 to `most`
 abbrev pub IsToken : tokens.Token × ℕ → ℕ → Token × ℕ → Type 0
 IsToken is most read = (is ≡ (token_of read.0, read.1)) × (1 ≤ read.1) × (read.1 ≤ most)
 
--- what bytes begin with that begin with no sign
+-- the token at the front of bytes that begin with no sign
 abbrev pub no_sign : List ℕ → tokens.Token × ℕ
 no_sign [] = (tokens.Unknown, 1)
 no_sign (b ∷ bs) =
@@ -48,9 +49,11 @@ abbrev pub goes_on : List ℕ → Bool
 goes_on [] = false
 goes_on (b ∷ bs) = tokens.is_name_byte b && not (tokens.begins_with (b ∷ bs) (codes "->"))
 
+-- a token and its place, by the names of the definitions
 abbrev pub spot_of : Spot → tokens.Spot
 spot_of s = tokens.spot (token_of s.token) s.at
 
+-- the tokens that the grammar reads
 abbrev pub seen : List Spot → List tokens.Spot
 seen spots = map spot_of spots
 
@@ -59,15 +62,16 @@ abbrev pub BeginsWith : tokens.Token → List tokens.Spot → Type 0
 BeginsWith t [] = ⊥
 BeginsWith t (tokens.spot first at ∷ rest) = first ≡ t
 
--- these are the tokens behind the sign with which those begin
+-- `rest` are the tokens behind the first, which is this sign
 abbrev pub IsBehind : Sign → List Spot → List Spot → Type 0
 IsBehind sign spots rest = (at : ℕ) × (seen spots ≡ tokens.spot (sign_of sign) at ∷ seen rest) × (length rest + 1 ≡ length spots)
 
+-- tokens that begin with a name
 abbrev pub BeginsWithName : List tokens.Spot → Type 0
 BeginsWithName [] = ⊥
 BeginsWithName (tokens.spot first at ∷ rest) = (name : List ℕ) × (first ≡ tokens.Name name)
 
--- these are the tokens behind the name with which those begin
+-- `rest` are the tokens behind the first, which is this name
 abbrev pub IsBehindName : List ℕ → List Spot → List Spot → Type 0
 IsBehindName name spots rest = (at : ℕ) × (seen spots ≡ tokens.spot (tokens.Name name) at ∷ seen rest) × (length rest + 1 ≡ length spots)
 
@@ -100,3 +104,8 @@ IsRefusal said (Fault at) = said ≡ FaultAt at
 abbrev pub IsSaid : Expression → LabelExpr → Type 0
 IsSaid said Any = ⊥
 IsSaid said (Where condition) = said ≡ Says (formula condition)
+
+-- why the label of a `node` step is not read: it has this fault, or the memory was refused
+abbrev pub IsFault : Option ℕ → LabelRefusal → Type 0
+IsFault fault Memory = Unit {0}
+IsFault fault (Fault at) = fault ≡ Some at

@@ -9,7 +9,8 @@ use sqlite_items::{Boxed, Items};
 use std::alloc::{AllocError, Global};
 
 /// What is asked of the labels of an executor. Operands of one sign stand in one list, and the `!` before an operand in
-/// one number, so that a condition is as deep as the parentheses of its text and no deeper.
+/// one number, so that a condition is as deep as the parentheses of its text and no deeper: no other crate can name this
+/// type, and so none can make a condition by hand that is too deep for the stack.
 #[derive(Drop)]
 pub enum Condition {
     /// This is one of the labels.
@@ -26,7 +27,7 @@ pub enum Condition {
     Iff(Boxed<Condition>, Boxed<Condition>),
 }
 
-/// Which executors a `node` step takes.
+/// Which executors a `node` step takes: what [`parse`](crate::parse) or [`read_label`](crate::read_label) gave, or any.
 #[derive(Drop)]
 pub enum LabelExpr {
     /// Any executor: a step without a label, or with a blank one.

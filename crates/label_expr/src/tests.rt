@@ -1,4 +1,4 @@
-use crate::{LabelExpr, LabelRefusal, parse};
+use crate::{LabelExpr, LabelRefusal, parse, read_label};
 use model_text::Text;
 use std::alloc::{AllocError, Global};
 use std::test::Fail;
@@ -61,6 +61,18 @@ fn faults_tell_the_byte_of_the_first_bad_token(rt: HostRuntime) -> Result<(), Fa
         let refusal = parse(rt.alloc(), label.as_bytes()).err();
         assert_eq!(rt; refusal, Some(LabelRefusal::Fault { at }));
     }
+    Ok(())
+}
+
+#[test]
+fn a_step_without_a_label_or_with_a_blank_one_takes_any_executor(
+    rt: HostRuntime,
+) -> Result<(), Fail> {
+    let alloc = rt.alloc();
+    assert!(rt; read_label(alloc, None)?.matches(&[]));
+    assert!(rt; read_label(alloc, Some(&Text::from_str(alloc, " \t")?))?.matches(&[]));
+    let refusal = read_label(alloc, Some(&Text::from_str(alloc, " (")?)).err();
+    assert_eq!(rt; refusal, Some(LabelRefusal::Fault { at: 2 }));
     Ok(())
 }
 

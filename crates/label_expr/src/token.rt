@@ -7,12 +7,19 @@ use model_text::Text;
 /// The signs of label expressions, and what is no name.
 #[derive(Clone, Copy, PartialEq, Eq, Debug)]
 pub(crate) enum Sign {
+    /// `!`
     Not,
+    /// `&&`
     And,
+    /// `||`
     Or,
+    /// `->`
     Implies,
+    /// `<->`
     Iff,
+    /// `(`
     Open,
+    /// `)`
     Close,
     /// A space or a tab, which only separates.
     Blank,
@@ -23,7 +30,9 @@ pub(crate) enum Sign {
 /// A token of a label expression.
 #[derive(Drop)]
 pub(crate) enum Token {
+    /// A name, without its double quotes where it has such.
     Name(Text),
+    /// A sign, or what is no token.
     Sign(Sign),
 }
 
