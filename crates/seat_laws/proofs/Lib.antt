@@ -6,3 +6,5 @@ pub mod Executors
 pub mod Rooms
 pub mod Contexts
 pub mod WorldSeats
+pub mod Rooted
+pub mod Joined
