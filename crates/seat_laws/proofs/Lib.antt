@@ -8,3 +8,4 @@ pub mod Contexts
 pub mod WorldSeats
 pub mod Rooted
 pub mod Joined
+pub mod Releases

@@ -1,12 +1,12 @@
 -- What a build keeps between two events (this product's own).
-use Rattle.std.specs.Prelude.{◌≡◌, ℕ, ◌+◌, ◌-◌, ◌≤◌, List, [], ◌∷◌, ◌++◌, length, map, filter, drop, Option, Some, None}
+use Rattle.std.specs.Prelude.{◌≡◌, ℕ, ◌+◌, ◌-◌, ◌≤◌, ◌⊎◌, Bool, true, List, [], ◌∷◌, ◌++◌, length, map, filter, drop, Option, Some, None}
 use Rattle.std.specs.List.{AllByRecursion as AllAre}
 use Rattle.model_run.specs.declared.wait.Wait.{Wait}
 use Rattle.model_run.specs.declared.wait.Wait.TheVariants.{Ready, Request as RequestWait, Branches as BranchesWait}
 use Rattle.model_run.specs.declared.context.Context.{Context}
 use Rattle.model_run.specs.declared.held.Held.{Held}
 use Rattle.model_run.specs.Nesting.{FrameFits, CallsClosures}
-use Rattle.model_run.specs.State.{Setting, Common}
+use Rattle.model_run.specs.State.{Setting, Common, Result, Ended, Waits, Limited, Unfinished}
 use Rattle.model_run.specs.Steps.{held_for}
 use Rattle.model_run.specs.Threads.{Thread, stands}
 use Rattle.model_run.specs.Fitting.{NotReady, Distinct, Some_of, concat_map, granted_request, own_held_of, holds_executor, holds_folder, Seat, seat_at, seats_of, context_above, outermost, known, SharedFits}
@@ -96,3 +96,14 @@ pub record RestFits (g : Setting) (b : Build) : Type 0 where
   pub shared : SharedFits g b.ended b.shared
   pub frames : AllAre (λ t. AllAre (FrameFits (known b.shared) g.script) t.stack) (seats_of g b.threads)
   pub closures : AllAre (λ t. CallsClosures g.script (outermost t.parent) t.stack) (seats_of g b.threads)
+
+-- Of these held executors at most those of these requests are given back, and none else is held.
+abbrev pub ReleasesOf : List ℕ → List Held → List Held → Type 0
+ReleasesOf own old new = (keep : Held → Bool) × (new ≡ filter keep old) × AllAre (λ x. Some_of (λ r. r ≡ x.request) own ⊎ (keep x ≡ true)) old
+
+-- a turn that began with these held executors has given back at most those of these requests, unless it has ended the build at a limit
+abbrev pub GivesBack : List ℕ → List Held → Result → Type 0
+GivesBack own old (Ended e s) = ReleasesOf own old s.world.shared.held
+GivesBack own old (Waits asked path s) = ReleasesOf own old s.world.shared.held
+GivesBack own old (Limited k s) = Unit {0}
+GivesBack own old Unfinished = Unit {0}
