@@ -20,13 +20,16 @@ use value_view::OpRefusal;
 pub const MAX_CELLS: usize = 1048576;
 
 /// The most heap bytes of a build.
-const MAX_BYTES: u64 = 268435456;
+pub const MAX_BYTES: u64 = 268435456;
 
 /// The heap bytes of a cell with nothing in it.
 const CELL: u64 = 16;
 
-/// New texts, and behind them another cell, which has so many heap bytes; its number is the value.
-pub(crate) fn new_cells(
+/// New texts, and behind them another cell, which has so many heap bytes; its number is the value. All of them are
+/// made or none.
+///
+/// The limits on cells and on heap bytes come as the table says; after any refusal every cell is as it was.
+pub fn new_cells(
     heap: &mut Heap,
     texts: Texts,
     last: Cell,

@@ -21,7 +21,7 @@ mod key;
 mod tests;
 mod throws;
 
-pub use cells::MAX_CELLS;
+pub use cells::{MAX_BYTES, MAX_CELLS, new_cells};
 pub use effect::{Effect, MAX_ENTRIES, perform, push, put};
 pub use key::key_of;
 pub use throws::{

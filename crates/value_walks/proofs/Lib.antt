@@ -1,0 +1,4 @@
+pub mod LoopLemmas
+pub mod PlaceLemmas
+pub mod TurnLemmas
+pub mod WalkLemmas
