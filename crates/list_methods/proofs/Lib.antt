@@ -1,0 +1,4 @@
+pub mod CallLemmas
+pub mod KeyLemmas
+pub mod ListLemmas
+pub mod MapLemmas

@@ -1,0 +1,3 @@
+pub mod CollectionCalls
+pub mod Joining
+pub mod Searches
