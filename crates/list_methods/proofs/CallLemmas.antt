@@ -1,5 +1,5 @@
 -- What a call answers, by its name alone; and what the cell of a list or of a map holds.
-use Rattle.std.proofs.Common.{◌≡◌, ℕ, Bool, true, false, cond, Result, Ok, Err, List, length, Option, Some, None, slice_get, refl, sym, ap, subst, ◌∙◌}
+use Rattle.std.proofs.Common.{◌≡◌, ℕ, Bool, true, false, cond, Result, Ok, List, length, Option, Some, None, slice_get, refl, ap, subst, ◌∙◌}
 use Rattle.std.specs.Prelude.{is_some}
 use Rattle.cell_heap.specs.Contents.{pairs_in, values_in}
 use Rattle.cell_heap.specs.Region.{Region}

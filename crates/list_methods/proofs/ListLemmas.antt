@@ -1,5 +1,5 @@
 -- The entries of a list, one further, as they are joined; and the positions outside of it.
-use Rattle.std.proofs.Common.{◌≡◌, ℕ, Err, suc, ◌+◌, ◌<◌, ◌≤◌, ◌⊎◌, Bool, true, false, cond, eqb, inl, inr, List, [], ◌∷◌, length, get_or, drop, refl, sym, ap, ◌∙◌, arith}
+use Rattle.std.proofs.Common.{◌≡◌, ℕ, Err, suc, ◌+◌, ◌<◌, ◌≤◌, ◌⊎◌, Bool, true, false, cond, eqb, inl, inr, List, ◌∷◌, length, get_or, drop, refl, sym, ap, ◌∙◌, arith}
 use Rattle.std.proofs.Math.Dec.{eqb-suc-zero}
 use Rattle.std.proofs.lemmas.Bool.{le-ltb}
 use Rattle.std.proofs.lemmas.Int.{ints}
@@ -9,7 +9,7 @@ use Rattle.list_methods.specs.Joining.{joined_entry}
 use Rattle.model_values.specs.Cells.{Gives}
 use Rattle.model_values.specs.Limits.{Limits, product_limits}
 use Rattle.model_values.specs.ListMethods.{entry_at, joined_behind}
-use Rattle.model_values.specs.TextOf.{Writing, Wrote, write_then}
+use Rattle.model_values.specs.TextOf.{Writing, write_then}
 use Rattle.value_view.specs.Answers.{IsWritten, Writes}
 use Rattle.value_view.specs.declared.refusal.OpRefusal.{OpRefusal}
 use Rattle.value_view.specs.declared.refusal.OpRefusal.TheVariants.{Memory, Thrown, Limit}

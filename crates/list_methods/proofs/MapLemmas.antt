@@ -15,7 +15,7 @@ use Rattle.model_values.specs.Kinds.{Kind}
 use Rattle.model_values.specs.Limits.{product_limits}
 use Rattle.model_values.specs.ListMethods.{with_key}
 use Rattle.model_values.specs.Throws.{bad_key}
-use Rattle.cell_heap.specs.ValueTypes.{Value, Key, Cell, MapCell, Variable, TextCell, ListCell, ClosureCell, ThrownCell}
+use Rattle.cell_heap.specs.ValueTypes.{Value, Key, Cell, MapCell}
 
 is_map : (o : Option Cell) → HasMap o → o ≡ Some (MapCell (pairs_in o))
 is_map (Some (MapCell es)) has = refl

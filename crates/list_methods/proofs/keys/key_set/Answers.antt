@@ -1,7 +1,6 @@
-use Rattle.std.proofs.Common.{◌≡◌, length, slice_get, refl, sym, ap, ◌∙◌, arith}
+use Rattle.std.proofs.Common.{length, slice_get, refl, ap, ◌∙◌, arith}
 use Rattle.cell_heap.specs.Contents.{pairs_in}
-use Rattle.model_values.specs.ListMethods.{key_cells, key_values}
-use Rattle.model_values.specs.TextMethods.{text_cells}
+use Rattle.model_values.specs.ListMethods.{key_values}
 use Rattle.list_methods.proofs.KeyLemmas.{keys_below, keys_no_cells, keys_too_many}
 use Rattle.list_methods.proofs.keys.key_set.Goals as goal
 

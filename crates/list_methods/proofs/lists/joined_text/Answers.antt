@@ -1,7 +1,6 @@
-use Rattle.std.proofs.Common.{◌+◌, [], true, eqb, drop, sym, ap, ◌∙◌}
+use Rattle.std.proofs.Common.{◌+◌, [], true, eqb, drop, sym, ◌∙◌}
 use Rattle.std.proofs.lemmas.Result.{err_from_is_err_and}
 use Rattle.list_methods.proofs.ListLemmas.{joined-more, refused_whole}
-use Rattle.list_methods.specs.Joining.{joined_entry}
 use Rattle.model_values.specs.Limits.{product_limits}
 use Rattle.model_values.specs.ListMethods.{joined_behind}
 use Rattle.list_methods.proofs.lists.joined_text.Goals as goal
