@@ -29,12 +29,7 @@ const CELL: u64 = 16;
 /// made or none.
 ///
 /// The limits on cells and on heap bytes come as the table says; after any refusal every cell is as it was.
-pub fn new_cells(
-    heap: &mut Heap,
-    texts: Texts,
-    last: Cell,
-    bytes: u64,
-) -> Result<Value, OpRefusal>
+pub fn new_cells(heap: &mut Heap, texts: Texts, last: Cell, bytes: u64) -> Result<Value, OpRefusal>
     requires below { CellBelow (length heap.old.cells + length texts) last }
     requires few { entry_count last ≤ 65536 }
     requires bytes { bytes ≡ cell_bytes last }
