@@ -94,7 +94,7 @@ module _ (G : List tokens.Spot → List tokens.Spot → Reading) (n : ℕ) where
   negation_done k S rest without so_far = so_far ∙ ap (λ r. and_then r (λ f. Read (negated k f))) (negation_none rest without)
 
   -- `&&` and `||`
-  more_negations_none : (m : ℕ) (f : Formula) (spots : List tokens.Spot) → (BeginsWith AndSign spots → ⊥) → more_negations G n m f spots ≡ Read f spots
+  pub more_negations_none : (m : ℕ) (f : Formula) (spots : List tokens.Spot) → (BeginsWith AndSign spots → ⊥) → more_negations G n m f spots ≡ Read f spots
   more_negations_none zero f spots without = refl
   more_negations_none (suc m) f [] without = refl
   more_negations_none (suc m) f (spot AndSign at ∷ rest) without = absurd (without refl)
@@ -108,7 +108,7 @@ module _ (G : List tokens.Spot → List tokens.Spot → Reading) (n : ℕ) where
   more_negations_none (suc m) f (spot OpenParen at ∷ rest) without = refl
   more_negations_none (suc m) f (spot Unknown at ∷ rest) without = refl
 
-  more_conjunctions_none : (m : ℕ) (f : Formula) (spots : List tokens.Spot) → (BeginsWith OrSign spots → ⊥) → more_conjunctions G n m f spots ≡ Read f spots
+  pub more_conjunctions_none : (m : ℕ) (f : Formula) (spots : List tokens.Spot) → (BeginsWith OrSign spots → ⊥) → more_conjunctions G n m f spots ≡ Read f spots
   more_conjunctions_none zero f spots without = refl
   more_conjunctions_none (suc m) f [] without = refl
   more_conjunctions_none (suc m) f (spot OrSign at ∷ rest) without = absurd (without refl)

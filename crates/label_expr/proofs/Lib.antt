@@ -3,3 +3,4 @@ pub mod TokenLaws
 pub mod GrammarLaws
 pub mod WholeLaws
 pub mod LabelLaws
+pub mod FirstBadLaws

@@ -4,6 +4,7 @@ ghost use Rattle.model_run.specs.LabelTokens as tokens;
 ghost use Rattle.model_run.specs.Labels.{atom, negation, conjunction, disjunction, behind_implies, behind_iff, level, level_within, closed, Reading, Read, and_then, place_of, expression, label_fits, Implies, Iff, And, Or};
 ghost use Rattle.label_expr.specs.declared.refusal.LabelRefusal.TheVariants.{Fault};
 ghost use Rattle.label_expr.specs.Conditions.{formula, joined, negated, fits};
+ghost use Rattle.label_expr.specs.FirstBad.{TellsFirstBad};
 ghost use Rattle.label_expr.specs.Readings.{sign_of, seen, inside, Reads, IsRefusal, IsSaid, BeginsWith, BeginsWithName, IsBehind, IsBehindName};
 
 use crate::condition::{Condition, LabelExpr};
@@ -19,10 +20,12 @@ const MOST_OPEN: u32 = 64;
 
 /// What a label says. Calls go as deep as parentheses are open, which are 64 at most.
 ///
-/// `Fault` comes exactly where the text is no label expression. `Memory` comes only where the memory was refused.
+/// `Fault` comes exactly where the text is no label expression, with the place of its first bad token: those before it
+/// begin some label, and with this one they begin none (`first`). `Memory` comes only where the memory was refused.
 pub fn parse(alloc: Global, text: &[u8]) -> Result<LabelExpr, LabelRefusal>
     ensures says { IfOk result (λ expr. IsSaid (expression text.now) expr) }
     ensures refused { IfErr result (λ refusal. IsRefusal (expression text.now) refusal) }
+    ensures first { IfErr result (TellsFirstBad text.now) }
     ensures fits { IfOk result (λ expr. (labels : List (List ℕ)) → fits labels expr ≡ label_fits labels (Some text.now)) }
 {
     let spots = spots(alloc, text)?;
