@@ -9,6 +9,7 @@ pub mod TurnLemmas
 pub mod ServeLemmas
 pub mod AwaitLemmas
 pub mod OpenLemmas
+pub mod DeliverLemmas
 pub mod WorkLemmas
 pub mod AnswerLemmas
 pub mod OperatorLemmas

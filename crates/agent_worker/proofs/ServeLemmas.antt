@@ -1,5 +1,5 @@
 -- How a serve ends, and what it has then delivered.
-use Rattle.std.proofs.Common.{◌≡◌, ◌⊎◌, ◌<◌, ◌≤◌, ◌-◌, ◌^◌, ◌++◌, ◌∷◌, [], ℕ, ℤ, List, Bool, true, false, length, drop, Option, Ok, Err, Result, inl, inr, sym, ap, ◌∙◌, refl, arith, subst, append-nil, if◌then◌else◌}
+use Rattle.std.proofs.Common.{◌≡◌, ◌⊎◌, ◌<◌, ◌≤◌, ◌-◌, ◌^◌, ◌++◌, ◌∷◌, [], ℕ, ℤ, List, Bool, true, false, length, drop, Option, IsSome, Ok, Err, Result, inl, inr, sym, ap, ◌∙◌, refl, arith, subst, append-nil, if◌then◌else◌}
 use Rattle.device_faults.specs.declared.faults.Failed.{Failed}
 use Rattle.task_host.specs.Host.{Records, GoesOn}
 use Rattle.task_host.specs.declared.call.Call.TheVariants as call
@@ -45,10 +45,11 @@ all-at order looks output ended past before code stream lawful holds looks_same 
     stands-all (kept_before order stream) (accepted stream past) (output stream) (holds.delivered stream small) (omega (arith, le, small, ap length same))
 
 -- What was reported of the output is so.
-pub delivers-of : (honest : Type 0) (order : Order) (looks : ℕ) (old now : Seen) (past : List Act) → Stands honest order looks old now past → honest → Delivers order past (now.output order.task)
+pub delivers-of : (honest : Type 0) (order : Order) (looks : ℕ) (old now : Seen) (past : List Act) → Stands honest order looks old now past → honest → Delivers order past (now.output order.task) (now.exited order.task)
 delivers-of honest order looks old now past stands is = record {
   a_part = (stands.holds is).delivered;
   all = λ code stream has by small. every code stream has by.before by.is small;
+  over = λ code by. ended code by.before by.is;
 }
   where
     every : (code : ℤ) (stream : Stream) → HasStream order stream → (before : List Act)
@@ -60,6 +61,16 @@ delivers-of honest order looks old now past stands is = record {
     every code stream has before (inr (removed, e)) small =
         all-at order looks (now.output order.task) (now.exited order.task) past before code stream (subst (IsServe order looks) e stands.lawful).1 (stands.holds is)
         (ap latest_look e) (ap (accepted stream) e ∙ append-nil (accepted stream before)) (λ place found. subst (FoundEnd order stream place) (sym e) (inr (refl, inr (refl, found)))) has small
+
+    ended : (code : ℤ) → (before : List Act)
+        → (past ≡ Reported (exited order code) (Ok Accepted) ∷ before) ⊎ ((removed : Result (Unit {0}) Failed) × (past ≡ Called (call.Remove order removed) ∷ Reported (exited order code) (Ok Accepted) ∷ before))
+        → IsSome (now.exited order.task)
+    ended code before (inl e) =
+        let exits = (subst (IsServe order looks) e stands.lawful).0.0.1 in
+        (stands.holds is).over code (ap latest_look e ∙ exits.said)
+    ended code before (inr (removed, e)) =
+        let exits = (subst (IsServe order looks) e stands.lawful).1.0.0.1 in
+        (stands.holds is).over code (ap latest_look e ∙ exits.said)
 
 -- The end of a serve.
 pub serves-by : (honest : Type 0) (order : Order) (looks : ℕ) (old now : Seen) (past : List Act) (answer : Served) → (begun : List Act) → ((act : Act) → WasDone act begun → WasDone act past) → Stands honest order looks old now past → EndsFor order past answer → ServesOn honest order looks old now begun answer

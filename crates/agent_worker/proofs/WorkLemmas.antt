@@ -9,11 +9,13 @@ use Rattle.agent_worker.specs.declared.gate.Claim.TheVariants as claim
 use Rattle.agent_worker.specs.declared.gate.GateCall.{GateCall}
 use Rattle.agent_worker.specs.declared.gate.GateCall.TheVariants as gate_call
 use Rattle.agent_worker.specs.declared.task.Served.{Served}
+use Rattle.agent_worker.specs.declared.worked.Worked.{Worked}
 use Rattle.agent_worker.specs.Gate.{Told, Claimed, Becomes, Stays, Adds, AddsClaim, claimed_in}
 use Rattle.agent_worker.specs.Acts.{with_calls, with_told, with_reports}
 use Rattle.agent_worker.specs.Serve.{Seen, Tasks, tasks_at, ServesOrder}
-use Rattle.agent_worker.specs.Working.{Deed, Claims, Serves, Pauses, Halts, Telling, OnHost, WorkLaunches, WorksOnHost, WorksSoFar, MayWork, MayClaim, work_calls, work_told, work_reports, work_claims}
+use Rattle.agent_worker.specs.Working.{Deed, Claims, Serves, Pauses, Halts, Telling, OnHost, WorkLaunches, WorksOnHost, WorksSoFar, WorkEnds, Works, MayWork, MayClaim, work_calls, work_told, work_reports, work_claims}
 use Rattle.agent_worker.proofs.TellLemmas.{becomes, records}
+use Rattle.agent_worker.proofs.DeliverLemmas.{all-delivered}
 
 -- what is told now was told before
 was-told : {A : Type 0} (f : List A → List A) (old now : Option (List A)) → Becomes f old now → IsSome now → IsSome old
@@ -116,3 +118,7 @@ work-halts number looks honest old now past told reports claimed so may told_so 
   launched = so.launched;
   on_host = so.on_host;
 }
+
+-- The end of the work.
+pub works-ended : (number looks : ℕ) (honest : Type 0) (old now : Telling) (past : List Deed) (answer : Worked) → WorksSoFar number looks honest old now past → WorkEnds past answer → Works number looks honest old now answer
+works-ended number looks honest old now past answer so ends = record { past = past; so_far = so; ends = ends; delivered = λ is. all-delivered past old.host now.host (so.on_host is) }

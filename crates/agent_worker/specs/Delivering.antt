@@ -10,12 +10,13 @@ use Rattle.agent_worker.specs.Serving.{EndsBy, exited}
 abbrev pub StandsFrom : ℕ → List ℕ → List ℕ → Type 0
 StandsFrom place bytes output = (rest : List ℕ) × (drop place output ≡ bytes ++ rest)
 
--- All that was accepted of a stream stands on the host, and all of it was accepted where the task exited. The kept place
--- is told below the last u64 alone.
-pub record Delivers (order : Order) (past : List Act) (output : Stream → List ℕ) : Type 0 where
+-- All that was accepted of a stream stands on the host; where the exit was accepted the task has ended, and all of the
+-- stream was accepted. The kept place is told below the last u64 alone.
+pub record Delivers (order : Order) (past : List Act) (output : Stream → List ℕ) (ended : Option ℤ) : Type 0 where
   pub a_part : (stream : Stream) → kept order stream past < 2 ^ 64 - 1 → StandsFrom (kept_before order stream) (accepted stream past) (output stream)
   pub all : (code : ℤ) (stream : Stream) → HasStream order stream → EndsBy order (exited order code) (Ok Accepted) past → kept order stream past < 2 ^ 64 - 1
       → drop (kept_before order stream) (output stream) ≡ accepted stream past
+  pub over : (code : ℤ) → EndsBy order (exited order code) (Ok Accepted) past → IsSome ended
 
 -- What an honest host has of the task, after this past.
 pub record Holds (order : Order) (output : Stream → List ℕ) (ended : Option ℤ) (past : List Act) : Type 0 where

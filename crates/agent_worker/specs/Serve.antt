@@ -47,7 +47,7 @@ pub record Serves (honest : Type 0) (order : Order) (looks : ℕ) (old now : See
   -- it ended for this reason
   pub ends : EndsFor order past answer
   -- what it reported of the output is so
-  pub delivers : honest → Delivers order past (now.output order.task)
+  pub delivers : honest → Delivers order past (now.output order.task) (now.exited order.task)
   -- no other task writes or ends
   pub goes_on : honest → GoesOn order.task old.exited now.exited old.output now.output
 

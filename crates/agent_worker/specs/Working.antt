@@ -108,7 +108,7 @@ pub record OnHost : Type 0 where
 -- stands there; and no other task writes or ends.
 pub record ServesOnHost (order : Order) (acts : List Act) (answer : Served) (old now : OnHost) : Type 0 where
   pub kept : KeepsTasks order answer old.tasks now.tasks
-  pub delivers : Delivers order acts (now.output order.task)
+  pub delivers : Delivers order acts (now.output order.task) (now.exited order.task)
   pub goes_on : GoesOn order.task old.exited now.exited old.output now.output
 
 -- what the work does to an honest host: one serve after the other, and nothing between them
@@ -118,6 +118,14 @@ WorksOnHost (Claims claim ∷ past) old now = WorksOnHost past old now
 WorksOnHost (Serves order acts answer ∷ past) old now = (mid : OnHost) × WorksOnHost past old mid × ServesOnHost order acts answer mid now
 WorksOnHost (Pauses ∷ past) old now = WorksOnHost past old now
 WorksOnHost (Halts ∷ past) old now = WorksOnHost past old now
+
+-- What was accepted in each of its serves stands on the host.
+abbrev pub AllDelivered : List Deed → OnHost → Type 0
+AllDelivered [] host = Unit {0}
+AllDelivered (Claims claim ∷ past) host = AllDelivered past host
+AllDelivered (Serves order acts answer ∷ past) host = Delivers order acts (host.output order.task) (host.exited order.task) × AllDelivered past host
+AllDelivered (Pauses ∷ past) host = AllDelivered past host
+AllDelivered (Halts ∷ past) host = AllDelivered past host
 
 -- What host and gate tell of it, and what stands on the host.
 pub record Telling : Type 0 where
@@ -144,6 +152,8 @@ pub record Works (number looks : ℕ) (honest : Type 0) (old now : Telling) (ans
   pub past : List Deed
   pub so_far : WorksSoFar number looks honest old now past
   pub ends : WorkEnds past answer
+  -- what any of its serves delivered still stands at the end
+  pub delivered : honest → AllDelivered past now.host
 
 module _ {H : Type 0} where
   abbrev pub on_host : (H → List ℕ) → (H → List ℕ) → (H → ℕ → Stream → List ℕ) → (H → ℕ → Option ℤ) → H → OnHost

@@ -4,7 +4,7 @@ use Rattle.agent_worker.specs.declared.task.Served.TheVariants as served
 use Rattle.agent_worker.specs.Serve.{seen, tasks_at}
 use Rattle.agent_worker.specs.Working.{Claims, Serves, Pauses, Halts, First, Paused, Done, Finished, on_host, telling}
 use Rattle.agent_worker.proofs.TellLemmas.{stays, stays-on}
-use Rattle.agent_worker.proofs.WorkLemmas.{work-claims, work-order, work-pauses, work-halts, same-host}
+use Rattle.agent_worker.proofs.WorkLemmas.{work-claims, work-order, work-pauses, work-halts, works-ended, same-host}
 use Rattle.agent_worker.proofs.executor.work_executor.Goals as goal
 
 pub loop-init : goal.loop-init
@@ -56,7 +56,7 @@ returns-in-Stopped-serve-clause-works g c =
     (seen g.H.Host.calls g.H.Host.output g.H.Host.exited g.G.Gate.told g.G.Gate.calls c.loop.host c.claim.new.self) (seen g.H.Host.calls g.H.Host.output g.H.Host.exited g.G.Gate.told g.G.Gate.calls c.serve.new.host c.serve.new.gate) (tasks_at (g.H.Host.launches c.loop.host) (g.H.Host.dirs c.loop.host)) (tasks_at (g.H.Host.launches c.serve.new.host) (g.H.Host.dirs c.serve.new.host)) c.serve.result served.Stopped
     so.1 so.2 c.in-Order.ensures.told c.in-Order.ensures.calls c.in-Order.ensures.claimed c.serve.ensures.serves (λ is. c.loop.invariant.honest.1 is) c.serve.ensures.gate.claimed_stay c.in-Stopped-serve.is in
     let before = Claims (claim.Order c.in-Order.order) ∷ so.0 in
-    record { past = Serves c.in-Order.order c.serve.ensures.serves.serve.past served.Stopped ∷ before; so_far = ended; ends = (before, inr (c.in-Order.order, c.serve.ensures.serves.serve.past, refl)) }
+    works-ended _ _ _ _ _ (Serves c.in-Order.order c.serve.ensures.serves.serve.past served.Stopped ∷ before) _ ended (before, inr (c.in-Order.order, c.serve.ensures.serves.serve.past, refl))
 
 pub returns-in-Memory-serve-clause-works : goal.returns-in-Memory-serve-clause-works
 returns-in-Memory-serve-clause-works g c =
@@ -66,12 +66,10 @@ returns-in-Memory-serve-clause-works g c =
     so.1 so.2 c.in-Order.ensures.told c.in-Order.ensures.calls c.in-Order.ensures.claimed c.serve.ensures.serves (λ is. c.loop.invariant.honest.1 is) c.serve.ensures.gate.claimed_stay c.in-Memory-serve.is in
     let before = Claims (claim.Order c.in-Order.order) ∷ so.0 in
     let past = Serves c.in-Order.order c.serve.ensures.serves.serve.past served.Memory ∷ before in
-    record {
-      past = Halts ∷ past;
-      so_far = work-halts c.args.number c.args.looks (g.H.Host.honest c.args.host.now) (telling g.H.Host.calls g.H.Host.launches g.H.Host.dirs g.H.Host.output g.H.Host.exited g.G.Gate.told g.G.Gate.calls g.G.Gate.claimed c.args.host.now c.args.gate.now) (telling g.H.Host.calls g.H.Host.launches g.H.Host.dirs g.H.Host.output g.H.Host.exited g.G.Gate.told g.G.Gate.calls g.G.Gate.claimed c.serve.new.host c.serve.new.gate) past (g.G.Gate.told c.halt.new.self) (g.G.Gate.calls c.halt.new.self) (g.G.Gate.claimed c.halt.new.self) ended
-          (before, inr (c.in-Order.order, c.serve.ensures.serves.serve.past, refl)) c.halt.ensures.told c.halt.ensures.calls c.halt.ensures.claimed;
-      ends = (past, refl);
-    }
+    works-ended _ _ _ _ _ (Halts ∷ past) _
+    (work-halts c.args.number c.args.looks (g.H.Host.honest c.args.host.now) (telling g.H.Host.calls g.H.Host.launches g.H.Host.dirs g.H.Host.output g.H.Host.exited g.G.Gate.told g.G.Gate.calls g.G.Gate.claimed c.args.host.now c.args.gate.now) (telling g.H.Host.calls g.H.Host.launches g.H.Host.dirs g.H.Host.output g.H.Host.exited g.G.Gate.told g.G.Gate.calls g.G.Gate.claimed c.serve.new.host c.serve.new.gate) past (g.G.Gate.told c.halt.new.self) (g.G.Gate.calls c.halt.new.self) (g.G.Gate.claimed c.halt.new.self) ended
+    (before, inr (c.in-Order.order, c.serve.ensures.serves.serve.past, refl)) c.halt.ensures.told c.halt.ensures.calls c.halt.ensures.claimed)
+    (past, refl)
 
 pub loop-preserved : goal.loop-preserved
 loop-preserved g c =
@@ -97,23 +95,21 @@ returns-in-Rest-clause-works g c =
     let so = c.loop.invariant.so_far in
     let claimed = work-claims c.args.number c.args.looks (g.H.Host.honest c.args.host.now) (telling g.H.Host.calls g.H.Host.launches g.H.Host.dirs g.H.Host.output g.H.Host.exited g.G.Gate.told g.G.Gate.calls g.G.Gate.claimed c.args.host.now c.args.gate.now) (telling g.H.Host.calls g.H.Host.launches g.H.Host.dirs g.H.Host.output g.H.Host.exited g.G.Gate.told g.G.Gate.calls g.G.Gate.claimed c.loop.host c.loop.gate) so.0 claim.Rest (g.G.Gate.told c.claim.new.self) (g.G.Gate.calls c.claim.new.self) (g.G.Gate.claimed c.claim.new.self)
     so.1 so.2 c.in-Rest.ensures.told c.in-Rest.ensures.calls c.in-Rest.ensures.claimed in
-    record { past = Claims claim.Rest ∷ so.0; so_far = claimed; ends = (so.0, refl) }
+    works-ended _ _ _ _ _ (Claims claim.Rest ∷ so.0) _ claimed (so.0, refl)
 
 pub returns-in-Stopped-clause-works : goal.returns-in-Stopped-clause-works
 returns-in-Stopped-clause-works g c =
     let so = c.loop.invariant.so_far in
     let claimed = work-claims c.args.number c.args.looks (g.H.Host.honest c.args.host.now) (telling g.H.Host.calls g.H.Host.launches g.H.Host.dirs g.H.Host.output g.H.Host.exited g.G.Gate.told g.G.Gate.calls g.G.Gate.claimed c.args.host.now c.args.gate.now) (telling g.H.Host.calls g.H.Host.launches g.H.Host.dirs g.H.Host.output g.H.Host.exited g.G.Gate.told g.G.Gate.calls g.G.Gate.claimed c.loop.host c.loop.gate) so.0 claim.Stopped (g.G.Gate.told c.claim.new.self) (g.G.Gate.calls c.claim.new.self) (g.G.Gate.claimed c.claim.new.self)
     so.1 so.2 c.in-Stopped.ensures.told c.in-Stopped.ensures.calls c.in-Stopped.ensures.claimed in
-    record { past = Claims claim.Stopped ∷ so.0; so_far = claimed; ends = (so.0, inl refl) }
+    works-ended _ _ _ _ _ (Claims claim.Stopped ∷ so.0) _ claimed (so.0, inl refl)
 
 pub returns-in-Memory-clause-works : goal.returns-in-Memory-clause-works
 returns-in-Memory-clause-works g c =
     let so = c.loop.invariant.so_far in
     let claimed = work-claims c.args.number c.args.looks (g.H.Host.honest c.args.host.now) (telling g.H.Host.calls g.H.Host.launches g.H.Host.dirs g.H.Host.output g.H.Host.exited g.G.Gate.told g.G.Gate.calls g.G.Gate.claimed c.args.host.now c.args.gate.now) (telling g.H.Host.calls g.H.Host.launches g.H.Host.dirs g.H.Host.output g.H.Host.exited g.G.Gate.told g.G.Gate.calls g.G.Gate.claimed c.loop.host c.loop.gate) so.0 claim.Memory (g.G.Gate.told c.claim.new.self) (g.G.Gate.calls c.claim.new.self) (g.G.Gate.claimed c.claim.new.self)
     so.1 so.2 c.in-Memory.ensures.told c.in-Memory.ensures.calls c.in-Memory.ensures.claimed in
-    record {
-      past = Halts ∷ Claims claim.Memory ∷ so.0;
-      so_far = work-halts c.args.number c.args.looks (g.H.Host.honest c.args.host.now) (telling g.H.Host.calls g.H.Host.launches g.H.Host.dirs g.H.Host.output g.H.Host.exited g.G.Gate.told g.G.Gate.calls g.G.Gate.claimed c.args.host.now c.args.gate.now) (telling g.H.Host.calls g.H.Host.launches g.H.Host.dirs g.H.Host.output g.H.Host.exited g.G.Gate.told g.G.Gate.calls g.G.Gate.claimed c.loop.host c.claim.new.self) (Claims claim.Memory ∷ so.0) (g.G.Gate.told c.halt-in-Memory.new.self) (g.G.Gate.calls c.halt-in-Memory.new.self) (g.G.Gate.claimed c.halt-in-Memory.new.self) claimed
-          (so.0, inl refl) c.halt-in-Memory.ensures.told c.halt-in-Memory.ensures.calls c.halt-in-Memory.ensures.claimed;
-      ends = (Claims claim.Memory ∷ so.0, refl);
-    }
+    works-ended _ _ _ _ _ (Halts ∷ Claims claim.Memory ∷ so.0) _
+    (work-halts c.args.number c.args.looks (g.H.Host.honest c.args.host.now) (telling g.H.Host.calls g.H.Host.launches g.H.Host.dirs g.H.Host.output g.H.Host.exited g.G.Gate.told g.G.Gate.calls g.G.Gate.claimed c.args.host.now c.args.gate.now) (telling g.H.Host.calls g.H.Host.launches g.H.Host.dirs g.H.Host.output g.H.Host.exited g.G.Gate.told g.G.Gate.calls g.G.Gate.claimed c.loop.host c.claim.new.self) (Claims claim.Memory ∷ so.0) (g.G.Gate.told c.halt-in-Memory.new.self) (g.G.Gate.calls c.halt-in-Memory.new.self) (g.G.Gate.claimed c.halt-in-Memory.new.self) claimed
+    (so.0, inl refl) c.halt-in-Memory.ensures.told c.halt-in-Memory.ensures.calls c.halt-in-Memory.ensures.claimed)
+    (Claims claim.Memory ∷ so.0, refl)
