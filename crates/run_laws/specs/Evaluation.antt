@@ -97,7 +97,7 @@ abbrev pub granted_of : List Held → Answer → List ℕ
 granted_of held (Granted x) = request_in (held_by x held)
 granted_of held x = []
 
--- with the answer an executor is granted for the request that is given back by the end, or none
+-- the answer grants the executor of the one request that is given back by the node's end, or none where none is given back
 abbrev pub Grants : List Held → List ℕ → Ending → Type 0
 Grants held gone (Answered x) = granted_of held x ≡ gone
 Grants held gone e = ⊥
@@ -135,7 +135,8 @@ abbrev pub opened_at : Spot → List Held → Answer → List ℕ
 opened_at For_executor held x = granted_of held x
 opened_at at held x = []
 
--- what is open around a thread, with the context around it, when a turn begins: its own bodies are these
+-- what is open around a thread in a turn: the requests and folders with which it began, the executors that are held as the turn begins,
+-- and the requests of its own bodies, whose executors are given back by the thread's end
 abbrev pub turn_open : List ℕ → ℕ → List Held → List ℕ → Open
 turn_open nodes folders was gone = record { nodes = nodes; folders = folders; was = was; gone = gone }
 
