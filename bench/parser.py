@@ -2,11 +2,11 @@
 """Time and peak memory of reading scripts of 64 KiB and of 1 MiB. README.md beside this file says what is measured."""
 import argparse
 import os
-import subprocess
 import sys
 import tempfile
 
-KIB = 1024
+from process import KIB, measure
+
 SMALL = 64 * KIB
 LARGE = 1024 * KIB
 MOST_TIMES_SLOWER = 20
@@ -52,21 +52,12 @@ def script(size, pieces):
     return "".join(parts) + "\n" * (size - length)
 
 
-def measure(program, command, folder):
-    """The processor seconds and the peak memory in KiB of one run, and its status and output."""
-    with tempfile.TemporaryFile() as out:
-        process = subprocess.Popen([program, command, folder], stdin=subprocess.DEVNULL, stdout=out, stderr=out)
-        _, status, usage = os.wait4(process.pid, 0)
-        out.seek(0)
-        return usage.ru_utime + usage.ru_stime, usage.ru_maxrss, os.waitstatus_to_exitcode(status), out.read(200)
-
-
 def best_of(program, text, runs):
     """The shortest time and the largest peak of some runs on this script."""
     with tempfile.TemporaryDirectory() as folder:
         with open(os.path.join(folder, "Jenkinsfile"), "w", newline="") as file:
             file.write(text)
-        results = [measure(program, "run", folder) for _ in range(runs)]
+        results = [measure([program, "run", folder]) for _ in range(runs)]
     for _, _, status, said in results:
         if status != 0 and said != b"Jenkinsfile:1:1: not built yet\n":
             sys.exit(f"bench: 'run' ended with status {status}, and said: {said.decode(errors='replace').strip()}")

@@ -1,0 +1,6 @@
+use Rattle.std.proofs.Common.{◌<◌, length, slice_get}
+use Rattle.model_values.specs.Fitting.{HasList}
+use Rattle.values.proofs.list_pushes.Given as goal
+
+abbrev pub invariant-loop : goal.invariant-loop
+invariant-loop l = record { within : l.list < length l.heap.cells; list : HasList (slice_get l.heap.cells l.list) }
