@@ -35,7 +35,8 @@ def build():
         copy.writelines(line for line in crates if line.partition(":")[0] in below)
         copy.write(f"values: {' '.join(DEPS)}\n")
     # It does nothing so often: whoever builds it runs it, too.
-    if subprocess.run(["rt", "run", "values", "--jobs", "1", "--", "new_cell", "1", "0"], cwd=BUILT).returncode != 0:
+    words = ["rt", "run", "--jobs", "1", "--", "new_cell", "1", "0"]
+    if subprocess.run(words, cwd=f"{BUILT}/crates/values").returncode != 0:
         sys.exit("bench: the program was not proved and built")
 
 
