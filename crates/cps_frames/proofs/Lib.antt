@@ -1,0 +1,4 @@
+pub mod WayLaws
+pub mod PartLaws
+pub mod MoveLaws
+pub mod NoteLaws
