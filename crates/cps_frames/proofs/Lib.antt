@@ -2,3 +2,7 @@ pub mod WayLaws
 pub mod PartLaws
 pub mod MoveLaws
 pub mod NoteLaws
+pub mod Runs
+pub mod Weights
+pub mod Testing
+pub mod Probing
