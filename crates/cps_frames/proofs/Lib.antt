@@ -6,3 +6,4 @@ pub mod Runs
 pub mod Weights
 pub mod Testing
 pub mod Probing
+pub mod Keeping

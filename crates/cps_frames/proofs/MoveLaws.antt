@@ -52,7 +52,7 @@ comes_after k r m m' u u' move v h stack setting less c = record {
   pushed = c.pushed ∙ ap (λ s. s ++ c.frames) stack;
   new = c.new;
   how = c.how;
-  placed = subst (λ g. Placed g.script k c.how move) setting c.placed;
+  placed = subst (λ g. Placed g.script k c.how c.frames move) setting c.placed;
   setting = c.setting ∙ setting;
   same = λ a rs. h a rs ∙ subst (λ g. m' (shape_in g.script k) a (state u'.world rs) ≡ over (shape_in g.script k) a c.frames (does a c.how move (state v.world rs))) setting (c.same a rs);
   less = (let l : room_of v.world + forked move ≤ room_of u'.world = c.less in omega (arith, less, l));
@@ -93,7 +93,7 @@ comes_spent k r r' m m' u u' move v h stack setting less small c = record {
   pushed = c.pushed ∙ ap (λ s. s ++ c.frames) stack;
   new = c.new;
   how = c.how;
-  placed = subst (λ g. Placed g.script k c.how move) setting c.placed;
+  placed = subst (λ g. Placed g.script k c.how c.frames move) setting c.placed;
   setting = c.setting ∙ setting;
   same = λ a rs. h a rs ∙ subst (λ g. m' (shape_in g.script k) a (state u'.world rs) ≡ over (shape_in g.script k) a c.frames (does a c.how move (state v.world rs))) setting (c.same a rs);
   less = (let l : room_of v.world + forked move ≤ room_of u'.world = c.less in omega (arith, less, l));
@@ -105,10 +105,10 @@ to_spent k r r' m m' u u' result v h stack setting less small = each_move (λ mo
 
 -- what ends here
 pub comes_ends : (k r : ℕ) (m : Saying) (u v : Standing) (e : Ending) → v.stack ≡ u.stack → v.world.setting ≡ u.world.setting → room_of v.world ≤ room_of u.world → 0 < r → ((a : Around) (rs : List Reply) → m (shape_at u.world k) a (state u.world rs) ≡ Ended e (state v.world rs)) → Comes k r m u (Ends e) v
-comes_ends k r m u v e stack setting less pos h = record { frames = []; pushed = stack ∙ sym (append-nil u.stack); new = tt; how = Call; placed = tt; setting = setting; same = h; less = omega (arith, less); falls = inr (tt, pos) }
+comes_ends k r m u v e stack setting less pos h = record { frames = []; pushed = stack ∙ sym (append-nil u.stack); new = tt; how = Call; placed = refl; setting = setting; same = h; less = omega (arith, less); falls = inr (tt, pos) }
 
 pub comes_hits : (k r : ℕ) (m : Saying) (u v : Standing) (l : LimitKind) → v.stack ≡ u.stack → v.world.setting ≡ u.world.setting → room_of v.world ≤ room_of u.world → 0 < r → ((a : Around) (rs : List Reply) → m (shape_at u.world k) a (state u.world rs) ≡ Limited l (state v.world rs)) → Comes k r m u (Hits l) v
-comes_hits k r m u v l stack setting less pos h = record { frames = []; pushed = stack ∙ sym (append-nil u.stack); new = tt; how = Call; placed = tt; setting = setting; same = h; less = omega (arith, less); falls = inr (tt, pos) }
+comes_hits k r m u v l stack setting less pos h = record { frames = []; pushed = stack ∙ sym (append-nil u.stack); new = tt; how = Call; placed = refl; setting = setting; same = h; less = omega (arith, less); falls = inr (tt, pos) }
 
 -- what ends where it stands, and changes nothing
 pub comes_ended : (k r : ℕ) (m : Saying) (u : Standing) (e : Ending) → 0 < r → ((a : Around) (rs : List Reply) → m (shape_at u.world k) a (state u.world rs) ≡ Ended e (state u.world rs)) → Comes k r m u (Ends e) u

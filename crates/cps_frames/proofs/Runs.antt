@@ -43,25 +43,25 @@ over_unwinds root n k (f ∷ fs) h r r' b =
     subst (λ go. Below (through f (after f (shape_of (term_at root k)) (around root n (term_at root k))) (over (shape_of (term_at root k)) (around root n (term_at root k)) fs r)) (through f go (unwind root n fs r'))) near
     (below_through f _ _ (λ e s. same _ _ refl) _ _ (over_unwinds root n k fs h.1 r r' b))
 
-does_below : (root : Term) (n k : ℕ) (how : How) (m : Move) (s : State) → Placed root k how m → Below (does (around root n (term_at root k)) how m s) (move_result root n m s)
-does_below root n k how (Ends e) s h = same _ _ refl
-does_below root n k how (Hits l) s h = same _ _ refl
-does_below root n k how (Asks asked) s h = same _ _ refl
-does_below root n k (Part i) (Enter e p env) s h = same _ _ (ap (λ t. ev root (suc n) e t env s) (sym (h.0).found))
-does_below root n k Again (Enter (Turn i kept) p env) s h =
+does_below : (root : Term) (n k : ℕ) (how : How) (fs : List Frame) (m : Move) (s : State) → Placed root k how fs m → Below (does (around root n (term_at root k)) how m s) (move_result root n m s)
+does_below root n k how fs (Ends e) s h = same _ _ refl
+does_below root n k how fs (Hits l) s h = same _ _ refl
+does_below root n k how fs (Asks asked) s h = same _ _ refl
+does_below root n k (Part i) fs (Enter e p env) s h = same _ _ (ap (λ t. ev root (suc n) e t env s) (sym (h.0).found))
+does_below root n k Again fs (Enter (Turn i kept) p env) s h =
     subst (λ j. Below (ev root n (Turn i kept) (term_at root k) env s) (ev root (suc n) (Turn i kept) (term_at root j) env s)) (sym h.0)
     (grows_to root n (suc n) (omega arith) (Turn i kept) (term_at root k) env s)
-does_below root n k Again (Enter e p env) s h = absurd h.1
-does_below root n k Call (Enter (Body args) p env) s h = grows_to root n (suc n) (omega arith) (Body args) (term_at root p) env s
-does_below root n k Call (Enter e p env) s h = absurd h
+does_below root n k Again fs (Enter e p env) s h = absurd h.1
+does_below root n k Call fs (Enter (Body args) p env) s h = grows_to root n (suc n) (omega arith) (Body args) (term_at root p) env s
+does_below root n k Call fs (Enter e p env) s h = absurd h
 
 -- a move at node k, in the whole script
 comes_law : (root : Term) (n k r : ℕ) (m : Saying) (u : Standing) (move : Move) (v : Standing) → root ≡ u.world.setting.script → Comes k r m u move v → Below (unwind root n u.stack (m (shape_of (term_at root k)) (around root n (term_at root k)) (state u.world []))) (unwind root n v.stack (move_result root n move (state v.world [])))
 comes_law root n k r m u move v script c =
-    let P : Term → Type 0 = λ t. (Placed t k c.how move) × (m (shape_of (term_at t k)) (around root n (term_at root k)) (state u.world []) ≡ over (shape_of (term_at t k)) (around root n (term_at root k)) c.frames (does (around root n (term_at root k)) c.how move (state v.world []))) in
+    let P : Term → Type 0 = λ t. (Placed t k c.how c.frames move) × (m (shape_of (term_at t k)) (around root n (term_at root k)) (state u.world []) ≡ over (shape_of (term_at t k)) (around root n (term_at root k)) c.frames (does (around root n (term_at root k)) c.how move (state v.world []))) in
     let h : P root = subst P (sym script) (c.placed, c.same (around root n (term_at root k)) []) in
     let inner : Below (m (shape_of (term_at root k)) (around root n (term_at root k)) (state u.world [])) (unwind root n c.frames (move_result root n move (state v.world []))) =
-        below_trans _ _ _ (same _ _ h.1) (over_unwinds root n k c.frames c.new _ _ (does_below root n k c.how move _ h.0)) in
+        below_trans _ _ _ (same _ _ h.1) (over_unwinds root n k c.frames c.new _ _ (does_below root n k c.how c.frames move _ h.0)) in
     subst (λ r. Below (unwind root n u.stack (m (shape_of (term_at root k)) (around root n (term_at root k)) (state u.world []))) r)
       (sym (unwind_append root n u.stack c.frames _) ∙ ap (λ fs. unwind root n fs (move_result root n move (state v.world []))) (sym c.pushed))
       (unwind_below root n u.stack _ _ inner)

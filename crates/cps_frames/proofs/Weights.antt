@@ -60,16 +60,16 @@ move_small root (Hits l) = omega arith
 move_small root (Enter e p env) = let h : reach root p ≤ reach root 0 = reach_falls root 0 p (omega arith) in omega (arith, h)
 move_small root (Asks asked) = omega arith
 
-move_near : (root : Term) (k : ℕ) (how : How) (m : Move) → Placed root k how m → IsNear how m → move_weight root m ≤ reach root (suc k) + 1
-move_near root k how (Ends e) p n = omega arith
-move_near root k how (Hits l) p n = omega arith
-move_near root k how (Asks asked) p n = omega arith
-move_near root k (Part i) (Enter e q env) p n =
+move_near : (root : Term) (k : ℕ) (how : How) (fs : List Frame) (m : Move) → Placed root k how fs m → IsNear how m → move_weight root m ≤ reach root (suc k) + 1
+move_near root k how fs (Ends e) p n = omega arith
+move_near root k how fs (Hits l) p n = omega arith
+move_near root k how fs (Asks asked) p n = omega arith
+move_near root k (Part i) fs (Enter e q env) p n =
     let b : k < q = (p.0).behind in
     let h : reach root q ≤ reach root (suc k) = reach_falls root (suc k) q (omega (arith, b)) in
     omega (arith, h)
-move_near root k Again (Enter e q env) p n = absurd n
-move_near root k Call (Enter e q env) p n = absurd n
+move_near root k Again fs (Enter e q env) p n = absurd n
+move_near root k Call fs (Enter e q env) p n = absurd n
 
 -- what a move at node k weighs, with the frames that it puts up
 pub comes_lower : (root : Term) (k r : ℕ) (m : Saying) (u : Standing) (move : Move) (v : Standing) → root ≡ u.world.setting.script → (c : Comes k r m u move v) → budget root v.world + frames_weight root c.frames + move_weight root move < budget root u.world + r * (reach root (suc k) + 2)
@@ -91,7 +91,7 @@ comes_lower root k r m u move v script c =
           let le : room_of v.world ≤ room_of u.world = omega (arith, less) in
           let kept : room_of v.world * (2 ^ 70 * (reach root 0 + 2)) ≤ room_of u.world * (2 ^ 70 * (reach root 0 + 2)) = scale _ _ _ le in
           let f : suc (ranks c.frames) * (reach root (suc k) + 2) ≤ r * (reach root (suc k) + 2) = scale (suc (ranks c.frames)) r _ q1 in
-          let near : move_weight root move ≤ reach root (suc k) + 1 = move_near root k c.how move (subst (λ t. Placed t k c.how move) (sym script) c.placed) q.0 in
+          let near : move_weight root move ≤ reach root (suc k) + 1 = move_near root k c.how c.frames move (subst (λ t. Placed t k c.how c.frames move) (sym script) c.placed) q.0 in
           omega (arith, kept, w, f, near)
     ]
 

@@ -62,9 +62,11 @@ Entered root k (Part i) e p = IsPart root k i p × IsOfPart e
 Entered root k Again e p = (p ≡ k) × IsTurn e
 Entered root k Call e p = IsBody e
 
-abbrev pub Placed : Term → ℕ → How → Move → Type 0
-Placed root k how (Enter e p env) = Entered root k how e p
-Placed root k how m = Unit {0}
+-- what is entered stands there; and nothing ends inside new frames
+abbrev pub Placed : Term → ℕ → How → List Frame → Move → Type 0
+Placed root k how fs (Enter e p env) = Entered root k how e p
+Placed root k how fs (Asks asked) = Unit {0}
+Placed root k how fs m = fs ≡ []
 
 -- inside new frames of one node
 abbrev pub over : Shape → Around → List Frame → Result → Result
@@ -99,7 +101,7 @@ pub record Comes (k r : ℕ) (says : Shape → Around → State → Result) (u :
   pub pushed : v.stack ≡ u.stack ++ frames
   pub new : AllAre (IsNew k) frames
   pub how : How
-  pub placed : Placed u.world.setting.script k how move
+  pub placed : Placed u.world.setting.script k how frames move
   pub setting : v.world.setting ≡ u.world.setting
   pub same : (a : Around) (rs : List Reply) → says (shape_at u.world k) a (state u.world rs) ≡ over (shape_at u.world k) a frames (does a how move (state v.world rs))
   pub less : room_of v.world + forked move ≤ room_of u.world

@@ -1,10 +1,11 @@
 -- Where a thread may stand between two moves: its frames meet the table exactly and stand one inside the other, each with its
 -- variables, and what is done next may stand inside the last of them. Such a thread is never stuck, and each move keeps it so.
-use Rattle.std.specs.Prelude.{◌≡◌, ◌<◌, ℕ, true, [], length}
+use Rattle.std.specs.Prelude.{◌≡◌, ◌<◌, ℕ, true, false, [], length}
 use Rattle.std.specs.List.{AllByRecursion as AllAre}
 use Rattle.model_syntax.specs.declared.node.NodeForm.TheVariants as form
 use Rattle.model_syntax.specs.declared.tree.Tree.{Tree}
 use Rattle.model_syntax.specs.TreeNodes.{tree_node}
+use Rattle.model_values.specs.Fitting.{There}
 use Rattle.model_run.specs.declared.ending.Ending.{Ending}
 use Rattle.model_run.specs.declared.ending.Ending.TheVariants.{Answered}
 use Rattle.model_run.specs.declared.ending.Entry.{Entry}
@@ -14,9 +15,10 @@ use Rattle.model_run.specs.Terms.{Term, term, nodes_of}
 use Rattle.model_run.specs.State.{Setting, Common, Env}
 use Rattle.model_run.specs.FrameTable.{enters_body}
 use Rattle.model_run.specs.Nesting.{Spot, Begun, Any_body, Body_of, Any_branch, For_executor, For_task, For_person, For_branches, FrameFits, Leads, Chained, WaitsFor, innermost, part_number, shape_at, spot_in}
-use Rattle.model_run.specs.Scoping.{names_for}
+use Rattle.model_run.specs.Scoping.{names_at, names_for}
 use Rattle.model_run.specs.Fitting.{AnswerFits, EnvFits, known}
 use Rattle.run_laws.specs.Soundness.{AskedFits, EndFits, Sound}
+use Rattle.script_laws.specs.NodeParts.{is_function}
 use Rattle.run_laws.specs.Evaluation.{EntryFits}
 use Rattle.cps_frames.specs.Standing.{Standing}
 use Rattle.cps_frames.specs.declared.thread.Move.{Move}
@@ -45,6 +47,12 @@ EndsAt root u For_person e = AnswersAt u For_person e
 EndsAt root u For_branches e = AnswersAt u For_branches e
 EndsAt root u at e = EndFits form.Block u e
 
+-- What node k is entered with. A function sees nothing of what is around it, and as a part it does nothing, whatever it is entered with.
+abbrev pub EntersWith : Term → Common → Entry → ℕ → Env → Type 0
+EntersWith root u First k env = is_function (shape_at root k).form ≡ false → EnvFits u.cells (names_at root k) env
+EntersWith root u (On v) k env = There u.cells v × (is_function (shape_at root k).form ≡ false → EnvFits u.cells (names_at root k) env)
+EntersWith root u e k env = EntryFits root u e k env
+
 -- a call stands in the place of node k
 abbrev pub CallStands : Term → ℕ → Type 0
 CallStands root k = (j : ℕ) × Leads root k j × (enters_body (shape_at root j).form ≡ true)
@@ -66,7 +74,7 @@ EntersBy root at e p = ⊥
 abbrev pub MoveFits : Term → Common → Spot → Move → Type 0
 MoveFits root u at (Ends e) = EndsAt root u at e
 MoveFits root u at (Hits k) = Unit {0}
-MoveFits root u at (Enter e p env) = EntersBy root at e p × (p < length (nodes_of root)) × EntryFits root u e p env
+MoveFits root u at (Enter e p env) = EntersBy root at e p × (p < length (nodes_of root)) × EntersWith root u e p env
 MoveFits root u at (Asks asked) = WaitsFor at asked × AskedFits root u asked
 
 -- A thread between two moves, from the spot where it began on.
@@ -88,4 +96,4 @@ pub record MayEnter (u : Standing) (e : Entry) (k : ℕ) (env : Env) : Type 0 wh
   pub script : IsScript u.world.setting.script
   pub sound : Sound u.world.setting u.world
   pub node : k < length (nodes_of u.world.setting.script)
-  pub entry : EntryFits u.world.setting.script u.world.shared e k env
+  pub entry : EntersWith u.world.setting.script u.world.shared e k env
