@@ -7,3 +7,4 @@ pub mod Weights
 pub mod Testing
 pub mod Probing
 pub mod Keeping
+pub mod Kept

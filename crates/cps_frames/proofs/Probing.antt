@@ -31,10 +31,10 @@ use Rattle.cps_frames.specs.Moves.{over}
 use Rattle.cps_frames.proofs.Testing.{Tests, both_test, flag_test, below_test, env_passes, env_test, value_passes, value_test, values_pass, values_test}
 
 -- a branch of no script
-abbrev nowhere : Term → Branch
+abbrev pub nowhere : Term → Branch
 nowhere root = record { name = []; closure = length (nodes_of root); env = []; head = 0 }
 
-abbrev told : Term → Bool → List Branch
+abbrev pub told : Term → Bool → List Branch
 told root true = []
 told root false = nowhere root ∷ []
 
@@ -56,12 +56,12 @@ over_waits sh a [] asked s = refl
 over_waits sh a (f ∷ fs) asked s = ap (through f (after f sh a)) (over_waits sh a fs asked s)
 
 -- what each part, turn and call is asked for
-abbrev turn_passes : NodeForm → List Cell → List Value → Bool
+abbrev pub turn_passes : NodeForm → List Cell → List Value → Bool
 turn_passes (form.ForEach x) h kept = value_passes h (value_at 0 kept)
 turn_passes (form.Method access f) h kept = value_passes h (value_at 0 kept) && (value_passes h (value_at 1 kept) && values_pass h (drop 2 kept))
 turn_passes f h kept = true
 
-turn_test : (f : NodeForm) (u : Common) (kept : List Value) → Tests (turn_passes f u.cells kept) (TurnFits f u kept)
+pub turn_test : (f : NodeForm) (u : Common) (kept : List Value) → Tests (turn_passes f u.cells kept) (TurnFits f u kept)
 turn_test (form.ForEach x) u kept = value_test u.cells (value_at 0 kept)
 turn_test (form.Method access f) u kept =
     let t : Tests (turn_passes (form.Method access f) u.cells kept) (There u.cells (value_at 0 kept) × (There u.cells (value_at 1 kept) × AllAre (There u.cells) (drop 2 kept))) =
@@ -69,10 +69,10 @@ turn_test (form.Method access f) u kept =
     record { holds = λ e. (let h = t.holds e in (h.0, (h.1).0, (h.1).1)); told = λ h. t.told (h.0, (h.1, h.2)) }
 turn_test f u kept = record { holds = λ e. tt; told = λ e. refl }
 
-abbrev callee_passes : Term → List Cell → ℕ → Env → Bool
+abbrev pub callee_passes : Term → List Cell → ℕ → Env → Bool
 callee_passes root h n env = nat_lt n (length (nodes_of root)) && (is_callable (shape_at root n).form && env_passes h (names_at root n) env)
 
-callee_test : (root : Term) (u : Common) (n : ℕ) (env : Env) → Tests (callee_passes root u.cells n env) (CalleeFits root u n env)
+pub callee_test : (root : Term) (u : Common) (n : ℕ) (env : Env) → Tests (callee_passes root u.cells n env) (CalleeFits root u n env)
 callee_test root u n env =
     let t : Tests (callee_passes root u.cells n env) ((n < length (nodes_of root)) × ((is_callable (shape_at root n).form ≡ true) × EnvFits u.cells (names_at root n) env)) =
         both_test _ _ _ _ (below_test n (length (nodes_of root))) (both_test _ _ _ _ (flag_test (is_callable (shape_at root n).form)) (env_test u.cells (names_at root n) env)) in
@@ -88,13 +88,13 @@ PartFits sh xs h (Inside j) i env = (has_inner (form_at sh.parts i) ≡ true) ×
 PartFits sh xs h (On v) i env = There h v × EnvFits h (seen_by sh xs i) env
 PartFits sh xs h e i env = Unit {0}
 
-abbrev part_passes : Shape → Names → List Cell → Entry → ℕ → Env → Bool
+abbrev pub part_passes : Shape → Names → List Cell → Entry → ℕ → Env → Bool
 part_passes sh xs h First i env = env_passes h (seen_by sh xs i) env
 part_passes sh xs h (Inside j) i env = has_inner (form_at sh.parts i) && env_passes h (names_within (form_at sh.parts i) j (seen_by sh xs i)) env
 part_passes sh xs h (On v) i env = value_passes h v && env_passes h (seen_by sh xs i) env
 part_passes sh xs h e i env = true
 
-part_test : (sh : Shape) (xs : Names) (h : List Cell) (e : Entry) (i : ℕ) (env : Env) → Tests (part_passes sh xs h e i env) (PartFits sh xs h e i env)
+pub part_test : (sh : Shape) (xs : Names) (h : List Cell) (e : Entry) (i : ℕ) (env : Env) → Tests (part_passes sh xs h e i env) (PartFits sh xs h e i env)
 part_test sh xs h First i env = env_test h (seen_by sh xs i) env
 part_test sh xs h (Inside j) i env = both_test _ _ _ _ (flag_test (has_inner (form_at sh.parts i))) (env_test h (names_within (form_at sh.parts i) j (seen_by sh xs i)) env)
 part_test sh xs h (On v) i env = both_test _ _ _ _ (value_test h v) (env_test h (seen_by sh xs i) env)
@@ -103,19 +103,19 @@ part_test sh xs h e i env = record { holds = λ x. tt; told = λ x. refl }
 abbrev pub AgainFits : Shape → Names → Common → List Value → Env → Type 0
 AgainFits sh xs u kept env = (not (is_declaration sh.form) ≡ true) × (EnvFits u.cells (turn_names sh.form sh.parts xs) env × TurnFits sh.form u kept)
 
-abbrev again_passes : Shape → Names → Common → List Value → Env → Bool
+abbrev pub again_passes : Shape → Names → Common → List Value → Env → Bool
 again_passes sh xs u kept env = not (is_declaration sh.form) && (env_passes u.cells (turn_names sh.form sh.parts xs) env && turn_passes sh.form u.cells kept)
 
-again_test : (sh : Shape) (xs : Names) (u : Common) (kept : List Value) (env : Env) → Tests (again_passes sh xs u kept env) (AgainFits sh xs u kept env)
+pub again_test : (sh : Shape) (xs : Names) (u : Common) (kept : List Value) (env : Env) → Tests (again_passes sh xs u kept env) (AgainFits sh xs u kept env)
 again_test sh xs u kept env = both_test _ _ _ _ (flag_test (not (is_declaration sh.form))) (both_test _ _ _ _ (env_test u.cells (turn_names sh.form sh.parts xs) env) (turn_test sh.form u kept))
 
 abbrev pub CallFits : Term → Common → ℕ → List Value → Env → Type 0
 CallFits root u n args env = CalleeFits root u n env × AllAre (There u.cells) args
 
-abbrev call_passes : Term → Common → ℕ → List Value → Env → Bool
+abbrev pub call_passes : Term → Common → ℕ → List Value → Env → Bool
 call_passes root u n args env = callee_passes root u.cells n env && values_pass u.cells args
 
-call_test : (root : Term) (u : Common) (n : ℕ) (args : List Value) (env : Env) → Tests (call_passes root u n args env) (CallFits root u n args env)
+pub call_test : (root : Term) (u : Common) (n : ℕ) (args : List Value) (env : Env) → Tests (call_passes root u n args env) (CallFits root u n args env)
 call_test root u n args env = both_test _ _ _ _ (callee_test root u n env) (values_test u.cells args)
 
 -- the probe
