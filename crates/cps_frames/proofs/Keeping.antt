@@ -66,7 +66,7 @@ module _ (g : Setting) (facts : ScriptFacts g.script) where
 
   -- a part sees what its place among the parts sees
   module _ (k i p : ℕ) (part : IsPart g.script k i p) where
-    number_there : number_of (part_of g.script (term_at g.script k) i) ≡ p
+    pub number_there : number_of (part_of g.script (term_at g.script k) i) ≡ p
     number_there = ap number_of (sym part.found) ∙ facts.numbers p part.within
 
     within_arity : i < length (forms_of (parts_of (term_at g.script k)))

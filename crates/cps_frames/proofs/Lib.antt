@@ -8,3 +8,6 @@ pub mod Testing
 pub mod Probing
 pub mod Keeping
 pub mod Kept
+pub mod Marking
+pub mod Fronts
+pub mod Chain

@@ -1,8 +1,8 @@
 -- How what a function of the machine does is put together from what its callees do. None of these laws names a form or a step.
-use Rattle.std.proofs.Common.{◌≡◌, ◌∙◌, ℕ, suc, ◌+◌, ◌≤◌, ◌<◌, ◌^◌, List, [], ◌∷◌, ◌++◌, Option, Some, None, refl, ap, subst, sym, arith, inl, inr}
+use Rattle.std.proofs.Common.{◌≡◌, ◌∙◌, ℕ, suc, ◌+◌, ◌≤◌, ◌<◌, ◌^◌, List, [], ◌∷◌, ◌++◌, Option, Some, None, refl, ap, subst, sym, arith, inl, inr, Bool, true, false}
 use Rattle.std.specs.Prelude.{Result as Outcome, Ok, Err, IfSome}
 use Rattle.std.proofs.lemmas.List.{append-nil}
-use Rattle.model_values.specs.Cells.{Answer}
+use Rattle.model_values.specs.Cells.{Answer, Gives, Throws, Meets}
 use Rattle.model_values.specs.declared.cell.Cell.{Cell}
 use Rattle.model_values.specs.declared.limit.LimitKind.{LimitKind}
 use Rattle.model_values.specs.declared.value.Value.{Value}
@@ -14,9 +14,9 @@ use Rattle.model_run.specs.declared.ending.Entry.TheVariants.{Body, Turn}
 use Rattle.model_run.specs.declared.frame.Frame.{Frame}
 use Rattle.model_run.specs.declared.frame.FrameKind.{FrameKind}
 use Rattle.model_run.specs.Around.{Around, Shape, frame, under as part_under}
-use Rattle.model_run.specs.Forms.{after}
+use Rattle.model_run.specs.Forms.{after, after_kind}
 use Rattle.model_run.specs.Nesting.{shape_at as shape_in}
-use Rattle.model_run.specs.State.{World, Reply, State, Env, Result, Ended, Limited, through, changed, unless_limit, guarded, answered, operating, awaiting}
+use Rattle.model_run.specs.State.{World, Reply, State, Env, Result, Ended, Limited, through, changed, unless_limit, guarded, answered, operating, awaiting, on_value, seeing, choose, put_cells}
 use Rattle.model_run.proofs.Relation.{KeepsAll, Spends}
 use Rattle.value_view.specs.declared.refusal.OpRefusal.{OpRefusal}
 use Rattle.value_view.specs.declared.refusal.OpRefusal.TheVariants as op
@@ -24,6 +24,10 @@ use Rattle.cps_frames.specs.Standing.{Standing, state, shape_at, room_of, settin
 use Rattle.cps_frames.specs.Order.{InRange, rank, ranks}
 use Rattle.cps_frames.specs.Halts.{move_of, halt_of}
 use Rattle.cps_frames.specs.Moves.{Part, Again, Call, IsPart, IsOfPart, Placed, does, over, forked, forked_by, Comes, ComesTo}
+use Rattle.cps_frames.specs.Ways.{value_of}
+use Rattle.cps_frames.proofs.WayLaws.{value_ok, value_err}
+use Rattle.cell_heap.specs.Region.{Region}
+use Rattle.value_view.specs.Answers.{Answers}
 use Rattle.cps_frames.specs.Changes.{changed_by, Passed, Met, Passes, Leaves, Done}
 use Rattle.cps_frames.specs.declared.halt.Halt.{Halt}
 use Rattle.cps_frames.specs.declared.halt.Halt.TheVariants.{Memory, Ends as HaltEnds, Limit as HaltLimit}
@@ -251,3 +255,32 @@ comes_waits k r f asked m u v stack setting less at range low h = record {
   less = less;
   falls = inr (tt, (let l : rank f < r = low in omega (arith, l)));
 }
+
+-- one way or the other, by what the world is
+pub to_then : (k r : ℕ) (b : World → Bool) (x y : Saying) (u : Standing) (result : Outcome Move Halt) (v : Standing) → b u.world ≡ true → ComesTo k r x u result v → ComesTo k r (λ sh a. seeing (λ w. choose (b w) (x sh a) (y sh a))) u result v
+to_then k r b x y u result v h = to_as k r _ x u result v (λ a rs. ap (λ t. choose t (x (shape_at u.world k) a) (y (shape_at u.world k) a) (state u.world rs)) h)
+
+pub to_else : (k r : ℕ) (b : World → Bool) (x y : Saying) (u : Standing) (result : Outcome Move Halt) (v : Standing) → b u.world ≡ false → ComesTo k r y u result v → ComesTo k r (λ sh a. seeing (λ w. choose (b w) (x sh a) (y sh a))) u result v
+to_else k r b x y u result v h = to_as k r _ y u result v (λ a rs. ap (λ t. choose t (x (shape_at u.world k) a) (y (shape_at u.world k) a) (state u.world rs)) h)
+
+-- a frame of a known kind
+pub to_kind : (r : ℕ) (f : Frame) (d : FrameKind) (e : Ending) (u : Standing) (result : Outcome Move Halt) (v : Standing) → f.kind ≡ d → ComesTo f.node r (λ sh a. after_kind a f.node sh f.left f.env f.values d e) u result v → ComesTo f.node r (λ sh a. after f sh a e) u result v
+to_kind r f d e u result v is = to_as f.node r (λ sh a. after f sh a e) (λ sh a. after_kind a f.node sh f.left f.env f.values d e) u result v (λ a rs. ap (λ x. after_kind a f.node (shape_at u.world f.node) f.left f.env f.values x e (state u.world rs)) is)
+
+-- behind a value, or ended with what was no value
+pub to_value : (k r : ℕ) (go : Value → Saying) (e : Ending) (x : Value) (u : Standing) (result : Outcome Move Halt) (v : Standing) → value_of e ≡ Ok x → ComesTo k r (go x) u result v → ComesTo k r (λ sh a. on_value (λ y. go y sh a) e) u result v
+to_value k r go e x u result v h = to_as k r _ (go x) u result v (λ a rs. value_ok (λ y. go y (shape_at u.world k) a) e x (state u.world rs) h)
+
+pub comes_no_value : (k r : ℕ) (go : Value → Saying) (e x : Ending) (u : Standing) → value_of e ≡ Err x → 0 < r → Comes k r (λ sh a. on_value (λ y. go y sh a) e) u (Ends x) u
+comes_no_value k r go e x u h pos = comes_ended k r _ u x pos (λ a rs. value_err (λ y. go y (shape_at u.world k) a) e x (state u.world rs) h)
+
+-- what an operation on the heap answers, as the definitions have it
+pub done_answers : (f : World → Answer) (old new : Region) (u : Standing) (result : Outcome Value OpRefusal) (v : Standing) → u.world.shared.cells ≡ old.cells → v.world ≡ put_cells new.cells u.world → v.stack ≡ u.stack → Answers (f u.world) old new result → Done f u result v
+done_answers f old new u (Ok x) v was now stack h =
+    let at : v.world.shared.cells ≡ new.cells = ap (λ w. w.shared.cells) now in
+    record { answers = h ∙ ap (λ cs. Gives cs x) (sym at); world = now ∙ ap (λ cs. put_cells cs u.world) (sym at); stack = stack }
+done_answers f old new u (Err (op.Thrown c)) v was now stack h =
+    let at : v.world.shared.cells ≡ new.cells = ap (λ w. w.shared.cells) now in
+    record { answers = h ∙ ap (λ cs. Throws cs c) (sym at); world = now ∙ ap (λ cs. put_cells cs u.world) (sym at); stack = stack }
+done_answers f old new u (Err (op.Limit k)) v was now stack h = record { answers = h.0; world = now ∙ ap (λ cs. put_cells cs u.world) (h.1 ∙ sym was); stack = stack }
+done_answers f old new u (Err op.Memory) v was now stack h = tt

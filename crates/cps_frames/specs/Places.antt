@@ -13,7 +13,7 @@ use Rattle.model_run.specs.declared.ending.Entry.TheVariants.{Body, Branched, Fi
 use Rattle.model_run.specs.declared.frame.Frame.{Frame}
 use Rattle.model_run.specs.Terms.{Term, term, nodes_of}
 use Rattle.model_run.specs.State.{Setting, Common, Env}
-use Rattle.model_run.specs.FrameTable.{enters_body}
+use Rattle.model_run.specs.FrameTable.{enters_body, is_declaration}
 use Rattle.model_run.specs.Nesting.{Spot, Begun, Any_body, Body_of, Any_branch, For_executor, For_task, For_person, For_branches, FrameFits, Leads, Chained, WaitsFor, innermost, part_number, shape_at, spot_in}
 use Rattle.model_run.specs.Scoping.{names_at, names_for}
 use Rattle.model_run.specs.Fitting.{AnswerFits, EnvFits, known}
@@ -61,7 +61,7 @@ CallStands root k = (j : ℕ) × Leads root k j × (enters_body (shape_at root j
 abbrev pub EntersBy : Term → Spot → Entry → ℕ → Type 0
 EntersBy root (Begun k) First p = Leads root k p
 EntersBy root (Begun k) (Inside j) p = Leads root k (part_number root p j)
-EntersBy root (Begun k) (On v) p = Leads root k p
+EntersBy root (Begun k) (On v) p = Leads root k p × (is_declaration (shape_at root p).form ≡ false)
 EntersBy root (Begun k) (Turn i kept) p = Leads root k p
 EntersBy root (Begun k) (Body args) p = CallStands root k
 EntersBy root (Begun k) (Branched start) p = ⊥
