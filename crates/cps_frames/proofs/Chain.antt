@@ -1,11 +1,10 @@
 -- What a move puts up stands where its frame, or its node, stood.
-use Rattle.std.proofs.Common.{◌≡◌, ◌∙◌, ℕ, zero, suc, ◌<◌, Bool, true, false, List, [], ◌∷◌, Option, Some, None, refl, sym, ap, subst, arith}
+use Rattle.std.proofs.Common.{◌≡◌, ◌∙◌, ℕ, true, false, List, [], ◌∷◌, Option, Some, None, refl, sym, ap, subst}
 use Rattle.std.specs.List.{AllByRecursion as AllAre}
 use Rattle.model_syntax.specs.declared.node.NodeForm.{NodeForm}
 use Rattle.model_syntax.specs.declared.node.NodeForm.TheVariants as form
 use Rattle.model_values.specs.declared.limit.LimitKind.{LimitKind}
 use Rattle.model_values.specs.declared.value.Value.{Value}
-use Rattle.model_run.specs.declared.ending.Asked.{Asked}
 use Rattle.model_run.specs.declared.ending.Asked.TheVariants.{ForRequest, ForBranches}
 use Rattle.model_run.specs.declared.ending.Ending.{Ending}
 use Rattle.model_run.specs.declared.ending.Ending.TheVariants.{Normal, Thrown, Returned, Broke, Continued, Declared, Answered}
@@ -20,9 +19,9 @@ use Rattle.model_run.specs.FlowNodes.{branch_name, line_limit, noted, noted_limi
 use Rattle.model_run.specs.State.{World, Setting, State, Env, Result, Ended, Waits, Limited, Unfinished, through, unless_limit, changed, guarded}
 use Rattle.model_run.specs.Around.{Around, Shape, frame, whole}
 use Rattle.model_run.specs.Callables.{body}
-use Rattle.model_run.specs.Forms.{enter, after, after_kind, branched, body_of}
-use Rattle.model_run.specs.FrameTable.{Part as Part_within, Own_body, frame_row, row_of, is_callable, is_closure_form}
-use Rattle.model_run.specs.Nesting.{MeetsRow, FrameFits, anything, Spot, Begun, Any_body, Body_of, Any_branch, is_own, spot, spot_in, shape_at, part_number, Leads, Enters, own_frame, entered, any_body, body_of as of_body, any_branch, Chained, innermost}
+use Rattle.model_run.specs.Forms.{enter, after, after_kind, branched}
+use Rattle.model_run.specs.FrameTable.{Part as Part_within, Own_body, frame_row, is_callable, is_closure_form}
+use Rattle.model_run.specs.Nesting.{MeetsRow, anything, Spot, Begun, Any_body, Body_of, Any_branch, is_own, spot_in, shape_at, part_number, Leads, Enters, own_frame, entered, any_body, body_of as of_body, any_branch, Chained, innermost}
 use Rattle.model_run.specs.Steps.{after_branch, branch_failed}
 use Rattle.model_run.proofs.CallLaws.{BodiesGo, bodies_law, body_law}
 use Rattle.model_run.proofs.FormLaws.{Entered, after_law, enter_law}
@@ -78,7 +77,7 @@ over_ends root k sh how fs m w on p h =
     subst EndsHere (ap (over sh (marked (mark_of how m)) fs) (does_wait root k how fs m w on p) ∙ over_waits sh (marked (mark_of how m)) fs (asked_of m) (state w [])) h
 
 -- a frame, for whatever its values
-loosely : (g : Setting) (u : _) (f : Frame) → Sits g.script u f → MeetsRow anything (shape_at g.script f.node) f
+pub loosely : (g : Setting) (u : _) (f : Frame) → Sits g.script u f → MeetsRow anything (shape_at g.script f.node) f
 loosely g u f sits = (frame_wider (seen u) anything (λ s x h. tt) g.script f sits.fits).meets
 
 module _ (g : Setting) (facts : ScriptFacts g.script) where

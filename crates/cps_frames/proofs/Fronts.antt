@@ -1,24 +1,23 @@
 -- The frames that a move puts up stand one inside the other from where its node stood, and what is done next may stand inside them.
-use Rattle.std.proofs.Common.{◌≡◌, ◌∙◌, ℕ, zero, suc, ◌<◌, Bool, true, false, List, [], ◌∷◌, refl, sym, ap, subst}
+use Rattle.std.proofs.Common.{◌≡◌, ◌∙◌, ℕ, zero, suc, true, List, [], ◌∷◌, refl, sym, ap, subst}
 use Rattle.std.specs.List.{AllByRecursion as AllAre}
 use Rattle.model_syntax.specs.declared.node.NodeForm.{NodeForm}
 use Rattle.model_syntax.specs.declared.node.NodeForm.TheVariants as form
 use Rattle.model_run.specs.declared.ending.Asked.{Asked}
 use Rattle.model_run.specs.declared.ending.Asked.TheVariants.{ForRequest, ForBranches}
-use Rattle.model_run.specs.declared.ending.Ending.{Ending}
 use Rattle.model_run.specs.declared.ending.Entry.{Entry}
 use Rattle.model_run.specs.declared.ending.Entry.TheVariants.{First, Inside, On, Turn, Body, Branched}
 use Rattle.model_run.specs.declared.frame.Frame.{Frame}
 use Rattle.model_run.specs.declared.frame.FrameKind.{FrameKind}
 use Rattle.model_run.specs.declared.frame.FrameKind.TheVariants as kind
-use Rattle.model_run.specs.State.{Setting, State, Result, Waits}
-use Rattle.model_run.specs.Around.{Around, Shape, form_at}
-use Rattle.model_run.specs.FrameTable.{Within, Part as Part_within, Inner, Suffix, Called, Own_body, Executor_wait, Task_wait, Person_wait, Branches_wait, WaitsAt, row_of, within, passes, passes_part, passes_inner, enters_body, is_callable, is_declaration}
-use Rattle.model_run.specs.Nesting.{Spot, Begun, Any_body, Body_of, is_own, spot, spot_in, shape_at, part_number, Leads, itself, through_part, through_inner, Enters, own_frame, Chained, WaitsFor, innermost}
+use Rattle.model_run.specs.State.{Setting, Waits}
+use Rattle.model_run.specs.Around.{Shape, form_at}
+use Rattle.model_run.specs.FrameTable.{Within, Part as Part_within, Inner, Executor_wait, Task_wait, Person_wait, Branches_wait, WaitsAt, row_of, within, passes, passes_part, passes_inner, enters_body, is_callable, is_declaration}
+use Rattle.model_run.specs.Nesting.{Spot, Begun, is_own, spot, spot_in, shape_at, part_number, Leads, itself, through_part, through_inner, Enters, own_frame, Chained, WaitsFor, innermost}
 use Rattle.model_run.specs.Terms.{Term}
 use Rattle.run_laws.proofs.Evaluation.{ScriptFacts}
 use Rattle.run_laws.proofs.InsideForms.{InsidePlain}
-use Rattle.cps_frames.specs.Standing.{Standing, state}
+use Rattle.cps_frames.specs.Standing.{state}
 use Rattle.cps_frames.specs.Moves.{How, Part, Again, Call, IsPart, IsOfPart, IsNew, Placed, does, over}
 use Rattle.cps_frames.specs.Places.{EntersBy}
 use Rattle.cps_frames.specs.declared.thread.Move.{Move}

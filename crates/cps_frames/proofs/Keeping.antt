@@ -1,31 +1,28 @@
 -- A move keeps what is sound: the state goes to a later sound one, new frames fit, and what is done next names what is there.
-use Rattle.std.proofs.Common.{◌≡◌, ◌∙◌, ℕ, suc, ◌+◌, ◌<◌, ◌≤◌, Bool, true, false, List, [], ◌∷◌, length, refl, sym, ap, subst, arith, inl, inr, zero}
-use Rattle.std.specs.Prelude.{not}
-use Rattle.std.specs.List.{AllByRecursion as AllAre}
+use Rattle.std.proofs.Common.{◌≡◌, ◌∙◌, ℕ, suc, ◌+◌, ◌<◌, ◌≤◌, Bool, true, false, length, refl, sym, ap, subst, arith, inl, inr, zero}
 use Rattle.std.proofs.lemmas.Bool.{cases_lt}
 use Rattle.model_syntax.specs.declared.node.NodeForm.{NodeForm}
 use Rattle.model_syntax.specs.declared.node.NodeForm.TheVariants as form
 use Rattle.model_run.specs.declared.ending.Entry.{Entry}
 use Rattle.model_run.specs.declared.ending.Entry.TheVariants.{First, Inside, On, Turn, Body, Branched}
-use Rattle.model_run.specs.declared.frame.Frame.{Frame}
 use Rattle.model_run.specs.Terms.{Term, Terms, Numbered, no_terms, and_then, number_of, form_of, forms_of, parts_of, part_of, nth_part, nodes_of, term_at}
-use Rattle.model_run.specs.State.{Setting, Common, State, Env, Result, Ended}
-use Rattle.model_run.specs.Around.{Around, Shape, form_at}
+use Rattle.model_run.specs.State.{Setting, Common, Env}
+use Rattle.model_run.specs.Around.{Around, form_at}
 use Rattle.model_run.specs.Forms.{enter}
 use Rattle.model_run.specs.FrameTable.{is_declaration}
 use Rattle.model_run.specs.Meaning.{shape_of}
-use Rattle.model_run.specs.Nesting.{shape_at, part_number}
+use Rattle.model_run.specs.Nesting.{shape_at}
 use Rattle.model_run.specs.Scoping.{Names, names_after, names_around, names_at, names_within}
 use Rattle.model_run.specs.Fitting.{EnvFits}
 use Rattle.script_laws.specs.NodeParts.{is_function}
-use Rattle.run_laws.specs.Soundness.{AskedFits, EndFits, Sits, At, Holds, Goes}
+use Rattle.run_laws.specs.Soundness.{Goes}
 use Rattle.run_laws.specs.Evaluation.{has_inner, ends_as}
 use Rattle.run_laws.proofs.NodeLaws.{Real, real_part, Somewhere, real_at}
 use Rattle.run_laws.proofs.Evaluates.{steps_some, suffixes_go, insides_go, function_starts, function_suffixes}
 use Rattle.run_laws.proofs.Evaluation.{ScriptFacts}
 use Rattle.run_laws.proofs.Sources.{Place, Sources}
 use Rattle.run_laws.proofs.SoundBodies.{body_of_goes, branched_goes}
-use Rattle.run_laws.proofs.SoundEntries.{start_goes, suffix_goes, again_goes}
+use Rattle.run_laws.proofs.SoundEntries.{start_goes, again_goes}
 use Rattle.cps_frames.specs.Moves.{IsPart, IsOfPart}
 use Rattle.cps_frames.specs.Places.{EntersWith}
 use Rattle.cps_frames.proofs.Probing.{PartFits, seen_by}
@@ -86,7 +83,7 @@ module _ (g : Setting) (facts : ScriptFacts g.script) where
         let at : Somewhere g.script (term_at g.script k) = real_at g.script facts.real k lt in
         let sees : names_at g.script k ≡ names_around (form_of (term_at g.script k)) at.sees = ap (names_at g.script) (sym (facts.numbers k lt)) ∙ real_names g.script at.sees (term_at g.script k) at.real in
         let real : Real g.script (seen_by (shape_at g.script k) (names_around (form_of (term_at g.script k)) at.sees) i) (term_at g.script p) =
-            subst (Real g.script (seen_by (shape_at g.script k) (names_around (form_of (term_at g.script k)) at.sees) i)) (sym part.found) (part_real g.script at.sees (term_at g.script k) at.real i within_arity) in
+        subst (Real g.script (seen_by (shape_at g.script k) (names_around (form_of (term_at g.script k)) at.sees) i)) (sym part.found) (part_real g.script at.sees (term_at g.script k) at.real i within_arity) in
         ap (names_at g.script) (sym (facts.numbers p part.within))
         ∙ real_names g.script _ (term_at g.script p) real
         ∙ sees_around (form_of (term_at g.script p)) _ plain
@@ -98,7 +95,7 @@ module _ (g : Setting) (facts : ScriptFacts g.script) where
     part_entered u (Inside j) env of fit =
         let inner : has_inner (shape_at g.script p).form ≡ true = ap has_inner part_form_is ∙ fit.0 in
         let names : names_within (shape_at g.script p).form j (names_at g.script p) ≡ names_within (form_at (shape_at g.script k).parts i) j (seen_by (shape_at g.script k) (names_at g.script k) i) =
-            ap (λ f. names_within f j (names_at g.script p)) part_form_is ∙ ap (names_within (form_at (shape_at g.script k).parts i) j) (part_sees (inner_is_none _ inner)) in
+        ap (λ f. names_within f j (names_at g.script p)) part_form_is ∙ ap (names_within (form_at (shape_at g.script k).parts i) j) (part_sees (inner_is_none _ inner)) in
         (inner, subst (λ ys. EnvFits u.cells ys env) (sym names) fit.1)
     part_entered u (On v) env of fit = (fit.0, λ plain. subst (λ ys. EnvFits u.cells ys env) (sym (part_sees plain)) fit.1)
     part_entered u (Turn j kept) env of fit = absurd of

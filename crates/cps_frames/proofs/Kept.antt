@@ -7,21 +7,20 @@ use Rattle.model_syntax.specs.declared.node.NodeForm.TheVariants as form
 use Rattle.model_run.specs.declared.ending.Ending.{Ending}
 use Rattle.model_run.specs.declared.ending.Ending.TheVariants.{Answered}
 use Rattle.model_run.specs.declared.ending.Entry.{Entry}
-use Rattle.model_run.specs.declared.ending.Entry.TheVariants.{First, Inside, On, Turn, Body, Branched}
+use Rattle.model_run.specs.declared.ending.Entry.TheVariants.{Turn, Body}
 use Rattle.model_run.specs.declared.frame.Frame.{Frame}
-use Rattle.model_run.specs.declared.wait.Answer.{Answer}
 use Rattle.model_run.specs.declared.wait.Answer.TheVariants.{Begin, Granted, Done, Decided, Joined}
 use Rattle.model_run.specs.declared.wait.BranchEnd.{BranchEnd}
-use Rattle.model_run.specs.Terms.{Term, nodes_of}
-use Rattle.model_run.specs.State.{Setting, Common, State, Env, Result, Ended}
-use Rattle.model_run.specs.Around.{Around, form_at}
+use Rattle.model_run.specs.Terms.{nodes_of}
+use Rattle.model_run.specs.State.{Setting, Common, Env}
+use Rattle.model_run.specs.Around.{form_at}
 use Rattle.model_run.specs.Forms.{enter, after}
 use Rattle.model_run.specs.FrameTable.{Within, Part as Part_within, Inner, Suffix, Called, Own_body, Executor_wait, Task_wait, Person_wait, Branches_wait, is_declaration}
 use Rattle.model_run.specs.Nesting.{Spot, For_executor, For_task, For_person, For_branches, shape_at, part_number, row_at, spot, spot_in}
 use Rattle.model_run.specs.Scoping.{names_at}
 use Rattle.model_run.specs.Fitting.{EndFits as BranchEnded, OutcomeFits}
 use Rattle.run_laws.specs.Soundness.{AskedFits, EndFits, Sits, At, Holds, may_declare, Sound}
-use Rattle.run_laws.specs.Evaluation.{AnswerThere, InsideFits, IsAnswer, ends_as, has_inner}
+use Rattle.run_laws.specs.Evaluation.{InsideFits, IsAnswer, ends_as, has_inner}
 use Rattle.run_laws.proofs.Evaluates.{inner_quiet}
 use Rattle.run_laws.proofs.Evaluation.{ScriptFacts}
 use Rattle.run_laws.proofs.Flow.{end_as, later_self}
@@ -69,18 +68,18 @@ module _ (g : Setting) (facts : ScriptFacts g.script) where
         record { at = w.0; sits = w.2; next = w.1 }
     kept_by (Part i) frames (Enter e p env) on part h =
         let t : Told g facts.shaped k (shape_at g.script k) (names_at g.script k) (node_here g facts k lt) u.world.shared frames (state v.world []) (PartFits (shape_at g.script k) (names_at g.script k) v.world.shared.cells e i env) =
-            tells g facts.shaped k (shape_at g.script k) (names_at g.script k) (node_here g facts k lt) f u.world.shared (probe g.script (shape_at g.script k) (names_at g.script k)) frames _ (state v.world []) _ (part_test (shape_at g.script k) (names_at g.script k) v.world.shared.cells e i env) h in
+        tells g facts.shaped k (shape_at g.script k) (names_at g.script k) (node_here g facts k lt) f u.world.shared (probe g.script (shape_at g.script k) (names_at g.script k)) frames _ (state v.world []) _ (part_test (shape_at g.script k) (names_at g.script k) v.world.shared.cells e i env) h in
         record { at = t.at; sits = t.sits; next = ((part.0).within, part_entered g facts k i p part.0 v.world.shared e env part.1 t.fits) }
     kept_by Again frames (Enter (Turn i kept) p env) on turn h =
         let t : Told g facts.shaped k (shape_at g.script k) (names_at g.script k) (node_here g facts k lt) u.world.shared frames (state v.world []) (AgainFits (shape_at g.script k) (names_at g.script k) v.world.shared kept env) =
-            tells g facts.shaped k (shape_at g.script k) (names_at g.script k) (node_here g facts k lt) f u.world.shared (probe g.script (shape_at g.script k) (names_at g.script k)) frames _ (state v.world []) _ (again_test (shape_at g.script k) (names_at g.script k) v.world.shared kept env) h in
+        tells g facts.shaped k (shape_at g.script k) (names_at g.script k) (node_here g facts k lt) f u.world.shared (probe g.script (shape_at g.script k) (names_at g.script k)) frames _ (state v.world []) _ (again_test (shape_at g.script k) (names_at g.script k) v.world.shared kept env) h in
         let fit = t.fits in
         let next : (k < length (nodes_of g.script)) × EntersWith g.script v.world.shared (Turn i kept) k env = (lt, (not_declared _ fit.0, (fit.1).0, (fit.1).1)) in
         record { at = t.at; sits = t.sits; next = subst (λ j. (j < length (nodes_of g.script)) × EntersWith g.script v.world.shared (Turn i kept) j env) (sym turn.0) next }
     kept_by Again frames (Enter e p env) on turn h = absurd turn.1
     kept_by Call frames (Enter (Body args) p env) on body h =
         let t : Told g facts.shaped k (shape_at g.script k) (names_at g.script k) (node_here g facts k lt) u.world.shared frames (state v.world []) (CallFits g.script v.world.shared p args env) =
-            tells g facts.shaped k (shape_at g.script k) (names_at g.script k) (node_here g facts k lt) f u.world.shared (probe g.script (shape_at g.script k) (names_at g.script k)) frames _ (state v.world []) _ (call_test g.script v.world.shared p args env) h in
+        tells g facts.shaped k (shape_at g.script k) (names_at g.script k) (node_here g facts k lt) f u.world.shared (probe g.script (shape_at g.script k) (names_at g.script k)) frames _ (state v.world []) _ (call_test g.script v.world.shared p args env) h in
         let fit = t.fits in
         record { at = t.at; sits = t.sits; next = ((fit.0).below, ((fit.0).callable, (fit.0).variables, fit.1)) }
     kept_by Call frames (Enter e p env) on body h = absurd body
@@ -89,11 +88,11 @@ module _ (g : Setting) (facts : ScriptFacts g.script) where
     pub comes_kept : (r : ℕ) (says : Saying) (m : Move) → u.world.setting ≡ g → GoesOn m → Holds g f u.world.shared (says (shape_at g.script k) (probe g.script (shape_at g.script k) (names_at g.script k)) (state u.world [])) → (c : Comes k r says u m v) → Kept f u c.frames m v
     comes_kept r says m is on h c =
         let same : says (shape_at g.script k) (probe g.script (shape_at g.script k) (names_at g.script k)) (state u.world []) ≡ over (shape_at g.script k) (probe g.script (shape_at g.script k) (names_at g.script k)) c.frames (does (probe g.script (shape_at g.script k) (names_at g.script k)) c.how m (state v.world [])) =
-            subst (λ (s : Setting). says (shape_at s.script k) (probe g.script (shape_at g.script k) (names_at g.script k)) (state u.world []) ≡ over (shape_at s.script k) (probe g.script (shape_at g.script k) (names_at g.script k)) c.frames (does (probe g.script (shape_at g.script k) (names_at g.script k)) c.how m (state v.world []))) is (c.same (probe g.script (shape_at g.script k) (names_at g.script k)) []) in
+        subst (λ (s : Setting). says (shape_at s.script k) (probe g.script (shape_at g.script k) (names_at g.script k)) (state u.world []) ≡ over (shape_at s.script k) (probe g.script (shape_at g.script k) (names_at g.script k)) c.frames (does (probe g.script (shape_at g.script k) (names_at g.script k)) c.how m (state v.world []))) is (c.same (probe g.script (shape_at g.script k) (names_at g.script k)) []) in
         kept_by c.how c.frames m on (subst (λ (s : Setting). Placed s.script k c.how c.frames m) is c.placed) (subst (Holds g f u.world.shared) same h)
 
   -- What stood at the spot inside a frame ended as the frame goes on with it.
-  quiet_part : (k i : ℕ) → may_declare (shape_at g.script k).form i ≡ false → is_declaration (shape_at g.script (part_number g.script k i)).form ≡ false
+  pub quiet_part : (k i : ℕ) → may_declare (shape_at g.script k).form i ≡ false → is_declaration (shape_at g.script (part_number g.script k i)).form ≡ false
   quiet_part k i quiet = not_true _ (λ e. let d : may_declare (shape_at g.script k).form i ≡ true = (facts.shaped).declares k i (sym (ap is_declaration (facts.forms k i)) ∙ e) in absurd (cc))
 
   pub quiet_inner : (k i j : ℕ) → has_inner (form_at (shape_at g.script k).parts i) ≡ true → is_declaration (shape_at g.script (part_number g.script (part_number g.script k i) j)).form ≡ false

@@ -11,3 +11,5 @@ pub mod Kept
 pub mod Marking
 pub mod Fronts
 pub mod Chain
+pub mod Bounds
+pub mod Poise

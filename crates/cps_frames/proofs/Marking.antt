@@ -1,22 +1,20 @@
 -- A node that is evaluated from parts, turns and calls of which one alone is marked: by it one sees inside which frames that one is begun.
-use Rattle.std.proofs.Common.{◌≡◌, ◌∙◌, ℕ, zero, suc, Bool, true, false, List, [], ◌∷◌, Option, Some, None, refl, sym, ap, ap₂, subst}
+use Rattle.std.proofs.Common.{◌≡◌, ℕ, Bool, true, false, List, [], ◌∷◌, Option, Some, None, refl, sym, ap, ap₂, subst}
 use Rattle.std.specs.Prelude.{nat_eq, ◌&&◌}
 use Rattle.std.proofs.lemmas.Bool.{eqb-true, eq-eqb}
 use Rattle.model_values.specs.declared.limit.LimitKind.{LimitKind}
 use Rattle.model_run.specs.declared.ending.Asked.{Asked}
 use Rattle.model_run.specs.declared.ending.Asked.TheVariants.{ForRequest, ForBranches}
-use Rattle.model_run.specs.declared.ending.Branch.{Branch}
 use Rattle.model_run.specs.declared.ending.Ending.{Ending}
 use Rattle.model_run.specs.declared.ending.Entry.{Entry}
 use Rattle.model_run.specs.declared.ending.Entry.TheVariants.{First, Inside, On, Turn, Body, Branched}
 use Rattle.model_run.specs.declared.frame.Frame.{Frame}
 use Rattle.model_run.specs.declared.frame.FrameKind.{FrameKind}
 use Rattle.model_run.specs.declared.request.Request.{Request}
-use Rattle.model_run.specs.State.{State, Reply, Result, Ended, Waits, Limited, Unfinished, World, through, changed, unless_limit, guarded, reply_to, with_world}
+use Rattle.model_run.specs.State.{State, Reply, Result, Ended, Waits, Limited, Unfinished, through, changed, unless_limit, guarded, reply_to, with_world}
 use Rattle.model_run.specs.Around.{Around, Shape}
-use Rattle.model_run.specs.Forms.{after}
-use Rattle.model_run.specs.FrameTable.{Within, Part, Inner, Suffix, Called, Own_body, Executor_wait, Task_wait, Person_wait, Branches_wait, WaitsAt, row_of, within, passes, enters_body}
-use Rattle.model_run.specs.Nesting.{MeetsRow, anything, is_own}
+use Rattle.model_run.specs.FrameTable.{Within, Part, Inner, Suffix, Called, Executor_wait, Task_wait, Person_wait, Branches_wait, WaitsAt, row_of, within, passes, enters_body}
+use Rattle.model_run.specs.Nesting.{is_own}
 use Rattle.model_run.specs.Steps.{with_request}
 use Rattle.model_run.proofs.Relation.{Relation, Agree, AskedAt, OfPart}
 

@@ -2,7 +2,7 @@
 use Rattle.std.proofs.Common.{◌≡◌, ◌∙◌, ℕ, suc, ◌+◌, ◌≤◌, ◌<◌, ◌^◌, List, [], ◌∷◌, ◌++◌, Option, Some, None, refl, ap, subst, sym, arith, inl, inr, Bool, true, false}
 use Rattle.std.specs.Prelude.{Result as Outcome, Ok, Err, IfSome}
 use Rattle.std.proofs.lemmas.List.{append-nil}
-use Rattle.model_values.specs.Cells.{Answer, Gives, Throws, Meets}
+use Rattle.model_values.specs.Cells.{Answer, Gives, Throws}
 use Rattle.model_values.specs.declared.cell.Cell.{Cell}
 use Rattle.model_values.specs.declared.limit.LimitKind.{LimitKind}
 use Rattle.model_values.specs.declared.value.Value.{Value}

@@ -1,6 +1,6 @@
 -- A node that is evaluated from parts, turns and calls which do nothing but wait, and tell whether they may be begun so. What the laws of
 -- evaluation say of such a node, they say of the state in which a move leaves it, and of how it is begun.
-use Rattle.std.proofs.Common.{◌≡◌, ◌∙◌, ℕ, ◌<◌, Bool, true, false, List, [], ◌∷◌, length, refl, sym, ap, subst, arith}
+use Rattle.std.proofs.Common.{◌≡◌, ℕ, ◌<◌, Bool, true, false, List, [], ◌∷◌, length, refl, ap, subst, arith}
 use Rattle.std.specs.Prelude.{nat_lt, not, ◌&&◌, drop}
 use Rattle.std.specs.List.{AllByRecursion as AllAre}
 use Rattle.model_syntax.specs.declared.node.NodeForm.{NodeForm}
@@ -12,7 +12,7 @@ use Rattle.model_run.specs.declared.ending.Asked.{Asked}
 use Rattle.model_run.specs.declared.ending.Asked.TheVariants.{ForBranches}
 use Rattle.model_run.specs.declared.ending.Branch.{Branch}
 use Rattle.model_run.specs.declared.ending.Entry.{Entry}
-use Rattle.model_run.specs.declared.ending.Entry.TheVariants.{First, Inside, On, Turn, Body, Branched}
+use Rattle.model_run.specs.declared.ending.Entry.TheVariants.{First, Inside, On}
 use Rattle.model_run.specs.declared.frame.Frame.{Frame}
 use Rattle.model_run.specs.Terms.{Term, nodes_of}
 use Rattle.model_run.specs.State.{Setting, Common, State, Env, Result, Waits, through}
@@ -21,7 +21,7 @@ use Rattle.model_run.specs.Forms.{after}
 use Rattle.model_run.specs.FrameTable.{is_callable, is_declaration}
 use Rattle.model_run.specs.Nesting.{shape_at}
 use Rattle.model_run.specs.Scoping.{Names, names_after, names_at, names_within}
-use Rattle.model_run.specs.Fitting.{EnvFits, Later}
+use Rattle.model_run.specs.Fitting.{EnvFits}
 use Rattle.model_run.proofs.LaterLaws.{env_later}
 use Rattle.run_laws.specs.Soundness.{Shaped, AskedFits, Sits, At, Holds}
 use Rattle.run_laws.specs.Evaluation.{CalleeFits, TurnFits, has_inner, turn_names}
@@ -65,7 +65,7 @@ pub turn_test : (f : NodeForm) (u : Common) (kept : List Value) → Tests (turn_
 turn_test (form.ForEach x) u kept = value_test u.cells (value_at 0 kept)
 turn_test (form.Method access f) u kept =
     let t : Tests (turn_passes (form.Method access f) u.cells kept) (There u.cells (value_at 0 kept) × (There u.cells (value_at 1 kept) × AllAre (There u.cells) (drop 2 kept))) =
-        both_test _ _ _ _ (value_test u.cells (value_at 0 kept)) (both_test _ _ _ _ (value_test u.cells (value_at 1 kept)) (values_test u.cells (drop 2 kept))) in
+    both_test _ _ _ _ (value_test u.cells (value_at 0 kept)) (both_test _ _ _ _ (value_test u.cells (value_at 1 kept)) (values_test u.cells (drop 2 kept))) in
     record { holds = λ e. (let h = t.holds e in (h.0, (h.1).0, (h.1).1)); told = λ h. t.told (h.0, (h.1, h.2)) }
 turn_test f u kept = record { holds = λ e. tt; told = λ e. refl }
 
@@ -75,7 +75,7 @@ callee_passes root h n env = nat_lt n (length (nodes_of root)) && (is_callable (
 pub callee_test : (root : Term) (u : Common) (n : ℕ) (env : Env) → Tests (callee_passes root u.cells n env) (CalleeFits root u n env)
 callee_test root u n env =
     let t : Tests (callee_passes root u.cells n env) ((n < length (nodes_of root)) × ((is_callable (shape_at root n).form ≡ true) × EnvFits u.cells (names_at root n) env)) =
-        both_test _ _ _ _ (below_test n (length (nodes_of root))) (both_test _ _ _ _ (flag_test (is_callable (shape_at root n).form)) (env_test u.cells (names_at root n) env)) in
+    both_test _ _ _ _ (below_test n (length (nodes_of root))) (both_test _ _ _ _ (flag_test (is_callable (shape_at root n).form)) (env_test u.cells (names_at root n) env)) in
     record { holds = λ e. (let h = t.holds e in record { below = h.0; callable = (h.1).0; variables = (h.1).1 }); told = λ h. t.told (h.below, (h.callable, h.variables)) }
 
 -- what part i of a node sees

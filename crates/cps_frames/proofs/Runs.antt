@@ -5,9 +5,9 @@ use Rattle.model_values.specs.declared.limit.LimitKind.{LimitKind}
 use Rattle.model_run.specs.declared.ending.Asked.{Asked}
 use Rattle.model_run.specs.declared.ending.Ending.{Ending}
 use Rattle.model_run.specs.declared.ending.Entry.{Entry}
-use Rattle.model_run.specs.declared.ending.Entry.TheVariants.{Body, Branched, First, Inside, On, Turn}
+use Rattle.model_run.specs.declared.ending.Entry.TheVariants.{Body, Turn}
 use Rattle.model_run.specs.declared.frame.Frame.{Frame}
-use Rattle.model_run.specs.Terms.{Term, Numbered, forms_of, number_of, term_at, Found}
+use Rattle.model_run.specs.Terms.{Term, Numbered, forms_of, number_of, term_at}
 use Rattle.model_run.specs.State.{State, Env, Result, Ended, Waits, Limited, through}
 use Rattle.model_run.specs.Forms.{enter, after}
 use Rattle.model_run.specs.Meaning.{shape_of, eval, ev, around, continue, unwind}
@@ -39,7 +39,7 @@ unfolding unwind continue
 over_unwinds root n k [] h r r' b = b
 over_unwinds root n k (f ∷ fs) h r r' b =
     let near : after f (shape_of (term_at root k)) (around root n (term_at root k)) ≡ after f (shape_of (term_at root f.node)) (around root n (term_at root f.node)) =
-        ap (λ j. after f (shape_of (term_at root j)) (around root n (term_at root j))) (sym (h.0).node) in
+    ap (λ j. after f (shape_of (term_at root j)) (around root n (term_at root j))) (sym (h.0).node) in
     subst (λ go. Below (through f (after f (shape_of (term_at root k)) (around root n (term_at root k))) (over (shape_of (term_at root k)) (around root n (term_at root k)) fs r)) (through f go (unwind root n fs r'))) near
     (below_through f _ _ (λ e s. same _ _ refl) _ _ (over_unwinds root n k fs h.1 r r' b))
 
@@ -61,10 +61,10 @@ comes_law root n k r m u move v script c =
     let P : Term → Type 0 = λ t. (Placed t k c.how c.frames move) × (m (shape_of (term_at t k)) (around root n (term_at root k)) (state u.world []) ≡ over (shape_of (term_at t k)) (around root n (term_at root k)) c.frames (does (around root n (term_at root k)) c.how move (state v.world []))) in
     let h : P root = subst P (sym script) (c.placed, c.same (around root n (term_at root k)) []) in
     let inner : Below (m (shape_of (term_at root k)) (around root n (term_at root k)) (state u.world [])) (unwind root n c.frames (move_result root n move (state v.world []))) =
-        below_trans _ _ _ (same _ _ h.1) (over_unwinds root n k c.frames c.new _ _ (does_below root n k c.how c.frames move _ h.0)) in
+    below_trans _ _ _ (same _ _ h.1) (over_unwinds root n k c.frames c.new _ _ (does_below root n k c.how c.frames move _ h.0)) in
     subst (λ r. Below (unwind root n u.stack (m (shape_of (term_at root k)) (around root n (term_at root k)) (state u.world []))) r)
-      (sym (unwind_append root n u.stack c.frames _) ∙ ap (λ fs. unwind root n fs (move_result root n move (state v.world []))) (sym c.pushed))
-      (unwind_below root n u.stack _ _ inner)
+    (sym (unwind_append root n u.stack c.frames _) ∙ ap (λ fs. unwind root n fs (move_result root n move (state v.world []))) (sym c.pushed))
+    (unwind_below root n u.stack _ _ inner)
 
 -- what a node is entered as
 enter_is : (root : Term) (n : ℕ) (e : Entry) (t : Term) (env : Env) (s : State) → Below (ev root (suc n) e t env s) (enter e (around root n t) (number_of t) (shape_of t) env s)
@@ -87,10 +87,10 @@ pub onward_ends : (root : Term) (r : ℕ) (u u' : Standing) (f : Frame) (e : End
 unfolding continue unwind through
 onward_ends root r u u' f e m v script same_world at c = record {
   by = λ n.
-    below_trans _ _ _
-    (same _ _ (ap (λ fs. unwind root n fs (Ended e (state u.world []))) at ∙ unwind_append root n u'.stack (f ∷ []) (Ended e (state u.world []))
+      below_trans _ _ _
+      (same _ _ (ap (λ fs. unwind root n fs (Ended e (state u.world []))) at ∙ unwind_append root n u'.stack (f ∷ []) (Ended e (state u.world []))
       ∙ ap (λ w. unwind root n u'.stack (continue root n f e (state w []))) (sym same_world)))
-    (comes_law root n f.node r (λ sh a. after f sh a e) u' m v (script ∙ ap (λ w. w.setting.script) (sym same_world)) c);
+      (comes_law root n f.node r (λ sh a. after f sh a e) u' m v (script ∙ ap (λ w. w.setting.script) (sym same_world)) c);
   setting = c.setting ∙ ap (λ w. w.setting) same_world;
   less = (let l : room_of v.world + forked m ≤ room_of u'.world = c.less in let w : room_of u'.world ≡ room_of u.world = ap room_of same_world in omega (arith, l, w));
 }
@@ -99,10 +99,10 @@ onward_ends root r u u' f e m v script same_world at c = record {
 pub onward_enters : (root : Term) (r : ℕ) (u : Standing) (e : Entry) (k : ℕ) (env : Env) (m : Move) (v : Standing) → root ≡ u.world.setting.script → number_of (term_at root k) ≡ k → Comes k r (λ sh a. enter e a k sh env) u m v → Onward root u (Enter e k env) v m
 onward_enters root r u e k env m v script number c = record {
   by = λ n. below_trans _ _ _
-    (unwind_below root n u.stack _ _
+      (unwind_below root n u.stack _ _
       (subst (λ j. Below (ev root (suc n) e (term_at root k) env (state u.world [])) (enter e (around root n (term_at root k)) j (shape_of (term_at root k)) env (state u.world []))) number
-        (enter_is root n e (term_at root k) env (state u.world []))))
-    (comes_law root n k r (λ sh a. enter e a k sh env) u m v script c);
+      (enter_is root n e (term_at root k) env (state u.world []))))
+      (comes_law root n k r (λ sh a. enter e a k sh env) u m v script c);
   setting = c.setting;
   less = (let l : room_of v.world + forked m ≤ room_of u.world = c.less in omega (arith, l));
 }

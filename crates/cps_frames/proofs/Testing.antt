@@ -1,5 +1,5 @@
 -- What an entry is asked for can be tested: variables, values, and what is called.
-use Rattle.std.proofs.Common.{◌≡◌, ◌∙◌, ℕ, ◌<◌, Bool, true, false, List, [], ◌∷◌, length, Option, Some, None, refl, sym, ap, ap₂, arith}
+use Rattle.std.proofs.Common.{◌≡◌, ℕ, ◌<◌, Bool, true, false, List, [], ◌∷◌, length, Option, Some, refl, ap₂}
 use Rattle.std.specs.Prelude.{nat_eq, nat_lt, ◌&&◌, slice_get}
 use Rattle.std.specs.List.{AllByRecursion as AllAre}
 use Rattle.std.proofs.lemmas.Bool.{eqb-true, eq-eqb, ltb-true, lt-ltb}

@@ -4,6 +4,7 @@ pub mod Halts
 pub mod Moves
 pub mod Changes
 pub mod Ways
+pub mod Parts
 pub mod Places
 pub mod Measure
 pub mod Runs
