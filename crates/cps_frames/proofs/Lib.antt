@@ -1,0 +1,15 @@
+pub mod WayLaws
+pub mod PartLaws
+pub mod MoveLaws
+pub mod NoteLaws
+pub mod Runs
+pub mod Weights
+pub mod Testing
+pub mod Probing
+pub mod Keeping
+pub mod Kept
+pub mod Marking
+pub mod Fronts
+pub mod Chain
+pub mod Bounds
+pub mod Poise

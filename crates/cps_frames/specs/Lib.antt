@@ -1,0 +1,10 @@
+pub mod Standing
+pub mod Order
+pub mod Halts
+pub mod Moves
+pub mod Changes
+pub mod Ways
+pub mod Parts
+pub mod Places
+pub mod Measure
+pub mod Runs

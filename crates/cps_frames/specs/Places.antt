@@ -1,0 +1,99 @@
+-- Where a thread may stand between two moves: its frames meet the table exactly and stand one inside the other, each with its
+-- variables, and what is done next may stand inside the last of them. Such a thread is never stuck, and each move keeps it so.
+use Rattle.std.specs.Prelude.{◌≡◌, ◌<◌, ℕ, true, false, [], length}
+use Rattle.std.specs.List.{AllByRecursion as AllAre}
+use Rattle.model_syntax.specs.declared.node.NodeForm.TheVariants as form
+use Rattle.model_syntax.specs.declared.tree.Tree.{Tree}
+use Rattle.model_syntax.specs.TreeNodes.{tree_node}
+use Rattle.model_values.specs.Fitting.{There}
+use Rattle.model_run.specs.declared.ending.Ending.{Ending}
+use Rattle.model_run.specs.declared.ending.Ending.TheVariants.{Answered}
+use Rattle.model_run.specs.declared.ending.Entry.{Entry}
+use Rattle.model_run.specs.declared.ending.Entry.TheVariants.{Body, Branched, First, Inside, On, Turn}
+use Rattle.model_run.specs.declared.frame.Frame.{Frame}
+use Rattle.model_run.specs.Terms.{Term, term, nodes_of}
+use Rattle.model_run.specs.State.{Setting, Common, Env}
+use Rattle.model_run.specs.FrameTable.{enters_body, is_declaration}
+use Rattle.model_run.specs.Nesting.{Spot, Begun, Any_body, Body_of, Any_branch, For_executor, For_task, For_person, For_branches, FrameFits, Leads, Chained, WaitsFor, innermost, part_number, shape_at, spot_in}
+use Rattle.model_run.specs.Scoping.{names_at, names_for}
+use Rattle.model_run.specs.Fitting.{AnswerFits, EnvFits, known}
+use Rattle.run_laws.specs.Soundness.{AskedFits, EndFits, Sound}
+use Rattle.script_laws.specs.NodeParts.{is_function}
+use Rattle.run_laws.specs.Evaluation.{EntryFits}
+use Rattle.cps_frames.specs.Standing.{Standing}
+use Rattle.cps_frames.specs.declared.thread.Move.{Move}
+use Rattle.cps_frames.specs.declared.thread.Move.TheVariants.{Ends, Hits, Enter, Asks}
+
+-- the script of a tree
+abbrev pub IsScript : Term → Type 0
+IsScript root = (tree : Tree) × (root ≡ term 0 (tree_node tree))
+
+-- a frame that meets the table exactly, with its variables
+pub record FrameStands (root : Term) (u : Common) (f : Frame) : Type 0 where
+  pub fits : FrameFits (known u) root f
+  pub names : EnvFits u.cells (names_for root f) f.env
+
+-- the answer to a wait at this spot
+abbrev pub AnswersAt : Common → Spot → Ending → Type 0
+AnswersAt u at (Answered x) = AnswerFits u at [] x
+AnswersAt u at e = ⊥
+
+-- What stands at a spot has ended so: a node as its form does, a body as a block, a wait with its answer.
+abbrev pub EndsAt : Term → Common → Spot → Ending → Type 0
+EndsAt root u (Begun k) e = EndFits (shape_at root k).form u e
+EndsAt root u For_executor e = AnswersAt u For_executor e
+EndsAt root u For_task e = AnswersAt u For_task e
+EndsAt root u For_person e = AnswersAt u For_person e
+EndsAt root u For_branches e = AnswersAt u For_branches e
+EndsAt root u at e = EndFits form.Block u e
+
+-- What node k is entered with. A function sees nothing of what is around it, and as a part it does nothing, whatever it is entered with.
+abbrev pub EntersWith : Term → Common → Entry → ℕ → Env → Type 0
+EntersWith root u First k env = is_function (shape_at root k).form ≡ false → EnvFits u.cells (names_at root k) env
+EntersWith root u (On v) k env = There u.cells v × (is_function (shape_at root k).form ≡ false → EnvFits u.cells (names_at root k) env)
+EntersWith root u e k env = EntryFits root u e k env
+
+-- a call stands in the place of node k
+abbrev pub CallStands : Term → ℕ → Type 0
+CallStands root k = (j : ℕ) × Leads root k j × (enters_body (shape_at root j).form ≡ true)
+
+-- Node p, entered so, may stand at a spot.
+abbrev pub EntersBy : Term → Spot → Entry → ℕ → Type 0
+EntersBy root (Begun k) First p = Leads root k p
+EntersBy root (Begun k) (Inside j) p = Leads root k (part_number root p j)
+EntersBy root (Begun k) (On v) p = Leads root k p × (is_declaration (shape_at root p).form ≡ false)
+EntersBy root (Begun k) (Turn i kept) p = Leads root k p
+EntersBy root (Begun k) (Body args) p = CallStands root k
+EntersBy root (Begun k) (Branched start) p = ⊥
+EntersBy root Any_body (Body args) p = Unit {0}
+EntersBy root (Body_of k) (Body args) p = p ≡ k
+EntersBy root Any_branch (Branched start) p = Unit {0}
+EntersBy root at e p = ⊥
+
+-- A move that may be made at a spot: what it names is there.
+abbrev pub MoveFits : Term → Common → Spot → Move → Type 0
+MoveFits root u at (Ends e) = EndsAt root u at e
+MoveFits root u at (Hits k) = Unit {0}
+MoveFits root u at (Enter e p env) = EntersBy root at e p × (p < length (nodes_of root)) × EntersWith root u e p env
+MoveFits root u at (Asks asked) = WaitsFor at asked × AskedFits root u asked
+
+-- A thread between two moves, from the spot where it began on.
+pub record Poised (g : Setting) (at : Spot) (u : Standing) (m : Move) : Type 0 where
+  pub sound : Sound g u.world
+  pub frames : AllAre (FrameStands g.script u.world.shared) u.stack
+  pub chain : Chained g.script at u.stack
+  pub move : MoveFits g.script u.world.shared (innermost g.script at u.stack) m
+
+-- A frame may go on with this ending: it stood innermost in such a thread.
+pub record MayGoOn (u : Standing) (f : Frame) (e : Ending) : Type 0 where
+  pub script : IsScript u.world.setting.script
+  pub sound : Sound u.world.setting u.world
+  pub frame : FrameStands u.world.setting.script u.world.shared f
+  pub ending : EndsAt u.world.setting.script u.world.shared (spot_in u.world.setting.script f) e
+
+-- A node may be entered so.
+pub record MayEnter (u : Standing) (e : Entry) (k : ℕ) (env : Env) : Type 0 where
+  pub script : IsScript u.world.setting.script
+  pub sound : Sound u.world.setting u.world
+  pub node : k < length (nodes_of u.world.setting.script)
+  pub entry : EntersWith u.world.setting.script u.world.shared e k env

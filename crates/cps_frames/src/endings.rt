@@ -1,0 +1,61 @@
+//! How a frame goes on by the ending inside it.
+
+ghost use Rattle.std.specs.Prelude.{◌≡◌, IfOk};
+ghost use Rattle.cps_frames.specs.Ways.{answer_of, statement_of, thrown_of, turn_of, value_of};
+
+use model_run::{Answer, Ending};
+use model_values::{Env, Value};
+use std::alloc::AllocError;
+
+/// A value. `Err` is any other ending, which is passed on.
+pub fn value_of(ending: Ending) -> Result<Value, Ending>
+    ensures { result ≡ value_of ending }
+{
+    match ending {
+        Ending::Normal(value) => Ok(value),
+        other => Err(other),
+    }
+}
+
+/// The cell of what was thrown. `Err` is any other ending.
+pub fn thrown_of(ending: Ending) -> Result<u32, Ending>
+    ensures { result ≡ thrown_of ending }
+{
+    match ending {
+        Ending::Thrown(cell) => Ok(cell),
+        other => Err(other),
+    }
+}
+
+/// What a thread waited for. `Err` is any other ending.
+pub fn answer_of(ending: Ending) -> Result<Answer, Ending>
+    ensures { result ≡ answer_of ending }
+{
+    match ending {
+        Ending::Answered(answer) => Ok(answer),
+        other => Err(other),
+    }
+}
+
+/// A turn of a loop has ended, and the loop goes on. `Err` is how the loop ends: with null behind `break`.
+pub fn turn_of(ending: Ending) -> Result<(), Ending>
+    ensures { result ≡ turn_of ending }
+{
+    match ending {
+        Ending::Normal(_) | Ending::Continued | Ending::Declared(_) => Ok(()),
+        Ending::Broke => Err(Ending::Normal(Value::Null)),
+        other => Err(other),
+    }
+}
+
+/// The value of a statement, and the variables that are seen behind it: a declaration is one more. `Err` within is how
+/// the row of statements ends. `AllocError` where the memory was refused.
+pub fn statement_of(env: Env, ending: Ending) -> Result<Result<(Value, Env), Ending>, AllocError>
+    ensures { IfOk result (λ way. way ≡ statement_of env ending) }
+{
+    match ending {
+        Ending::Normal(value) => Ok(Ok((value, env))),
+        Ending::Declared(binding) => Ok(Ok((Value::Null, env.with(binding)?))),
+        other => Ok(Err(other)),
+    }
+}
