@@ -4,12 +4,3 @@ pub mod MoveLaws
 pub mod NoteLaws
 pub mod Runs
 pub mod Weights
-pub mod Testing
-pub mod Probing
-pub mod Keeping
-pub mod Kept
-pub mod Marking
-pub mod Fronts
-pub mod Chain
-pub mod Bounds
-pub mod Poise

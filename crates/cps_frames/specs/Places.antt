@@ -17,7 +17,7 @@ use Rattle.model_run.specs.FrameTable.{enters_body, is_declaration}
 use Rattle.model_run.specs.Nesting.{Spot, Begun, Any_body, Body_of, Any_branch, For_executor, For_task, For_person, For_branches, FrameFits, Leads, Chained, WaitsFor, innermost, part_number, shape_at, spot_in}
 use Rattle.model_run.specs.Scoping.{names_at, names_for}
 use Rattle.model_run.specs.Fitting.{AnswerFits, EnvFits, known}
-use Rattle.run_laws.specs.Soundness.{AskedFits, EndFits, Sound}
+use Rattle.run_laws.specs.Soundness.{AskedFits, EndFits, SoundWorld}
 use Rattle.script_laws.specs.NodeParts.{is_function}
 use Rattle.run_laws.specs.Evaluation.{EntryFits}
 use Rattle.cps_frames.specs.Standing.{Standing}
@@ -79,7 +79,7 @@ MoveFits root u at (Asks asked) = WaitsFor at asked × AskedFits root u asked
 
 -- A thread between two moves, from the spot where it began on.
 pub record Poised (g : Setting) (at : Spot) (u : Standing) (m : Move) : Type 0 where
-  pub sound : Sound g u.world
+  pub sound : SoundWorld g u.world
   pub frames : AllAre (FrameStands g.script u.world.shared) u.stack
   pub chain : Chained g.script at u.stack
   pub move : MoveFits g.script u.world.shared (innermost g.script at u.stack) m
@@ -87,13 +87,13 @@ pub record Poised (g : Setting) (at : Spot) (u : Standing) (m : Move) : Type 0 w
 -- A frame may go on with this ending: it stood innermost in such a thread.
 pub record MayGoOn (u : Standing) (f : Frame) (e : Ending) : Type 0 where
   pub script : IsScript u.world.setting.script
-  pub sound : Sound u.world.setting u.world
+  pub sound : SoundWorld u.world.setting u.world
   pub frame : FrameStands u.world.setting.script u.world.shared f
   pub ending : EndsAt u.world.setting.script u.world.shared (spot_in u.world.setting.script f) e
 
 -- A node may be entered so.
 pub record MayEnter (u : Standing) (e : Entry) (k : ℕ) (env : Env) : Type 0 where
   pub script : IsScript u.world.setting.script
-  pub sound : Sound u.world.setting u.world
+  pub sound : SoundWorld u.world.setting u.world
   pub node : k < length (nodes_of u.world.setting.script)
   pub entry : EntersWith u.world.setting.script u.world.shared e k env
