@@ -45,6 +45,7 @@ use Rattle.model_run.specs.LogText.{raw}
 use Rattle.model_run.proofs.LaterWorlds.{accepted_answer, accepted_grant, open_of}
 use Rattle.model_run.proofs.PathLaws.{outer_spot}
 use Rattle.model_run.proofs.RequestLaws.{some_weaker, some_all}
+use Rattle.run_laws.specs.Bounds.{Narrow}
 use Rattle.run_laws.specs.Soundness.{Open, Pausing, Holds, without_all, open_nodes, open_folders}
 use Rattle.run_laws.specs.Evaluation.{HoldsAt, granted_of, opened_at, based}
 use Rattle.run_laws.specs.Worlds.{begun_open, StandsSound, SoundThread}
@@ -225,7 +226,7 @@ module _ (g : Setting) where
     | inr w ↦ subst (OwnSeat t) (sym w.stands_so) (own_waits t u w.asked w.path w.state (subst (StandsSound g t.own u) w.stands_so h.stood))
   ]
 
-module _ (g : Setting) (tree : Tree) (is : g.script ≡ term 0 (tree_node tree)) (small : Small g) where
+module _ (g : Setting) (tree : Tree) (is : g.script ≡ term 0 (tree_node tree)) (small : Small g) (narrow : Narrow g.limits) where
   abbrev HoldingIn : Build → Type 0
   HoldingIn b = Holding b.shared.held (rooms g b.threads)
 
@@ -237,7 +238,7 @@ module _ (g : Setting) (tree : Tree) (is : g.script ≡ term 0 (tree_node tree))
   all_split u (t ∷ ts) h st = ((own_seat g t u h.0 st.0).split, all_split u ts h.1 st.1)
 
   -- The turn of a thread: t, with this answer.
-  module _ (b : Build) (known : Known g tree is small b) (h : HoldingIn b) (t : Thread) (x : Answer) (inside : Some_of (λ u. u ≡ t) b.threads) (ready : t.wait ≡ Ready x) where
+  module _ (b : Build) (known : Known g tree is small narrow b) (h : HoldingIn b) (t : Thread) (x : Answer) (inside : Some_of (λ u. u ≡ t) b.threads) (ready : t.wait ≡ Ready x) where
     abbrev n : ℕ
     n = t.own.number
 
@@ -273,16 +274,16 @@ module _ (g : Setting) (tree : Tree) (is : g.script ≡ term 0 (tree_node tree))
 
     -- what it stood for is what it may give back, and more
     abbrev gone : List ℕ
-    gone = mine_of g tree is small t (stands g t) ++ opens_at g tree is small t.runs (stands g t) b.shared.held x
+    gone = mine_of g tree is small narrow t (stands g t) ++ opens_at g tree is small narrow t.runs (stands g t) b.shared.held x
 
-    gone_front : (r : Result) → (more : List ℕ) × (granted_request b.shared.held (Ready x) ≡ opens_at g tree is small t.runs r b.shared.held x ++ more)
+    gone_front : (r : Result) → (more : List ℕ) × (granted_request b.shared.held (Ready x) ≡ opens_at g tree is small narrow t.runs r b.shared.held x ++ more)
     gone_front (Waits asked path s) = opened_front (innermost g.script (outer_spot t.runs) path) b.shared.held x
     gone_front (Ended e s) = (granted_request b.shared.held (Ready x), refl)
     gone_front (Limited k s) = (granted_request b.shared.held (Ready x), refl)
     gone_front Unfinished = (granted_request b.shared.held (Ready x), refl)
 
     stood_for : stands_for b.shared.held (room_of g t) ≡ gone ++ (gone_front (stands g t)).0
-    stood_for = ap (λ w. mine (room_of g t) ++ granted_request b.shared.held w) ready ∙ ap (λ ns. mine (room_of g t) ++ ns) (gone_front (stands g t)).1 ∙ sym (append_assoc (mine (room_of g t)) (opens_at g tree is small t.runs (stands g t) b.shared.held x) (gone_front (stands g t)).0)
+    stood_for = ap (λ w. mine (room_of g t) ++ granted_request b.shared.held w) ready ∙ ap (λ ns. mine (room_of g t) ++ ns) (gone_front (stands g t)).1 ∙ sym (append_assoc (mine (room_of g t)) (opens_at g tree is small narrow t.runs (stands g t) b.shared.held x) (gone_front (stands g t)).0)
 
     stood_all : AllAre (λ q. q.number ≡ n → stands_for b.shared.held q ≡ gone ++ (gone_front (stands g t)).0) rs
     stood_all = of_threads g (λ u. u.own.number ≡ t.own.number → u ≡ t) (λ q. q.number ≡ n → stands_for b.shared.held q ≡ gone ++ (gone_front (stands g t)).0) (λ u e at. ap (λ (y : Thread). stands_for b.shared.held (room_of g y)) (e at) ∙ stood_for) b.threads only
@@ -366,10 +367,10 @@ module _ (g : Setting) (tree : Tree) (is : g.script ≡ term 0 (tree_node tree))
     stopped_in (Limited l s) at k owns parent = no_rooms (limit_met l s.world.shared (stopped_at s.world mid)) refl
     stopped_in Unfinished at k owns parent = no_rooms (record mid { threads = [] }) refl
 
-  turn_holds : (b : Build) → Known g tree is small b → HoldingIn b → (turn : Turn) → HasTurn g tree is small b turn → HoldingIn (after_turn g tree is small b turn)
+  turn_holds : (b : Build) → Known g tree is small narrow b → HoldingIn b → (turn : Turn) → HasTurn g tree is small narrow b turn → HoldingIn (after_turn g tree is small narrow b turn)
   turn_holds b k h turn x =
       stopped_in b k h turn.thread turn.answer x.inside (x.is_turn).ready (stands g (given_answer b.shared turn.answer turn.thread)) refl
-      (given_runs g tree is small b.shared turn.answer x.answer turn.thread x.sound (x.is_turn).stood) (turn_owns g turn.thread b.shared turn.answer) turn.thread.parent
+      (given_runs g tree is small narrow b.shared turn.answer x.answer turn.thread x.sound (x.is_turn).stood) (turn_owns g turn.thread b.shared turn.answer) turn.thread.parent
 
   -- where no thread is ready none is about to open a body
   plain_wait : (w : Wait) → NotReady w → (zs : List Held) → granted_request zs w ≡ []
@@ -378,7 +379,7 @@ module _ (g : Setting) (tree : Tree) (is : g.script ≡ term 0 (tree_node tree))
   plain_wait (BranchesWait js) h zs = refl
 
   -- a request is answered
-  answered_holds : (b : Build) → Calm g tree is small b → HoldingIn b → (ys : List Held) (x : Answer) (k : ℕ) (new : List ℕ) → granted_request ys (Ready x) ≡ new → Distinct new → ((r : ℕ) → IsHeld b.shared.held r → IsHeld ys r) → AllAre (λ a. IsHeld b.shared.held a → ⊥) new
+  answered_holds : (b : Build) → Calm g tree is small narrow b → HoldingIn b → (ys : List Held) (x : Answer) (k : ℕ) (new : List ℕ) → granted_request ys (Ready x) ≡ new → Distinct new → ((r : ℕ) → IsHeld b.shared.held r → IsHeld ys r) → AllAre (λ a. IsHeld b.shared.held a → ⊥) new
       → Holding ys (rooms g (with_thread (waits_as (Ready x)) k b.threads))
   answered_holds b c h ys x k new gives differ keeps free =
       subst (Holding ys) (sym (rooms_rewait g (waits_as (Ready x)) (λ v. Ready x) (wait_room g (Ready x)) k b.threads))
@@ -410,7 +411,7 @@ module _ (g : Setting) (tree : Tree) (is : g.script ≡ term 0 (tree_node tree))
   first_of true b e = refl
   first_of false b e = absurd (cc)
 
-  grant_holds : (b : Build) → Calm g tree is small b → HoldingIn b → (request executor : ℕ) (label : Option (List ℕ)) → Some_of (λ r. r.number ≡ request) b.shared.requests → (o : Option Executor) → executor_of g.site executor ≡ o → may_get label b.shared.held o ≡ true → (k : ℕ)
+  grant_holds : (b : Build) → Calm g tree is small narrow b → HoldingIn b → (request executor : ℕ) (label : Option (List ℕ)) → Some_of (λ r. r.number ≡ request) b.shared.requests → (o : Option Executor) → executor_of g.site executor ≡ o → may_get label b.shared.held o ≡ true → (k : ℕ)
       → Holding (held_as g.site request executor o (uncounted b).shared).held (rooms g (with_thread (waits_as (Ready (GrantedAnswer executor))) k b.threads))
   grant_holds b c h request executor label were None found may k = absurd (cc)
   grant_holds b c h request executor label were (Some x) found may k =
@@ -420,7 +421,7 @@ module _ (g : Setting) (tree : Tree) (is : g.script ≡ term 0 (tree_node tree))
       (grant_given (record { executor = executor; request = request; workspace = workspace_number g.site b.shared.held x }) b.shared.held free) (tt, tt)
       (λ r held. held_with r (record { executor = executor; request = request; workspace = workspace_number g.site b.shared.held x }) b.shared.held held) ((λ held. open_free g.site b.shared ((c.known).fit).held request were held), tt)
 
-  event_holds : (b : Build) → Calm g tree is small b → HoldingIn b → (x : Event) → answer_to g b x ≡ Accepted → HoldingIn (changed_by g x (uncounted b))
+  event_holds : (b : Build) → Calm g tree is small narrow b → HoldingIn b → (x : Event) → answer_to g b x ≡ Accepted → HoldingIn (changed_by g x (uncounted b))
   event_holds b c h (StartEvent script agents) a = record { around = ((refl, refl), tt); held = (tt, tt); differ = tt }
   event_holds b c h (GrantedEvent request executor) a =
       let w = accepted_grant (standing g (uncounted b)) executor (request_of b.shared.requests request) (accepted_answer b.ended b.started (granted (standing g (uncounted b)) executor (request_of b.shared.requests request)) NotOpen (λ none. absurd (cc)) a) in
@@ -431,5 +432,5 @@ module _ (g : Setting) (tree : Tree) (is : g.script ≡ term 0 (tree_node tree))
   event_holds b c h (DecidedEvent request proceed name) a = answered_holds b c h b.shared.held (DecidedAnswer proceed name) (thread_of request b.shared.requests) [] refl tt (λ r held. held) tt
 
   -- In every world each thread is in the context of its parent and its own; the executors of these bodies are held; and all differ.
-  pub world_holding : (events : List Event) → Calm g tree is small (world_in g events) × Holding (world_in g events).shared.held (rooms g (world_in g events).threads)
-  world_holding events = world_keeps g tree is small HoldingIn turn_holds event_holds (record { around = tt; held = tt; differ = tt }) events
+  pub world_holding : (events : List Event) → Calm g tree is small narrow (world_in g events) × Holding (world_in g events).shared.held (rooms g (world_in g events).threads)
+  world_holding events = world_keeps g tree is small narrow HoldingIn turn_holds event_holds (record { around = tt; held = tt; differ = tt }) events

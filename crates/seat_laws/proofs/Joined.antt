@@ -25,6 +25,7 @@ use Rattle.model_run.specs.Waiting.{IsReady}
 use Rattle.model_run.specs.World.{Build, world_in}
 use Rattle.model_run.proofs.PathLaws.{outer_spot}
 use Rattle.model_run.proofs.WorldLaws.{frames_chained, waits_there}
+use Rattle.run_laws.specs.Bounds.{Narrow}
 use Rattle.run_laws.specs.Soundness.{Sits}
 use Rattle.run_laws.specs.Worlds.{EndIf, WaitThere, SoundThread}
 use Rattle.run_laws.proofs.SoundWorlds.{world_sound, Seated, world_seated}
@@ -54,7 +55,7 @@ no_start root u None path some = refl
 no_start root u (Some p) [] some = absurd (some refl)
 no_start root u (Some p) (f ∷ fs) some = refl
 
-module _ (g : Setting) (tree : Tree) (is : g.script ≡ term 0 (tree_node tree)) (small : Small g) where
+module _ (g : Setting) (tree : Tree) (is : g.script ≡ term 0 (tree_node tree)) (small : Small g) (narrow : Narrow g.limits) where
   never_ready : (w : Wait) → NotReady w → IsReady w → ⊥
   never_ready (Ready x) h r = h
   never_ready (RequestWait n) h r = r
@@ -64,7 +65,7 @@ module _ (g : Setting) (tree : Tree) (is : g.script ≡ term 0 (tree_node tree))
   record Fact (b : Build) (seats : List Seat) (t : Thread) : Type 0 where
     rests : NotReady t.wait
     sound : SoundThread g b.shared t
-    seated : Seated g tree is small b.shared t
+    seated : Seated g tree is small narrow b.shared t
     rooted : Rooted g t
     agrees : SeatAgrees g.script b.shared seats (seat_at t (stands g t))
     holds : SeatHolds b.shared seats (seat_at t (stands g t))
@@ -112,7 +113,7 @@ module _ (g : Setting) (tree : Tree) (is : g.script ≡ term 0 (tree_node tree))
   one_fits : (b : Build) (seats : List Seat) (t : Thread) → Fact b seats t → SeatFits g b.shared seats (seat_at t (stands g t))
   one_fits b seats t f = subst (λ r. SeatFits g b.shared seats (seat_at t r)) (sym (f.seated).waits) (seat_fits b seats t (f.seated).asked (f.seated).path (f.seated).state (f.seated).waits (f.seated).frames (f.seated).nested f)
 
-  all_fit : (b : Build) (seats : List Seat) (ts : List Thread) → AllAre (λ t. NotReady t.wait) ts → AllAre (SoundThread g b.shared) ts → AllAre (Seated g tree is small b.shared) ts → AllAre (Rooted g) ts → AllAre (SeatAgrees g.script b.shared seats) (seats_of g ts) → AllAre (SeatHolds b.shared seats) (seats_of g ts)
+  all_fit : (b : Build) (seats : List Seat) (ts : List Thread) → AllAre (λ t. NotReady t.wait) ts → AllAre (SoundThread g b.shared) ts → AllAre (Seated g tree is small narrow b.shared) ts → AllAre (Rooted g) ts → AllAre (SeatAgrees g.script b.shared seats) (seats_of g ts) → AllAre (SeatHolds b.shared seats) (seats_of g ts)
       → AllAre (λ t. AllAre (FrameFits (known b.shared) g.script) t.stack) (seats_of g ts) → AllAre (λ t. CallsClosures g.script (outermost t.parent) t.stack) (seats_of g ts) → AllAre (SeatFits g b.shared seats) (seats_of g ts)
   all_fit b seats [] f1 f2 f3 f4 f5 f6 f7 f8 = tt
   all_fit b seats (t ∷ ts) f1 f2 f3 f4 f5 f6 f7 f8 =
@@ -122,16 +123,16 @@ module _ (g : Setting) (tree : Tree) (is : g.script ≡ term 0 (tree_node tree))
   pub world_fits : (events : List Event) → (world_in g events).started ≡ true → RestFits g (world_in g events) → WorldFits g (world_in g events)
   world_fits events started rest =
       let agree : SeatsAgree g (world_in g events) = world_seats g (tree_node tree) is small events in
-      let hold : SeatsHold g (world_in g events) = world_seats_hold g tree is small events in
-      let rests : AllAre (λ t. NotReady t.wait) (world_in g events).threads = world_rests g tree is small events in
+      let hold : SeatsHold g (world_in g events) = world_seats_hold g tree is small narrow events in
+      let rests : AllAre (λ t. NotReady t.wait) (world_in g events).threads = world_rests g tree is small narrow events in
       record {
         fits = record {
           shared = rest.shared;
           numbers = agree.numbers;
           few_threads = hold.few_threads;
           main = agree.main started;
-          threads = all_fit (world_in g events) (seats_of g (world_in g events).threads) (world_in g events).threads rests (world_sound g tree is small events)
-              (world_seated g tree is small events (all_weaker _ _ (λ t r. never_ready t.wait r) (world_in g events).threads rests)) (world_rooted g tree is small events) agree.threads hold.threads rest.frames rest.closures;
+          threads = all_fit (world_in g events) (seats_of g (world_in g events).threads) (world_in g events).threads rests (world_sound g tree is small narrow events)
+              (world_seated g tree is small narrow events (all_weaker _ _ (λ t r. never_ready t.wait r) (world_in g events).threads rests)) (world_rooted g tree is small narrow events) agree.threads hold.threads rest.frames rest.closures;
           differ = hold.differ;
           waited_for = agree.waited_for;
         };

@@ -1,5 +1,5 @@
 -- What is known of every build on the way of a world: between two events, and between two turns of one event.
-use Rattle.std.proofs.Common.{arith, ◌≡◌, ap, subst, refl, inl, inr, ℕ, zero, suc, List, [], ◌∷◌, Option, Some, None}
+use Rattle.std.proofs.Common.{arith, ◌≡◌, ap, subst, refl, inl, inr, ℕ, zero, suc, false, List, [], ◌∷◌, Option, Some, None}
 use Rattle.std.specs.List.{AllByRecursion as AllAre}
 use Rattle.model_syntax.specs.declared.tree.Tree.{Tree}
 use Rattle.model_syntax.specs.TreeNodes.{tree_node}
@@ -19,7 +19,10 @@ use Rattle.model_run.specs.Waiting.{Stood}
 use Rattle.model_run.specs.World.{Build, Turn, turn_if, first_ready, given_answer, resumed, take_turn, settle, uncounted, changed_by, answer_to}
 use Rattle.model_run.proofs.LaterWorlds.{settle_goes, changed_goes, uncounted_goes}
 use Rattle.model_run.proofs.WaitingLaws.{given_stood, changed_stood}
-use Rattle.run_laws.specs.Worlds.{AnswerSound, SoundThread}
+use Rattle.run_laws.specs.Bounds.{Narrow}
+use Rattle.run_laws.specs.Evaluation.{AnswerThere}
+use Rattle.run_laws.specs.Worlds.{SoundThread}
+use Rattle.run_laws.proofs.EventBounds.{bounds_uncounted}
 use Rattle.run_laws.proofs.SoundWorlds.{resumed_sound, TurnSound, first_sound, aside, changed_sound}
 use Rattle.world_laws.specs.Agreement.{places, ThreadsAgree}
 use Rattle.world_laws.proofs.Agreement.{changed_agrees, turn_agrees}
@@ -44,7 +47,7 @@ inside_first : (ts : List Thread) → Inside ts (first_ready ts)
 inside_first [] = tt
 inside_first (t ∷ ts) = inside_if t t.wait ts (first_ready ts) (inside_first ts)
 
-module _ (g : Setting) (tree : Tree) (is : g.script ≡ term 0 (tree_node tree)) (small : Small g) where
+module _ (g : Setting) (tree : Tree) (is : g.script ≡ term 0 (tree_node tree)) (small : Small g) (narrow : Narrow g.limits) where
   pub record Known (b : Build) : Type 0 where
     pub stood : AllAre (Stood g) b.threads
     pub sound : AllAre (SoundThread g b.shared) b.threads
@@ -55,13 +58,13 @@ module _ (g : Setting) (tree : Tree) (is : g.script ≡ term 0 (tree_node tree))
   pub record HasTurn (b : Build) (turn : Turn) : Type 0 where
     pub is_turn : IsTurn g (places b.threads) turn
     pub inside : Some_of (λ t. t ≡ turn.thread) b.threads
-    pub answer : AnswerSound b.shared turn.answer
+    pub answer : AnswerThere b.shared turn.answer
     pub sound : SoundThread g b.shared turn.thread
     pub first : first_ready b.threads ≡ Some turn
 
   pub has_turn : (b : Build) → Known b → (turn : Turn) → first_ready b.threads ≡ Some turn → HasTurn b turn
   has_turn b k turn e =
-      let s : TurnSound g tree is small b.shared (Some turn) = subst (TurnSound g tree is small b.shared) e (first_sound g tree is small b.shared b.threads k.sound k.stood) in
+      let s : TurnSound g tree is small narrow b.shared (Some turn) = subst (TurnSound g tree is small narrow b.shared) e (first_sound g tree is small narrow b.shared b.threads k.sound k.stood) in
       record { is_turn = subst (IfTurn g (places b.threads)) e (first_is g b.threads k.stood); inside = subst (Inside b.threads) e (inside_first b.threads); answer = s.0; sound = s.1; first = e }
 
   abbrev pub after_turn : Build → Turn → Build
@@ -78,7 +81,7 @@ module _ (g : Setting) (tree : Tree) (is : g.script ≡ term 0 (tree_node tree))
   pub turn_known : (b : Build) → Known b → (turn : Turn) → HasTurn b turn → Known (after_turn b turn)
   turn_known b k turn h = record {
     stood = given_stood g b.shared turn.answer turn.thread turn.thread.history refl ((h.is_turn).stood).calls b k.stood;
-    sound = resumed_sound g tree is small b turn.answer turn.thread h.answer h.sound (h.is_turn).stood k.sound;
+    sound = resumed_sound g tree is small narrow b turn.answer turn.thread h.answer h.sound (h.is_turn).stood k.sound;
     agree = turn_agrees g small (turns_open g (tree_node tree) is small) b turn h.is_turn k.agree;
     fit = (turn_goes b k turn h).fit k.fit;
   }
@@ -95,7 +98,7 @@ module _ (g : Setting) (tree : Tree) (is : g.script ≡ term 0 (tree_node tree))
   pub event_known : (b : Build) → Known b → (x : Event) → answer_to g b x ≡ Accepted → Known (changed_by g x (uncounted b))
   event_known b k x a = record {
     stood = changed_stood g x (uncounted b) k.stood;
-    sound = changed_sound g tree is small x (uncounted b) (aside g tree is small b.shared (uncounted b).shared refl refl refl (λ h. h) b.threads k.sound);
+    sound = changed_sound g tree is small narrow x (uncounted b) (aside g tree is small narrow b.shared (uncounted b).shared refl refl refl (λ h. h) (bounds_uncounted false g.site b.shared) b.threads k.sound);
     agree = changed_agrees g x (uncounted b) a (record { agree = (k.agree).agree; kinds = (k.agree).kinds; main = (k.agree).main });
     fit = event_fit x b a k.fit;
   }

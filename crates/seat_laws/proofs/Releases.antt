@@ -18,9 +18,10 @@ use Rattle.model_run.specs.Threads.{Runs, Script, Closure, Thread, stands}
 use Rattle.model_run.specs.Waiting.{Stood}
 use Rattle.model_run.specs.World.{given_answer}
 use Rattle.model_run.proofs.PathLaws.{outer_spot}
+use Rattle.run_laws.specs.Bounds.{Narrow}
 use Rattle.run_laws.specs.Soundness.{Open, Holds, without_all}
-use Rattle.run_laws.specs.Evaluation.{HoldsAt, based}
-use Rattle.run_laws.specs.Worlds.{AnswerSound, begun_open, SoundThread}
+use Rattle.run_laws.specs.Evaluation.{AnswerThere, HoldsAt, based}
+use Rattle.run_laws.specs.Worlds.{begun_open, SoundThread}
 use Rattle.run_laws.proofs.SoundThreads.{waits_block}
 use Rattle.run_laws.proofs.SoundWorlds.{mine_of, opens_at, given_runs}
 use Rattle.world_laws.proofs.Places.{some_behind}
@@ -64,7 +65,7 @@ all_or own rs in_own (x ∷ xs) = (elim (kept_or rs x) [ inl is ↦ inl (in_own 
 releases : (own rs : List ℕ) (old new : List Held) → new ≡ without_all rs old → ((n : ℕ) → Some_of (λ r. r ≡ n) rs → Some_of (λ r. r ≡ n) own) → ReleasesOf own old new
 releases own rs old new e in_own = (keeps rs, e ∙ without_is rs old, all_or own rs in_own old)
 
-module _ (g : Setting) (tree : Tree) (is : g.script ≡ term 0 (tree_node tree)) (small : Small g) where
+module _ (g : Setting) (tree : Tree) (is : g.script ≡ term 0 (tree_node tree)) (small : Small g) (narrow : Narrow g.limits) where
   ended_held : (o : Open) (u : Common) (runs : Runs) (e : Ending) (s : State) → HoldsAt (based g o) (outer_spot runs) u (Ended e s) → s.world.shared.held ≡ without_all o.gone o.was
   ended_held o u Script e s h = ((h.0).same).held
   ended_held o u (Closure c env start) e s h = ((h.0).same).held
@@ -79,6 +80,6 @@ module _ (g : Setting) (tree : Tree) (is : g.script ≡ term 0 (tree_node tree))
   gives_back u runs own gone Unfinished h = tt
 
   -- A turn of a thread gives back at most the executors of its own open `node` bodies, and that of the one whose executor it is granted.
-  pub turn_gives_back : (u : Common) (x : Answer) → AnswerSound u x → (t : Thread) → SoundThread g u t → Stood g t
-      → GivesBack (mine (room_of g t) ++ opens_at g tree is small t.runs (stands g t) u.held x) u.held (stands g (given_answer u x t))
-  turn_gives_back u x there t h st = gives_back u t.runs t.own (mine_of g tree is small t (stands g t) ++ opens_at g tree is small t.runs (stands g t) u.held x) (stands g (given_answer u x t)) (given_runs g tree is small u x there t h st)
+  pub turn_gives_back : (u : Common) (x : Answer) → AnswerThere u x → (t : Thread) → SoundThread g u t → Stood g t
+      → GivesBack (mine (room_of g t) ++ opens_at g tree is small narrow t.runs (stands g t) u.held x) u.held (stands g (given_answer u x t))
+  turn_gives_back u x there t h st = gives_back u t.runs t.own (mine_of g tree is small narrow t (stands g t) ++ opens_at g tree is small narrow t.runs (stands g t) u.held x) (stands g (given_answer u x t)) (given_runs g tree is small narrow u x there t h st)

@@ -35,6 +35,7 @@ use Rattle.model_run.specs.World.{Build, end_node, unbegun, script_ended, limit_
 use Rattle.model_run.proofs.Front.{front_length}
 use Rattle.model_run.proofs.PathLaws.{outer_spot}
 use Rattle.model_run.proofs.RequestLaws.{some_weaker}
+use Rattle.run_laws.specs.Bounds.{Narrow}
 use Rattle.run_laws.specs.Soundness.{Open, Base, Holds}
 use Rattle.run_laws.specs.Evaluation.{HoldsAt, based}
 use Rattle.run_laws.specs.Worlds.{begun_open}
@@ -190,23 +191,23 @@ module _ (g : Setting) where
       one (RequestWait r) n = refl
       one (BranchesWait js) n = refl
 
-module _ (g : Setting) (tree : Tree) (is : g.script ≡ term 0 (tree_node tree)) (small : Small g) where
-  turn_turned : (b : Build) → Known g tree is small b → (turn : Turn) → HasTurn g tree is small b turn → Over g b (after_turn g tree is small b turn) ⊎ Turned g b (after_turn g tree is small b turn)
+module _ (g : Setting) (tree : Tree) (is : g.script ≡ term 0 (tree_node tree)) (small : Small g) (narrow : Narrow g.limits) where
+  turn_turned : (b : Build) → Known g tree is small narrow b → (turn : Turn) → HasTurn g tree is small narrow b turn → Over g b (after_turn g tree is small narrow b turn) ⊎ Turned g b (after_turn g tree is small narrow b turn)
   turn_turned b k turn h =
       stopped_turned g b (record b { threads = with_thread (λ old. given_answer b.shared turn.answer turn.thread) turn.thread.own.number b.threads }) turn.thread.own.number turn.answer
       (places_given (given_answer b.shared turn.answer turn.thread) turn.thread.own.number b.threads (only_place (λ p. p ≡ place_of turn.thread) turn.thread.own.number 0 b.next_thread (places b.threads) ((k.agree).agree).numbers (h.is_turn).there))
       refl refl
       (some_weaker _ _ (λ p at. (at.0, ap (λ (q : Place). q.wait) at.1 ∙ (h.is_turn).ready)) (places b.threads) (h.is_turn).there)
       (only_place (λ p. p.wait ≡ Ready turn.answer) turn.thread.own.number 0 b.next_thread (places b.threads) ((k.agree).agree).numbers (some_weaker _ _ (λ p at. (at.0, ap (λ (q : Place). q.wait) at.1 ∙ (h.is_turn).ready)) (places b.threads) (h.is_turn).there))
-      (begun_open turn.thread.own b.shared.held (mine_of g tree is small turn.thread (stands g turn.thread) ++ opens_at g tree is small turn.thread.runs (stands g turn.thread) b.shared.held turn.answer)) turn.thread.runs turn.thread.parent turn.thread.own.calls 0 b.next_thread ((k.agree).agree).numbers
-      (stands g (given_answer b.shared turn.answer turn.thread)) (given_runs g tree is small b.shared turn.answer h.answer turn.thread h.sound (h.is_turn).stood) (turn_owns g turn.thread b.shared turn.answer)
+      (begun_open turn.thread.own b.shared.held (mine_of g tree is small narrow turn.thread (stands g turn.thread) ++ opens_at g tree is small narrow turn.thread.runs (stands g turn.thread) b.shared.held turn.answer)) turn.thread.runs turn.thread.parent turn.thread.own.calls 0 b.next_thread ((k.agree).agree).numbers
+      (stands g (given_answer b.shared turn.answer turn.thread)) (given_runs g tree is small narrow b.shared turn.answer h.answer turn.thread h.sound (h.is_turn).stood) (turn_owns g turn.thread b.shared turn.answer)
 
   -- what a turn keeps of the bounds
-  bounds_turn : (b : Build) → Known g tree is small b → Bounded g b → (turn : Turn) → HasTurn g tree is small b turn → Bounded g (after_turn g tree is small b turn)
+  bounds_turn : (b : Build) → Known g tree is small narrow b → Bounded g b → (turn : Turn) → HasTurn g tree is small narrow b turn → Bounded g (after_turn g tree is small narrow b turn)
   bounds_turn b k w turn h = elim (turn_turned b k turn h) [
     | inl over ↦ record {
-      waits = subst (λ ts. sum_of branches_to_end (places ts) + nodes_left g (after_turn g tree is small b turn).shared ≤ g.limits.flow_nodes) (sym over.none) (omega arith);
-      threads = omega (arith, over.next, w.threads, front_length b.shared.nodes (after_turn g tree is small b turn).shared.nodes ((turn_goes g tree is small b k turn h).later).nodes);
+      waits = subst (λ ts. sum_of branches_to_end (places ts) + nodes_left g (after_turn g tree is small narrow b turn).shared ≤ g.limits.flow_nodes) (sym over.none) (omega arith);
+      threads = omega (arith, over.next, w.threads, front_length b.shared.nodes (after_turn g tree is small narrow b turn).shared.nodes ((turn_goes g tree is small narrow b k turn h).later).nodes);
     }
     | inr t ↦ record { waits = omega (arith, t.waits, w.waits); threads = omega (arith, t.threads, w.threads) }
   ]
@@ -218,16 +219,16 @@ module _ (g : Setting) (tree : Tree) (is : g.script ≡ term 0 (tree_node tree))
   over_rests (suc n) b e = subst (λ o. Rests (take_turn (settle n g) g b o)) (sym (ap first_ready e)) (subst (λ ts. AllAre (λ t. NotReady t.wait) ts) (sym e) tt)
 
   -- so many turns are enough
-  rests_taken : (n : ℕ) → ((b : Build) → Known g tree is small b → turns_of g b ≤ n → Rests (settle n g b)) → (b : Build) → Known g tree is small b → turns_of g b ≤ suc n → (o : Option Turn) → first_ready b.threads ≡ o → Rests (take_turn (settle n g) g b o)
+  rests_taken : (n : ℕ) → ((b : Build) → Known g tree is small narrow b → turns_of g b ≤ n → Rests (settle n g b)) → (b : Build) → Known g tree is small narrow b → turns_of g b ≤ suc n → (o : Option Turn) → first_ready b.threads ≡ o → Rests (take_turn (settle n g) g b o)
   rests_taken n more b k le None e = none_ready g b.threads e
   rests_taken n more b k le (Some turn) e =
-      let h : HasTurn g tree is small b turn = has_turn g tree is small b k turn e in
+      let h : HasTurn g tree is small narrow b turn = has_turn g tree is small narrow b k turn e in
       elim (turn_turned b k turn h) [
-        | inl over ↦ over_rests n (after_turn g tree is small b turn) over.none
-        | inr t ↦ more (after_turn g tree is small b turn) (turn_known g tree is small b k turn h) (omega (arith, t.turns, le))
+        | inl over ↦ over_rests n (after_turn g tree is small narrow b turn) over.none
+        | inr t ↦ more (after_turn g tree is small narrow b turn) (turn_known g tree is small narrow b k turn h) (omega (arith, t.turns, le))
       ]
 
-  settle_rests : (n : ℕ) (b : Build) → Known g tree is small b → turns_of g b ≤ n → Rests (settle n g b)
+  settle_rests : (n : ℕ) (b : Build) → Known g tree is small narrow b → turns_of g b ≤ n → Rests (settle n g b)
   unfolding settle
   settle_rests zero b k le = turns_none g b.threads (omega (arith, le))
   settle_rests (suc n) b k le = rests_taken n (settle_rests n) b k le (first_ready b.threads) refl
@@ -250,7 +251,7 @@ module _ (g : Setting) (tree : Tree) (is : g.script ≡ term 0 (tree_node tree))
       let e : sum_of branches_to_end (places c.threads) ≡ sum_of branches_to_end (places b.threads) = ap (λ ts. sum_of branches_to_end (places ts)) same in
       record { turns = omega (arith, t, at_rest g b.threads rests, left, w.waits); bounds = record { waits = omega (arith, e, left, w.waits); threads = omega (arith, next, w.threads, ap length nodes) } }
 
-  begins_ready : (b c : Build) → Known g tree is small b → Bounded g b → Rests b → (n : ℕ) (x : Answer) → c.threads ≡ with_thread (waits_as (Ready x)) n b.threads → c.next_thread ≡ b.next_thread → c.shared.nodes ≡ b.shared.nodes → Begins b c
+  begins_ready : (b c : Build) → Known g tree is small narrow b → Bounded g b → Rests b → (n : ℕ) (x : Answer) → c.threads ≡ with_thread (waits_as (Ready x)) n b.threads → c.next_thread ≡ b.next_thread → c.shared.nodes ≡ b.shared.nodes → Begins b c
   begins_ready b c k w rests n x same next nodes =
       let left : nodes_left g c.shared ≡ nodes_left g b.shared = ap (λ ns. g.limits.flow_nodes - length ns) nodes in
       let at : places c.threads ≡ map (waiting (λ v. Ready x) n) (places b.threads) = ap places same ∙ places_waiting (waits_as (Ready x)) (λ v. Ready x) (λ t. refl) n b.threads in
@@ -277,7 +278,7 @@ module _ (g : Setting) (tree : Tree) (is : g.script ≡ term 0 (tree_node tree))
       one true = begins_over b (limit_met TextLength (uncounted b).shared (uncounted b)) w refl refl (limit_more TextLength (uncounted b).shared (uncounted b))
       one false = begins_same b (record (uncounted b) { shared = change_request (with_kept bytes) task (uncounted b).shared }) w rests refl refl refl
 
-  event_begins : (b : Build) → Known g tree is small b → Bounded g b → Rests b → (x : Event) → Begins b (changed_by g x (uncounted b))
+  event_begins : (b : Build) → Known g tree is small narrow b → Bounded g b → Rests b → (x : Event) → Begins b (changed_by g x (uncounted b))
   event_begins b k w rests (StartEvent script agents) = record { turns = omega arith; bounds = record { waits = omega arith; threads = omega arith } }
   event_begins b k w rests (GrantedEvent request executor) =
       begins_ready b (changed_by g (GrantedEvent request executor) (uncounted b)) k w rests (thread_of request (held_as g.site request executor (executor_of g.site executor) (uncounted b).shared).requests) (GrantedAnswer executor) refl refl (held_nodes request executor (executor_of g.site executor) (uncounted b).shared)
@@ -288,16 +289,16 @@ module _ (g : Setting) (tree : Tree) (is : g.script ≡ term 0 (tree_node tree))
 
   -- a build between two events
   pub record Calm (b : Build) : Type 0 where
-    pub known : Known g tree is small b
+    pub known : Known g tree is small narrow b
     pub bounds : Bounded g b
     pub rests : Rests b
 
   pub event_calm : (b : Build) → Calm b → (x : Event) (a : Taken) → answer_to g b x ≡ a → Calm (after_event g b x a)
   event_calm b c x Accepted e =
-      let k : Known g tree is small (changed_by g x (uncounted b)) = event_known g tree is small b c.known x e in
+      let k : Known g tree is small narrow (changed_by g x (uncounted b)) = event_known g tree is small narrow b c.known x e in
       let f : Begins b (changed_by g x (uncounted b)) = event_begins b c.known c.bounds c.rests x in
-      let s : Known g tree is small (settle (turn_bound g.limits) g (changed_by g x (uncounted b))) × Bounded g (settle (turn_bound g.limits) g (changed_by g x (uncounted b))) =
-      settle_keeps g tree is small (Bounded g) (λ b k w turn h. bounds_turn b k w turn h) (turn_bound g.limits) (changed_by g x (uncounted b)) k f.bounds in
+      let s : Known g tree is small narrow (settle (turn_bound g.limits) g (changed_by g x (uncounted b))) × Bounded g (settle (turn_bound g.limits) g (changed_by g x (uncounted b))) =
+      settle_keeps g tree is small narrow (Bounded g) (λ b k w turn h. bounds_turn b k w turn h) (turn_bound g.limits) (changed_by g x (uncounted b)) k f.bounds in
       record { known = s.0; bounds = s.1; rests = settle_rests (turn_bound g.limits) (changed_by g x (uncounted b)) k (omega (arith, f.turns)) }
   event_calm b c x NotOpen e = c
   event_calm b c x (WrongPlace kept) e = c
@@ -328,10 +329,10 @@ module _ (g : Setting) (tree : Tree) (is : g.script ≡ term 0 (tree_node tree))
   world_bounded events = (fold_calm unbegun unbegun_calm events).bounds
 
   -- what holds before any event, through each turn, and through each change by an accepted event, holds in every world
-  module _ (P : Build → Type 0) (turns : (b : Build) → Known g tree is small b → P b → (turn : Turn) → HasTurn g tree is small b turn → P (after_turn g tree is small b turn))
+  module _ (P : Build → Type 0) (turns : (b : Build) → Known g tree is small narrow b → P b → (turn : Turn) → HasTurn g tree is small narrow b turn → P (after_turn g tree is small narrow b turn))
       (changes : (b : Build) → Calm b → P b → (x : Event) → answer_to g b x ≡ Accepted → P (changed_by g x (uncounted b))) where
     event_keeps : (b : Build) → Calm b → P b → (x : Event) (a : Taken) → answer_to g b x ≡ a → P (after_event g b x a)
-    event_keeps b c p x Accepted e = (settle_keeps g tree is small P turns (turn_bound g.limits) (changed_by g x (uncounted b)) (event_known g tree is small b c.known x e) (changes b c p x e)).1
+    event_keeps b c p x Accepted e = (settle_keeps g tree is small narrow P turns (turn_bound g.limits) (changed_by g x (uncounted b)) (event_known g tree is small narrow b c.known x e) (changes b c p x e)).1
     event_keeps b c p x NotOpen e = p
     event_keeps b c p x (WrongPlace kept) e = p
     event_keeps b c p x Finished e = p

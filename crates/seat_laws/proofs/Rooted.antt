@@ -32,6 +32,7 @@ use Rattle.model_run.specs.World.{Build, limit_met, with_thread, without_thread,
 use Rattle.model_run.proofs.PathLaws.{outer_spot}
 use Rattle.model_run.proofs.RequestLaws.{some_all}
 use Rattle.model_run.proofs.WaitingLaws.{with_all}
+use Rattle.run_laws.specs.Bounds.{Narrow}
 use Rattle.world_laws.proofs.Places.{all_others}
 use Rattle.world_laws.proofs.Turns.{turn_owns}
 use Rattle.seat_laws.proofs.Known.{Known, HasTurn, after_turn}
@@ -132,12 +133,12 @@ module _ (g : Setting) where
   event_rooted b h (LostEvent task why) = ready_rooted (Done (lost_code why) (kept_output (request_of b.shared.requests task))) (thread_of task b.shared.requests) b.threads h
   event_rooted b h (DecidedEvent request proceed name) = ready_rooted (DecidedAnswer proceed name) (thread_of request b.shared.requests) b.threads h
 
-module _ (g : Setting) (tree : Tree) (is : g.script ≡ term 0 (tree_node tree)) (small : Small g) where
-  turn_rooted : (b : Build) → Known g tree is small b → AllAre (Rooted g) b.threads → (turn : Turn) → HasTurn g tree is small b turn → AllAre (Rooted g) (after_turn g tree is small b turn).threads
+module _ (g : Setting) (tree : Tree) (is : g.script ≡ term 0 (tree_node tree)) (small : Small g) (narrow : Narrow g.limits) where
+  turn_rooted : (b : Build) → Known g tree is small narrow b → AllAre (Rooted g) b.threads → (turn : Turn) → HasTurn g tree is small narrow b turn → AllAre (Rooted g) (after_turn g tree is small narrow b turn).threads
   turn_rooted b k h turn x =
       let root : outer_spot turn.thread.runs ≡ outermost turn.thread.parent = some_all (Rooted g) (λ t. t ≡ turn.thread) (outer_spot turn.thread.runs ≡ outermost turn.thread.parent) (λ t r e. subst (λ (v : Thread). outer_spot v.runs ≡ outermost v.parent) e r.root) b.threads h x.inside in
       stopped_rooted g turn.thread.own.number (given_answer b.shared turn.answer turn.thread) refl (record b { threads = with_thread (λ old. given_answer b.shared turn.answer turn.thread) turn.thread.own.number b.threads })
       (mid_given g turn.thread.own.number (given_answer b.shared turn.answer turn.thread) refl b.threads h) root (stands g (given_answer b.shared turn.answer turn.thread)) refl turn.thread.own.calls (turn_owns g turn.thread b.shared turn.answer) turn.thread.parent
 
   pub world_rooted : (events : List Event) → AllAre (Rooted g) (world_in g events).threads
-  world_rooted events = (world_keeps g tree is small (λ b. AllAre (Rooted g) b.threads) turn_rooted (λ b c h x a. event_rooted g b h x) tt events).1
+  world_rooted events = (world_keeps g tree is small narrow (λ b. AllAre (Rooted g) b.threads) turn_rooted (λ b c h x a. event_rooted g b h x) tt events).1

@@ -14,6 +14,7 @@ use Rattle.model_run.specs.Terms.{term}
 use Rattle.model_run.specs.Threads.{Thread, stands}
 use Rattle.model_run.specs.Waiting.{Stood}
 use Rattle.model_run.specs.World.{Build, world_in}
+use Rattle.run_laws.specs.Bounds.{Narrow}
 use Rattle.run_laws.specs.Worlds.{SoundThread}
 use Rattle.world_laws.specs.Agreement.{places, place_numbers}
 use Rattle.seat_laws.specs.Seats.{Room, room_of, rooms, stands_for, IsHeld, AroundIs, SeatHolds, SeatsHold}
@@ -105,7 +106,7 @@ module _ (g : Setting) where
   all_rest [] h = tt
   all_rest (t ∷ ts) h = (subst NotReady (sym (seat_wait t (stands g t))) h.0, all_rest ts h.1)
 
-module _ (g : Setting) (tree : Tree) (is : g.script ≡ term 0 (tree_node tree)) (small : Small g) where
+module _ (g : Setting) (tree : Tree) (is : g.script ≡ term 0 (tree_node tree)) (small : Small g) (narrow : Narrow g.limits) where
   facts : (u : Common) (b : Build) (rise : Rise 0 b.next_thread (place_numbers (places b.threads))) (ts : List Thread) → AllAre (SoundThread g u) ts → AllAre (Stood g) ts → AllAre (λ t. AroundIs (rooms g b.threads) t.own.context t.parent) ts → AllAre (λ t. AllAre (IsHeld b.shared.held) (seat_at t (stands g t)).context.held) ts → AllAre (Fact g b rise) ts
   facts u b rise [] h st a k = tt
   facts u b rise (t ∷ ts) h st a k = (record { own = own_seat g t u h.0 st.0; around = a.0; held = k.0 }, facts u b rise ts h.1 st.1 a.1 k.1)
@@ -115,7 +116,7 @@ module _ (g : Setting) (tree : Tree) (is : g.script ≡ term 0 (tree_node tree))
   -- requests are held, and no two bodies have one request.
   pub world_seats_hold : (events : List Event) → SeatsHold g (world_in g events)
   world_seats_hold events =
-      let w = world_holding g tree is small events in
+      let w = world_holding g tree is small narrow events in
       let rise : Rise 0 (world_in g events).next_thread (place_numbers (places (world_in g events).threads)) = (((w.0).known).agree).agree.numbers in
       let all : AllAre (Fact g (world_in g events) rise) (world_in g events).threads =
       facts (world_in g events).shared (world_in g events) rise (world_in g events).threads ((w.0).known).sound ((w.0).known).stood (of_rooms g (λ q. AroundIs (rooms g (world_in g events).threads) q.around q.parent) (world_in g events).threads (w.1).around)
