@@ -12,6 +12,7 @@ pub mod Fronts
 pub mod Chain
 pub mod Bounds
 pub mod Opened
+pub mod Holding
 pub mod Kept
 pub mod Poise
 pub mod Beginnings

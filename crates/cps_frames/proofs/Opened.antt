@@ -1,7 +1,7 @@
 -- What is open around a thread: behind a frame that is taken off, around a node that is entered, and after a move.
 use Rattle.std.proofs.Common.{arith, ◌≡◌, ◌∙◌, ◌+◌, ◌<◌, ℕ, zero, suc, Bool, true, false, List, [], ◌∷◌, ◌++◌, length, append_assoc, refl, sym, ap}
 use Rattle.std.specs.Prelude.{filter, if◌then◌else◌, nat_eq, not}
-use Rattle.std.proofs.lemmas.List.{length-append}
+use Rattle.std.proofs.lemmas.List.{append-nil, length-append}
 use Rattle.std.proofs.lemmas.List.Elements.{filter-append}
 use Rattle.model_run.specs.declared.context.Context.{Context}
 use Rattle.model_run.specs.declared.frame.Frame.{Frame}
@@ -78,6 +78,7 @@ pub record Behind (above : Context) (stack : List Frame) (a b : Bool) (w : World
   pub some : HasGone a around.gone
   pub same : Same (in_folder b (in_node a around)) w
   pub was : around.was ≡ w.shared.held
+  pub all : around.nodes ++ around.gone ≡ w.own.context.held
   pub none : a ≡ false → around.gone ≡ []
   pub executor : a ≡ true → 0 < length w.own.context.held
   pub folder : b ≡ true → 0 < length w.own.context.folders
@@ -114,6 +115,7 @@ behind_by above stack false b w own held many folders = record {
   some = tt;
   same = in_folder_same b (record { nodes = w.own.context.held; folders = length above.folders + open_folders stack; was = w.shared.held; gone = [] }) w refl folders refl;
   was = refl;
+  all = append-nil w.own.context.held;
   none = λ e. refl;
   executor = λ e. absurd (cc e);
   folder = some_folder b (length w.own.context.folders) (length above.folders + open_folders stack) folders;
@@ -128,6 +130,7 @@ behind_by above stack true b w own held many folders =
       some = tt;
       same = in_folder_same b (record { nodes = (above.held ++ l.front) ++ l.last ∷ []; folders = length above.folders + open_folders stack; was = w.shared.held; gone = [] }) w nodes folders refl;
       was = refl;
+      all = sym nodes;
       none = λ e. absurd (cc e);
       executor = λ e. omega (arith, sum);
       folder = some_folder b (length w.own.context.folders) (length above.folders + open_folders stack) folders;

@@ -1,5 +1,6 @@
 -- A thread that is poised stays so: each move leaves frames that fit, one inside the other, and a next move that may be made there.
 use Rattle.std.proofs.Common.{◌≡◌, ◌∙◌, ℕ, ◌<◌, true, false, List, [], ◌∷◌, ◌++◌, length, refl, sym, ap, subst}
+use Rattle.std.proofs.lemmas.List.{append-nil}
 use Rattle.std.specs.List.{AllByRecursion as AllAre}
 use Rattle.model_syntax.specs.declared.node.NodeForm.{NodeForm}
 use Rattle.model_syntax.specs.declared.node.NodeForm.TheVariants as form
@@ -10,7 +11,6 @@ use Rattle.model_run.specs.declared.ending.Entry.TheVariants.{First, Inside, On,
 use Rattle.model_run.specs.declared.frame.Frame.{Frame}
 use Rattle.model_run.specs.declared.frame.FrameKind.{FrameKind}
 use Rattle.model_run.specs.declared.frame.FrameKind.TheVariants as kind
-use Rattle.model_run.specs.declared.held.Held.{Held}
 use Rattle.model_run.specs.declared.context.Context.{Context}
 use Rattle.model_run.specs.State.{Setting, Common, Env, World}
 use Rattle.model_run.specs.Around.{form_at}
@@ -19,10 +19,10 @@ use Rattle.model_run.specs.FrameTable.{enters_body, frame_row, is_declaration}
 use Rattle.model_run.specs.Nesting.{Spot, Begun, Any_body, Body_of, Any_branch, For_executor, spot, spot_in, shape_at, part_number, row_at, Leads, itself, through_part, through_inner, Enters, own_frame, entered, any_body, body_of, any_branch, Chained, innermost}
 use Rattle.model_run.specs.Scoping.{names_at, names_for}
 use Rattle.model_run.specs.Terms.{Term, nodes_of}
-use Rattle.model_run.specs.Fitting.{Later, holds_executor, holds_folder}
+use Rattle.model_run.specs.Fitting.{Distinct, Later, holds_executor, holds_folder}
 use Rattle.model_run.proofs.LaterLaws.{frame_later, env_later}
 use Rattle.run_laws.specs.Soundness.{Base, Open, setting_of, in_folder, in_node, open_in, without_all, EndFits, Same, Sits, SoundWorld}
-use Rattle.run_laws.specs.Evaluation.{AllOfSite, Grants, IsAnswer, based, ends_as, granted_of, has_inner}
+use Rattle.run_laws.specs.Evaluation.{AllOfSite, Grants, IsAnswer, based, ends_as, has_inner}
 use Rattle.run_laws.proofs.Evaluates.{inner_quiet}
 use Rattle.run_laws.proofs.Evaluation.{ScriptFacts}
 use Rattle.run_laws.proofs.Flow.{end_as}
@@ -31,15 +31,16 @@ use Rattle.run_laws.proofs.InsideForms.{InsidePlain, inside_plain, passes_plain,
 use Rattle.run_laws.proofs.SoundBodies.{called_plain}
 use Rattle.cps_frames.specs.Standing.{Standing}
 use Rattle.cps_frames.specs.Moves.{How, IsNew, Placed, Comes}
-use Rattle.cps_frames.specs.Places.{FrameStands, EndsAt, EntersBy, EntersWith, IsScript, MayEnter, MayGoOn, MoveFits, Poised}
+use Rattle.cps_frames.specs.Places.{Holding, IsHeld, granted_by, FrameStands, EndsAt, EntersBy, EntersWith, IsScript, MayEnter, MayGoOn, MoveFits, Poised}
 use Rattle.cps_frames.specs.declared.thread.Move.{Move}
 use Rattle.cps_frames.specs.declared.thread.Move.TheVariants.{Ends, Hits, Enter, Asks}
 use Rattle.cps_frames.proofs.Bounds.{stands_exactly, sits_loosely}
 use Rattle.cps_frames.proofs.Chain.{entry_chain, frame_chain, loosely}
 use Rattle.cps_frames.proofs.Fronts.{GoesIn, Plains, StandsAt}
+use Rattle.cps_frames.proofs.Holding.{all_split, distinct_front, granted_held, still_held}
 use Rattle.cps_frames.proofs.Keeping.{node_here}
 use Rattle.cps_frames.proofs.MoveLaws.{Saying}
-use Rattle.cps_frames.proofs.Kept.{GoesOn, Kept, answers_there, entry_kept, frame_kept, quiet_inner, quiet_part, wait_kept}
+use Rattle.cps_frames.proofs.Kept.{GoesOn, Kept, NextFits, answers_there, entry_kept, frame_kept, quiet_inner, quiet_part, wait_kept}
 use Rattle.cps_frames.proofs.Opened.{Behind, IsAround, all_open, behind, open_here, opened_on, same_here, site_without_all}
 
 -- rows of frames
@@ -58,10 +59,6 @@ chained_split root at (f ∷ fs) gs h = let rest = chained_split root (spot_in r
 all_append : {A : Type 0} (P : A → Type 0) (xs ys : List A) → AllAre P xs → AllAre P ys → AllAre P (xs ++ ys)
 all_append P [] ys a b = b
 all_append P (x ∷ xs) ys a b = (a.0, all_append P xs ys a.1 b)
-
-pub all_split : {A : Type 0} (P : A → Type 0) (xs ys : List A) → AllAre P (xs ++ ys) → AllAre P xs × AllAre P ys
-all_split P [] ys h = (tt, h)
-all_split P (x ∷ xs) ys h = let rest = all_split P xs ys h.1 in ((h.0, rest.0), rest.1)
 
 stands_later : (root : Term) (u v : Common) → Later u v → (f : Frame) → FrameStands root u f → FrameStands root v f
 stands_later root u v l f h = record { fits = frame_later u v l root f h.fits; names = env_later u v l (names_for root f) f.env h.names }
@@ -189,17 +186,23 @@ module _ (g : Base) (facts : ScriptFacts g.script) where
       (chain_or (innermost g.script outer u.stack) k c.how c.frames m on (subst (λ (s : Setting). Placed s.script k c.how c.frames m) (poised.sound).setting c.placed)
       (λ next. entry_chain g facts r e k env u v m (poised.sound).setting c (innermost g.script outer u.stack) (poised.move).0 (poised.move).2 (all_plain v.world.shared k c.frames kept.sits c.new) next))
 
+  -- nothing is granted but with an answer
+  grants_nothing : (f : NodeForm) (v : Standing) (m : Move) → NextFits g facts f v m → granted_by v.world.shared.held m ≡ []
+  grants_nothing f v (Ends (Answered x)) h = absurd h
+  grants_nothing f v (Ends e) h = refl
+  grants_nothing f v m h = refl
+
+  holding_on : (f : NodeForm) (u : Standing) (frames : List Frame) (m : Move) (v : Standing) → Kept g facts f u frames m v → Distinct (g.around.nodes ++ g.around.gone) → AllAre (IsHeld g.around.was) (g.around.nodes ++ g.around.gone) → Holding v.world m
+  holding_on f u frames m v kept differ holds =
+      let still = still_held g.around frames v.world kept.pausing differ holds in
+      record { holds = still.0; differ = subst Distinct (sym (ap (λ ns. v.world.own.context.held ++ ns) (grants_nothing f v m kept.next) ∙ append-nil v.world.own.context.held)) still.1 }
+
 -- the frame of the wait for an executor, and each other
 wait_or : {C : Type 0} (d : FrameKind) → (d ≡ kind.NodeWait → C) → ((d ≡ kind.NodeWait → ⊥) → C) → C
 wait_or kind.NodeWait wait other = wait refl
 wait_or d wait other = other (λ e. absurd (cc e))
 
--- what an answer opens
-abbrev granted_by : List Held → Ending → List ℕ
-granted_by held (Answered x) = granted_of held x
-granted_by held e = []
-
-grants : (u : Common) (e : Ending) → IsAnswer u e → Grants u.held (granted_by u.held e) e
+grants : (u : Common) (e : Ending) → IsAnswer u e → Grants u.held (granted_by u.held (Ends e)) e
 grants u (Answered x) h = refl
 grants u e h = absurd h
 
@@ -216,31 +219,56 @@ module _ (g : Setting) (facts : ScriptFacts g.script) where
     pub ending : EndsAt g.script u.world.shared (spot_in g.script f) e
 
   -- behind a frame that is not the wait for an executor
+  other_kept : (above : Context) (outer : Spot) (r : ℕ) (u : Standing) (f : Frame) (e : Ending) (m : Move) (v : Standing) → (taken : Taken above outer u f e) → GoesOn m → (c : Comes f.node r (λ sh a. after f sh a e) u m v) → (f.kind ≡ kind.NodeWait → ⊥)
+      → Kept (based g (taken.behind).around) facts (shape_at g.script f.node).form u c.frames m v
+  other_kept above outer r u f e m v taken on c other =
+      frame_kept (based g (taken.behind).around) facts r f e u m v taken.sound (sits_loosely g.script u.world.shared f taken.frame) taken.ending (taken.behind).some other (taken.behind).same on c
+
   other_keeps : (above : Context) (outer : Spot) (r : ℕ) (u : Standing) (f : Frame) (e : Ending) (m : Move) (v : Standing) → Taken above outer u f e → GoesOn m → Comes f.node r (λ sh a. after f sh a e) u m v → (f.kind ≡ kind.NodeWait → ⊥) → Poised g above outer v m
   other_keeps above outer r u f e m v taken on c other =
-      let o : Open = (taken.behind).around in
-      let sits : Sits g.script u.world.shared f = sits_loosely g.script u.world.shared f taken.frame in
-      let executors : AllOfSite g.site o.was = subst (AllOfSite g.site) (sym (taken.behind).was) taken.executors in
-      frame_poised (based g (taken.behind).around) facts above outer r u f e m v (taken.sound).setting taken.frames taken.chain sits taken.enters (taken.behind).is executors on c
-      (frame_kept (based g (taken.behind).around) facts r f e u m v taken.sound sits taken.ending (taken.behind).some other (taken.behind).same on c)
+      frame_poised (based g (taken.behind).around) facts above outer r u f e m v (taken.sound).setting taken.frames taken.chain (sits_loosely g.script u.world.shared f taken.frame) taken.enters (taken.behind).is
+      (subst (AllOfSite g.site) (sym (taken.behind).was) taken.executors) on c (other_kept above outer r u f e m v taken on c other)
+
+  other_holds : (above : Context) (outer : Spot) (r : ℕ) (u : Standing) (f : Frame) (e : Ending) (m : Move) (v : Standing) → Taken above outer u f e → Holding u.world (Ends e) → GoesOn m → Comes f.node r (λ sh a. after f sh a e) u m v → (f.kind ≡ kind.NodeWait → ⊥) → Holding v.world m
+  other_holds above outer r u f e m v taken h on c other =
+      holding_on (based g (taken.behind).around) facts (shape_at g.script f.node).form u c.frames m v (other_kept above outer r u f e m v taken on c other)
+      (subst Distinct (sym (taken.behind).all) (distinct_front u.world.own.context.held (granted_by u.world.shared.held (Ends e)) h.differ))
+      (subst (AllAre (IsHeld (taken.behind).around.was)) (sym (taken.behind).all) (subst (λ x. AllAre (IsHeld x) u.world.own.context.held) (sym (taken.behind).was) h.holds))
 
   -- what the spot of a wait for an executor is
   executor_spot : (f : Frame) → f.kind ≡ kind.NodeWait → spot_in g.script f ≡ For_executor
   executor_spot f is = ap (λ d. spot g.script f.node (frame_row d (shape_at g.script f.node) f.left f.env).inside) is
 
-  wait_keeps : (above : Context) (outer : Spot) (r : ℕ) (u : Standing) (f : Frame) (e : Ending) (m : Move) (v : Standing) → Taken above outer u f e → GoesOn m → Comes f.node r (λ sh a. after f sh a e) u m v → f.kind ≡ kind.NodeWait → Poised g above outer v m
-  wait_keeps above outer r u f e m v taken on c is =
-      let o : Open = record (taken.behind).around { gone = granted_by u.world.shared.held e } in
-      let sits : Sits g.script u.world.shared f = sits_loosely g.script u.world.shared f taken.frame in
-      let answer : IsAnswer u.world.shared e = answers_there (based g o) facts u.world.shared For_executor e (subst (λ x. EndsAt g.script u.world.shared x e) (executor_spot f is) taken.ending) in
-      let executors : AllOfSite g.site o.was = subst (AllOfSite g.site) (sym (taken.behind).was) taken.executors in
-      let same : Same (in_folder (holds_folder f.kind) (in_node (holds_executor f.kind) (taken.behind).around)) u.world = (taken.behind).same in
-      let closed : Same (taken.behind).around u.world = subst (λ d. Same (open_in d (taken.behind).around) u.world) is same in
-      let none : (taken.behind).around.gone ≡ [] = (taken.behind).none (ap holds_executor is) in
-      let unopened : Same (record (taken.behind).around { gone = [] }) u.world = record { nodes = closed.nodes; folders = closed.folders; held = closed.held ∙ ap (λ ns. without_all ns (taken.behind).around.was) none } in
-      let opened : IsAround above u.stack o = record { own = ((taken.behind).is).own; nodes = ((taken.behind).is).nodes; many = ((taken.behind).is).many; folders = ((taken.behind).is).folders } in
-      frame_poised (based g o) facts above outer r u f e m v (taken.sound).setting taken.frames taken.chain sits taken.enters opened executors on c
-      (wait_kept (based g o) facts r f e u m v taken.sound sits answer is unopened (grants u.world.shared e answer) taken.executors on c)
+  -- behind that wait, which opens a body where an executor is granted
+  module _ (above : Context) (outer : Spot) (r : ℕ) (u : Standing) (f : Frame) (e : Ending) (m : Move) (v : Standing) (taken : Taken above outer u f e) (on : GoesOn m) (c : Comes f.node r (λ sh a. after f sh a e) u m v) (is : f.kind ≡ kind.NodeWait) where
+    abbrev granting : Open
+    granting = record (taken.behind).around { gone = granted_by u.world.shared.held (Ends e) }
+
+    closed : Same (taken.behind).around u.world
+    closed =
+        let same : Same (in_folder (holds_folder f.kind) (in_node (holds_executor f.kind) (taken.behind).around)) u.world = (taken.behind).same in
+        subst (λ d. Same (open_in d (taken.behind).around) u.world) is same
+
+    granted_kept : Kept (based g granting) facts (shape_at g.script f.node).form u c.frames m v
+    granted_kept =
+        let answer : IsAnswer u.world.shared e = answers_there (based g granting) facts u.world.shared For_executor e (subst (λ x. EndsAt g.script u.world.shared x e) (executor_spot f is) taken.ending) in
+        let none : (taken.behind).around.gone ≡ [] = (taken.behind).none (ap holds_executor is) in
+        let unopened : Same (record (taken.behind).around { gone = [] }) u.world = record { nodes = closed.nodes; folders = closed.folders; held = closed.held ∙ ap (λ ns. without_all ns (taken.behind).around.was) none } in
+        wait_kept (based g granting) facts r f e u m v taken.sound (sits_loosely g.script u.world.shared f taken.frame) answer is unopened (grants u.world.shared e answer) taken.executors on c
+
+    wait_keeps : Poised g above outer v m
+    wait_keeps =
+        let opened : IsAround above u.stack granting = record { own = ((taken.behind).is).own; nodes = ((taken.behind).is).nodes; many = ((taken.behind).is).many; folders = ((taken.behind).is).folders } in
+        frame_poised (based g granting) facts above outer r u f e m v (taken.sound).setting taken.frames taken.chain (sits_loosely g.script u.world.shared f taken.frame) taken.enters opened
+        (subst (AllOfSite g.site) (sym (taken.behind).was) taken.executors) on c granted_kept
+
+    wait_holds : Holding u.world (Ends e) → Holding v.world m
+    wait_holds h =
+        let all : AllAre (IsHeld u.world.shared.held) (u.world.own.context.held ++ granted_by u.world.shared.held (Ends e)) = all_append (IsHeld u.world.shared.held) u.world.own.context.held (granted_by u.world.shared.held (Ends e)) h.holds (granted_held u.world.shared.held e) in
+        holding_on (based g granting) facts (shape_at g.script f.node).form u c.frames m v granted_kept
+        (subst (λ ns. Distinct (ns ++ granted_by u.world.shared.held (Ends e))) closed.nodes h.differ)
+        (subst (λ ns. AllAre (IsHeld (taken.behind).around.was) (ns ++ granted_by u.world.shared.held (Ends e))) closed.nodes
+        (subst (λ x. AllAre (IsHeld x) (u.world.own.context.held ++ granted_by u.world.shared.held (Ends e))) (sym (taken.behind).was) all))
 
   -- Behind a frame that was taken off, the thread is poised again.
   pub ends_keep : (above : Context) (outer : Spot) (r : ℕ) (u : Standing) (f : Frame) (e : Ending) (m : Move) (v : Standing) → Taken above outer u f e → GoesOn m → Comes f.node r (λ sh a. after f sh a e) u m v → Poised g above outer v m
@@ -249,6 +277,16 @@ module _ (g : Setting) (facts : ScriptFacts g.script) where
   -- Behind a node that was entered, it is so too.
   pub enters_keep : (above : Context) (outer : Spot) (r : ℕ) (u : Standing) (e : Entry) (k : ℕ) (env : Env) (m : Move) (v : Standing) → Poised g above outer u (Enter e k env) → GoesOn m → Comes k r (λ sh a. enter e a k sh env) u m v → Poised g above outer v m
   enters_keep above outer r u e k env m v poised on c = entry_poised (based g (open_here u.world)) facts above outer r u e k env m v poised (same_here u.world) (all_open above u poised.opened) poised.executors on c
+
+  -- And where the executors of its context are held, those of its context are so still.
+  pub ends_hold : (above : Context) (outer : Spot) (r : ℕ) (u : Standing) (f : Frame) (e : Ending) (m : Move) (v : Standing) → Taken above outer u f e → Holding u.world (Ends e) → GoesOn m → Comes f.node r (λ sh a. after f sh a e) u m v → Holding v.world m
+  ends_hold above outer r u f e m v taken h on c = wait_or f.kind (λ is. wait_holds above outer r u f e m v taken on c is h) (other_holds above outer r u f e m v taken h on c)
+
+  pub enters_hold : (above : Context) (outer : Spot) (r : ℕ) (u : Standing) (e : Entry) (k : ℕ) (env : Env) (m : Move) (v : Standing) → Poised g above outer u (Enter e k env) → Holding u.world (Enter e k env) → GoesOn m → Comes k r (λ sh a. enter e a k sh env) u m v → Holding v.world m
+  enters_hold above outer r u e k env m v poised h on c =
+      holding_on (based g (open_here u.world)) facts (ends_as e (shape_at g.script k).form) u c.frames m v
+      (entry_kept (based g (open_here u.world)) facts r e k env u m v (poised.move).1 poised.sound (poised.move).2 (same_here u.world) on c) h.differ
+      (subst (AllAre (IsHeld u.world.shared.held)) (sym (append-nil u.world.own.context.held)) h.holds)
 
   -- the innermost frame of a poised thread is taken off
   pub taken_off : (above : Context) (outer : Spot) (u u' : Standing) (f : Frame) (e : Ending) → Poised g above outer u (Ends e) → u'.world ≡ u.world → u.stack ≡ u'.stack ++ f ∷ [] → Taken above outer u' f e

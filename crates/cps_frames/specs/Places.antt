@@ -1,6 +1,6 @@
 -- Where a thread may stand between two moves: its frames meet the table exactly and stand one inside the other, each with its
 -- variables, and what is done next may stand inside the last of them. Such a thread is never stuck, and each move keeps it so.
-use Rattle.std.specs.Prelude.{◌≡◌, ◌<◌, ◌+◌, ◌++◌, ℕ, true, false, List, [], length}
+use Rattle.std.specs.Prelude.{◌≡◌, ◌<◌, ◌+◌, ◌++◌, ℕ, true, false, List, [], None, length}
 use Rattle.std.specs.List.{AllByRecursion as AllAre}
 use Rattle.model_syntax.specs.declared.node.NodeForm.TheVariants as form
 use Rattle.model_syntax.specs.declared.tree.Tree.{Tree}
@@ -12,15 +12,17 @@ use Rattle.model_run.specs.declared.ending.Entry.{Entry}
 use Rattle.model_run.specs.declared.ending.Entry.TheVariants.{Body, Branched, First, Inside, On, Turn}
 use Rattle.model_run.specs.declared.frame.Frame.{Frame}
 use Rattle.model_run.specs.Terms.{Term, term, nodes_of}
-use Rattle.model_run.specs.State.{Setting, Common, Env}
+use Rattle.model_run.specs.State.{Setting, Common, Env, World}
 use Rattle.model_run.specs.FrameTable.{enters_body, is_declaration}
 use Rattle.model_run.specs.Nesting.{Spot, Begun, Any_body, Body_of, Any_branch, For_executor, For_task, For_person, For_branches, FrameFits, Leads, Chained, WaitsFor, innermost, part_number, shape_at, spot_in}
 use Rattle.model_run.specs.Scoping.{names_at, names_for}
 use Rattle.model_run.specs.declared.context.Context.{Context}
-use Rattle.model_run.specs.Fitting.{AnswerFits, EnvFits, holds_executor, holds_folder, known}
+use Rattle.model_run.specs.declared.held.Held.{Held}
+use Rattle.model_run.specs.Steps.{held_for}
+use Rattle.model_run.specs.Fitting.{AnswerFits, Distinct, EnvFits, holds_executor, holds_folder, known}
 use Rattle.run_laws.specs.Soundness.{AskedFits, EndFits, SoundWorld, open_folders, open_nodes}
 use Rattle.script_laws.specs.NodeParts.{is_function}
-use Rattle.run_laws.specs.Evaluation.{AllOfSite, EntryFits}
+use Rattle.run_laws.specs.Evaluation.{AllOfSite, EntryFits, granted_of}
 use Rattle.cps_frames.specs.Standing.{Standing}
 use Rattle.cps_frames.specs.declared.thread.Move.{Move}
 use Rattle.cps_frames.specs.declared.thread.Move.TheVariants.{Ends, Hits, Enter, Asks}
@@ -78,8 +80,8 @@ MoveFits root u at (Hits k) = Unit {0}
 MoveFits root u at (Enter e p env) = EntersBy root at e p × (p < length (nodes_of root)) × EntersWith root u e p env
 MoveFits root u at (Asks asked) = WaitsFor at asked × AskedFits root u asked
 
--- What a thread has opened itself, from the context above it on: of the executors in its context one for each `node` body that is open
--- on its stack, and a folder for each body that has one.
+-- What a thread has opened itself: the requests in its context are those of the context above it and then one for each `node` body that
+-- is open on its stack, and it has one folder more for each body with a folder.
 pub record HasOpened (above : Context) (u : Standing) : Type 0 where
   pub own : List ℕ
   pub held : u.world.own.context.held ≡ above.held ++ own
@@ -95,7 +97,20 @@ pub record Poised (g : Setting) (above : Context) (at : Spot) (u : Standing) (m 
   pub chain : Chained g.script at u.stack
   pub move : MoveFits g.script u.world.shared (innermost g.script at u.stack) m
 
--- A frame may go on with this ending: it stood innermost in such a thread. Behind a `node` body the context has its executor, behind a
+-- the request of the executor that is about to be given
+abbrev pub granted_by : List Held → Move → List ℕ
+granted_by held (Ends (Answered x)) = granted_of held x
+granted_by held m = []
+
+abbrev pub IsHeld : List Held → ℕ → Type 0
+IsHeld held r = held_for r held ≡ None → ⊥
+
+-- The executor of each request in a thread's context is held, and they differ, the one that is about to be given included.
+pub record Holding (w : World) (m : Move) : Type 0 where
+  pub holds : AllAre (IsHeld w.shared.held) w.own.context.held
+  pub differ : Distinct (w.own.context.held ++ granted_by w.shared.held m)
+
+-- A frame may go on with this ending: it stood innermost in such a thread. Behind a `node` body the context has its request, behind a
 -- body with a folder that folder.
 pub record MayGoOn (u : Standing) (f : Frame) (e : Ending) : Type 0 where
   pub script : IsScript u.world.setting.script
