@@ -90,13 +90,6 @@ pub record SeatsHold (g : Setting) (b : Build) : Type 0 where
   pub threads : AllAre (SeatHolds b.shared (seats_of g b.threads)) (seats_of g b.threads)
   pub differ : Distinct (concat_map (own_held_of b.shared (seats_of g b.threads)) (seats_of g b.threads))
 
--- What is still asked of a build to be sound: its shared state within its bounds, and of the frames the sizes of their numbers and that
--- what a step or a walk calls is a closure.
-pub record RestFits (g : Setting) (b : Build) : Type 0 where
-  pub shared : SharedFits g b.ended b.shared
-  pub frames : AllAre (λ t. AllAre (FrameFits (known b.shared) g.script) t.stack) (seats_of g b.threads)
-  pub closures : AllAre (λ t. CallsClosures g.script (outermost t.parent) t.stack) (seats_of g b.threads)
-
 -- Of these held executors at most those of these requests are given back, and none else is held.
 abbrev pub ReleasesOf : List ℕ → List Held → List Held → Type 0
 ReleasesOf own old new = (keep : Held → Bool) × (new ≡ filter keep old) × AllAre (λ x. Some_of (λ r. r ≡ x.request) own ⊎ (keep x ≡ true)) old
