@@ -16,7 +16,7 @@ use Rattle.model_run.specs.Around.{Shape}
 use Rattle.model_run.specs.Below.{Small}
 use Rattle.model_run.specs.Calls.{walk_method}
 use Rattle.model_run.specs.Terms.{Term, term}
-use Rattle.model_run.specs.World.{world_in}
+use Rattle.model_run.specs.World.{Build, world_in}
 use Rattle.model_run.specs.FrameTable.{Any, Up_to, Flow_node, A_closure, No_more, walk_values, walk_further, frame_row}
 use Rattle.model_run.specs.Nesting.{ValuesFit, FrameFits, shape_at}
 use Rattle.model_run.specs.Fitting.{known, Seat, SeatFits, seats_of, WorldFits, WorldsFit}
@@ -60,7 +60,35 @@ module _ (u : Common) where
     frames_small root fs h.1 low.1,
   )
 
+  -- and back: what a sound build keeps there is small
+  retry_small : (vs : List Value) → ValuesFit (known u) No_more (Flow_node ∷ Flow_node ∷ Up_to 2147483646 ∷ A_closure ∷ []) vs → SmallCount kind.RetryBody vs
+  retry_small [] h = absurd h
+  retry_small (a ∷ []) h = absurd h.1
+  retry_small (a ∷ b ∷ []) h = absurd h.1.1
+  retry_small (a ∷ b ∷ Whole (pos m) ∷ vs) h = h.1.1.0
+  retry_small (a ∷ b ∷ c ∷ vs) h = absurd h.1.1.0
+
+  walk_small : (m : Method) (vs : List Value) → ValuesFit (known u) (walk_further m) (Any ∷ A_closure ∷ Up_to 2147483646 ∷ walk_values m) vs → SmallCount kind.WalkTurn vs
+  walk_small m [] h = absurd h
+  walk_small m (a ∷ []) h = absurd h.1
+  walk_small m (a ∷ b ∷ []) h = absurd h.1.1
+  walk_small m (a ∷ b ∷ Whole (pos i) ∷ vs) h = h.1.1.0
+  walk_small m (a ∷ b ∷ c ∷ vs) h = absurd h.1.1.0
+
+  small_kind : (d : FrameKind) (sh : Shape) (left : ℕ) (env : Env) (vs : List Value) → ValuesFit (known u) (frame_row d sh left env).further (frame_row d sh left env).values vs → SmallCount d vs
+  small_kind kind.RetryBody sh left env vs h = retry_small vs h
+  small_kind kind.WalkTurn sh left env vs h = walk_small (walk_method sh.form) vs h
+  small_kind d sh left env vs h = tt
+
+  small_frames : (root : Term) (fs : List Frame) → AllAre (FrameFits (known u) root) fs → AllAre (λ f. SmallCount f.kind f.values) fs
+  small_frames root [] h = tt
+  small_frames root (f ∷ fs) h = (small_kind f.kind (shape_at root f.node) f.left f.env f.values ((h.0).meets).values, small_frames root fs h.1)
+
 module _ (g : Setting) (u : Common) (seats : List Seat) where
+  seats_rest : (ts : List Seat) → AllAre (SeatFits g u seats) ts → AllAre (SeatRest g) ts
+  seats_rest [] h = tt
+  seats_rest (t ∷ ts) h = (record { closures = (h.0).closures; counts = small_frames u g.script t.stack (h.0).frames }, seats_rest ts h.1)
+
   seats_fit : (ts : List Seat) → AllAre (SeatStands g u seats) ts → AllAre (SeatHolds u seats) ts → AllAre (SeatRest g) ts → AllAre (SeatFits g u seats) ts
   seats_fit [] h holds rest = tt
   seats_fit (t ∷ ts) h holds rest = (
@@ -103,3 +131,7 @@ module _ (g : Setting) (tree : Tree) (is : g.script ≡ term 0 (tree_node tree))
   -- So all worlds are sound, where this is so in every world that has begun.
   pub worlds_fit : ((events : List Event) → (world_in g events).started ≡ true → Rest g (world_in g events)) → WorldsFit g
   worlds_fit rest events started = world_fits events started (rest events started)
+
+-- And nothing less will do: a sound build has both.
+pub rest_needed : (g : Setting) (b : Build) → WorldFits g b → Rest g b
+rest_needed g b fits = seats_rest g b.shared (seats_of g b.threads) (seats_of g b.threads) ((fits.fits).threads)

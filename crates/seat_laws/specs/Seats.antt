@@ -5,11 +5,10 @@ use Rattle.model_run.specs.declared.wait.Wait.{Wait}
 use Rattle.model_run.specs.declared.wait.Wait.TheVariants.{Ready, Request as RequestWait, Branches as BranchesWait}
 use Rattle.model_run.specs.declared.context.Context.{Context}
 use Rattle.model_run.specs.declared.held.Held.{Held}
-use Rattle.model_run.specs.Nesting.{FrameFits, CallsClosures}
 use Rattle.model_run.specs.State.{Setting, Common, Result, Ended, Waits, Limited, Unfinished}
 use Rattle.model_run.specs.Steps.{held_for}
 use Rattle.model_run.specs.Threads.{Thread, stands}
-use Rattle.model_run.specs.Fitting.{NotReady, Distinct, Some_of, concat_map, granted_request, own_held_of, holds_executor, holds_folder, Seat, seat_at, seats_of, context_above, outermost, known, SharedFits}
+use Rattle.model_run.specs.Fitting.{NotReady, Distinct, Some_of, concat_map, granted_request, own_held_of, holds_executor, holds_folder, Seat, seat_at, seats_of, context_above}
 use Rattle.model_run.specs.World.{Build}
 use Rattle.world_laws.specs.Agreement.{Place, places}
 
