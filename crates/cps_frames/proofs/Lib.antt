@@ -4,3 +4,14 @@ pub mod MoveLaws
 pub mod NoteLaws
 pub mod Runs
 pub mod Weights
+pub mod Testing
+pub mod Probing
+pub mod Keeping
+pub mod Marking
+pub mod Fronts
+pub mod Chain
+pub mod Bounds
+pub mod Opened
+pub mod Kept
+pub mod Poise
+pub mod Beginnings

@@ -1,6 +1,6 @@
 -- Where a thread may stand between two moves: its frames meet the table exactly and stand one inside the other, each with its
 -- variables, and what is done next may stand inside the last of them. Such a thread is never stuck, and each move keeps it so.
-use Rattle.std.specs.Prelude.{◌≡◌, ◌<◌, ℕ, true, false, [], length}
+use Rattle.std.specs.Prelude.{◌≡◌, ◌<◌, ◌+◌, ◌++◌, ℕ, true, false, List, [], length}
 use Rattle.std.specs.List.{AllByRecursion as AllAre}
 use Rattle.model_syntax.specs.declared.node.NodeForm.TheVariants as form
 use Rattle.model_syntax.specs.declared.tree.Tree.{Tree}
@@ -16,10 +16,11 @@ use Rattle.model_run.specs.State.{Setting, Common, Env}
 use Rattle.model_run.specs.FrameTable.{enters_body, is_declaration}
 use Rattle.model_run.specs.Nesting.{Spot, Begun, Any_body, Body_of, Any_branch, For_executor, For_task, For_person, For_branches, FrameFits, Leads, Chained, WaitsFor, innermost, part_number, shape_at, spot_in}
 use Rattle.model_run.specs.Scoping.{names_at, names_for}
-use Rattle.model_run.specs.Fitting.{AnswerFits, EnvFits, known}
-use Rattle.run_laws.specs.Soundness.{AskedFits, EndFits, SoundWorld}
+use Rattle.model_run.specs.declared.context.Context.{Context}
+use Rattle.model_run.specs.Fitting.{AnswerFits, EnvFits, holds_executor, holds_folder, known}
+use Rattle.run_laws.specs.Soundness.{AskedFits, EndFits, SoundWorld, open_folders, open_nodes}
 use Rattle.script_laws.specs.NodeParts.{is_function}
-use Rattle.run_laws.specs.Evaluation.{EntryFits}
+use Rattle.run_laws.specs.Evaluation.{AllOfSite, EntryFits}
 use Rattle.cps_frames.specs.Standing.{Standing}
 use Rattle.cps_frames.specs.declared.thread.Move.{Move}
 use Rattle.cps_frames.specs.declared.thread.Move.TheVariants.{Ends, Hits, Enter, Asks}
@@ -77,19 +78,33 @@ MoveFits root u at (Hits k) = Unit {0}
 MoveFits root u at (Enter e p env) = EntersBy root at e p × (p < length (nodes_of root)) × EntersWith root u e p env
 MoveFits root u at (Asks asked) = WaitsFor at asked × AskedFits root u asked
 
--- A thread between two moves, from the spot where it began on.
-pub record Poised (g : Setting) (at : Spot) (u : Standing) (m : Move) : Type 0 where
+-- What a thread has opened itself, from the context above it on: of the executors in its context one for each `node` body that is open
+-- on its stack, and a folder for each body that has one.
+pub record HasOpened (above : Context) (u : Standing) : Type 0 where
+  pub own : List ℕ
+  pub held : u.world.own.context.held ≡ above.held ++ own
+  pub many : length own ≡ open_nodes u.stack
+  pub folders : length u.world.own.context.folders ≡ length above.folders + open_folders u.stack
+
+-- A thread between two moves, from the spot where it began on, under this context.
+pub record Poised (g : Setting) (above : Context) (at : Spot) (u : Standing) (m : Move) : Type 0 where
   pub sound : SoundWorld g u.world
+  pub executors : AllOfSite g.site u.world.shared.held
+  pub opened : HasOpened above u
   pub frames : AllAre (FrameStands g.script u.world.shared) u.stack
   pub chain : Chained g.script at u.stack
   pub move : MoveFits g.script u.world.shared (innermost g.script at u.stack) m
 
--- A frame may go on with this ending: it stood innermost in such a thread.
+-- A frame may go on with this ending: it stood innermost in such a thread. Behind a `node` body the context has its executor, behind a
+-- body with a folder that folder.
 pub record MayGoOn (u : Standing) (f : Frame) (e : Ending) : Type 0 where
   pub script : IsScript u.world.setting.script
   pub sound : SoundWorld u.world.setting u.world
   pub frame : FrameStands u.world.setting.script u.world.shared f
   pub ending : EndsAt u.world.setting.script u.world.shared (spot_in u.world.setting.script f) e
+  pub executors : AllOfSite u.world.setting.site u.world.shared.held
+  pub executor : holds_executor f.kind ≡ true → 0 < length u.world.own.context.held
+  pub folder : holds_folder f.kind ≡ true → 0 < length u.world.own.context.folders
 
 -- A node may be entered so.
 pub record MayEnter (u : Standing) (e : Entry) (k : ℕ) (env : Env) : Type 0 where
@@ -97,3 +112,4 @@ pub record MayEnter (u : Standing) (e : Entry) (k : ℕ) (env : Env) : Type 0 wh
   pub sound : SoundWorld u.world.setting u.world
   pub node : k < length (nodes_of u.world.setting.script)
   pub entry : EntersWith u.world.setting.script u.world.shared e k env
+  pub executors : AllOfSite u.world.setting.site u.world.shared.held
