@@ -23,6 +23,8 @@ mod halt;
 mod notes;
 mod parts;
 mod shared;
+#[cfg(test)]
+mod tests;
 mod thread;
 mod waits;
 

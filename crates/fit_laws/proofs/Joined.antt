@@ -1,5 +1,5 @@
--- With what is still to be shown every world is sound.
-use Rattle.std.proofs.Common.{◌≡◌, subst, refl, ℕ, true, List, [], ◌∷◌}
+-- Every world that has begun is sound but for closures and small numbers.
+use Rattle.std.proofs.Common.{◌≡◌, ℕ, true, List, [], ◌∷◌}
 use Rattle.std.specs.Prelude.{pos}
 use Rattle.std.specs.List.{AllByRecursion as AllAre}
 use Rattle.model_syntax.specs.declared.tree.Tree.{Tree}
@@ -11,22 +11,20 @@ use Rattle.model_run.specs.declared.event.Event.{Event}
 use Rattle.model_run.specs.declared.frame.Frame.{Frame}
 use Rattle.model_run.specs.declared.frame.FrameKind.{FrameKind}
 use Rattle.model_run.specs.declared.frame.FrameKind.TheVariants as kind
-use Rattle.model_run.specs.declared.wait.Wait.{Wait}
-use Rattle.model_run.specs.declared.wait.Wait.TheVariants.{Ready, Request as RequestWait, Branches as BranchesWait}
-use Rattle.model_run.specs.State.{Setting, Common, Env, Result, Ended, Waits, Limited, Unfinished}
+use Rattle.model_run.specs.State.{Setting, Common, Env}
 use Rattle.model_run.specs.Around.{Shape}
 use Rattle.model_run.specs.Below.{Small}
 use Rattle.model_run.specs.Calls.{walk_method}
 use Rattle.model_run.specs.Terms.{Term, term}
-use Rattle.model_run.specs.Threads.{Thread, stands}
-use Rattle.model_run.specs.Waiting.{IsReady}
-use Rattle.model_run.specs.World.{world_in}
+use Rattle.model_run.specs.World.{Build, world_in}
 use Rattle.model_run.specs.FrameTable.{Any, Up_to, Flow_node, A_closure, No_more, walk_values, walk_further, frame_row}
 use Rattle.model_run.specs.Nesting.{ValuesFit, FrameFits, shape_at}
-use Rattle.model_run.specs.Fitting.{known, Seat, SeatFits, seat_at, seats_of, NotReady, WorldFits}
+use Rattle.model_run.specs.Fitting.{known, Seat, SeatFits, seats_of, WorldFits, WorldsFit}
 use Rattle.run_laws.specs.Bounds.{Narrow}
 use Rattle.run_laws.specs.Soundness.{seen}
-use Rattle.fit_laws.specs.Stands.{counted, SeatStands, ThreadsStand, SharedStands, SmallCount, SeatRest, Rest}
+use Rattle.seat_laws.specs.Seats.{SeatHolds, SeatsHold}
+use Rattle.seat_laws.proofs.WorldSeats.{world_seats_hold}
+use Rattle.fit_laws.specs.Stands.{counted, SeatStands, ThreadsStand, SmallCount, SeatRest, Rest}
 use Rattle.fit_laws.proofs.SharedStates.{world_stands}
 use Rattle.fit_laws.proofs.Seats.{NoNumbers, known_values, threads_stand}
 
@@ -62,26 +60,38 @@ module _ (u : Common) where
     frames_small root fs h.1 low.1,
   )
 
--- a thread waits as it does where it stands
-not_ready : (w : Wait) → NotReady w → IsReady w → ⊥
-not_ready (Ready x) rests r = rests
-not_ready (RequestWait n) rests r = r
-not_ready (BranchesWait js) rests r = r
+  -- and back: what a sound build keeps there is small
+  retry_small : (vs : List Value) → ValuesFit (known u) No_more (Flow_node ∷ Flow_node ∷ Up_to 2147483646 ∷ A_closure ∷ []) vs → SmallCount kind.RetryBody vs
+  retry_small [] h = absurd h
+  retry_small (a ∷ []) h = absurd h.1
+  retry_small (a ∷ b ∷ []) h = absurd h.1.1
+  retry_small (a ∷ b ∷ Whole (pos m) ∷ vs) h = h.1.1.0
+  retry_small (a ∷ b ∷ c ∷ vs) h = absurd h.1.1.0
 
-seat_wait : (t : Thread) (r : Result) → (seat_at t r).wait ≡ t.wait
-seat_wait t (Ended e s) = refl
-seat_wait t (Waits asked path s) = refl
-seat_wait t (Limited k s) = refl
-seat_wait t Unfinished = refl
+  walk_small : (m : Method) (vs : List Value) → ValuesFit (known u) (walk_further m) (Any ∷ A_closure ∷ Up_to 2147483646 ∷ walk_values m) vs → SmallCount kind.WalkTurn vs
+  walk_small m [] h = absurd h
+  walk_small m (a ∷ []) h = absurd h.1
+  walk_small m (a ∷ b ∷ []) h = absurd h.1.1
+  walk_small m (a ∷ b ∷ Whole (pos i) ∷ vs) h = h.1.1.0
+  walk_small m (a ∷ b ∷ c ∷ vs) h = absurd h.1.1.0
 
-never_ready : (g : Setting) (ts : List Thread) → AllAre (λ t. NotReady t.wait) (seats_of g ts) → AllAre (λ t. IsReady t.wait → ⊥) ts
-never_ready g [] h = tt
-never_ready g (t ∷ ts) h = (not_ready t.wait (subst NotReady (seat_wait t (stands g t)) h.0), never_ready g ts h.1)
+  small_kind : (d : FrameKind) (sh : Shape) (left : ℕ) (env : Env) (vs : List Value) → ValuesFit (known u) (frame_row d sh left env).further (frame_row d sh left env).values vs → SmallCount d vs
+  small_kind kind.RetryBody sh left env vs h = retry_small vs h
+  small_kind kind.WalkTurn sh left env vs h = walk_small (walk_method sh.form) vs h
+  small_kind d sh left env vs h = tt
+
+  small_frames : (root : Term) (fs : List Frame) → AllAre (FrameFits (known u) root) fs → AllAre (λ f. SmallCount f.kind f.values) fs
+  small_frames root [] h = tt
+  small_frames root (f ∷ fs) h = (small_kind f.kind (shape_at root f.node) f.left f.env f.values ((h.0).meets).values, small_frames root fs h.1)
 
 module _ (g : Setting) (u : Common) (seats : List Seat) where
-  seats_fit : (ts : List Seat) → AllAre (SeatStands g u seats) ts → AllAre (SeatRest g u seats) ts → AllAre (SeatFits g u seats) ts
-  seats_fit [] h rest = tt
-  seats_fit (t ∷ ts) h rest = (
+  seats_rest : (ts : List Seat) → AllAre (SeatFits g u seats) ts → AllAre (SeatRest g) ts
+  seats_rest [] h = tt
+  seats_rest (t ∷ ts) h = (record { closures = (h.0).closures; counts = small_frames u g.script t.stack (h.0).frames }, seats_rest ts h.1)
+
+  seats_fit : (ts : List Seat) → AllAre (SeatStands g u seats) ts → AllAre (SeatHolds u seats) ts → AllAre (SeatRest g) ts → AllAre (SeatFits g u seats) ts
+  seats_fit [] h holds rest = tt
+  seats_fit (t ∷ ts) h holds rest = (
     record {
       head = (h.0).head;
       parent = (h.0).parent;
@@ -91,28 +101,37 @@ module _ (g : Setting) (u : Common) (seats : List Seat) where
       closures = (rest.0).closures;
       waits = (h.0).waits;
       start = (h.0).start;
-      own_held = (rest.0).own_held;
-      holds = (rest.0).holds;
-      folders = (rest.0).folders;
+      own_held = (holds.0).own_held;
+      holds = (holds.0).holds;
+      folders = (holds.0).folders;
     },
-    seats_fit ts h.1 rest.1,
+    seats_fit ts h.1 holds.1 rest.1,
   )
 
 module _ (g : Setting) (tree : Tree) (is : g.script ≡ term 0 (tree_node tree)) (small : Small g) (narrow : Narrow g.limits) where
-  -- Every world that has begun is sound, where it has what `Rest` says.
+  -- Every world that has begun is sound, where what its steps and walks call are closures, and the numbers that its `retry` and walks keep
+  -- are small.
   pub world_fits : (events : List Event) → (world_in g events).started ≡ true → Rest g (world_in g events) → WorldFits g (world_in g events)
   world_fits events started rest =
-      let shared : SharedStands g (world_in g events) = world_stands g tree is small narrow events started in
-      let threads : ThreadsStand g (world_in g events) = threads_stand g tree is small narrow events started (never_ready g (world_in g events).threads rest.rests) in
+      let threads : ThreadsStand g (world_in g events) = threads_stand g tree is small narrow events started in
+      let hold : SeatsHold g (world_in g events) = world_seats_hold g tree is small narrow events in
       record {
         fits = record {
-          shared = shared;
+          shared = world_stands g tree is small narrow events started;
           numbers = threads.numbers;
-          few_threads = rest.few_threads;
+          few_threads = hold.few_threads;
           main = threads.main;
-          threads = seats_fit g (world_in g events).shared (seats_of g (world_in g events).threads) (seats_of g (world_in g events).threads) threads.threads rest.threads;
-          differ = rest.differ;
+          threads = seats_fit g (world_in g events).shared (seats_of g (world_in g events).threads) (seats_of g (world_in g events).threads) threads.threads hold.threads rest;
+          differ = hold.differ;
           waited_for = threads.waited_for;
         };
-        rests = rest.rests;
+        rests = hold.rests;
       }
+
+  -- So all worlds are sound, where this is so in every world that has begun.
+  pub worlds_fit : ((events : List Event) → (world_in g events).started ≡ true → Rest g (world_in g events)) → WorldsFit g
+  worlds_fit rest events started = world_fits events started (rest events started)
+
+-- And nothing less will do: a sound build has both.
+pub rest_needed : (g : Setting) (b : Build) → WorldFits g b → Rest g b
+rest_needed g b fits = seats_rest g b.shared (seats_of g b.threads) (seats_of g b.threads) ((fits.fits).threads)

@@ -1,9 +1,10 @@
--- In every world in which no thread is about to go on, each thread stands as in a sound build, as far as it is proved.
+-- In every world each thread stands as in a sound build, as far as `SeatStands` says.
 use Rattle.std.proofs.Common.{◌≡◌, sym, subst, refl, ◌+◌, ℕ, zero, suc, true, List, [], ◌∷◌, Option, Some, None}
 use Rattle.std.specs.Prelude.{pos}
 use Rattle.std.specs.List.{AllByRecursion as AllAre}
 use Rattle.model_syntax.specs.declared.tree.Tree.{Tree}
 use Rattle.model_syntax.specs.TreeNodes.{tree_node}
+use Rattle.model_values.proofs.LaterLaws.{all_weaker}
 use Rattle.model_values.specs.declared.value.Value.{Value}
 use Rattle.model_values.specs.declared.value.Value.TheVariants.{Int as Whole}
 use Rattle.model_run.specs.declared.event.Event.{Event}
@@ -22,12 +23,12 @@ use Rattle.model_run.specs.Terms.{Term, term}
 use Rattle.model_run.specs.Around.{Shape, form_at}
 use Rattle.model_run.specs.Assignments.{place_size, operator_in}
 use Rattle.model_run.specs.Threads.{Runs, Script, Closure, Thread, stands}
-use Rattle.model_run.specs.World.{Build, world_in}
+use Rattle.model_run.specs.World.{world_in}
 use Rattle.model_run.specs.FrameTable.{Sort, Any, Up_to, Flag, Flow_node, A_closure, A_throwable, Text_or_null, Further, No_more, One_more, Any_more, any_values, current, count_of, key_count, operator_count, frame_row}
 use Rattle.model_run.specs.Nesting.{Spot, For_executor, For_task, For_person, For_branches as For_branches_spot, FurtherFit, ValuesFit, FrameFits, Nested, WaitsFor, innermost, shape_at}
 use Rattle.model_run.specs.Scoping.{names_for}
 use Rattle.model_run.specs.Waiting.{Waiting, IsReady}
-use Rattle.model_run.specs.Fitting.{EnvFits, known, Seat, seat_at, seats_of, seat_of, outermost, ParentIs, JoinFits, BranchFits, WaitFits, StartFits}
+use Rattle.model_run.specs.Fitting.{EnvFits, known, NotReady, Seat, seat_at, seats_of, seat_of, outermost, ParentIs, JoinFits, BranchFits, WaitFits, StartFits}
 use Rattle.model_run.proofs.PathLaws.{outer_spot}
 use Rattle.model_run.proofs.WaitingLaws.{world_waits}
 use Rattle.model_run.proofs.WorldLaws.{frames_chained, waits_there, waiting_nested}
@@ -37,6 +38,7 @@ use Rattle.run_laws.specs.Worlds.{EndIf, WaitThere, SoundThread}
 use Rattle.run_laws.proofs.SoundWorlds.{world_sound, frames_now}
 use Rattle.world_laws.specs.Agreement.{WaitsAgree, SeatAgrees, SeatsAgree}
 use Rattle.world_laws.proofs.WorldThreads.{world_seats}
+use Rattle.seat_laws.proofs.Resting.{world_rests}
 use Rattle.fit_laws.specs.Stands.{counted, SeatStands, ThreadsStand, AsksBranches, WaitAsks, HasParent, WaitsSo}
 use Rattle.fit_laws.proofs.Waits.{world_so}
 
@@ -137,6 +139,12 @@ outer_is Script (Some p) h = absurd h
 outer_is (Closure k env head) (Some p) h = refl
 outer_is (Closure k env head) None h = absurd h
 
+-- a thread that rests is not ready
+not_ready : (w : Wait) → NotReady w → IsReady w → ⊥
+not_ready (Ready x) rests ready = rests
+not_ready (RequestWait n) rests ready = ready
+not_ready (BranchesWait js) rests ready = ready
+
 -- a branch that has begun has a frame
 begun_start : (root : Term) (h : List _) (parent : Option ℕ) (path : List Frame) (asked : Asked) → Nested root (outermost parent) path asked → StartFits root h parent path None
 begun_start root h None path asked nested = refl
@@ -173,11 +181,11 @@ module _ (g : Setting) (tree : Tree) (is : g.script ≡ term 0 (tree_node tree))
     all_stand [] s w n so a = tt
     all_stand (t ∷ ts) s w n so a = (seat_stands t s.0 w.0 n.0 so.0 a.0, all_stand ts s.1 w.1 n.1 so.1 a.1)
 
-  -- The threads of every world that has begun and in which none is about to go on.
-  pub threads_stand : (events : List Event) → (world_in g events).started ≡ true → AllAre (λ t. IsReady t.wait → ⊥) (world_in g events).threads → ThreadsStand g (world_in g events)
-  threads_stand events started never =
-      let b : Build = world_in g events in
+  -- The threads of every world that has begun.
+  pub threads_stand : (events : List Event) → (world_in g events).started ≡ true → ThreadsStand g (world_in g events)
+  threads_stand events started =
       let agrees : SeatsAgree g (world_in g events) = world_seats g (tree_node tree) is small events in
+      let never : AllAre (λ t. IsReady t.wait → ⊥) (world_in g events).threads = all_weaker _ _ (λ t rests. not_ready t.wait rests) (world_in g events).threads (world_rests g tree is small narrow events) in
       record {
         numbers = agrees.numbers;
         main = agrees.main started;

@@ -1,5 +1,5 @@
 -- How much of a sound build is proved of the world of every list of events (this product's own).
-use Rattle.std.specs.Prelude.{◌≡◌, ◌≤◌, ◌+◌, ℕ, false, List, ◌++◌, Option, Some, None, length, map, filter}
+use Rattle.std.specs.Prelude.{◌≡◌, ◌≤◌, ℕ, false, List, Option, Some, None, map}
 use Rattle.std.specs.List.{AllByRecursion as AllAre}
 use Rattle.model_run.specs.declared.frame.FrameKind.{FrameKind}
 use Rattle.model_run.specs.declared.frame.FrameKind.TheVariants as kind
@@ -8,13 +8,12 @@ use Rattle.model_run.specs.declared.wait.Wait.{Wait}
 use Rattle.model_run.specs.declared.wait.Wait.TheVariants.{Ready, Request as RequestWait, Branches as BranchesWait}
 use Rattle.model_values.specs.declared.value.Value.{Value}
 use Rattle.model_run.specs.Around.{position, value_at}
-use Rattle.model_run.specs.Steps.{held_for}
 use Rattle.model_run.specs.State.{Setting, Common, Result, Waits}
 use Rattle.model_run.specs.Nesting.{Sorts, FrameFits, Chained, CallsClosures, innermost}
 use Rattle.model_run.specs.Scoping.{names_for}
 use Rattle.model_run.specs.Threads.{Runs, Script, Closure, Thread, stands}
 use Rattle.model_run.specs.World.{Build}
-use Rattle.model_run.specs.Fitting.{Rise, EnvFits, IsFlowNode, known, SharedFits, Seat, seat_of, seats_of, outermost, ParentFits, WaitFits, StartFits, IsWaitedFor, Distinct, NotReady, context_above, holds_executor, holds_folder, own_held_of, concat_map}
+use Rattle.model_run.specs.Fitting.{Rise, EnvFits, IsFlowNode, known, SharedFits, Seat, seat_of, seats_of, outermost, ParentFits, WaitFits, StartFits, IsWaitedFor}
 use Rattle.run_laws.specs.Soundness.{seen}
 
 -- The sorts of values that a frame of a kind keeps: as in a sound build, but the numbers of `retry` and of a walk, which are whole numbers
@@ -35,7 +34,7 @@ pub record SeatStands (setting : Setting) (u : Common) (seats : List Seat) (t : 
   pub waits : WaitFits u seats t (innermost setting.script (outermost t.parent) t.stack) t.wait
   pub start : StartFits setting.script u.cells t.parent t.stack t.start
 
--- The threads of a build, where none is about to go on.
+-- The threads of a build together.
 pub record ThreadsStand (setting : Setting) (b : Build) : Type 0 where
   pub numbers : Rise 0 b.next_thread (map (λ t. t.number) (seats_of setting b.threads))
   pub main : b.ended ≡ false → seat_of (seats_of setting b.threads) 0 ≡ None → ⊥
@@ -73,17 +72,11 @@ SmallCount kind.RetryBody vs = position (value_at 2 vs) ≤ 2147483646
 SmallCount kind.WalkTurn vs = position (value_at 2 vs) ≤ 2147483646
 SmallCount d vs = Unit {0}
 
--- what is still to be shown of one thread
-pub record SeatRest (setting : Setting) (u : Common) (seats : List Seat) (t : Seat) : Type 0 where
+-- What is not proved of a thread: that what its steps and walks call is a closure, and the size of the numbers of `retry` and of a walk.
+pub record SeatRest (setting : Setting) (t : Seat) : Type 0 where
   pub closures : CallsClosures setting.script (outermost t.parent) t.stack
   pub counts : AllAre (λ f. SmallCount f.kind f.values) t.stack
-  pub own_held : (own : List ℕ) × (t.context.held ≡ (context_above seats t.parent).held ++ own) × (length own ≡ length (filter (λ f. holds_executor f.kind) t.stack))
-  pub holds : AllAre (λ r. held_for r u.held ≡ None → ⊥) t.context.held
-  pub folders : length t.context.folders ≡ length (context_above seats t.parent).folders + length (filter (λ f. holds_folder f.kind) t.stack)
 
--- What is still to be shown of the world of every list of events: with this it is sound.
-pub record Rest (setting : Setting) (b : Build) : Type 0 where
-  pub threads : AllAre (SeatRest setting b.shared (seats_of setting b.threads)) (seats_of setting b.threads)
-  pub differ : Distinct (concat_map (own_held_of b.shared (seats_of setting b.threads)) (seats_of setting b.threads))
-  pub few_threads : b.next_thread ≤ 100000000 + length b.shared.nodes
-  pub rests : AllAre (λ t. NotReady t.wait) (seats_of setting b.threads)
+-- What is not proved of a build: the same of each of its threads, and nothing else. With this a world that has begun is sound.
+abbrev pub Rest : Setting → Build → Type 0
+Rest setting b = AllAre (SeatRest setting) (seats_of setting b.threads)

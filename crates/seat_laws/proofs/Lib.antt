@@ -6,6 +6,4 @@ pub mod Executors
 pub mod Rooms
 pub mod Contexts
 pub mod WorldSeats
-pub mod Rooted
-pub mod Joined
 pub mod Releases

@@ -5,11 +5,10 @@ use Rattle.model_run.specs.declared.wait.Wait.{Wait}
 use Rattle.model_run.specs.declared.wait.Wait.TheVariants.{Ready, Request as RequestWait, Branches as BranchesWait}
 use Rattle.model_run.specs.declared.context.Context.{Context}
 use Rattle.model_run.specs.declared.held.Held.{Held}
-use Rattle.model_run.specs.Nesting.{FrameFits, CallsClosures}
 use Rattle.model_run.specs.State.{Setting, Common, Result, Ended, Waits, Limited, Unfinished}
 use Rattle.model_run.specs.Steps.{held_for}
 use Rattle.model_run.specs.Threads.{Thread, stands}
-use Rattle.model_run.specs.Fitting.{NotReady, Distinct, Some_of, concat_map, granted_request, own_held_of, holds_executor, holds_folder, Seat, seat_at, seats_of, context_above, outermost, known, SharedFits}
+use Rattle.model_run.specs.Fitting.{NotReady, Distinct, Some_of, concat_map, granted_request, own_held_of, holds_executor, holds_folder, Seat, seat_at, seats_of, context_above}
 use Rattle.model_run.specs.World.{Build}
 use Rattle.world_laws.specs.Agreement.{Place, places}
 
@@ -89,13 +88,6 @@ pub record SeatsHold (g : Setting) (b : Build) : Type 0 where
   pub few_threads : b.next_thread ≤ 100000000 + length b.shared.nodes
   pub threads : AllAre (SeatHolds b.shared (seats_of g b.threads)) (seats_of g b.threads)
   pub differ : Distinct (concat_map (own_held_of b.shared (seats_of g b.threads)) (seats_of g b.threads))
-
--- What is still asked of a build to be sound: its shared state within its bounds, and of the frames the sizes of their numbers and that
--- what a step or a walk calls is a closure.
-pub record RestFits (g : Setting) (b : Build) : Type 0 where
-  pub shared : SharedFits g b.ended b.shared
-  pub frames : AllAre (λ t. AllAre (FrameFits (known b.shared) g.script) t.stack) (seats_of g b.threads)
-  pub closures : AllAre (λ t. CallsClosures g.script (outermost t.parent) t.stack) (seats_of g b.threads)
 
 -- Of these held executors at most those of these requests are given back, and none else is held.
 abbrev pub ReleasesOf : List ℕ → List Held → List Held → Type 0
