@@ -217,7 +217,7 @@ awaits-next honest before order looks vain count old now log out turn past next 
   may = inr (next, refl);
   log_at = log_at;
   out_at = out_at;
-  stands = stands-called honest before order looks old now next call.Pause calls output exited_now stands is_honest kept_call (goes-on order looks vain count turn past next not_failed no_more turned goes few count_is, turned.told) goes_so
+  stands = stands-called honest before order looks old now next call.Pause calls output exited_now stands is_honest kept_call (goes-on order looks vain count turn past next not_failed no_more turned goes few count_is, turned.told, turned.in_turn, turned.read_through) goes_so
       (λ is holds. holds-on order (now.output order.task) (output order.task) (now.exited order.task) (exited_now order.task) next paused (λ s. refl) refl found
       (grew-of order.task now.exited exited_now now.output output (goes_so is)) holds);
   not_failed = λ done. failed_so done;

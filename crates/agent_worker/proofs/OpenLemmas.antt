@@ -106,7 +106,7 @@ serves-failed honest order looks old calls output exited told reports h old_task
     let called = subst (λ (p : List Act). Becomes (with_calls p) old.calls calls) past_is opens.called in
     let on = serves-last honest order looks old (record old { calls = calls; output = output; exited = exited }) (started order start.Failed ∷ made_dir order made.Made ∷ []) (lost order NotStarted) told reports answer
     (started order start.Failed ∷ made_dir order made.Made ∷ []) (λ act done. done)
-    (failed-stands honest order looks old calls output exited called goes) tells (refl, record { said = inl (inl refl) }) (inr (NotStarted, refl)) refl in
+    (failed-stands honest order looks old calls output exited called goes) tells (refl, record { said = inl (inl refl) }) (inr (NotStarted, refl)) refl (inr refl) in
     record { serve = on.serve; still = λ act done. on.still act (subst (WasDone act) past_is done) }
   where
     at-false : (b : Bool) → b ≡ false → MatchBool b (Opened order opens.past) (opens.past ≡ started order start.Failed ∷ made_dir order made.Made ∷ []) → opens.past ≡ started order start.Failed ∷ made_dir order made.Made ∷ []

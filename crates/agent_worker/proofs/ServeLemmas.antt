@@ -12,7 +12,7 @@ use Rattle.agent_worker.specs.Types.{Event, Why, Taken, Accepted, NotOpen, Wrong
 use Rattle.agent_worker.specs.Gate.{Told, is_accepted}
 use Rattle.agent_worker.specs.Acts.{Act, Called, Reported, HasStream, kept, kept_before, accepted, output_in, latest_look, unreported, bytes_of, WasDone}
 use Rattle.agent_worker.specs.Causes.{FoundEnd, Exits, IsCaused}
-use Rattle.agent_worker.specs.Serving.{IsServe, EndsFor, exited, lost, served_by}
+use Rattle.agent_worker.specs.Serving.{IsInTurn, MayReport, IsServe, EndsFor, exited, lost, served_by}
 use Rattle.agent_worker.specs.Delivering.{Holds, Delivers}
 use Rattle.agent_worker.specs.Serve.{Seen}
 use Rattle.agent_worker.specs.Standing.{Stands, ServesOn, Tells}
@@ -110,10 +110,10 @@ ends-last order event past (Err take_fault.Stopped) last = ends-told order event
 
 -- The report of a last event.
 pub stands-last : (honest : Type 0) (order : Order) (looks : ℕ) (old now : Seen) (past : List Act) (event : Event) (answer : Result Taken TakeFault) (told : Option (List Told)) (reports : Option (List GateCall)) (ending : Served)
-    → Stands honest order looks old now past → (tells : Tells event now.told told now.reports reports ending) → IsCaused order looks past event → IsLast order event → unreported past ≡ []
+    → Stands honest order looks old now past → (tells : Tells event now.told told now.reports reports ending) → IsCaused order looks past event → IsLast order event → unreported past ≡ [] → MayReport order past
     → Stands honest order looks old (record now { told = told; reports = reports }) (Reported event tells.answer ∷ past)
-stands-last honest order looks old now past event answer told reports ending stands tells caused last all =
-    stands-reported honest order looks old now past event tells.answer told reports stands tells.told_so tells.called caused (all ∙ last-no-bytes order event last)
+stands-last honest order looks old now past event answer told reports ending stands tells caused last all may =
+    stands-reported honest order looks old now past event tells.answer told reports stands tells.told_so tells.called caused (all ∙ last-no-bytes order event last) may
     (λ is holds. holds-on order (now.output order.task) (now.output order.task) (now.exited order.task) (now.exited order.task) past (Reported event tells.answer) same refl found
     (grew-of order.task now.exited now.exited now.output now.output (goes-nowhere order.task now.exited now.output)) holds)
   where
@@ -126,26 +126,26 @@ stands-last honest order looks old now past event answer told reports ending sta
 
 pub serves-last : (honest : Type 0) (order : Order) (looks : ℕ) (old now : Seen) (past : List Act) (event : Event) (told : Option (List Told)) (reports : Option (List GateCall)) (ending : Served)
     → (begun : List Act) → ((act : Act) → WasDone act begun → WasDone act past)
-    → Stands honest order looks old now past → Tells event now.told told now.reports reports ending → IsCaused order looks past event → IsLast order event → unreported past ≡ []
+    → Stands honest order looks old now past → Tells event now.told told now.reports reports ending → IsCaused order looks past event → IsLast order event → unreported past ≡ [] → MayReport order past
     → ServesOn honest order looks old (record now { told = told; reports = reports }) begun ending
-serves-last honest order looks old now past event told reports ending begun still stands tells caused last all =
+serves-last honest order looks old now past event told reports ending begun still stands tells caused last all may =
     serves-by honest order looks old (record now { told = told; reports = reports }) (Reported event tells.answer ∷ past) ending begun (λ act done. inr (still act done))
-    (stands-last honest order looks old now past event tells.answer told reports ending stands tells caused last all)
+    (stands-last honest order looks old now past event tells.answer told reports ending stands tells caused last all may)
     (subst (EndsFor order (Reported event tells.answer ∷ past)) (sym tells.means) (ends-last order event past tells.answer last))
 
 -- The exit was accepted, and the folder removed.
 pub serves-removed : (honest before : Type 0) (order : Order) (looks : ℕ) (old now : Seen) (past : List Act) (code : ℤ) (told : Option (List Told)) (reports : Option (List GateCall)) (ending : Served)
     (removed : Result (Unit {0}) Failed) (calls : Option (List Call)) (output : ℕ → Stream → List ℕ) (exited_now : ℕ → Option ℤ)
-    → Stands before order looks old now past → (event : Event) → event ≡ exited order code → Tells event now.told told now.reports reports ending → ending ≡ served.Done → Exits order code past → unreported past ≡ []
+    → Stands before order looks old now past → (event : Event) → event ≡ exited order code → Tells event now.told told now.reports reports ending → ending ≡ served.Done → Exits order code past → unreported past ≡ [] → IsInTurn past
     → (honest → before) → Records now.calls calls (call.Remove order removed) → (before → GoesOn order.task now.exited exited_now now.output output)
     → ServesOn honest order looks old (record { calls = calls; told = told; reports = reports; output = output; exited = exited_now }) past served.Done
-serves-removed honest before order looks old now past code told reports ending removed calls output exited_now stands event is_exit tells_so done exits all is_honest kept_call goes =
+serves-removed honest before order looks old now past code told reports ending removed calls output exited_now stands event is_exit tells_so done exits all turning is_honest kept_call goes =
     let tells = subst (λ (e : Event). Tells e now.told told now.reports reports ending) is_exit tells_so in
     let accepted_so = done-accepted tells.answer (sym tells.means ∙ done) in
     let next = Reported (exited order code) (Ok Accepted) ∷ past in
     let mid = record now { told = told; reports = reports } in
     let reported = subst (λ (a : Result Taken TakeFault). Stands before order looks old mid (Reported (exited order code) a ∷ past)) accepted_so
-    (stands-last before order looks old now past (exited order code) tells.answer told reports ending stands tells (refl, exits) (inl (code, refl)) all) in
+    (stands-last before order looks old now past (exited order code) tells.answer told reports ending stands tells (refl, exits) (inl (code, refl)) all (inl turning)) in
     let gone = stands-called honest before order looks old mid next (call.Remove order removed) calls output exited_now reported is_honest kept_call (refl, (code, past, refl)) goes
     (λ is holds. holds-on order (now.output order.task) (output order.task) (now.exited order.task) (exited_now order.task) next (Called (call.Remove order removed)) (λ s. refl) refl found
     (grew-of order.task now.exited exited_now now.output output (goes is)) holds) in
@@ -158,7 +158,7 @@ serves-removed honest before order looks old now past code told reports ending r
 
 -- The report of an exit.
 pub serves-exited : (honest : Type 0) (order : Order) (looks : ℕ) (old now : Seen) (past : List Act) (code : ℤ) (event : Event) (told : Option (List Told)) (reports : Option (List GateCall)) (ending : Served)
-    → Stands honest order looks old now past → event ≡ exited order code → Tells event now.told told now.reports reports ending → Exits order code past → unreported past ≡ []
+    → Stands honest order looks old now past → event ≡ exited order code → Tells event now.told told now.reports reports ending → Exits order code past → unreported past ≡ [] → IsInTurn past
     → ServesOn honest order looks old (record now { told = told; reports = reports }) past ending
-serves-exited honest order looks old now past code event told reports ending stands is tells exits all =
-    serves-last honest order looks old now past (exited order code) told reports ending past (λ act done. done) stands (subst (λ (e : Event). Tells e now.told told now.reports reports ending) is tells) (refl, exits) (inl (code, refl)) all
+serves-exited honest order looks old now past code event told reports ending stands is tells exits all turning =
+    serves-last honest order looks old now past (exited order code) told reports ending past (λ act done. done) stands (subst (λ (e : Event). Tells e now.told told now.reports reports ending) is tells) (refl, exits) (inl (code, refl)) all (inl turning)

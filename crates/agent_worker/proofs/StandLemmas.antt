@@ -12,7 +12,7 @@ use Rattle.agent_worker.specs.Types.{Event, Taken, Order, Stream, Call, Look}
 use Rattle.agent_worker.specs.Gate.{Told, told_as, Adds, AddsTold, is_told, added_if}
 use Rattle.agent_worker.specs.Acts.{Act, Called, Reported, with_calls, with_told, with_reports, looked, unreported, bytes_of}
 use Rattle.agent_worker.specs.Causes.{IsCaused}
-use Rattle.agent_worker.specs.Serving.{MayDo, MayLook}
+use Rattle.agent_worker.specs.Serving.{MayDo, MayLook, MayReport}
 use Rattle.agent_worker.specs.Delivering.{Holds}
 use Rattle.agent_worker.specs.Serve.{Seen}
 use Rattle.agent_worker.specs.Standing.{Stands}
@@ -41,16 +41,16 @@ stands-called honest before order looks old now past call calls output exited st
 pub stands-reported : (honest : Type 0) (order : Order) (looks : ℕ) (old now : Seen) (past : List Act) (event : Event) (answer : Result Taken TakeFault) (told : Option (List Told)) (reports : Option (List GateCall))
     → Stands honest order looks old now past
     → AddsTold event answer now.told told → Adds (gate_call.Report event answer) now.reports reports
-    → IsCaused order looks past event → unreported past ≡ bytes_of event
+    → IsCaused order looks past event → unreported past ≡ bytes_of event → MayReport order past
     → (honest → Holds order (now.output order.task) (now.exited order.task) past → Holds order (now.output order.task) (now.exited order.task) (Reported event answer ∷ past))
     → Stands honest order looks old (record now { told = told; reports = reports }) (Reported event answer ∷ past)
-stands-reported honest order looks old now past event answer told reports stands told_so reported caused all holds = record {
+stands-reported honest order looks old now past event answer told reports stands told_so reported caused all may holds = record {
   shows = record {
     calls = stands.shows.calls;
     told = becomes (with_told past) (added_if (is_told answer) (told_as event answer)) old.told now.told told stands.shows.told told_so;
     reports = becomes (with_reports past) (λ list. list ++ gate_call.Report event answer ∷ []) old.reports now.reports reports stands.shows.reports reported;
   };
-  lawful = ((caused, all), stands.lawful);
+  lawful = ((caused, all, may), stands.lawful);
   holds = λ is. holds is (stands.holds is);
   goes_on = stands.goes_on;
 }

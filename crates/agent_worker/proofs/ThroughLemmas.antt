@@ -4,9 +4,15 @@ use Rattle.std.specs.Prelude.{MatchBool}
 use Rattle.agent_worker.specs.declared.reading.Piece.TheVariants as piece
 use Rattle.agent_worker.specs.Types.{Event, OutputEvent, Accepted, Order, Stream}
 use Rattle.agent_worker.specs.Acts.{Act, Reported, named, kept, read, unreported, WasDone}
+use Rattle.agent_worker.specs.Serving.{IsInTurn}
 use Rattle.agent_worker.specs.Serve.{Seen}
 use Rattle.agent_worker.specs.Standing.{Stands}
-use Rattle.agent_worker.specs.Reading.{TakesIn, More, ReadsPiece, ReadsThrough}
+use Rattle.agent_worker.specs.Reading.{TakesIn, None_yet, More, ReadsPiece, ReadsThrough}
+
+-- reads with their reports leave a turn on
+pub takes-in-turn : (order : Order) (stream : Stream) (past next : List Act) → TakesIn order stream past next → IsInTurn past → IsInTurn next
+takes-in-turn order stream past _ None_yet turning = turning
+takes-in-turn order stream past _ (More place bytes next some takes) turning = (refl, refl, takes-in-turn order stream past next takes turning)
 
 -- its latest act is a report that was accepted, behind another
 abbrev pub EndsTaken : List Act → Type 0

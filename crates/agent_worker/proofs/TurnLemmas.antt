@@ -6,13 +6,14 @@ use Rattle.task_host.specs.declared.answers.Started.TheVariants as start
 use Rattle.agent_worker.specs.declared.turn.Turn.{Turn}
 use Rattle.agent_worker.specs.Types.{Event, Accepted, Order, Stream, Log, Out, Look}
 use Rattle.agent_worker.specs.Acts.{Act, Reported, HasStream, kept, kept_before, accepted, latest_look, unreported, bytes_in, WasDone, looked, started, read}
-use Rattle.agent_worker.specs.Causes.{FoundEnd, IsEmpty, IsVain, turn}
+use Rattle.agent_worker.specs.Causes.{FoundEnd, IsEmpty, IsReadThrough, IsVain, turn}
 use Rattle.agent_worker.specs.declared.reading.Reading.{Reading}
+use Rattle.agent_worker.specs.Serving.{IsInTurn}
 use Rattle.agent_worker.specs.Serve.{Seen}
 use Rattle.agent_worker.specs.Reading.{TakesIn, None_yet, More, ReadsThrough}
 use Rattle.agent_worker.specs.Turning.{IsReadOut, Turned, TakesTurn}
 use Rattle.agent_worker.proofs.ReadLemmas.{no-bytes}
-use Rattle.agent_worker.proofs.ThroughLemmas.{EndsTaken}
+use Rattle.agent_worker.proofs.ThroughLemmas.{EndsTaken, takes-in-turn}
 
 -- reads with their reports leave what the latest look said
 takes-look : (order : Order) (stream : Stream) (past next : List Act) → TakesIn order stream past next → latest_look next ≡ latest_look past
@@ -39,6 +40,10 @@ takes-found order stream past _ (More place bytes next some takes) s p (inr (non
 takes-keeps-found : (order : Order) (stream : Stream) (past next : List Act) → TakesIn order stream past next → (s : Stream) (p : ℕ) → FoundEnd order s p past → FoundEnd order s p next
 takes-keeps-found order stream past _ None_yet s p found = found
 takes-keeps-found order stream past _ (More place bytes next some takes) s p found = inr (refl, inr (refl, takes-keeps-found order stream past next takes s p found))
+
+takes-keeps-through : (order : Order) (stream : Stream) (past next : List Act) → TakesIn order stream past next → (s : Stream) (p : ℕ) → IsReadThrough order s p past → IsReadThrough order s p next
+takes-keeps-through order stream past _ None_yet s p through = through
+takes-keeps-through order stream past _ (More place bytes next some takes) s p through = inr (refl, inr (refl, takes-keeps-through order stream past next takes s p through))
 
 -- the other stream stands where it stood
 takes-log : (order : Order) (past next : List Act) → TakesIn order Log past next → accepted Out next ≡ accepted Out past
@@ -155,6 +160,8 @@ turned-log order l past b log given bytes failed keeps at takes how taken = reco
   still_done = λ act done. inr (takes-done order Log (looked order l ∷ past) b takes act (inr done));
   not_failed = λ done. before_look (behind_read done);
   told = none-to-report order Log log failed given how;
+  in_turn = takes-in-turn order Log (looked order l ∷ past) b takes tt;
+  read_through = λ stream has. through stream has;
 }
   where
     no_out : order.keep_out ≡ true → ⊥
@@ -164,6 +171,10 @@ turned-log order l past b log given bytes failed keeps at takes how taken = reco
     out is Log has = let e : given ≡ Some [] = at-false (given ≡ None) (given ≡ Some []) failed is how in
         inl (ap (λ (p : ℕ). read order Log p given) at ∙ ap (λ (x : Option (List ℕ)). read order Log (kept order Log b) x) e)
     out is Out has = absurd (no_out has)
+
+    through : (stream : Stream) → HasStream order stream → IsReadThrough order stream (kept order stream (read order Log log given ∷ b)) (read order Log log given ∷ b)
+    through Log has = inl (given, empty-by failed given how, ap (λ (p : ℕ). read order Log p given) at)
+    through Out has = absurd (no_out has)
 
     missed : given ≡ None → FoundEnd order Log (kept order Log b) (read order Log log given ∷ b) → ⊥
     missed none (inl e) = cc
@@ -223,6 +234,8 @@ turned-both order l past b b2 log out given given2 bytes failed bytes2 failed2 k
   still_done = λ act done. inr (takes-done order Out (read order Log log given ∷ b) b2 takes2 act (inr (takes-done order Log (looked order l ∷ past) b takes act (inr done))));
   not_failed = λ done. before_look (behind_log (behind_out done));
   told = none-to-report order Out out failed2 given2 how2;
+  in_turn = takes-in-turn order Out (read order Log log given ∷ b) b2 takes2 (takes-in-turn order Log (looked order l ∷ past) b takes tt);
+  read_through = λ stream has. through stream has;
 }
   where
     read_so : (failed || failed2) ≡ false → (stream : Stream) → HasStream order stream → FoundEnd order stream (kept order stream (read order Out out given2 ∷ b2)) (read order Out out given2 ∷ b2)
@@ -233,6 +246,13 @@ turned-both order l past b b2 log out given given2 bytes failed bytes2 failed2 k
         let place : kept order Log b2 ≡ kept order Log b = keeps-log order (read order Log log given ∷ b) b2 takes2 in
         let there : FoundEnd order Log (kept order Log b2) (read order Log log given ∷ b) = inl (ap (λ (p : ℕ). read order Log p given) (at ∙ sym place) ∙ ap (λ (x : Option (List ℕ)). read order Log (kept order Log b2) x) e) in
         inr (refl, takes-keeps-found order Out (read order Log log given ∷ b) b2 takes2 Log (kept order Log b2) there)
+
+    through : (stream : Stream) → HasStream order stream → IsReadThrough order stream (kept order stream (read order Out out given2 ∷ b2)) (read order Out out given2 ∷ b2)
+    through Out has = inl (given2, empty-by failed2 given2 how2, ap (λ (p : ℕ). read order Out p given2) at2)
+    through Log has =
+        let place : kept order Log b2 ≡ kept order Log b = keeps-log order (read order Log log given ∷ b) b2 takes2 in
+        let there : IsReadThrough order Log (kept order Log b2) (read order Log log given ∷ b) = inl (given, empty-by failed given how, ap (λ (p : ℕ). read order Log p given) (at ∙ sym place)) in
+        inr (refl, takes-keeps-through order Out (read order Log log given ∷ b) b2 takes2 Log (kept order Log b2) there)
 
     out_missed : (p : ℕ) → given2 ≡ None → FoundEnd order Out p (read order Out out given2 ∷ b2) → ⊥
     out_missed p none (inl e) = cc
@@ -327,6 +347,12 @@ pub through-reported : (honest : Type 0) (order : Order) (looks : ℕ) (stream :
     → (first : ReadsThrough honest order looks stream old now place past (Ok reading)) → unreported first.next ≡ []
 through-reported honest order looks stream old now place past reading first =
     ap unreported first.adds.2 ∙ none-to-report order stream place reading.failed first.adds.1 first.adds.5
+
+-- and the turn is still on
+pub through-in-turn : (honest : Type 0) (order : Order) (looks : ℕ) (stream : Stream) (old now : Seen) (place : ℕ) (past : List Act) (reading : Reading)
+    → (first : ReadsThrough honest order looks stream old now place past (Ok reading)) → IsInTurn past → IsInTurn first.next
+through-in-turn honest order looks stream old now place past reading first turning =
+    subst IsInTurn (sym first.adds.2) (takes-in-turn order stream past first.adds.0 first.adds.4 turning)
 
 pub turns-both : (honest before : Type 0) (order : Order) (looks : ℕ) (old mid now : Seen) (l : Look) (past : List Act) (log out : ℕ) (reading reading2 : Reading) (said : Turn)
     → order.keep_out ≡ true

@@ -115,6 +115,15 @@ bytes_of (ExitedEvent task code) = []
 bytes_of (LostEvent task why) = []
 bytes_of (DecidedEvent request proceed name) = []
 
+-- an event that reports output
+abbrev pub is_output : Event → Bool
+is_output (OutputEvent task name «from» bytes) = true
+is_output (StartEvent script agents) = false
+is_output (GrantedEvent request executor) = false
+is_output (ExitedEvent task code) = false
+is_output (LostEvent task why) = false
+is_output (DecidedEvent request proceed name) = false
+
 -- this was done
 abbrev pub WasDone : Act → List Act → Type 0
 WasDone act [] = ⊥

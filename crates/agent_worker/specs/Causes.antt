@@ -38,6 +38,11 @@ pub record IsNotStarted (order : Order) (past : List Act) : Type 0 where
 abbrev pub IsEmpty : Option (List ℕ) → Type 0
 IsEmpty given = (given ≡ None) ⊎ (given ≡ Some [])
 
+-- since the latest look, a read of this stream from this place gave no byte
+abbrev pub IsReadThrough : Order → Stream → ℕ → List Act → Type 0
+IsReadThrough order stream place [] = ⊥
+IsReadThrough order stream place (act ∷ past) = ((given : Option (List ℕ)) × IsEmpty given × (act ≡ read order stream place given)) ⊎ ((look_in act ≡ None) × IsReadThrough order stream place past)
+
 -- A turn, behind what was done before it: a look, and of every stream a read from its kept place.
 abbrev pub turn : Order → Look → Option (List ℕ) → Option (List ℕ) → List Act → List Act
 turn order answer log out past =

@@ -1,8 +1,8 @@
 -- What a serve does: each thing that it does may follow what it did before, and it ends for a reason.
-use Rattle.std.specs.Prelude.{◌≡◌, ◌≢◌, ◌⊎◌, ◌∷◌, [], List, ℕ, ℤ, Result, Ok, Err}
+use Rattle.std.specs.Prelude.{◌≡◌, ◌≢◌, ◌⊎◌, ◌∷◌, [], List, ℕ, ℤ, true, Result, Ok, Err}
 use Rattle.device_faults.specs.declared.faults.Failed.{Failed}
 use Rattle.agent_worker.specs.Types.{Event, ExitedEvent, LostEvent, Taken, Accepted, NotOpen, WrongPlace, Finished}
-use Rattle.agent_worker.specs.Types.{Why, Order}
+use Rattle.agent_worker.specs.Types.{Why, Order, Stream}
 use Rattle.task_host.specs.declared.call.Call.TheVariants as call
 use Rattle.task_host.specs.declared.answers.Made.TheVariants as made
 use Rattle.task_host.specs.declared.answers.Started.TheVariants as start
@@ -10,8 +10,8 @@ use Rattle.agent_worker.specs.declared.fault.TakeFault.{TakeFault}
 use Rattle.agent_worker.specs.declared.fault.TakeFault.TheVariants as take_fault
 use Rattle.agent_worker.specs.declared.task.Served.{Served}
 use Rattle.agent_worker.specs.declared.task.Served.TheVariants as served
-use Rattle.agent_worker.specs.Acts.{Act, Called, Reported, HasStream, kept, unreported, bytes_of, made_dir, started, paused}
-use Rattle.agent_worker.specs.Causes.{IsCaused}
+use Rattle.agent_worker.specs.Acts.{Act, Called, Reported, HasStream, kept, unreported, bytes_of, is_output, made_dir, started, paused}
+use Rattle.agent_worker.specs.Causes.{IsReadThrough, IsCaused}
 
 -- The beginning of a serve: the folder was made and the task started, or the folder was there or may be.
 pub data Opened (order : Order) : List Act → Type 0 where
@@ -22,6 +22,21 @@ pub data Opened (order : Order) : List Act → Type 0 where
 -- A turn may begin: after the beginning, and after a pause.
 abbrev pub MayLook : Order → List Act → Type 0
 MayLook order past = Opened order past ⊎ ((before : List Act) × (past ≡ paused ∷ before))
+
+-- A turn is on: a look came, and since then only reads, and reports of output that were accepted.
+abbrev pub IsInTurn : List Act → Type 0
+IsInTurn [] = ⊥
+IsInTurn (Called (call.Look order answer) ∷ past) = Unit {0}
+IsInTurn (Called (call.Read order stream «from» room answer) ∷ past) = IsInTurn past
+IsInTurn (Called (call.MakeDir order answer) ∷ past) = ⊥
+IsInTurn (Called (call.Start order answer) ∷ past) = ⊥
+IsInTurn (Called call.Pause ∷ past) = ⊥
+IsInTurn (Called (call.Remove order answer) ∷ past) = ⊥
+IsInTurn (Reported event answer ∷ past) = (is_output event ≡ true) × (answer ≡ Ok Accepted) × IsInTurn past
+
+-- A report may come: within a turn, or directly behind a start that failed.
+abbrev pub MayReport : Order → List Act → Type 0
+MayReport order past = IsInTurn past ⊎ (past ≡ started order start.Failed ∷ made_dir order made.Made ∷ [])
 
 -- The last events of a task.
 abbrev pub exited : Order → ℤ → Event
@@ -36,17 +51,19 @@ pub record HasNoEnd (order : Order) (looks : ℕ) (past : List Act) : Type 0 whe
   pub not_lost : (why : Why) → IsCaused order looks past (lost order why) → ⊥
 
 -- What may be done after this past. Every call is on the order, and every report has its cause: the folder is made
--- first; the task is started only where its folder was made, and before any look; reads are from kept places; what a read
--- gave is reported before anything else is done; a pause comes only where no last event has a cause; the folder is
--- removed only after the exit was accepted.
+-- first; the task is started only where its folder was made, and nothing else may follow then; a look comes behind that
+-- beginning, and behind a pause; reads come within a turn, from kept places; what a read gave is reported before anything
+-- else is done; a pause ends a turn in which every stream was read until a read gave no byte, and no last event has a
+-- cause; behind a last event, and behind output that was not accepted, nothing comes, but for the removal of the folder
+-- after the exit was accepted. (This product's own rule.)
 abbrev pub MayDo : Order → ℕ → List Act → Act → Type 0
 MayDo order looks past (Called (call.MakeDir o answer)) = (o ≡ order) × (past ≡ [])
 MayDo order looks past (Called (call.Start o answer)) = (o ≡ order) × (past ≡ made_dir order made.Made ∷ [])
 MayDo order looks past (Called (call.Look o answer)) = (o ≡ order) × MayLook order past
-MayDo order looks past (Called (call.Read o stream «from» room answer)) = (o ≡ order) × HasStream order stream × («from» ≡ kept order stream past) × (room ≡ 65536) × (unreported past ≡ [])
-MayDo order looks past (Called call.Pause) = HasNoEnd order looks past × (unreported past ≡ [])
+MayDo order looks past (Called (call.Read o stream «from» room answer)) = (o ≡ order) × HasStream order stream × («from» ≡ kept order stream past) × (room ≡ 65536) × (unreported past ≡ []) × IsInTurn past
+MayDo order looks past (Called call.Pause) = HasNoEnd order looks past × (unreported past ≡ []) × IsInTurn past × ((stream : Stream) → HasStream order stream → IsReadThrough order stream (kept order stream past) past)
 MayDo order looks past (Called (call.Remove o answer)) = (o ≡ order) × ((code : ℤ) × (before : List Act) × (past ≡ Reported (exited order code) (Ok Accepted) ∷ before))
-MayDo order looks past (Reported event answer) = IsCaused order looks past event × (unreported past ≡ bytes_of event)
+MayDo order looks past (Reported event answer) = IsCaused order looks past event × (unreported past ≡ bytes_of event) × MayReport order past
 
 -- All of it may be done.
 abbrev pub IsServe : Order → ℕ → List Act → Type 0

@@ -8,8 +8,8 @@ use Rattle.agent_worker.specs.declared.turn.Turn.{Turn}
 use Rattle.agent_worker.specs.declared.turn.Next.{Next}
 use Rattle.agent_worker.specs.declared.turn.Next.TheVariants as next
 use Rattle.agent_worker.specs.Acts.{Act, HasStream, kept, unreported, latest_look, WasDone, started}
-use Rattle.agent_worker.specs.Causes.{FoundEnd, IsVain}
-use Rattle.agent_worker.specs.Serving.{EndsFor}
+use Rattle.agent_worker.specs.Causes.{FoundEnd, IsReadThrough, IsVain}
+use Rattle.agent_worker.specs.Serving.{IsInTurn, EndsFor}
 use Rattle.agent_worker.specs.Serve.{Seen}
 use Rattle.agent_worker.specs.Standing.{Stands}
 
@@ -28,6 +28,8 @@ pub record Turned (order : Order) (past next : List Act) (turn : Turn) : Type 0 
   pub still_done : (act : Act) → WasDone act past → WasDone act next
   pub not_failed : WasDone (started order start.Failed) next → WasDone (started order start.Failed) past
   pub told : unreported next ≡ []
+  pub in_turn : IsInTurn next
+  pub read_through : (stream : Stream) → HasStream order stream → IsReadThrough order stream (kept order stream next) next
 
 abbrev pub AddsTurn : Order → ℕ → ℕ → List Act → List Act → Result Turn Served → Type 0
 AddsTurn order log out past next (Ok turn) = (log ≡ kept order Log next) × (out ≡ kept order Out next) × Turned order past next turn

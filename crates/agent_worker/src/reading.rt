@@ -2,6 +2,7 @@
 
 ghost use Rattle.std.specs.Prelude.{◌≡◌, ◌↔◌, ℕ, [], List, length};
 ghost use Rattle.agent_worker.specs.Acts.{Act, HasStream, kept, unreported, named as name_of};
+ghost use Rattle.agent_worker.specs.Serving.{IsInTurn};
 ghost use Rattle.agent_worker.specs.Serve.{Seen, seen, KeepsGate};
 ghost use Rattle.agent_worker.specs.Standing.{Stands, Tells};
 ghost use Rattle.agent_worker.specs.Reading.{ReadsPiece, ReadsThrough};
@@ -72,7 +73,7 @@ pub(crate) fn read_piece<G: Gate, H: Host>(
     buf: &mut [u8],
 ) -> Result<Piece, Served>
     requires size { length buf.old ≡ 65536 }
-    ensures reads { (looks : ℕ) (old : Seen) (past : List Act) → HasStream order.now stream → place.old ≡ kept order.now stream past → unreported past ≡ []
+    ensures reads { (looks : ℕ) (old : Seen) (past : List Act) → HasStream order.now stream → place.old ≡ kept order.now stream past → unreported past ≡ [] → IsInTurn past
         → Stands (H.honest host.old) order.now looks old (seen H.calls H.output H.exited G.told G.calls host.old gate.old) past
         → ReadsPiece (H.honest host.new) order.now looks stream old (seen H.calls H.output H.exited G.told G.calls host.new gate.new) place.old place.new past result }
     ensures gate { KeepsGate (G.claimed gate.old) (G.claimed gate.new) (G.lines gate.old) (G.lines gate.new) (G.is_open gate.old) (G.is_open gate.new) }
@@ -115,7 +116,7 @@ pub(crate) fn read_through<R: Wait, G: Gate, H: Host>(
     buf: &mut [u8],
 ) -> Result<Reading, Served>
     requires size { length buf.old ≡ 65536 }
-    ensures reads { (looks : ℕ) (old : Seen) (past : List Act) → HasStream order.now stream → place.old ≡ kept order.now stream past → unreported past ≡ []
+    ensures reads { (looks : ℕ) (old : Seen) (past : List Act) → HasStream order.now stream → place.old ≡ kept order.now stream past → unreported past ≡ [] → IsInTurn past
         → Stands (H.honest host.old) order.now looks old (seen H.calls H.output H.exited G.told G.calls host.old gate.old) past
         → ReadsThrough (H.honest host.new) order.now looks stream old (seen H.calls H.output H.exited G.told G.calls host.new gate.new) place.new past result }
     ensures gate { KeepsGate (G.claimed gate.old) (G.claimed gate.new) (G.lines gate.old) (G.lines gate.new) (G.is_open gate.old) (G.is_open gate.new) }

@@ -4,7 +4,7 @@ ghost use Rattle.std.specs.Prelude.{◌≡◌, ◌<◌, ◌↔◌, ◌++◌, ◌
 ghost use Rattle.task_host.specs.Host.{GoesOn};
 ghost use Rattle.agent_worker.specs.Acts.{Act, unreported};
 ghost use Rattle.agent_worker.specs.Causes.{Exits};
-ghost use Rattle.agent_worker.specs.Serving.{Opened, exited, lost};
+ghost use Rattle.agent_worker.specs.Serving.{Opened, IsInTurn, exited, lost};
 ghost use Rattle.agent_worker.specs.Folders.{LeavesFolders};
 ghost use Rattle.agent_worker.specs.Serve.{Seen, seen, tasks_at, ServesOrder, KeepsGate};
 ghost use Rattle.agent_worker.specs.Standing.{Stands, ServesOn, Tells, Opens};
@@ -57,7 +57,7 @@ fn exit_of(order: &Order, code: i32) -> Event
 
 // Reports that the task exited, and removes its folder where that was accepted.
 fn finish<G: Gate, H: Host>(gate: &mut G, host: &mut H, order: &Order, code: i32) -> Served
-    ensures serves { (looks : ℕ) (old : Seen) (past : List Act) → Exits order.now code past → unreported past ≡ []
+    ensures serves { (looks : ℕ) (old : Seen) (past : List Act) → Exits order.now code past → unreported past ≡ [] → IsInTurn past
         → Stands (H.honest host.old) order.now looks old (seen H.calls H.output H.exited G.told G.calls host.old gate.old) past
         → ServesOn (H.honest host.new) order.now looks old (seen H.calls H.output H.exited G.told G.calls host.new gate.new) past result }
     ensures gate { KeepsGate (G.claimed gate.old) (G.claimed gate.new) (G.lines gate.old) (G.lines gate.new) (G.is_open gate.old) (G.is_open gate.new) }

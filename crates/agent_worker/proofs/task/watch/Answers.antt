@@ -1,4 +1,4 @@
-use Rattle.std.proofs.Common.{◌≡◌, inr, sym, ◌∙◌, refl, subst, ℤ, rules, to_z, of_z, w32}
+use Rattle.std.proofs.Common.{◌≡◌, inl, inr, sym, ◌∙◌, refl, subst, ℤ, rules, to_z, of_z, w32}
 use Rattle.agent_worker.specs.Causes.{Exits}
 use Rattle.agent_worker.specs.Types.{NotStarted, Gone}
 use Rattle.agent_worker.specs.Serving.{lost}
@@ -20,7 +20,7 @@ returns-in-Exited-clause-serves g c old past opened stands =
     let turn = c.in-Ok.ensures.turns c.args.looks old aw.past aw.may aw.log_at aw.out_at aw.stands in
     let means = c.in-Exited.ensures.decides in
     let code_is : to_z w32 (of_z w32 c.in-Exited.code) ≡ c.in-Exited.code = search rules in
-    let on = c.finish.ensures.serves c.args.looks old turn.next (subst (λ (z : ℤ). Exits c.args.order.now z turn.next) (sym code_is) (exits-so c.args.order.now c.in-Exited.code c.in-Ok.turn aw.past turn.next turn.adds.2 means.0 means.1)) turn.adds.2.told turn.stands in
+    let on = c.finish.ensures.serves c.args.looks old turn.next (subst (λ (z : ℤ). Exits c.args.order.now z turn.next) (sym code_is) (exits-so c.args.order.now c.in-Exited.code c.in-Ok.turn aw.past turn.next turn.adds.2 means.0 means.1)) turn.adds.2.told turn.adds.2.in_turn turn.stands in
     record { serve = on.serve; still = λ act done. on.still act (turn.still act (aw.still act done)) }
 
 pub returns-in-NotStarted-clause-serves : goal.returns-in-NotStarted-clause-serves
@@ -28,7 +28,7 @@ returns-in-NotStarted-clause-serves g c old past opened stands =
     let aw = c.loop.invariant.awaits old past opened stands in
     let turn = c.in-Ok.ensures.turns c.args.looks old aw.past aw.may aw.log_at aw.out_at aw.stands in
     serves-last _ c.args.order.now c.args.looks old _ turn.next (lost c.args.order.now NotStarted) _ _ c.lose.result past (λ act done. turn.still act (aw.still act done)) turn.stands c.lose.ensures.tells
-    (refl, not-started-so c.args.order.now c.in-Ok.turn aw.past turn.next turn.adds.2 aw.begun c.in-NotStarted.ensures.decides) (inr (NotStarted, refl)) turn.adds.2.told
+    (refl, not-started-so c.args.order.now c.in-Ok.turn aw.past turn.next turn.adds.2 aw.begun c.in-NotStarted.ensures.decides) (inr (NotStarted, refl)) turn.adds.2.told (inl turn.adds.2.in_turn)
 
 pub returns-in-Gone-clause-serves : goal.returns-in-Gone-clause-serves
 returns-in-Gone-clause-serves g c old past opened stands =
@@ -36,7 +36,7 @@ returns-in-Gone-clause-serves g c old past opened stands =
     let turn = c.in-Ok.ensures.turns c.args.looks old aw.past aw.may aw.log_at aw.out_at aw.stands in
     let means = c.in-Gone.ensures.decides in
     serves-last _ c.args.order.now c.args.looks old _ turn.next (lost c.args.order.now Gone) _ _ c.lose-in-Gone.result past (λ act done. turn.still act (aw.still act done)) turn.stands c.lose-in-Gone.ensures.tells
-    (refl, gone-so c.args.order.now c.args.looks c.loop.vain c.in-Ok.turn aw.past turn.next turn.adds.2 means.0 means.1 means.2 aw.row) (inr (Gone, refl)) turn.adds.2.told
+    (refl, gone-so c.args.order.now c.args.looks c.loop.vain c.in-Ok.turn aw.past turn.next turn.adds.2 means.0 means.1 means.2 aw.row) (inr (Gone, refl)) turn.adds.2.told (inl turn.adds.2.in_turn)
 
 pub loop-preserved : goal.loop-preserved
 loop-preserved g c =
