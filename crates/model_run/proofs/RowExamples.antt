@@ -12,7 +12,7 @@ use Rattle.model_run.specs.RunTypes.{FrameKind}
 use Rattle.model_run.specs.declared.frame.FrameKind.TheVariants as kind
 use Rattle.model_run.specs.Around.{Shape}
 use Rattle.model_run.specs.State.{Env}
-use Rattle.model_run.specs.FrameTable.{Sort, Further, Any, Up_to, Flag, Flow_node, A_closure, A_throwable, Text_or_null, Part, Inner, Suffix, Called, Own_body, Executor_wait, Task_wait, Person_wait, Branches_wait, No_more, One_more, Any_more, row, frame_row, enters_body}
+use Rattle.model_run.specs.FrameTable.{Sort, Further, Any, Up_to, A_count, Flag, Flow_node, A_closure, A_throwable, Text_or_null, Part, Inner, Suffix, Called, Own_body, Executor_wait, Task_wait, Person_wait, Branches_wait, No_more, One_more, Any_more, row, frame_row, enters_body}
 
 abbrev a_script : Shape
 a_script = record { form = form.Script; parts = form.Evaluate ∷ form.Declare (codes "x") ∷ [] }
@@ -488,7 +488,7 @@ stage_body_row = refl
 catch_error_body_row : frame_row kind.CatchErrorBody a_catchError 0 [] ≡ row true 1 (Flow_node ∷ Flow_node ∷ Up_to 4 ∷ Text_or_null ∷ []) Called
 catch_error_body_row = refl
 
-retry_body_row : frame_row kind.RetryBody a_retry 0 [] ≡ row true 1 (Flow_node ∷ Flow_node ∷ Up_to 2147483646 ∷ A_closure ∷ []) Called
+retry_body_row : frame_row kind.RetryBody a_retry 0 [] ≡ row true 1 (Flow_node ∷ Flow_node ∷ A_count ∷ A_closure ∷ []) Called
 retry_body_row = refl
 
 node_wait_row : frame_row kind.NodeWait a_node 0 [] ≡ row true 1 (A_closure ∷ []) Executor_wait
@@ -522,25 +522,25 @@ walk_of f = record { form = form.Method Direct (codes f); parts = form.Closure N
 abbrev kept_by : String → List Sort × Further
 kept_by f = ((frame_row kind.WalkTurn (walk_of f) 0 []).values, (frame_row kind.WalkTurn (walk_of f) 0 []).further)
 
-each_keeps : kept_by "each" ≡ (Any ∷ A_closure ∷ Up_to 2147483646 ∷ [], No_more)
+each_keeps : kept_by "each" ≡ (Any ∷ A_closure ∷ A_count ∷ [], No_more)
 each_keeps = refl
 
-collect_keeps : kept_by "collect" ≡ (Any ∷ A_closure ∷ Up_to 2147483646 ∷ [], Any_more)
+collect_keeps : kept_by "collect" ≡ (Any ∷ A_closure ∷ A_count ∷ [], Any_more)
 collect_keeps = refl
 
-find_keeps : kept_by "find" ≡ (Any ∷ A_closure ∷ Up_to 2147483646 ∷ Any ∷ [], One_more)
+find_keeps : kept_by "find" ≡ (Any ∷ A_closure ∷ A_count ∷ Any ∷ [], One_more)
 find_keeps = refl
 
-find_all_keeps : kept_by "findAll" ≡ (Any ∷ A_closure ∷ Up_to 2147483646 ∷ Any ∷ [], Any_more)
+find_all_keeps : kept_by "findAll" ≡ (Any ∷ A_closure ∷ A_count ∷ Any ∷ [], Any_more)
 find_all_keeps = refl
 
-any_keeps : kept_by "any" ≡ (Any ∷ A_closure ∷ Up_to 2147483646 ∷ [], No_more)
+any_keeps : kept_by "any" ≡ (Any ∷ A_closure ∷ A_count ∷ [], No_more)
 any_keeps = refl
 
-every_keeps : kept_by "every" ≡ (Any ∷ A_closure ∷ Up_to 2147483646 ∷ [], No_more)
+every_keeps : kept_by "every" ≡ (Any ∷ A_closure ∷ A_count ∷ [], No_more)
 every_keeps = refl
 
-times_keeps : kept_by "times" ≡ (Any ∷ A_closure ∷ Up_to 2147483646 ∷ [], No_more)
+times_keeps : kept_by "times" ≡ (Any ∷ A_closure ∷ A_count ∷ [], No_more)
 times_keeps = refl
 
 -- the value of a declared variable that is called is kept before its arguments

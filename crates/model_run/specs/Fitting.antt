@@ -20,7 +20,7 @@ use Rattle.model_run.specs.Callables.{Callee}
 use Rattle.model_run.specs.World.{Build, world_in}
 use Rattle.model_run.specs.Terms.{Term, nodes_of}
 use Rattle.model_run.specs.State.{Setting, Common, Env, Frame, Result, Waits}
-use Rattle.model_run.specs.FrameTable.{Any, Up_to, Flag, Flow_node, A_closure, A_throwable, Text_or_null, is_closure_form}
+use Rattle.model_run.specs.FrameTable.{Any, Up_to, A_count, Flag, Flow_node, A_closure, A_throwable, Text_or_null, is_closure_form}
 use Rattle.model_run.specs.Nesting.{Sorts, Spot, Begun, Any_branch, For_executor, For_task, For_person, For_branches, FrameFits, Chained, CallsClosures, innermost, shape_at}
 use Rattle.model_run.specs.Scoping.{Names, names_at, names_of, names_for}
 
@@ -41,6 +41,7 @@ IsFlowNode nodes n = (2 ≤ n) × (n < length nodes + 2)
 abbrev pub known : Common → Sorts
 known u Any v = There u.cells v
 known u (Up_to n) (Whole (pos m)) = m ≤ n
+known u A_count (Whole (pos m)) = Unit {0}
 known u Flag (Truth b) = Unit {0}
 known u Flow_node (Whole (pos n)) = IsFlowNode u.nodes n
 known u A_closure (InCell c) = HasClosure (slice_get u.cells c)

@@ -23,7 +23,7 @@ use Rattle.model_run.specs.declared.frame.FrameKind.{FrameKind}
 use Rattle.model_run.specs.declared.frame.FrameKind.TheVariants as kind
 use Rattle.model_run.specs.State.{Setting, Common, World, State, Result, Ended, Waits, Limited, Unfinished, with_world, through, changed, choose, unless_limit, guarded, on_value, put_cells, answered, may_count, counted, tick, reply_to, awaiting}
 use Rattle.model_run.specs.Around.{ended, cells, limits, deciding}
-use Rattle.model_run.specs.FrameTable.{Sort, Any, Up_to, Flag, Flow_node, A_closure, A_throwable, Text_or_null, is_declaration}
+use Rattle.model_run.specs.FrameTable.{Sort, Any, Up_to, A_count, Flag, Flow_node, A_closure, A_throwable, Text_or_null, is_declaration}
 use Rattle.model_run.specs.Fitting.{closure_rule, IsFlowNode, Later, holds_executor, holds_folder}
 use Rattle.model_run.proofs.Front.{front_itself, front_same, front_on, front_length}
 use Rattle.model_run.proofs.LaterLaws.{frame_wider, env_later}
@@ -50,6 +50,7 @@ module _ (u v : Common) (later : Later u v) where
   pub seen_then : (s : Sort) (x : Value) → seen u s x → seen v s x
   seen_then Any x h = there_then x h
   seen_then (Up_to n) (Whole (pos m)) h = tt
+  seen_then A_count (Whole (pos m)) h = tt
   seen_then Flag (Truth b) h = tt
   seen_then Flow_node (Whole (pos n)) h = node_then n h
   seen_then A_closure (InCell c) h = closure_later u.cells v.cells later.cells c h

@@ -14,7 +14,7 @@ use Rattle.model_run.specs.declared.frame.FrameKind.{FrameKind}
 use Rattle.model_run.specs.declared.frame.FrameKind.TheVariants as kind
 use Rattle.model_run.specs.State.{Common, Env}
 use Rattle.model_run.specs.Around.{Shape, form_at, value_at, cell_number, position}
-use Rattle.model_run.specs.FrameTable.{Executor_wait, frame_row, suffixed_within, gathered_within, current, is_closure_form, Sort, Any, Up_to, Flow_node, A_closure, A_throwable, Further, No_more, One_more, Any_more, same_form, is_each, is_arm, is_method, is_walk, is_computed, is_declaration, any_values, walk_values, walk_further}
+use Rattle.model_run.specs.FrameTable.{Executor_wait, frame_row, suffixed_within, gathered_within, current, is_closure_form, Sort, Any, Up_to, A_count, Flow_node, A_closure, A_throwable, Further, No_more, One_more, Any_more, same_form, is_each, is_arm, is_method, is_walk, is_computed, is_declaration, any_values, walk_values, walk_further}
 use Rattle.model_run.specs.Nesting.{FurtherFit, ValuesFit}
 use Rattle.model_run.specs.Fitting.{IsFlowNode}
 use Rattle.model_run.proofs.Under.{first_of_both}
@@ -162,11 +162,11 @@ module _ (u : Common) where
     pub closure : There u.cells (value_at 1 vs)
     pub held : AllAre (There u.cells) (drop 3 vs)
 
-  pub walk_kept : (m : Method) (n : ℕ) (vs : List Value) → ValuesFit (seen u) (walk_further m) (Any ∷ A_closure ∷ Up_to n ∷ walk_values m) vs → WalkKept vs
-  walk_kept m n [] h = absurd h
-  walk_kept m n (v ∷ []) h = absurd h.1
-  walk_kept m n (v ∷ f ∷ []) h = absurd h.1.1
-  walk_kept m n (v ∷ f ∷ i ∷ vs) h = record { on = h.0; closure = closure_there f h.1.0; held = held_there m vs h.1.1.1 }
+  pub walk_kept : (m : Method) (vs : List Value) → ValuesFit (seen u) (walk_further m) (Any ∷ A_closure ∷ A_count ∷ walk_values m) vs → WalkKept vs
+  walk_kept m [] h = absurd h
+  walk_kept m (v ∷ []) h = absurd h.1
+  walk_kept m (v ∷ f ∷ []) h = absurd h.1.1
+  walk_kept m (v ∷ f ∷ i ∷ vs) h = record { on = h.0; closure = closure_there f h.1.0; held = held_there m vs h.1.1.1 }
 
   -- a flow node that stands first
   pub first_kept : (fu : Further) (ss : List Sort) (vs : List Value) → ValuesFit (seen u) fu (Flow_node ∷ ss) vs → IsFlowNode u.nodes (position (value_at 0 vs))
@@ -189,12 +189,12 @@ module _ (u : Common) where
     pub body : IsFlowNode u.nodes (position (value_at 1 vs))
     pub closure : There u.cells (value_at 3 vs)
 
-  pub retry_kept : (n : ℕ) (vs : List Value) → ValuesFit (seen u) No_more (Flow_node ∷ Flow_node ∷ Up_to n ∷ A_closure ∷ []) vs → RetryKept vs
-  retry_kept n [] h = absurd h
-  retry_kept n (a ∷ []) h = absurd h.1
-  retry_kept n (a ∷ b ∷ []) h = absurd h.1.1
-  retry_kept n (a ∷ b ∷ c ∷ []) h = absurd h.1.1.1
-  retry_kept n (a ∷ b ∷ c ∷ f ∷ vs) h = record { start = flow_node a h.0; body = flow_node b h.1.0; closure = closure_there f h.1.1.1.0 }
+  pub retry_kept : (vs : List Value) → ValuesFit (seen u) No_more (Flow_node ∷ Flow_node ∷ A_count ∷ A_closure ∷ []) vs → RetryKept vs
+  retry_kept [] h = absurd h
+  retry_kept (a ∷ []) h = absurd h.1
+  retry_kept (a ∷ b ∷ []) h = absurd h.1.1
+  retry_kept (a ∷ b ∷ c ∷ []) h = absurd h.1.1.1
+  retry_kept (a ∷ b ∷ c ∷ f ∷ vs) h = record { start = flow_node a h.0; body = flow_node b h.1.0; closure = closure_there f h.1.1.1.0 }
 
 -- the frame that waits for an executor
 suffix_waits : (n : ℕ) → suffixed_within n ≡ Executor_wait → ⊥

@@ -24,6 +24,7 @@ pub mod SoundFrames
 pub mod Evaluation
 pub mod Resumption
 pub mod SoundThreads
+pub mod SortLaws
 pub mod SoundSeats
 pub mod EventBounds
 pub mod SoundWorlds

@@ -264,7 +264,7 @@ module _ (g : Base) (real : Real g.script [] g.script) (shaped : Shaped g.script
   walk_turn : GoesOn kind.WalkTurn
   walk_turn left env vs u m fit =
       let w : IsMethod sh.form = walk_is sh.form m.stands in
-      let kept : WalkKept u vs = walk_kept u (walk_method sh.form) 2147483646 vs m.values in
+      let kept : WalkKept u vs = walk_kept u (walk_method sh.form) vs m.values in
       walk_end_goes g shaped k sh xs place a src (walk_plain sh.form w) w.access w.name w.is u env fit (position (value_at 2 vs)) (value_at 0 vs) (value_at 1 vs) (drop 3 vs) kept.on kept.closure kept.held
 
   -- steps
@@ -280,7 +280,7 @@ module _ (g : Base) (real : Real g.script [] g.script) (shaped : Shaped g.script
 
   retry_body : GoesOn kind.RetryBody
   retry_body left env vs u m fit =
-      let kept : RetryKept u vs = retry_kept u 2147483646 vs m.values in
+      let kept : RetryKept u vs = retry_kept u vs m.values in
       after_retry_goes g shaped k sh xs place a src (step_plain step.Retry sh.form env m.stands) env m.stands (position (value_at 2 vs)) (position (value_at 0 vs)) u fit kept.start (value_at 3 vs) kept.closure (position (value_at 1 vs)) kept.body
 
   -- behind the wait for an executor, which may open a body

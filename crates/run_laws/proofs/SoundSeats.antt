@@ -1,11 +1,8 @@
 -- A thread of a sound build, as an image holds it, goes on soundly with the answer that it is about to get.
-use Rattle.std.proofs.Common.{◌≡◌, ◌∙◌, refl, ap, subst, ℕ, List, [], ◌∷◌, ◌++◌, length, false, ◌≤◌, Bool}
-use Rattle.std.specs.Prelude.{pos}
+use Rattle.std.proofs.Common.{◌≡◌, ◌∙◌, refl, ap, subst, ℕ, List, [], ◌∷◌, ◌++◌, length, false, Bool}
 use Rattle.std.specs.List.{AllByRecursion as AllAre}
 use Rattle.model_syntax.specs.declared.tree.Tree.{Tree}
 use Rattle.model_syntax.specs.TreeNodes.{tree_node}
-use Rattle.model_values.specs.declared.value.Value.{Value}
-use Rattle.model_values.specs.declared.value.Value.TheVariants.{Int as Whole}
 use Rattle.model_run.specs.declared.frame.Frame.{Frame}
 use Rattle.model_run.specs.declared.wait.Answer.{Answer}
 use Rattle.model_run.specs.declared.wait.Answer.TheVariants.{Granted, Done, Decided, Joined}
@@ -18,51 +15,19 @@ use Rattle.model_run.specs.declared.held.Held.{Held}
 use Rattle.model_run.specs.declared.site.Site.{Site}
 use Rattle.model_run.specs.State.{Setting, Common, Own, Ended}
 use Rattle.model_run.specs.Meaning.{unwind}
-use Rattle.model_run.specs.declared.frame.FrameKind.{FrameKind}
-use Rattle.model_run.specs.declared.frame.FrameKind.TheVariants as kind
-use Rattle.model_run.specs.Around.{position, value_at}
-use Rattle.model_run.specs.FrameTable.{Sort, Any, Up_to, Flow_node, Text_or_null, No_more, frame_row}
-use Rattle.model_run.specs.Nesting.{Spot, For_executor, For_task, For_person, For_branches, FrameFits, WaitsFor, innermost, ValuesFit, shape_at}
+use Rattle.model_run.specs.Nesting.{Spot, For_executor, For_task, For_person, For_branches, FrameFits, WaitsFor, innermost}
 use Rattle.model_run.specs.Scoping.{names_for}
 use Rattle.model_run.specs.Fitting.{EnvFits, IsFlowNode, known, AnswerFits, Seat, SeatFits, HeldFits, context_above, outermost, SharedFits}
-use Rattle.model_run.proofs.LaterLaws.{frame_wider}
 use Rattle.run_laws.specs.Bounds.{Narrow}
-use Rattle.run_laws.specs.Soundness.{seen, NumbersFit, Sits}
+use Rattle.run_laws.specs.Soundness.{Sits}
 use Rattle.run_laws.specs.Worlds.{SharedSound}
 use Rattle.run_laws.specs.Evaluation.{AnswerThere, AllOfSite, HoldsAt, opened_at, turn_open, based}
+use Rattle.run_laws.proofs.SortLaws.{sits_by}
 use Rattle.run_laws.proofs.SoundThreads.{going_on, answered_path, script_facts}
-
--- what is of a sort with its bound is so without it
-known_seen : (u : Common) (s : Sort) (v : Value) → known u s v → seen u s v
-known_seen u (Up_to n) (Whole (pos m)) h = tt
-known_seen u s v h = h
-
--- numbers that the table bounds
-known_numbers : (root : Term) (u : Common) (f : Frame) → FrameFits (known u) root f → NumbersFit f.kind f.values
-known_numbers root u f h = kinds f.kind f.values (h.meets).values
-  where
-    each : (vs : List Value) → ValuesFit (known u) No_more (Any ∷ Up_to 2147483646 ∷ []) vs → position (value_at 1 vs) ≤ 2147483646
-    each [] h = absurd h
-    each (a ∷ []) h = absurd h.1
-    each (a ∷ Whole (pos m) ∷ vs) h = h.1.0
-    each (a ∷ b ∷ vs) h = absurd h.1.0
-
-    third : (n : ℕ) (ss : List Sort) (vs : List Value) → ValuesFit (known u) No_more (Flow_node ∷ Flow_node ∷ Up_to n ∷ ss) vs → position (value_at 2 vs) ≤ n
-    third n ss [] h = absurd h
-    third n ss (a ∷ []) h = absurd h.1
-    third n ss (a ∷ b ∷ []) h = absurd h.1.1
-    third n ss (a ∷ b ∷ Whole (pos m) ∷ vs) h = h.1.1.0
-    third n ss (a ∷ b ∷ c ∷ vs) h = absurd h.1.1.0
-
-    kinds : (d : FrameKind) (vs : List Value) → ValuesFit (known u) (frame_row d (shape_at root f.node) f.left f.env).further (frame_row d (shape_at root f.node) f.left f.env).values vs → NumbersFit d vs
-    kinds kind.EachBody vs v = each vs v
-    kinds kind.CatchErrorBody vs v = third 4 (Text_or_null ∷ []) vs v
-    kinds kind.WithEnvBody vs v = third 2147483647 [] vs v
-    kinds d vs v = tt
 
 all_sit : (root : Term) (u : Common) (fs : List Frame) → AllAre (FrameFits (known u) root) fs → AllAre (λ f. EnvFits u.cells (names_for root f) f.env) fs → AllAre (Sits root u) fs
 all_sit root u [] a b = tt
-all_sit root u (f ∷ fs) a b = (record { fits = frame_wider (known u) (seen u) (known_seen u) root f a.0; names = b.0; numbers = known_numbers root u f a.0 }, all_sit root u fs a.1 b.1)
+all_sit root u (f ∷ fs) a b = (sits_by root u f a.0 b.0, all_sit root u fs a.1 b.1)
 
 answer_there : (u : Common) (at : Spot) (f : Frame) (fs : List Frame) (x : Answer) → AnswerFits u at (f ∷ fs) x → AnswerThere u x
 answer_there u For_executor f fs (Granted x) h = tt

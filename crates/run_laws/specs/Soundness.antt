@@ -42,13 +42,13 @@ pub record Shaped (root : Term) : Type 0 where
   pub operands : (k i : ℕ) → same_form form.Joined (shape_at root k).form ≡ true → suc i < arity (shape_at root k) → is_operand (form_at (shape_at root k).parts (suc i)) ≡ true
   pub steps : (k : ℕ) → same_form form.ForSteps (shape_at root k).form ≡ true → 0 < arity (shape_at root k)
 
--- What a value of each sort is in a state, as in a sound build, but numbers of any size.
+-- What a value of each sort is in a state, as in a sound build, but bounded numbers of any size.
 abbrev pub seen : Common → Sorts
 seen u (Up_to n) (Whole (pos m)) = Unit {0}
 seen u s v = known u s v
 
--- The numbers that a frame keeps are as small as the table says where they count what the build has: the position of a `for`, the result
--- of `catchError`, the variables of `withEnv`. Those of `retry` and of a walk are whole numbers of the script, of any size.
+-- The numbers that a frame keeps are as small as the table says where it bounds them, since they count what the build has: the position of
+-- a `for`, the result of `catchError`, the variables of `withEnv`.
 abbrev pub NumbersFit : FrameKind → List Value → Type 0
 NumbersFit kind.EachBody vs = position (value_at 1 vs) ≤ 2147483646
 NumbersFit kind.CatchErrorBody vs = position (value_at 2 vs) ≤ 4
@@ -152,7 +152,8 @@ pub record SoundWorld (g : Setting) (w : World) : Type 0 where
   pub head : IsFlowNode w.shared.nodes w.own.head
   pub bounds : InBounds false g.site w.shared
 
--- the thread's own is as it was at the node's beginning, and the executors are held that shall be
+-- the thread's requests and the number of its folders are as at the node's beginning, and the executors are held that
+-- shall be
 pub record Same (o : Open) (w : World) : Type 0 where
   pub nodes : w.own.context.held ≡ o.nodes
   pub folders : length w.own.context.folders ≡ o.folders
