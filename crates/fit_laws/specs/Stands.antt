@@ -1,36 +1,24 @@
--- How much of a sound build is proved of the world of every list of events (this product's own).
-use Rattle.std.specs.Prelude.{◌≡◌, ◌≤◌, ℕ, false, List, Option, Some, None, map}
+-- What the threads and the shared state of the world of every list of events are (this product's own).
+use Rattle.std.specs.Prelude.{◌≡◌, ℕ, false, List, Option, Some, None, map}
 use Rattle.std.specs.List.{AllByRecursion as AllAre}
-use Rattle.model_run.specs.declared.frame.FrameKind.{FrameKind}
-use Rattle.model_run.specs.declared.frame.FrameKind.TheVariants as kind
 use Rattle.model_run.specs.declared.ending.Asked.TheVariants.{ForBranches as For_branches}
 use Rattle.model_run.specs.declared.wait.Wait.{Wait}
 use Rattle.model_run.specs.declared.wait.Wait.TheVariants.{Ready, Request as RequestWait, Branches as BranchesWait}
-use Rattle.model_values.specs.declared.value.Value.{Value}
-use Rattle.model_run.specs.Around.{position, value_at}
 use Rattle.model_run.specs.State.{Setting, Common, Result, Waits}
-use Rattle.model_run.specs.Nesting.{Sorts, FrameFits, Chained, CallsClosures, innermost}
+use Rattle.model_run.specs.Nesting.{FrameFits, Chained, CallsClosures, innermost}
 use Rattle.model_run.specs.Scoping.{names_for}
 use Rattle.model_run.specs.Threads.{Runs, Script, Closure, Thread, stands}
 use Rattle.model_run.specs.World.{Build}
 use Rattle.model_run.specs.Fitting.{Rise, EnvFits, IsFlowNode, known, SharedFits, Seat, seat_of, seats_of, outermost, ParentFits, WaitFits, StartFits, IsWaitedFor}
-use Rattle.run_laws.specs.Soundness.{seen}
 
--- The sorts of values that a frame of a kind keeps: as in a sound build, but the numbers of `retry` and of a walk, which are whole numbers
--- of the script, of any size.
-abbrev pub counted : FrameKind → Common → Sorts
-counted kind.RetryBody u = seen u
-counted kind.WalkTurn u = seen u
-counted d u = known u
-
--- One thread, with all that a sound build asks of it (`SeatFits`) but contexts and held executors, that what a step or a walk calls is a
--- closure, and the size of the numbers of `retry` and of a walk.
+-- One thread, with all that a sound build asks of it (`SeatFits`) but contexts and held executors.
 pub record SeatStands (setting : Setting) (u : Common) (seats : List Seat) (t : Seat) : Type 0 where
   pub head : IsFlowNode u.nodes t.head
   pub parent : ParentFits seats t.number t.parent
-  pub frames : AllAre (λ f. FrameFits (counted f.kind u) setting.script f) t.stack
+  pub frames : AllAre (λ f. FrameFits (known u) setting.script f) t.stack
   pub envs : AllAre (λ f. EnvFits u.cells (names_for setting.script f) f.env) t.stack
   pub nested : Chained setting.script (outermost t.parent) t.stack
+  pub closures : CallsClosures setting.script (outermost t.parent) t.stack
   pub waits : WaitFits u seats t (innermost setting.script (outermost t.parent) t.stack) t.wait
   pub start : StartFits setting.script u.cells t.parent t.stack t.start
 
@@ -65,18 +53,3 @@ HasParent runs parent = ⊥
 pub record WaitsSo (setting : Setting) (t : Thread) : Type 0 where
   pub parent : HasParent t.runs t.parent
   pub asks : WaitAsks t.wait (stands setting t)
-
--- the numbers of `retry` and of a walk are as small as the table says
-abbrev pub SmallCount : FrameKind → List Value → Type 0
-SmallCount kind.RetryBody vs = position (value_at 2 vs) ≤ 2147483646
-SmallCount kind.WalkTurn vs = position (value_at 2 vs) ≤ 2147483646
-SmallCount d vs = Unit {0}
-
--- What is not proved of a thread: that what its steps and walks call is a closure, and the size of the numbers of `retry` and of a walk.
-pub record SeatRest (setting : Setting) (t : Seat) : Type 0 where
-  pub closures : CallsClosures setting.script (outermost t.parent) t.stack
-  pub counts : AllAre (λ f. SmallCount f.kind f.values) t.stack
-
--- What is not proved of a build: the same of each of its threads, and nothing else. With this a world that has begun is sound.
-abbrev pub Rest : Setting → Build → Type 0
-Rest setting b = AllAre (SeatRest setting) (seats_of setting b.threads)

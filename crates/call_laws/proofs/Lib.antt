@@ -1,0 +1,6 @@
+pub mod Entries
+pub mod Callers
+pub mod Evaluations
+pub mod Continuations
+pub mod CallSeats
+pub mod CallWorlds
