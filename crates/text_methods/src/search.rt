@@ -1,8 +1,6 @@
 //! Texts within texts. Each search takes time in proportion to the bytes of both.
 
 ghost use Rattle.std.specs.Prelude.{◌≡◌, ◌<◌, ◌≤◌, [], zero, length, IfSome};
-ghost use Rattle.std.specs.Fmt.{is_char_start};
-ghost use Rattle.std.specs.List.{count_by};
 ghost use Rattle.model_values.specs.Searching.{begins_with, ends_with, found_from, replaced_behind};
 ghost use Rattle.model_values.specs.Limits.{product_limits};
 ghost use Rattle.model_values.specs.TextOf.{behind};
@@ -11,7 +9,7 @@ ghost use Rattle.value_view.specs.Answers.{IsWritten};
 use memchr::memmem;
 use model_text::Text;
 use std::alloc::Global;
-use value_view::{OpRefusal, write_bytes};
+use value_view::{OpRefusal, start_count, write_bytes};
 
 /// Whether a text begins with another.
 pub(crate) fn begins_with(text: &[u8], part: &[u8]) -> bool
@@ -56,19 +54,4 @@ pub(crate) fn replaced(
     }
     write_bytes(rest, &mut built)?;
     Ok(built)
-}
-
-/// How many bytes are the first of a character.
-fn start_count(bytes: &[u8]) -> usize
-    ensures count { result ≡ count_by is_char_start bytes.now }
-    ensures bound { result ≤ length bytes.now }
-{
-    bytes.iter().filter(|byte| is_char_start(**byte)).count()
-}
-
-/// Whether a byte is the first of a character in UTF-8.
-fn is_char_start(byte: u8) -> bool
-    ensures { result ≡ is_char_start byte }
-{
-    byte < 0x80 || byte >= 0xC0
 }

@@ -25,8 +25,11 @@ use value_view::{Kind, OpRefusal, character_count, character_range, kind_of};
 /// Where an index points.
 #[derive(Clone, Copy)]
 enum Place {
+    /// At the entry of this number, counted from 0.
     At(usize),
+    /// Behind the last entry.
     Past,
+    /// In front of the first entry.
     Below,
 }
 

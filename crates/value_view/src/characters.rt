@@ -45,8 +45,8 @@ fn place_of_character(text: &[u8], at: usize) -> usize
     text.len()
 }
 
-/// How many bytes are the first of a character.
-fn start_count(bytes: &[u8]) -> usize
+/// How many bytes are the first of a character in UTF-8. It goes once over them.
+pub fn start_count(bytes: &[u8]) -> usize
     ensures count { result ≡ count_by is_char_start bytes.now }
     ensures bound { result ≤ length bytes.now }
 {

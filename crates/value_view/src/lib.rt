@@ -22,7 +22,7 @@ mod refusal;
 mod tests;
 mod text;
 
-pub use characters::{character_count, character_range};
+pub use characters::{character_count, character_range, start_count};
 pub use equality::equal;
 pub use groovy_truth::truth;
 pub use kind::{Kind, kind_of};

@@ -1,3 +1,4 @@
+pub mod KeptLemmas
 pub mod LoopLemmas
 pub mod PlaceLemmas
 pub mod TurnLemmas

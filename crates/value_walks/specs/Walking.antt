@@ -11,8 +11,8 @@ use Rattle.value_ops.specs.Effects.{EffectBelow, effect_answer}
 use Rattle.value_walks.specs.Turns.{listed}
 use Rattle.value_walks.specs.declared.walk.Next.{Next}
 use Rattle.value_walks.specs.declared.walk.Next.TheVariants.{GoesOn, Ends}
-use Rattle.value_walks.specs.declared.walk.Held.{Held}
-use Rattle.value_walks.specs.declared.walk.Held.TheVariants as held
+use Rattle.value_walks.specs.declared.walk.WalkInTurn.{WalkInTurn}
+use Rattle.value_walks.specs.declared.walk.WalkInTurn.TheVariants as held
 use Rattle.value_walks.specs.declared.walk.Walk.{Walk}
 use Rattle.value_walks.specs.declared.walk.Walk.TheVariants as walk
 
@@ -32,7 +32,7 @@ walk_kept (walk.FindAll vs) = vs
 walk_kept _ = []
 
 -- while the closure of a turn runs
-abbrev pub held_method : Held → table.Method
+abbrev pub held_method : WalkInTurn → table.Method
 held_method held.Each = table.Each
 held_method (held.Collect vs) = table.Collect
 held_method (held.Find a) = table.Find
@@ -41,24 +41,30 @@ held_method held.Any = table.Any
 held_method held.Every = table.Every
 held_method held.Times = table.Times
 
-abbrev pub held_values : Held → List Value
+abbrev pub held_values : WalkInTurn → List Value
 held_values (held.Collect vs) = vs
 held_values (held.Find a) = listed a
 held_values (held.FindAll e vs) = listed e ++ vs
 held_values _ = []
 
 -- how many of the values that `findAll` keeps are the element of the turn
-abbrev pub element_length : Held → ℕ
+abbrev pub element_length : WalkInTurn → ℕ
 element_length (held.FindAll e vs) = length (listed e)
 element_length _ = 1
 
--- a walk behind the turn whose closure gave v, by what a saved build has in the frame of the turn
-abbrev pub held_after : List Cell → Held → Value → model.After
-held_after h held v =
-    let m = held_method held in
-    let n = element_length held in
-    let values = held_values held in
-    model.after product_limits h m (held_arguments m values) (held_element m n values) v (held_kept m n values)
+-- what a walk has kept between two turns, of the values that its next turn is begun with
+abbrev pub kept_between : table.Method → List Value → List Value
+kept_between table.Collect vs = vs
+kept_between table.FindAll vs = vs
+kept_between m vs = []
+
+-- a walk behind the turn whose closure gave v, by what a saved build has in the frame of the turn, where the element has n values
+abbrev pub frame_after : List Cell → table.Method → ℕ → List Value → Value → model.After
+frame_after h m n values v = model.after product_limits h m (held_arguments m values) (held_element m n values) v (held_kept m n values)
+
+-- the same of a walk
+abbrev pub held_after : List Cell → WalkInTurn → Value → model.After
+held_after h held v = frame_after h (held_method held) (element_length held) (held_values held) v
 
 -- the walk goes on with what it keeps, or ends with what an effect gives
 abbrev pub IsAfter : List Cell → table.Method → model.After → Next → Type 0

@@ -3,7 +3,8 @@
 //!
 //! The rules are the `Walks` of `model_values`, under this product's limits. A turn reads its place as the value is then,
 //! so nothing of the value is kept. What is kept while a closure runs is what a saved build keeps in the frame of a
-//! turn (`held_in_turn` of `model_run`). A turn takes constant time, but for the bytes that go into new cells.
+//! turn (`held_in_turn` of `model_run`), and a walk is made of that again (`WalkInTurn::of`, `Walk::of`). A turn takes
+//! constant time, but for the bytes that go into new cells.
 //!
 //! ```
 //! let mut walk = Walk::begun(alloc, Method::Collect).unwrap();
@@ -21,6 +22,7 @@
 //! ```
 #![tactic(auto)]
 
+mod kept;
 mod loops;
 mod place;
 #[cfg(test)]
@@ -29,5 +31,5 @@ mod turns;
 mod walk;
 
 pub use loops::{LoopPlace, has_loop_turn, loop_turn};
-pub use turns::{Parts, Turn, walk_turn};
-pub use walk::{Held, Next, Walk};
+pub use turns::{Parts, Turn, has_walk_turn, walk_turn};
+pub use walk::{Next, Walk, WalkInTurn};

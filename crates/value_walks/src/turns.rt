@@ -1,6 +1,6 @@
 //! What a turn of a walk begins with.
 
-ghost use Rattle.std.specs.Prelude.{◌≡◌, [], true, false, length, IfOk, IfSome, OnOk, IfErr, None, Some, slice_get};
+ghost use Rattle.std.specs.Prelude.{◌≡◌, ◌<◌, ◌^◌, [], Bool, IsTrue, true, false, length, IfOk, IfSome, OnOk, IfErr, None, Some, slice_get};
 ghost use Rattle.cell_heap.specs.Soundness.{ValueBelow};
 ghost use Rattle.model_run.specs.Calls.{element_size};
 ghost use Rattle.model_values.specs.Cells.{no_room};
@@ -9,7 +9,7 @@ ghost use Rattle.model_values.specs.Limits.{product_limits};
 ghost use Rattle.model_values.specs.TextMethods.{text_cells};
 ghost use Rattle.model_values.specs.Walks.{entry_map, entry_turn, key_cell, key_value, turn};
 ghost use Rattle.model_values.specs.declared.cell.Cell.TheVariants.{Map as MapCell};
-ghost use Rattle.value_walks.specs.Turns.{PlaceBelow, TurnAnswers, TurnLeaves, listed, place_turn};
+ghost use Rattle.value_walks.specs.Turns.{PlaceBelow, TurnAnswers, TurnLeaves, has_turn, listed, place_turn};
 
 use crate::place::{Place, place_in};
 use cell_heap::Heap;
@@ -17,7 +17,7 @@ use model_text::{Text, Texts};
 use model_values::{Cell, Entries, Key, LimitKind, Value};
 use std::alloc::{AllocError, Global};
 use value_ops::{MAX_BYTES, MAX_CELLS, new_cells};
-use value_view::OpRefusal;
+use value_view::{Kind, OpRefusal, kind_of};
 
 /// The heap bytes of a map with `key` and `value`.
 const ENTRY_MAP: u64 = 88;
@@ -69,6 +69,21 @@ pub fn walk_turn(
 {
     let place = place_in(heap, on, at)?;
     begin(alloc, heap, takes_two, place)
+}
+
+/// Whether a walk over a value has this turn, be it that a limit is met as it begins. It makes no cell and takes no
+/// memory.
+pub fn has_walk_turn(heap: &Heap, on: &Value, at: u32) -> bool
+    requires { ValueBelow (length heap.now.cells) on.now }
+    ensures has { (two : Bool) → result ≡ has_turn (turn product_limits heap.now.cells on.now two at) }
+    ensures small { IsTrue result → at < 2 ^ 31 }
+{
+    match kind_of(heap, on) {
+        Kind::List(_, values) => (at as usize) < values.len(),
+        Kind::Map(_, entries) => (at as usize) < entries.len(),
+        Kind::Number(number) => i64::from(at) < i64::from(number),
+        _ => false,
+    }
 }
 
 /// Begins a turn with what was read, and makes the cells that it needs.

@@ -36,7 +36,7 @@ pub enum Walk {
 
 /// A walk while the closure of a turn runs: its method, and what a saved build keeps of it.
 #[derive(Drop)]
-pub enum Held {
+pub enum WalkInTurn {
     Each,
     Collect(Values),
     /// What the closure got.
@@ -63,33 +63,24 @@ impl Walk {
         ensures walks { is_some result ≡ walks (table_method method) }
         ensures begun { IfSome result (λ walk. (walk_method walk ≡ table_method method) × (walk_kept walk ≡ [])) }
     {
-        match method {
-            Method::Each => Some(Walk::Each),
-            Method::Collect => Some(Walk::Collect(Values::new(alloc))),
-            Method::Find => Some(Walk::Find),
-            Method::FindAll => Some(Walk::FindAll(Values::new(alloc))),
-            Method::Any => Some(Walk::Any),
-            Method::Every => Some(Walk::Every),
-            Method::Times => Some(Walk::Times),
-            _ => None,
-        }
+        Walk::of(method, Values::new(alloc))
     }
 
     /// The walk while the closure of this turn runs. It takes no memory.
-    pub fn in_turn(self, turn: &Turn) -> Held
+    pub fn in_turn(self, turn: &Turn) -> WalkInTurn
         ensures method { held_method result ≡ walk_method self }
         ensures values { held_values result ≡ held_in_turn (walk_method self) (listed turn.now.arguments) (listed turn.now.element) (walk_kept self) }
         ensures element { (held_method result ≡ FindAll) → element_length result ≡ length (listed turn.now.element) }
         ensures below { (n : ℕ) → All (ValueBelow n) (walk_kept self) → PartsBelow n turn.now.arguments → PartsBelow n turn.now.element → All (ValueBelow n) (held_values result) }
     {
         match self {
-            Walk::Each => Held::Each,
-            Walk::Collect(values) => Held::Collect(values),
-            Walk::Find => Held::Find(turn.arguments),
-            Walk::FindAll(values) => Held::FindAll(turn.element, values),
-            Walk::Any => Held::Any,
-            Walk::Every => Held::Every,
-            Walk::Times => Held::Times,
+            Walk::Each => WalkInTurn::Each,
+            Walk::Collect(values) => WalkInTurn::Collect(values),
+            Walk::Find => WalkInTurn::Find(turn.arguments),
+            Walk::FindAll(values) => WalkInTurn::FindAll(turn.element, values),
+            Walk::Any => WalkInTurn::Any,
+            Walk::Every => WalkInTurn::Every,
+            Walk::Times => WalkInTurn::Times,
         }
     }
 
@@ -168,7 +159,7 @@ fn put_entry(
     Ok(())
 }
 
-impl Held {
+impl WalkInTurn {
     /// The walk behind the turn, whose closure gave this value: `collect` keeps the value, `findAll` the element where
     /// the value is true; `find` and `any` end where it is true, `every` where it is false (Groovy's truth).
     pub fn after(self, alloc: Global, heap: &Heap, value: &Value) -> Result<Next, AllocError>
@@ -179,31 +170,31 @@ impl Held {
     {
         let is_true = truth(heap, value);
         match self {
-            Held::Each => Ok(Next::GoesOn(Walk::Each)),
-            Held::Times => Ok(Next::GoesOn(Walk::Times)),
-            Held::Collect(values) => Ok(Next::GoesOn(Walk::Collect(with(values, *value)?))),
-            Held::Find(arguments) => {
+            WalkInTurn::Each => Ok(Next::GoesOn(Walk::Each)),
+            WalkInTurn::Times => Ok(Next::GoesOn(Walk::Times)),
+            WalkInTurn::Collect(values) => Ok(Next::GoesOn(Walk::Collect(with(values, *value)?))),
+            WalkInTurn::Find(arguments) => {
                 if is_true {
                     Ok(Next::Ends(found(alloc, arguments)?))
                 } else {
                     Ok(Next::GoesOn(Walk::Find))
                 }
             }
-            Held::FindAll(element, values) => {
+            WalkInTurn::FindAll(element, values) => {
                 if is_true {
                     Ok(Next::GoesOn(Walk::FindAll(with_element(values, element)?)))
                 } else {
                     Ok(Next::GoesOn(Walk::FindAll(values)))
                 }
             }
-            Held::Any => {
+            WalkInTurn::Any => {
                 if is_true {
                     Ok(Next::Ends(Effect::Give(Value::Bool(true))))
                 } else {
                     Ok(Next::GoesOn(Walk::Any))
                 }
             }
-            Held::Every => {
+            WalkInTurn::Every => {
                 if is_true {
                     Ok(Next::GoesOn(Walk::Every))
                 } else {
@@ -223,7 +214,7 @@ fn with(mut values: Values, value: Value) -> Result<Values, AllocError>
 }
 
 /// These values with an element behind.
-fn with_element(values: Values, element: Parts) -> Result<Values, AllocError>
+pub(crate) fn with_element(values: Values, element: Parts) -> Result<Values, AllocError>
     ensures { IfOk result (λ more. more ≡ values ++ listed element) }
 {
     match element {

@@ -1,6 +1,6 @@
 use Rattle.std.proofs.Common.{length}
 use Rattle.value_walks.proofs.WalkLemmas.{kept_below, more_below}
-use Rattle.value_walks.proofs.walk.Held.after.Goals as goal
+use Rattle.value_walks.proofs.walk.WalkInTurn.after.Goals as goal
 
 pub returns-in_ok-found-in-Find-clause-below : goal.returns-in_ok-found-in-Find-clause-below
 returns-in_ok-found-in-Find-clause-below c = c.in_ok-found-in-Find.ensures.below (length c.args.heap.now.cells) (rw c.in-Find.is at c.requires.held)
