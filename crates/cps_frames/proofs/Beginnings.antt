@@ -1,7 +1,8 @@
 -- A thread is poised as it begins, and as an image holds it with the answer that it is about to get.
-use Rattle.std.proofs.Common.{arith, ◌≡◌, ◌∙◌, ◌<◌, ℕ, false, List, [], ◌∷◌, length, refl, sym, ap, subst}
+use Rattle.std.proofs.Common.{arith, ◌≡◌, ◌∙◌, ◌<◌, ℕ, false, List, [], ◌∷◌, length, Option, refl, sym, ap, subst}
 use Rattle.std.proofs.lemmas.List.{append-nil}
 use Rattle.std.specs.List.{AllByRecursion as AllAre}
+use Rattle.cell_heap.specs.Region.{Region}
 use Rattle.model_run.specs.declared.context.Context.{Context}
 use Rattle.model_run.specs.declared.ending.Ending.TheVariants.{Answered}
 use Rattle.model_run.specs.declared.ending.Entry.TheVariants.{First, Branched}
@@ -49,23 +50,23 @@ all_stand root u (f ∷ fs) a b = (record { fits = a.0; names = b.0 }, all_stand
 
 module _ (g : Setting) (facts : ScriptFacts g.script) where
   -- a thread with these frames
-  abbrev pub thread_with : Common → Own → List Frame → Standing
-  thread_with u own fs = record { world = record { setting = g; shared = u; own = own }; stack = fs }
+  abbrev pub thread_with : Common → Own → List Frame → Option ℕ → Region → Standing
+  thread_with u own fs parent heap = record { world = record { setting = g; shared = u; own = own }; stack = fs; parent = parent; heap = heap }
 
-  sound_with : (u : Common) (own : Own) (fs : List Frame) → SharedSound g false u → IsFlowNode u.nodes own.head → SoundWorld g (thread_with u own fs).world
-  sound_with u own fs shared head = record { setting = refl; narrow = shared.narrow; cells = shared.cells; binding = shared.binding; head = head; bounds = shared.bounds }
+  sound_with : (u : Common) (own : Own) → SharedSound g false u → IsFlowNode u.nodes own.head → SoundWorld g (record { setting = g; shared = u; own = own })
+  sound_with u own shared head = record { setting = refl; narrow = shared.narrow; cells = shared.cells; binding = shared.binding; head = head; bounds = shared.bounds }
 
-  nothing_opened : (u : Common) (own : Own) → HasOpened own.context (thread_with u own [])
-  nothing_opened u own = record { own = []; held = sym (append-nil own.context.held); many = refl; folders = omega arith }
+  nothing_opened : (u : Common) (own : Own) (parent : Option ℕ) (heap : Region) → HasOpened own.context (thread_with u own [] parent heap)
+  nothing_opened u own parent heap = record { own = []; held = sym (append-nil own.context.held); many = refl; folders = omega arith }
 
   -- the script, as it begins
-  pub script_poised : (u : Common) (own : Own) → SharedSound g false u → IsFlowNode u.nodes own.head → Poised g own.context (Begun 0) (thread_with u own []) (Enter First 0 [])
-  script_poised u own shared head =
+  pub script_poised : (u : Common) (own : Own) (parent : Option ℕ) (heap : Region) → SharedSound g false u → IsFlowNode u.nodes own.head → Poised g own.context (Begun 0) (thread_with u own [] parent heap) (Enter First 0 [])
+  script_poised u own parent heap shared head =
       let there : term_at g.script 0 ≡ g.script = ap (term_at g.script) (sym facts.zero_first) ∙ script_there g.script g.script facts.real in
       record {
-        sound = sound_with u own [] shared head;
+        sound = sound_with u own shared head;
         executors = shared.held;
-        opened = nothing_opened u own;
+        opened = nothing_opened u own parent heap;
         frames = tt;
         chain = tt;
         move = (
@@ -76,21 +77,21 @@ module _ (g : Setting) (facts : ScriptFacts g.script) where
       }
 
   -- a branch, as it begins
-  pub branch_poised : (u : Common) (own : Own) → SharedSound g false u → IsFlowNode u.nodes own.head → (k : ℕ) (env : Env) (start : ℕ) → RunsFit g.script u (Closure k env start) → Poised g own.context Any_branch (thread_with u own []) (Enter (Branched start) k env)
-  branch_poised u own shared head k env start fit = record {
-    sound = sound_with u own [] shared head;
+  pub branch_poised : (u : Common) (own : Own) (parent : Option ℕ) (heap : Region) → SharedSound g false u → IsFlowNode u.nodes own.head → (k : ℕ) (env : Env) (start : ℕ) → RunsFit g.script u (Closure k env start) → Poised g own.context Any_branch (thread_with u own [] parent heap) (Enter (Branched start) k env)
+  branch_poised u own parent heap shared head k env start fit = record {
+    sound = sound_with u own shared head;
     executors = shared.held;
-    opened = nothing_opened u own;
+    opened = nothing_opened u own parent heap;
     frames = tt;
     chain = tt;
     move = (tt, fit.0, fit.1);
   }
 
   -- A thread of a sound build, as an image holds it, with an answer that fits.
-  pub seat_poised : (u : Common) (seats : List Seat) (t : Seat) → SharedSound g false u → (fits : SeatFits g u seats t) → (own : Own) → IsFlowNode u.nodes own.head → own.context ≡ t.context → (f : Frame) (fs : List Frame) → t.stack ≡ f ∷ fs
-      → (x : Answer) → AnswerFits u (innermost g.script (outermost t.parent) t.stack) t.stack x → Poised g (context_above seats t.parent) (outermost t.parent) (thread_with u own t.stack) (Ends (Answered x))
-  seat_poised u seats t shared fits own head context f fs stack x answer = record {
-    sound = sound_with u own t.stack shared head;
+  pub seat_poised : (u : Common) (seats : List Seat) (t : Seat) → SharedSound g false u → (fits : SeatFits g u seats t) → (own : Own) (heap : Region) → IsFlowNode u.nodes own.head → own.context ≡ t.context → (f : Frame) (fs : List Frame) → t.stack ≡ f ∷ fs
+      → (x : Answer) → AnswerFits u (innermost g.script (outermost t.parent) t.stack) t.stack x → Poised g (context_above seats t.parent) (outermost t.parent) (thread_with u own t.stack t.parent heap) (Ends (Answered x))
+  seat_poised u seats t shared fits own heap head context f fs stack x answer = record {
+    sound = sound_with u own shared head;
     executors = shared.held;
     opened = record {
       own = (fits.own_held).0;

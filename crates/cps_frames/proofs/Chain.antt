@@ -178,7 +178,7 @@ module _ (g : Base) (facts : ScriptFacts g.script) where
       → Chained g.script Any_branch fs × StandsAt g.script (innermost g.script Any_branch fs) m
   branch_front k call how [] all m s new plain on p h = absurd h
   branch_front k call how (f ∷ fs) all m s new plain on p h =
-      let inner : spot_in g.script f ≡ Body_of k = inside_at g facts k f Own_body (new.0).node (ap (λ d. (frame_row d (shape_at g.script k) f.left f.env).inside) h.0) in
+      let inner : spot_in g.script f ≡ Body_of k = inside_at g facts k f Own_body new.0 (ap (λ d. (frame_row d (shape_at g.script k) f.left f.env).inside) h.0) in
       let rest = body_front g facts (Body_of k) k (λ x is at. of_body is at) call how fs all m new.1 plain.1 on p h.1 in
       subst (λ (at : Spot). (Enters g.script f Any_branch × Chained g.script at fs) × StandsAt g.script (innermost g.script at fs) m) (sym inner) ((any_branch h.0, rest.0), rest.1)
 

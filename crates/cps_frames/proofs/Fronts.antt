@@ -150,7 +150,7 @@ module _ (g : Base) (facts : ScriptFacts g.script) where
   -- The frames of a node that stands in the place of node q.
   pub own_front : (q k : ℕ) → Leads g.script q k → (how : How) (fs : List Frame) (m : Move) → AllAre (IsNew k) fs → Plains k fs → GoesIn m → Placed g.script k how fs m → Fronted Own (Unit {0}) (mark_of how m) (shape_at g.script k) fs (asked_of m)
       → Chained g.script (Begun q) fs × StandsAt g.script (innermost g.script (Begun q) fs) m
-  own_front q k leads how (f ∷ []) m new plain on p h = ((own_frame h.0 (subst (λ j. Leads g.script q j) (sym (new.0).node) leads), tt), one_front k f (f ∷ []) how m (new.0).node plain.0 on p h.1)
+  own_front q k leads how (f ∷ []) m new plain on p h = ((own_frame h.0 (subst (λ j. Leads g.script q j) (sym new.0) leads), tt), one_front k f (f ∷ []) how m new.0 plain.0 on p h.1)
   own_front q k leads how (f ∷ x ∷ xs) m new plain on p h = absurd h
   own_front q k leads how [] (Ends e) new plain on p h = absurd on
   own_front q k leads how [] (Hits l) new plain on p h = absurd on
@@ -167,7 +167,7 @@ module _ (g : Base) (facts : ScriptFacts g.script) where
   pub body_front : (at : Spot) (k : ℕ) → ((f : Frame) → f.kind ≡ kind.CallBody → f.node ≡ k → Enters g.script f at) → is_callable (shape_at g.script k).form ≡ true
       → (how : How) (fs all : List Frame) (m : Move) → AllAre (IsNew k) fs → Plains k fs → GoesIn m → Placed g.script k how all m → Fronted (λ d. d ≡ kind.CallBody) ⊥ (mark_of how m) (shape_at g.script k) fs (asked_of m)
       → Chained g.script at fs × StandsAt g.script (innermost g.script at fs) m
-  body_front at k up call how (f ∷ []) all m new plain on p h = ((up f h.0 (new.0).node, tt), one_front k f all how m (new.0).node plain.0 on p h.1)
+  body_front at k up call how (f ∷ []) all m new plain on p h = ((up f h.0 new.0, tt), one_front k f all how m new.0 plain.0 on p h.1)
   body_front at k up call how (f ∷ x ∷ xs) all m new plain on p h = absurd h
   body_front at k up call how [] all (Ends e) new plain on p h = absurd on
   body_front at k up call how [] all (Hits l) new plain on p h = absurd on

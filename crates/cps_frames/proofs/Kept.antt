@@ -1,5 +1,5 @@
 -- What a move leaves: a later sound state, new frames that fit, and a next move that names what is there.
-use Rattle.std.proofs.Common.{◌≡◌, ◌∙◌, ℕ, ◌<◌, Bool, true, false, List, [], ◌∷◌, length, refl, sym, ap, subst}
+use Rattle.std.proofs.Common.{◌≡◌, ◌∙◌, ℕ, ◌+◌, ◌<◌, ◌≤◌, arith, Bool, true, false, List, [], ◌∷◌, length, refl, sym, ap, subst}
 use Rattle.std.specs.Prelude.{not}
 use Rattle.std.specs.List.{AllByRecursion as AllAre}
 use Rattle.model_syntax.specs.declared.node.NodeForm.{NodeForm}
@@ -19,11 +19,11 @@ use Rattle.model_run.specs.FrameTable.{Within, Part as Part_within, Inner, Suffi
 use Rattle.model_run.specs.Nesting.{MeetsRow, Spot, For_executor, For_task, For_person, For_branches, shape_at, part_number, row_at, spot, spot_in}
 use Rattle.model_run.specs.Scoping.{frame_names, names_at}
 use Rattle.model_run.specs.Fitting.{EnvFits, Later, holds_executor}
-use Rattle.run_laws.specs.Soundness.{Base, Open, setting_of, within, open_in, AskedFits, EndFits, Sits, SoundWorld, Same, Pausing, At, Holds, may_declare, seen}
+use Rattle.run_laws.specs.Soundness.{Base, Open, setting_of, within, open_in, AskedFits, EndFits, Sits, SoundWorld, Same, Pausing, At, Holds, branching, left, may_declare, seen}
 use Rattle.run_laws.specs.Evaluation.{AllOfSite, Grants, InsideFits, IsAnswer, ends_as, has_inner}
 use Rattle.run_laws.proofs.Evaluates.{inner_quiet}
 use Rattle.run_laws.proofs.Evaluation.{ScriptFacts}
-use Rattle.run_laws.proofs.Flow.{HasGone, end_as, later_self, pausing_here}
+use Rattle.run_laws.proofs.Flow.{HasGone, end_as, later_self, left_later, pausing_here}
 use Rattle.run_laws.proofs.InsideForms.{InsidePlain, inside_plain}
 use Rattle.run_laws.proofs.Sources.{not_true}
 use Rattle.run_laws.proofs.SoundFrames.{frame_goes, node_wait}
@@ -45,6 +45,11 @@ abbrev pub GoesOn : Move → Type 0
 GoesOn (Hits k) = ⊥
 GoesOn m = Unit {0}
 
+-- the flow nodes that a move has made: for branches one for each and one for the block
+abbrev pub branched : Move → ℕ
+branched (Asks asked) = branching asked
+branched m = 0
+
 module _ (g : Base) (facts : ScriptFacts g.script) where
   -- what is done next, where a node of form f began
   abbrev pub NextFits : NodeForm → Standing → Move → Type 0
@@ -59,31 +64,32 @@ module _ (g : Base) (facts : ScriptFacts g.script) where
     pub pausing : Pausing g.around frames v.world
     pub sits : AllAre (Sits g.script v.world.shared) frames
     pub next : NextFits f v m
+    pub spent : left g v.world.shared + branched m ≤ left g u.world.shared
 
   module _ (k : ℕ) (lt : k < length (nodes_of g.script)) (f : NodeForm) (u v : Standing) where
     kept_by : (how : How) (frames : List Frame) (m : Move) → GoesOn m → Placed g.script k how frames m → Holds g f u.world.shared (over (shape_at g.script k) (probe g.script (shape_at g.script k) (names_at g.script k)) frames (does (probe g.script (shape_at g.script k) (names_at g.script k)) how m (state v.world []))) → Kept f u frames m v
-    kept_by how [] (Ends e) on p h = record { later = (h.0).later; sound = (h.0).sound; pausing = pausing_here g.around v.world (h.0).same; sits = tt; next = h.1 }
+    kept_by how [] (Ends e) on p h = record { later = (h.0).later; sound = (h.0).sound; pausing = pausing_here g.around v.world (h.0).same; sits = tt; next = h.1; spent = (let l : left g v.world.shared ≤ left g u.world.shared = left_later g u.world.shared v.world.shared (h.0).later in omega (arith, l)) }
     kept_by how (x ∷ xs) (Ends e) on p h = absurd (cc p)
     kept_by how frames (Hits l) on p h = absurd on
     kept_by how frames (Asks asked) on p h =
         let w = subst (Holds g f u.world.shared) (over_waits (shape_at g.script k) (probe g.script (shape_at g.script k) (names_at g.script k)) frames asked (state v.world [])) h in
-        record { later = (w.0).later; sound = (w.0).sound; pausing = (w.0).pausing; sits = w.2; next = w.1 }
+        record { later = (w.0).later; sound = (w.0).sound; pausing = (w.0).pausing; sits = w.2; next = w.1; spent = (w.0).spent }
     kept_by (Part i) frames (Enter e p env) on part h =
         let t : Told g facts.shaped k (shape_at g.script k) (names_at g.script k) (node_here g facts k lt) u.world.shared frames (state v.world []) (PartFits (shape_at g.script k) (names_at g.script k) v.world.shared.cells e i env) =
         tells g facts.shaped k (shape_at g.script k) (names_at g.script k) (node_here g facts k lt) f u.world.shared (probe g.script (shape_at g.script k) (names_at g.script k)) frames _ (state v.world []) _ (part_test (shape_at g.script k) (names_at g.script k) v.world.shared.cells e i env) h in
-        record { later = (t.paused).later; sound = (t.paused).sound; pausing = (t.paused).pausing; sits = t.sits; next = ((part.0).within, part_entered g facts k i p part.0 v.world.shared e env part.1 t.fits) }
+        record { later = (t.paused).later; sound = (t.paused).sound; pausing = (t.paused).pausing; sits = t.sits; spent = (t.paused).spent; next = ((part.0).within, part_entered g facts k i p part.0 v.world.shared e env part.1 t.fits) }
     kept_by Again frames (Enter (Turn i kept) p env) on turn h =
         let t : Told g facts.shaped k (shape_at g.script k) (names_at g.script k) (node_here g facts k lt) u.world.shared frames (state v.world []) (AgainFits (shape_at g.script k) (names_at g.script k) v.world.shared kept env) =
         tells g facts.shaped k (shape_at g.script k) (names_at g.script k) (node_here g facts k lt) f u.world.shared (probe g.script (shape_at g.script k) (names_at g.script k)) frames _ (state v.world []) _ (again_test (shape_at g.script k) (names_at g.script k) v.world.shared kept env) h in
         let fit = t.fits in
         let next : (k < length (nodes_of g.script)) × EntersWith g.script v.world.shared (Turn i kept) k env = (lt, (not_declared _ fit.0, (fit.1).0, (fit.1).1)) in
-        record { later = (t.paused).later; sound = (t.paused).sound; pausing = (t.paused).pausing; sits = t.sits; next = subst (λ j. (j < length (nodes_of g.script)) × EntersWith g.script v.world.shared (Turn i kept) j env) (sym turn.0) next }
+        record { later = (t.paused).later; sound = (t.paused).sound; pausing = (t.paused).pausing; sits = t.sits; spent = (t.paused).spent; next = subst (λ j. (j < length (nodes_of g.script)) × EntersWith g.script v.world.shared (Turn i kept) j env) (sym turn.0) next }
     kept_by Again frames (Enter e p env) on turn h = absurd turn.1
     kept_by Call frames (Enter (Body args) p env) on body h =
         let t : Told g facts.shaped k (shape_at g.script k) (names_at g.script k) (node_here g facts k lt) u.world.shared frames (state v.world []) (CallFits g.script v.world.shared p args env) =
         tells g facts.shaped k (shape_at g.script k) (names_at g.script k) (node_here g facts k lt) f u.world.shared (probe g.script (shape_at g.script k) (names_at g.script k)) frames _ (state v.world []) _ (call_test g.script v.world.shared p args env) h in
         let fit = t.fits in
-        record { later = (t.paused).later; sound = (t.paused).sound; pausing = (t.paused).pausing; sits = t.sits; next = ((fit.0).below, ((fit.0).callable, (fit.0).variables, fit.1)) }
+        record { later = (t.paused).later; sound = (t.paused).sound; pausing = (t.paused).pausing; sits = t.sits; spent = (t.paused).spent; next = ((fit.0).below, ((fit.0).callable, (fit.0).variables, fit.1)) }
     kept_by Call frames (Enter e p env) on body h = absurd body
 
     -- What holds of a node that begins nothing but what tells whether it may, its move keeps.
@@ -102,7 +108,7 @@ module _ (g : Base) (facts : ScriptFacts g.script) where
 
   pub answers_there : (u : Common) (at : Spot) (e : Ending) → AnswersAt u at e → IsAnswer u e
   answers_there u For_branches (Answered (Joined ends)) h = h
-  answers_there u at (Answered Begin) h = tt
+  answers_there u at (Answered Begin) h = absurd h
   answers_there u at (Answered (Granted x)) h = tt
   answers_there u at (Answered (Done code out)) h = tt
   answers_there u at (Answered (Decided proceed name)) h = tt

@@ -1,5 +1,6 @@
 pub mod WayLaws
 pub mod PartLaws
+pub mod RequestRoom
 pub mod MoveLaws
 pub mod NoteLaws
 pub mod Runs

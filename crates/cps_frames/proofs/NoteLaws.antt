@@ -27,11 +27,13 @@ node_refused limit g u v o node.Memory free told = tt
 node_refused limit g u v o node.NodeLimit free told = absurd (cc (sym free ∙ told))
 
 -- a node with its line, by its number the thread's last one
-pub headed : (kind : NodeKind) (name : List ℕ) (start : ℕ) (parents line : List ℕ) (n : ℕ) (u v v' : Standing) → n ≡ next_node u.world → Passed (noted_limit line) (λ w. with_line line (with_node kind name start parents w)) u v → v'.world ≡ with_head n v.world → v'.stack ≡ v.stack → Passed (noted_limit line) (noted kind name start parents line) u v'
-headed kind name start parents line n u v v' number p head stack = record {
+pub headed : (kind : NodeKind) (name : List ℕ) (start : ℕ) (parents line : List ℕ) (n : ℕ) (u v v' : Standing) → n ≡ next_node u.world → Passed (noted_limit line) (λ w. with_line line (with_node kind name start parents w)) u v → v'.world ≡ with_head n v.world → v'.stack ≡ v.stack → v'.parent ≡ v.parent → v'.heap ≡ v.heap → Passed (noted_limit line) (noted kind name start parents line) u v'
+headed kind name start parents line n u v v' number p head stack parent heap = record {
   free = p.free;
   made = head ∙ ap (with_head n) p.made ∙ ap (λ m. with_head m (changed_by (λ w. with_line line (with_node kind name start parents w)) u.world)) number;
   stack = stack ∙ p.stack;
+  parent = parent ∙ p.parent;
+  heap = heap ∙ p.heap;
 }
 
 -- the node of a branch
@@ -41,7 +43,7 @@ branch_noted name label line parents u result v is_label is_line is_parents p =
     at_head result (subst (P (branch_label name) (body_line (branch_label name))) is_parents (subst (λ t. P (branch_label name) t parents) (is_line ∙ ap body_line is_label) (subst (λ l. P l line parents) is_label p)))
   where
     at_head : (result : Outcome (Unit {0}) Halt) → Passes (noted_limit (body_line (branch_label name))) (λ w. with_line (body_line (branch_label name)) (with_node BodyNode (branch_label name) 0 (u.world.own.head ∷ []) w)) u result v → Passes (noted_limit (body_line (branch_label name))) (noted_branch name) u result v
-    at_head (Ok done) q = record { free = q.free; made = q.made; stack = q.stack }
+    at_head (Ok done) q = record { free = q.free; made = q.made; stack = q.stack; parent = q.parent; heap = q.heap }
     at_head (Err (Limit k)) q = q
     at_head (Err (Ends e)) q = q
     at_head (Err Memory) q = q

@@ -1,5 +1,7 @@
 -- A part that a node has is found by the code.
 use Rattle.std.proofs.Common.{◌≡◌, ◌∙◌, ℕ, zero, suc, ◌+◌, ◌<◌, ◌≤◌, List, [], ◌∷◌, length, length-append, None, ap, sym, subst, arith, inl, inr}
+use Rattle.std.proofs.Math.Bridge.{le_prop}
+use Rattle.std.proofs.Math.Logic.{∥∥₁_elim}
 use Rattle.std.specs.Prelude.{slice_get}
 use Rattle.model_syntax.specs.TreeNodes.{tree_node}
 use Rattle.model_syntax.specs.declared.node.NodeForm.{NodeForm}
@@ -9,8 +11,8 @@ use Rattle.model_run.specs.Terms.{Term, Terms, no_terms, and_then, forms_of, par
 use Rattle.script_laws.specs.NodeParts.{Slot, One, Optional, Any_number, Next, Stand, parts_asked}
 use Rattle.script_laws.proofs.ScriptParts.{script_parts}
 use Rattle.cps_code.specs.Rows.{numbers_of, part_number}
+use Rattle.cps_code.specs.Script.{IsScript}
 use Rattle.cps_frames.specs.Parts.{least, least_parts}
-use Rattle.cps_frames.specs.Places.{IsScript}
 
 found_below : (ps : Terms) (i : ℕ) → i < length (forms_of ps) → slice_get (numbers_of ps) i ≡ None → ⊥
 found_below no_terms i lt e = absurd (omega arith)
@@ -37,5 +39,5 @@ stand_least (Any_number test ∷ slots) fs h =
 
 pub parts_there : (root : Term) → IsScript root → (k : ℕ) → least_parts (shape_at root k).form ≤ arity (shape_at root k)
 parts_there root script k =
-    subst (λ t. least_parts (shape_at t k).form ≤ arity (shape_at t k)) (sym script.1)
-    (stand_least (parts_asked (shape_at (term 0 (tree_node script.0)) k).form) (shape_at (term 0 (tree_node script.0)) k).parts (script_parts script.0 k))
+    ∥∥₁_elim script le_prop (λ s. subst (λ t. least_parts (shape_at t k).form ≤ arity (shape_at t k)) (sym s.1)
+    (stand_least (parts_asked (shape_at (term 0 (tree_node s.0)) k).form) (shape_at (term 0 (tree_node s.0)) k).parts (script_parts s.0 k)))

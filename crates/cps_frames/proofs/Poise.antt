@@ -1,5 +1,5 @@
 -- A thread that is poised stays so: each move leaves frames that fit, one inside the other, and a next move that may be made there.
-use Rattle.std.proofs.Common.{◌≡◌, ◌∙◌, ℕ, ◌<◌, true, false, List, [], ◌∷◌, ◌++◌, length, refl, sym, ap, subst}
+use Rattle.std.proofs.Common.{◌≡◌, ◌∙◌, ℕ, ◌+◌, ◌-◌, ◌<◌, ◌≤◌, true, false, List, [], ◌∷◌, ◌++◌, length, refl, sym, ap, subst}
 use Rattle.std.proofs.lemmas.List.{append-nil}
 use Rattle.std.specs.List.{AllByRecursion as AllAre}
 use Rattle.model_syntax.specs.declared.node.NodeForm.{NodeForm}
@@ -31,7 +31,8 @@ use Rattle.run_laws.proofs.InsideForms.{InsidePlain, inside_plain, passes_plain,
 use Rattle.run_laws.proofs.SoundBodies.{called_plain}
 use Rattle.cps_frames.specs.Standing.{Standing}
 use Rattle.cps_frames.specs.Moves.{How, IsNew, Placed, Comes}
-use Rattle.cps_frames.specs.Places.{Holding, IsHeld, granted_by, FrameStands, EndsAt, EntersBy, EntersWith, IsScript, MayEnter, MayGoOn, MoveFits, Poised}
+use Rattle.cps_code.specs.Script.{IsScript}
+use Rattle.cps_frames.specs.Places.{Holding, IsHeld, granted_by, FrameStands, EndsAt, EntersBy, EntersWith, MayEnter, MayGoOn, MoveFits, Poised}
 use Rattle.cps_frames.specs.declared.thread.Move.{Move}
 use Rattle.cps_frames.specs.declared.thread.Move.TheVariants.{Ends, Hits, Enter, Asks}
 use Rattle.cps_frames.proofs.Bounds.{stands_exactly, sits_loosely}
@@ -40,7 +41,7 @@ use Rattle.cps_frames.proofs.Fronts.{GoesIn, Plains, StandsAt}
 use Rattle.cps_frames.proofs.Holding.{all_split, distinct_front, granted_held, still_held}
 use Rattle.cps_frames.proofs.Keeping.{node_here}
 use Rattle.cps_frames.proofs.MoveLaws.{Saying}
-use Rattle.cps_frames.proofs.Kept.{GoesOn, Kept, NextFits, answers_there, entry_kept, frame_kept, quiet_inner, quiet_part, wait_kept}
+use Rattle.cps_frames.proofs.Kept.{GoesOn, Kept, NextFits, branched, answers_there, entry_kept, frame_kept, quiet_inner, quiet_part, wait_kept}
 use Rattle.cps_frames.proofs.Opened.{Behind, IsAround, all_open, behind, open_here, opened_on, same_here, site_without_all}
 
 -- rows of frames
@@ -69,7 +70,7 @@ all_later root u v l (f ∷ fs) h = (stands_later root u v l f h.0, all_later ro
 
 all_exactly : (root : Term) (u : Common) (k : ℕ) (fs : List Frame) → AllAre (Sits root u) fs → AllAre (IsNew k) fs → AllAre (FrameStands root u) fs
 all_exactly root u k [] h n = tt
-all_exactly root u k (f ∷ fs) h n = (stands_exactly root u f h.0 (n.0).range, all_exactly root u k fs h.1 n.1)
+all_exactly root u k (f ∷ fs) h n = (stands_exactly root u f h.0, all_exactly root u k fs h.1 n.1)
 
 call_plain : (f : NodeForm) → enters_body f ≡ true → is_declaration f ≡ false
 call_plain (form.Declare x) e = absurd (cc)
@@ -84,7 +85,7 @@ module _ (g : Base) (facts : ScriptFacts g.script) where
   all_plain u k [] h n = tt
   all_plain u k (f ∷ fs) h n =
       let here : InsidePlain (shape_at g.script f.node) (row_at g.script f).inside = plain_here u f h.0 in
-      (subst (λ j. InsidePlain (shape_at g.script j) (frame_row f.kind (shape_at g.script j) f.left f.env).inside) (n.0).node here, all_plain u k fs h.1 n.1)
+      (subst (λ j. InsidePlain (shape_at g.script j) (frame_row f.kind (shape_at g.script j) f.left f.env).inside) n.0 here, all_plain u k fs h.1 n.1)
 
   -- a node in the place of another ends as that does
   leads_end : {k j : ℕ} → Leads g.script k j → (u : Common) (e : Ending) → EndFits (shape_at g.script j).form u e → EndFits (shape_at g.script k).form u e
@@ -287,6 +288,15 @@ module _ (g : Setting) (facts : ScriptFacts g.script) where
       holding_on (based g (open_here u.world)) facts (ends_as e (shape_at g.script k).form) u c.frames m v
       (entry_kept (based g (open_here u.world)) facts r e k env u m v (poised.move).1 poised.sound (poised.move).2 (same_here u.world) on c) h.differ
       (subst (AllAre (IsHeld u.world.shared.held)) (sym (append-nil u.world.own.context.held)) h.holds)
+
+  -- Flow nodes are made for branches that begin.
+  pub ends_spend : (above : Context) (outer : Spot) (r : ℕ) (u : Standing) (f : Frame) (e : Ending) (m : Move) (v : Standing) → Taken above outer u f e → GoesOn m → Comes f.node r (λ sh a. after f sh a e) u m v
+      → (g.limits.flow_nodes - length v.world.shared.nodes) + branched m ≤ g.limits.flow_nodes - length u.world.shared.nodes
+  ends_spend above outer r u f e m v taken on c = wait_or f.kind (λ is. (granted_kept above outer r u f e m v taken on c is).spent) (λ other. (other_kept above outer r u f e m v taken on c other).spent)
+
+  pub enters_spend : (above : Context) (outer : Spot) (r : ℕ) (u : Standing) (e : Entry) (k : ℕ) (env : Env) (m : Move) (v : Standing) → Poised g above outer u (Enter e k env) → GoesOn m → Comes k r (λ sh a. enter e a k sh env) u m v
+      → (g.limits.flow_nodes - length v.world.shared.nodes) + branched m ≤ g.limits.flow_nodes - length u.world.shared.nodes
+  enters_spend above outer r u e k env m v poised on c = (entry_kept (based g (open_here u.world)) facts r e k env u m v (poised.move).1 poised.sound (poised.move).2 (same_here u.world) on c).spent
 
   -- the innermost frame of a poised thread is taken off
   pub taken_off : (above : Context) (outer : Spot) (u u' : Standing) (f : Frame) (e : Ending) → Poised g above outer u (Ends e) → u'.world ≡ u.world → u.stack ≡ u'.stack ++ f ∷ [] → Taken above outer u' f e

@@ -17,12 +17,12 @@ use Rattle.model_run.proofs.FormLaws.{enter_law}
 use Rattle.model_run.proofs.Monotone.{again_with, call_with, plain_below, grows_to}
 use Rattle.model_run.proofs.Walk.{from, shaped, plain_entered}
 use Rattle.model_run.proofs.Replay.{more_around}
-use Rattle.cps_frames.specs.Standing.{Standing, state, room_of}
+use Rattle.cps_frames.specs.Standing.{Standing, Beside, state, room_of}
 use Rattle.cps_frames.specs.Moves.{How, Part, Again, Call, Placed, does, over, IsNew, Comes, forked}
 use Rattle.cps_frames.specs.Runs.{move_result, Onward}
 use Rattle.cps_frames.specs.declared.thread.Move.{Move}
 use Rattle.cps_frames.specs.declared.thread.Move.TheVariants.{Ends, Hits, Enter, Asks}
-use Rattle.cps_frames.proofs.MoveLaws.{Saying}
+use Rattle.cps_frames.proofs.MoveLaws.{Saying, beside_here, beside_on}
 
 unwind_append : (root : Term) (n : ℕ) (fs gs : List Frame) (r : Result) → unwind root n (fs ++ gs) r ≡ unwind root n fs (unwind root n gs r)
 unfolding unwind
@@ -39,7 +39,7 @@ unfolding unwind continue
 over_unwinds root n k [] h r r' b = b
 over_unwinds root n k (f ∷ fs) h r r' b =
     let near : after f (shape_of (term_at root k)) (around root n (term_at root k)) ≡ after f (shape_of (term_at root f.node)) (around root n (term_at root f.node)) =
-    ap (λ j. after f (shape_of (term_at root j)) (around root n (term_at root j))) (sym (h.0).node) in
+    ap (λ j. after f (shape_of (term_at root j)) (around root n (term_at root j))) (sym h.0) in
     subst (λ go. Below (through f (after f (shape_of (term_at root k)) (around root n (term_at root k))) (over (shape_of (term_at root k)) (around root n (term_at root k)) fs r)) (through f go (unwind root n fs r'))) near
     (below_through f _ _ (λ e s. same _ _ refl) _ _ (over_unwinds root n k fs h.1 r r' b))
 
@@ -73,25 +73,27 @@ enter_is root n e (Numbered k f ps) env s =
     enter_law below_relation k _ _ (forms_of ps) e f env (plain_entered below_relation plain_below (shaped f ps) k (from (again_with root n) (call_with root n) k f ps) (around root n (Numbered k f ps)) (more_around root n n k f ps (omega arith)) e) s s refl
 
 pub onward_here : (root : Term) (u : Standing) (m : Move) → Onward root u m u m
-onward_here root u m = record { by = λ n. same _ _ refl; setting = refl; less = omega arith }
+onward_here root u m = record { by = λ n. same _ _ refl; setting = refl; beside = beside_here u; less = omega arith }
 
 pub onward_on : (root : Term) (u : Standing) (m : Move) (v : Standing) (m' : Move) (w : Standing) (m'' : Move) → Onward root u m v m' → Onward root v m' w m'' → Onward root u m w m''
 onward_on root u m v m' w m'' a b = record {
   by = λ n. below_trans _ _ _ (a.by n) (b.by n);
   setting = b.setting ∙ a.setting;
+  beside = beside_on u v w a.beside b.beside;
   less = (let l : room_of v.world + forked m' ≤ room_of u.world + forked m = a.less in let l' : room_of w.world + forked m'' ≤ room_of v.world + forked m' = b.less in omega (arith, l, l'));
 }
 
 -- the innermost frame goes on
-pub onward_ends : (root : Term) (r : ℕ) (u u' : Standing) (f : Frame) (e : Ending) (m : Move) (v : Standing) → root ≡ u.world.setting.script → u'.world ≡ u.world → u.stack ≡ u'.stack ++ f ∷ [] → Comes f.node r (λ sh a. after f sh a e) u' m v → Onward root u (Ends e) v m
+pub onward_ends : (root : Term) (r : ℕ) (u u' : Standing) (f : Frame) (e : Ending) (m : Move) (v : Standing) → root ≡ u.world.setting.script → u'.world ≡ u.world → u.stack ≡ u'.stack ++ f ∷ [] → Beside u u' → Comes f.node r (λ sh a. after f sh a e) u' m v → Onward root u (Ends e) v m
 unfolding continue unwind through
-onward_ends root r u u' f e m v script same_world at c = record {
+onward_ends root r u u' f e m v script same_world at beside c = record {
   by = λ n.
       below_trans _ _ _
       (same _ _ (ap (λ fs. unwind root n fs (Ended e (state u.world []))) at ∙ unwind_append root n u'.stack (f ∷ []) (Ended e (state u.world []))
       ∙ ap (λ w. unwind root n u'.stack (continue root n f e (state w []))) (sym same_world)))
       (comes_law root n f.node r (λ sh a. after f sh a e) u' m v (script ∙ ap (λ w. w.setting.script) (sym same_world)) c);
   setting = c.setting ∙ ap (λ w. w.setting) same_world;
+  beside = beside_on u u' v beside c.beside;
   less = (let l : room_of v.world + forked m ≤ room_of u'.world = c.less in let w : room_of u'.world ≡ room_of u.world = ap room_of same_world in omega (arith, l, w));
 }
 
@@ -104,6 +106,7 @@ onward_enters root r u e k env m v script number c = record {
       (enter_is root n e (term_at root k) env (state u.world []))))
       (comes_law root n k r (λ sh a. enter e a k sh env) u m v script c);
   setting = c.setting;
+  beside = c.beside;
   less = (let l : room_of v.world + forked m ≤ room_of u.world = c.less in omega (arith, l));
 }
 

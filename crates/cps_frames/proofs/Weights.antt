@@ -34,6 +34,21 @@ reach_step : (root : Term) (k : ℕ) → k < length (nodes_of root) → reach ro
 unfolding reach power
 reach_step root k lt = let e : length (nodes_of root) - k ≡ suc (length (nodes_of root) - suc k) = omega arith in ap power e
 
+power_most : (n k d : ℕ) → n - k ≡ d → power (n - k) ≤ 2 ^ 70 * power (n - suc k)
+unfolding power
+power_most n k zero e =
+    let one : power (n - k) ≡ 1 = ap power e in
+    omega (arith, one, power_pos (n - suc k))
+power_most n k (suc d) e =
+    let less : n - suc k ≡ d = omega (arith, e) in
+    let here : power (n - k) ≡ 2 ^ 70 * power d = ap power e in
+    let behind : power (n - suc k) ≡ power d = ap power less in
+    omega (arith, here, behind)
+
+reach_most : (root : Term) (k : ℕ) → reach root k ≤ 2 ^ 70 * reach root (suc k)
+unfolding reach
+reach_most root k = power_most (length (nodes_of root)) k _ (λ i. length (nodes_of root) - k)
+
 reach_pos : (root : Term) (j : ℕ) → 1 ≤ reach root j
 unfolding reach
 reach_pos root j = power_pos (length (nodes_of root) - j)
@@ -49,7 +64,7 @@ ranks_weight : (root : Term) (k : ℕ) (fs : List Frame) → AllAre (IsNew k) fs
 unfolding frame_weight
 ranks_weight root k [] h = omega arith
 ranks_weight root k (f ∷ fs) h =
-    let here : rank f * (reach root (suc f.node) + 2) ≡ rank f * (reach root (suc k) + 2) = ap (λ j. rank f * (reach root (suc j) + 2)) (h.0).node in
+    let here : rank f * (reach root (suc f.node) + 2) ≡ rank f * (reach root (suc k) + 2) = ap (λ j. rank f * (reach root (suc j) + 2)) h.0 in
     let rest : frames_weight root fs ≡ ranks fs * (reach root (suc k) + 2) = ranks_weight root k fs h.1 in
     let sum : (rank f + ranks fs) * (reach root (suc k) + 2) ≡ rank f * (reach root (suc k) + 2) + ranks fs * (reach root (suc k) + 2) = distribute (rank f) (ranks fs) (reach root (suc k) + 2) in
     omega (arith, here, rest, sum)
@@ -60,16 +75,31 @@ move_small root (Hits l) = omega arith
 move_small root (Enter e p env) = let h : reach root p ≤ reach root 0 = reach_falls root 0 p (omega arith) in omega (arith, h)
 move_small root (Asks asked) = omega arith
 
-move_near : (root : Term) (k : ℕ) (how : How) (fs : List Frame) (m : Move) → Placed root k how fs m → IsNear how m → move_weight root m ≤ reach root (suc k) + 1
-move_near root k how fs (Ends e) p n = omega arith
-move_near root k how fs (Hits l) p n = omega arith
-move_near root k how fs (Asks asked) p n = omega arith
-move_near root k (Part i) fs (Enter e q env) p n =
-    let b : k < q = (p.0).behind in
-    let h : reach root q ≤ reach root (suc k) = reach_falls root (suc k) q (omega (arith, b)) in
-    omega (arith, h)
-move_near root k Again fs (Enter e q env) p n = absurd n
-move_near root k Call fs (Enter e q env) p n = absurd n
+-- a part weighs no more than what is behind its node
+part_near : (root : Term) (k q : ℕ) → k < q → reach root q ≤ reach root (suc k)
+part_near root k q b = reach_falls root (suc k) q (omega (arith, b))
+
+-- new frames without a node, or with a part of their own
+frames_lower : (n r weight below : ℕ) → weight ≤ below + 1 → n < r → n * (below + 2) + weight < r * (below + 2)
+frames_lower n r weight below small lt =
+    let f : suc n * (below + 2) ≤ r * (below + 2) = scale (suc n) r (below + 2) lt in
+    omega (arith, f, small)
+
+-- what is entered without a count, with n new frames that r bounds
+near_lower : (root : Term) (k n r : ℕ) (how : How) (fs : List Frame) (m : Move) → Placed root k how fs m → IsNear n r how m → n < r → n * (reach root (suc k) + 2) + move_weight root m < r * (reach root (suc k) + 2)
+near_lower root k n r how fs (Ends e) p near lt = frames_lower n r 0 (reach root (suc k)) (omega arith) lt
+near_lower root k n r how fs (Hits l) p near lt = frames_lower n r 0 (reach root (suc k)) (omega arith) lt
+near_lower root k n r how fs (Asks asked) p near lt = frames_lower n r 0 (reach root (suc k)) (omega arith) lt
+near_lower root k n r (Part i) fs (Enter e q env) p near lt =
+    let h : reach root q ≤ reach root (suc k) = part_near root k q (p.0).behind in
+    frames_lower n r (reach root q + 1) (reach root (suc k)) (omega (arith, h)) lt
+near_lower root k n r Again fs (Enter e q env) p near lt =
+    let same : reach root q ≡ reach root k = ap (reach root) p.0 in
+    let most : reach root k ≤ 2 ^ 70 * reach root (suc k) = reach_most root k in
+    let f : (n + 2 ^ 71) * (reach root (suc k) + 2) ≤ r * (reach root (suc k) + 2) = scale (n + 2 ^ 71) r (reach root (suc k) + 2) near in
+    let d : (n + 2 ^ 71) * (reach root (suc k) + 2) ≡ n * (reach root (suc k) + 2) + 2 ^ 71 * (reach root (suc k) + 2) = distribute n (2 ^ 71) (reach root (suc k) + 2) in
+    omega (arith, same, most, f, d)
+near_lower root k n r Call fs (Enter e q env) p near lt = absurd near
 
 -- what a move at node k weighs, with the frames that it puts up
 pub comes_lower : (root : Term) (k r : ℕ) (m : Saying) (u : Standing) (move : Move) (v : Standing) → root ≡ u.world.setting.script → (c : Comes k r m u move v) → budget root v.world + frames_weight root c.frames + move_weight root move < budget root u.world + r * (reach root (suc k) + 2)
@@ -82,17 +112,16 @@ comes_lower root k r m u move v script c =
     elim c.falls [
       | inl q ↦
           let q0 : suc (room_of v.world) ≤ room_of u.world = q.0 in
-          let q1 : ranks c.frames < 2 ^ 66 = q.1 in
-          let spent : suc (room_of v.world) * (2 ^ 70 * (reach root 0 + 2)) ≤ room_of u.world * (2 ^ 70 * (reach root 0 + 2)) = scale _ _ _ q0 in
-          let f : ranks c.frames * (reach root (suc k) + 2) ≤ 2 ^ 66 * (reach root 0 + 2) = mul-le (ranks c.frames) (reach root (suc k) + 2) (2 ^ 66) (reach root 0 + 2) (omega (arith, q1)) (omega (arith, top)) in
+          let q1 : ranks c.frames < 2 ^ 72 = q.1 in
+          let spent : suc (room_of v.world) * (2 ^ 76 * (reach root 0 + 2)) ≤ room_of u.world * (2 ^ 76 * (reach root 0 + 2)) = scale _ _ _ q0 in
+          let f : ranks c.frames * (reach root (suc k) + 2) ≤ 2 ^ 72 * (reach root 0 + 2) = mul-le (ranks c.frames) (reach root (suc k) + 2) (2 ^ 72) (reach root 0 + 2) (omega (arith, q1)) (omega (arith, top)) in
           omega (arith, spent, w, f, small)
       | inr q ↦
           let q1 : ranks c.frames < r = q.1 in
           let le : room_of v.world ≤ room_of u.world = omega (arith, less) in
-          let kept : room_of v.world * (2 ^ 70 * (reach root 0 + 2)) ≤ room_of u.world * (2 ^ 70 * (reach root 0 + 2)) = scale _ _ _ le in
-          let f : suc (ranks c.frames) * (reach root (suc k) + 2) ≤ r * (reach root (suc k) + 2) = scale (suc (ranks c.frames)) r _ q1 in
-          let near : move_weight root move ≤ reach root (suc k) + 1 = move_near root k c.how c.frames move (subst (λ t. Placed t k c.how c.frames move) (sym script) c.placed) q.0 in
-          omega (arith, kept, w, f, near)
+          let kept : room_of v.world * (2 ^ 76 * (reach root 0 + 2)) ≤ room_of u.world * (2 ^ 76 * (reach root 0 + 2)) = scale _ _ _ le in
+          let near : ranks c.frames * (reach root (suc k) + 2) + move_weight root move < r * (reach root (suc k) + 2) = near_lower root k (ranks c.frames) r c.how c.frames move (subst (λ t. Placed t k c.how c.frames move) (sym script) c.placed) q.0 q1 in
+          omega (arith, kept, w, near)
     ]
 
 frames_append : (root : Term) (fs gs : List Frame) → frames_weight root (fs ++ gs) ≡ frames_weight root fs + frames_weight root gs

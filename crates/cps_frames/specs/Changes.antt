@@ -8,7 +8,7 @@ use Rattle.model_run.specs.FlowNodes.{line_limit, node_limit}
 use Rattle.model_run.specs.State.{World, put_cells}
 use Rattle.value_view.specs.declared.refusal.OpRefusal.{OpRefusal}
 use Rattle.value_view.specs.declared.refusal.OpRefusal.TheVariants as op
-use Rattle.cps_frames.specs.Standing.{Standing}
+use Rattle.cps_frames.specs.Standing.{Standing, Beside}
 use Rattle.cps_frames.specs.declared.halt.Halt.{Halt}
 use Rattle.cps_frames.specs.declared.halt.Halt.TheVariants.{Memory, Ends, Limit}
 
@@ -21,12 +21,16 @@ pub record Passed (limit : World → Option LimitKind) (g : World → World) (u 
   pub free : limit u.world ≡ None
   pub made : v.world ≡ changed_by g u.world
   pub stack : v.stack ≡ u.stack
+  pub parent : v.parent ≡ u.parent
+  pub heap : v.heap ≡ u.heap
 
 -- this limit was met, and nothing was changed
 pub record Met (limit : World → Option LimitKind) (k : LimitKind) (u v : Standing) : Type 0 where
   pub met : limit u.world ≡ Some k
   pub world : v.world ≡ u.world
   pub stack : v.stack ≡ u.stack
+  pub parent : v.parent ≡ u.parent
+  pub heap : v.heap ≡ u.heap
 
 -- The change was made, or a limit was met; nothing is said where the memory was refused.
 abbrev pub Passes : (World → Option LimitKind) → (World → World) → Standing → Outcome (Unit {0}) Halt → Standing → Type 0
@@ -45,11 +49,12 @@ pub record HasRoom (line : List ℕ) (u : Standing) : Type 0 where
   pub node : node_limit u.world ≡ None
   pub line_fits : line_limit line u.world ≡ None
 
--- an operation answers so, and leaves these cells
+-- an operation answers so, and leaves these cells, of which each that is written or new is marked
 pub record Leaves (a answer : Answer) (h : List Cell) (u v : Standing) : Type 0 where
   pub answers : a ≡ answer
   pub world : v.world ≡ put_cells h u.world
   pub stack : v.stack ≡ u.stack
+  pub beside : Beside u v
 
 -- An operation on values did what the definitions say: it has given a value or thrown, with the cells afterwards, or met a limit, and
 -- then the cells are as they were. Nothing is said where the memory was refused.

@@ -1,4 +1,7 @@
--- What is left to do at most before something is counted: a number that each move lowers.
+-- What is left to do at most before something is counted: a number that each move lowers, so that the moves of a turn come to an end.
+-- The frames that one move puts up rank below 2 ^ 72 together (Moves). What stands below a node weighs no more than these frames and what is
+-- entered, each by the reach of the next node and 2: 2 ^ 70 times that reach is above them all; and one count is worth 2 ^ 76 times the
+-- reach of the whole script.
 use Rattle.std.specs.Prelude.{ℕ, zero, suc, ◌+◌, ◌-◌, ◌*◌, ◌^◌, List, [], ◌∷◌, length}
 use Rattle.model_run.specs.declared.frame.Frame.{Frame}
 use Rattle.model_run.specs.Terms.{Term, nodes_of}
@@ -12,7 +15,7 @@ unfoldable pub power : ℕ → ℕ
 power zero = 1
 power (suc d) = 2 ^ 70 * power d
 
--- a node that is entered: its parts have higher numbers
+-- a node that is entered, whose parts have higher numbers: it weighs more than all that its own move leaves to do
 unfoldable pub reach : Term → ℕ → ℕ
 reach root k = power (length (nodes_of root) - k)
 
@@ -29,7 +32,7 @@ move_weight root m = 0
 
 -- what one count is worth
 unfoldable pub spending : Term → ℕ
-spending root = 2 ^ 70 * (reach root 0 + 2)
+spending root = 2 ^ 76 * (reach root 0 + 2)
 
 unfoldable pub budget : Term → World → ℕ
 budget root w = room_of w * spending root

@@ -10,8 +10,8 @@ use Rattle.model_run.specs.Terms.{Term, nodes_of, part_of, term_at}
 use Rattle.model_run.specs.State.{Reply, State, Env, Result, Ended, Limited, Unfinished, through, awaiting}
 use Rattle.model_run.specs.Around.{Around, Shape}
 use Rattle.model_run.specs.Forms.{after}
-use Rattle.cps_frames.specs.Standing.{Standing, state, shape_at, room_of}
-use Rattle.cps_frames.specs.Order.{InRange, ranks}
+use Rattle.cps_frames.specs.Standing.{Standing, Beside, state, shape_at, room_of}
+use Rattle.cps_frames.specs.Order.{ranks}
 use Rattle.cps_frames.specs.Halts.{move_of}
 use Rattle.cps_frames.specs.declared.halt.Halt.{Halt}
 use Rattle.cps_frames.specs.declared.thread.Move.{Move}
@@ -73,16 +73,17 @@ abbrev pub over : Shape → Around → List Frame → Result → Result
 over sh a [] r = r
 over sh a (f ∷ fs) r = through f (after f sh a) (over sh a fs r)
 
--- new frames stand at node k, and what they count is in range
-pub record IsNew (k : ℕ) (f : Frame) : Type 0 where
-  pub node : f.node ≡ k
-  pub range : InRange f.kind f.values
+-- new frames stand at node k
+abbrev pub IsNew : ℕ → Frame → Type 0
+IsNew k f = f.node ≡ k
 
--- a part of this node is entered, or no node at all
-abbrev pub IsNear : How → Move → Type 0
-IsNear (Part i) m = Unit {0}
-IsNear how (Enter e p env) = ⊥
-IsNear how m = Unit {0}
+-- a part of this node is entered, or no node at all; or, behind a turn of a walk, the node again: the frame of a turn ranks so high
+-- that the node may be entered in its place. The new frames rank n together, and r bounds them.
+abbrev pub IsNear : ℕ → ℕ → How → Move → Type 0
+IsNear n r (Part i) m = Unit {0}
+IsNear n r Again (Enter e p env) = n + 2 ^ 71 ≤ r
+IsNear n r Call (Enter e p env) = ⊥
+IsNear n r how m = Unit {0}
 
 -- the branches that a thread waits for
 abbrev pub forked_by : Asked → ℕ
@@ -94,8 +95,9 @@ forked (Asks asked) = forked_by asked
 forked m = 0
 
 -- A move at node k: what the definitions say there, in one world, is what the move says in another, inside the frames that were put
--- on the stack. What may still be counted falls by the branches that begin. The frames rank below r together and a part is entered
--- or no node, unless something was counted.
+-- on the stack; the thread that waits for this one stays, and changed cells are marked. What may still be counted falls by the
+-- branches that begin. The frames rank below r together and a part is entered or no node, unless something was counted: then they
+-- rank below 2 ^ 72, which is above the ranks of all frames that one move puts up.
 pub record Comes (k r : ℕ) (says : Shape → Around → State → Result) (u : Standing) (move : Move) (v : Standing) : Type 0 where
   pub frames : List Frame
   pub pushed : v.stack ≡ u.stack ++ frames
@@ -103,9 +105,10 @@ pub record Comes (k r : ℕ) (says : Shape → Around → State → Result) (u :
   pub how : How
   pub placed : Placed u.world.setting.script k how frames move
   pub setting : v.world.setting ≡ u.world.setting
+  pub beside : Beside u v
   pub same : (a : Around) (rs : List Reply) → says (shape_at u.world k) a (state u.world rs) ≡ over (shape_at u.world k) a frames (does a how move (state v.world rs))
   pub less : room_of v.world + forked move ≤ room_of u.world
-  pub falls : ((suc (room_of v.world) ≤ room_of u.world) × (ranks frames < 2 ^ 66)) ⊎ (IsNear how move × (ranks frames < r))
+  pub falls : ((suc (room_of v.world) ≤ room_of u.world) × (ranks frames < 2 ^ 72)) ⊎ (IsNear (ranks frames) r how move × (ranks frames < r))
 
 -- What a function answers comes to: nothing is said where the memory was refused.
 abbrev pub ComesTo : (k r : ℕ) → (Shape → Around → State → Result) → Standing → Outcome Move Halt → Standing → Type 0

@@ -1,17 +1,17 @@
 -- Where a thread may stand between two moves: its frames meet the table exactly and stand one inside the other, each with its
--- variables, and what is done next may stand inside the last of them. Such a thread is never stuck, and each move keeps it so.
+-- variables, over a sound world; its context holds what the frames have opened; and what is done next may stand inside the last of
+-- them. Each move that meets no limit keeps it so. Of how many of its frames are bodies, which it counts, nothing is said here.
 use Rattle.std.specs.Prelude.{◌≡◌, ◌<◌, ◌+◌, ◌++◌, ℕ, true, false, List, [], None, length}
 use Rattle.std.specs.List.{AllByRecursion as AllAre}
 use Rattle.model_syntax.specs.declared.node.NodeForm.TheVariants as form
-use Rattle.model_syntax.specs.declared.tree.Tree.{Tree}
-use Rattle.model_syntax.specs.TreeNodes.{tree_node}
 use Rattle.model_values.specs.Fitting.{There}
 use Rattle.model_run.specs.declared.ending.Ending.{Ending}
 use Rattle.model_run.specs.declared.ending.Ending.TheVariants.{Answered}
 use Rattle.model_run.specs.declared.ending.Entry.{Entry}
 use Rattle.model_run.specs.declared.ending.Entry.TheVariants.{Body, Branched, First, Inside, On, Turn}
+use Rattle.model_run.specs.declared.wait.Answer.TheVariants.{Begin}
 use Rattle.model_run.specs.declared.frame.Frame.{Frame}
-use Rattle.model_run.specs.Terms.{Term, term, nodes_of}
+use Rattle.model_run.specs.Terms.{Term, nodes_of}
 use Rattle.model_run.specs.State.{Setting, Common, Env, World}
 use Rattle.model_run.specs.FrameTable.{enters_body, is_declaration}
 use Rattle.model_run.specs.Nesting.{Spot, Begun, Any_body, Body_of, Any_branch, For_executor, For_task, For_person, For_branches, FrameFits, Leads, Chained, WaitsFor, innermost, part_number, shape_at, spot_in}
@@ -23,21 +23,19 @@ use Rattle.model_run.specs.Fitting.{AnswerFits, Distinct, EnvFits, holds_executo
 use Rattle.run_laws.specs.Soundness.{AskedFits, EndFits, SoundWorld, open_folders, open_nodes}
 use Rattle.script_laws.specs.NodeParts.{is_function}
 use Rattle.run_laws.specs.Evaluation.{AllOfSite, EntryFits, granted_of}
+use Rattle.cps_code.specs.Script.{IsScript}
 use Rattle.cps_frames.specs.Standing.{Standing}
 use Rattle.cps_frames.specs.declared.thread.Move.{Move}
 use Rattle.cps_frames.specs.declared.thread.Move.TheVariants.{Ends, Hits, Enter, Asks}
-
--- the script of a tree
-abbrev pub IsScript : Term → Type 0
-IsScript root = (tree : Tree) × (root ≡ term 0 (tree_node tree))
 
 -- a frame that meets the table exactly, with its variables
 pub record FrameStands (root : Term) (u : Common) (f : Frame) : Type 0 where
   pub fits : FrameFits (known u) root f
   pub names : EnvFits u.cells (names_for root f) f.env
 
--- the answer to a wait at this spot
+-- the answer to a wait at this spot: that a thread begins is none
 abbrev pub AnswersAt : Common → Spot → Ending → Type 0
+AnswersAt u at (Answered Begin) = ⊥
 AnswersAt u at (Answered x) = AnswerFits u at [] x
 AnswersAt u at e = ⊥
 

@@ -1,5 +1,7 @@
 -- What the definitions see of a thread and its build.
-use Rattle.std.specs.Prelude.{ℕ, List}
+use Rattle.std.specs.Prelude.{◌≡◌, ℕ, List, Option}
+use Rattle.cell_heap.specs.Follows.{Follows}
+use Rattle.cell_heap.specs.Region.{Region}
 use Rattle.model_run.specs.declared.frame.Frame.{Frame}
 use Rattle.model_run.specs.Around.{Shape}
 use Rattle.model_run.specs.Nesting.{shape_at as shape_in}
@@ -31,13 +33,22 @@ own_of t = record { number = t.number; head = t.head; context = t.context; calls
 abbrev pub world_of : Shared → ThreadState → World
 world_of u t = record { setting = setting_of u; shared = common_of u; own = own_of t }
 
--- A world, with the frames of its thread, outermost first.
+-- A world, with the frames of its thread, outermost first; and what no definition sees: the thread that waits for this one, and the
+-- heap of the cells with its marks.
 pub record Standing : Type 0 where
   pub world : World
   pub stack : List Frame
+  pub parent : Option ℕ
+  pub heap : Region
+
+-- What no definition sees a move leaves so: the thread that waits for this one stays, and of the cells each that is written or new is
+-- marked.
+pub record Beside (u v : Standing) : Type 0 where
+  pub parent : v.parent ≡ u.parent
+  pub heap : Follows u.heap v.heap
 
 abbrev pub standing : Shared → ThreadState → Standing
-standing u t = record { world = world_of u t; stack = t.stack.items }
+standing u t = record { world = world_of u t; stack = t.stack.items; parent = t.parent; heap = u.heap }
 
 -- a world with the answers that are still to come
 abbrev pub state : World → List Reply → State

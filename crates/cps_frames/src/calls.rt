@@ -6,7 +6,7 @@ ghost use Rattle.model_run.specs.Forms.{after};
 ghost use Rattle.model_run.specs.State.{through, tick};
 ghost use Rattle.model_run.specs.Steps.{run_body};
 ghost use Rattle.cps_frames.specs.Moves.{ComesTo};
-ghost use Rattle.cps_frames.specs.Order.{InRange, rank};
+ghost use Rattle.cps_frames.specs.Order.{rank};
 ghost use Rattle.cps_frames.specs.Standing.{standing};
 ghost use Rattle.cps_frames.specs.declared.thread.ThreadState.{ThreadState as Thread};
 
@@ -40,7 +40,6 @@ pub fn call_inside(
     callee: Callee,
     arguments: Values,
 ) -> Result<Move, Halt>
-    requires range { InRange frame.kind frame.values }
     requires few { rank frame < 2 ^ 66 }
     ensures { (r : ℕ) → 0 < r → ComesTo frame.node r (λ sh a s. through frame (after frame sh a) (tick (a.call callee.node arguments callee.env) s)) (standing shared.old state.old) result (standing shared.new state.new) }
 {
@@ -58,7 +57,6 @@ pub fn run_body(
     label: &[u8],
     callee: Callee,
 ) -> Result<Move, Halt>
-    requires range { InRange frame.kind frame.values }
     requires few { rank frame < 2 ^ 66 }
     ensures { (r : ℕ) → 0 < r → ComesTo frame.node r (λ sh a. run_body a frame (after frame sh a) label.now callee) (standing shared.old state.old) result (standing shared.new state.new) }
 {

@@ -7,7 +7,7 @@ ghost use Rattle.model_run.specs.Nesting.{shape_at};
 ghost use Rattle.model_run.specs.Terms.{nodes_of};
 ghost use Rattle.cps_code.specs.Script.{script_of};
 ghost use Rattle.cps_frames.specs.Moves.{Comes, ComesTo, IsOfPart};
-ghost use Rattle.cps_frames.specs.Order.{InRange, rank};
+ghost use Rattle.cps_frames.specs.Order.{rank};
 ghost use Rattle.cps_frames.specs.Standing.{standing};
 ghost use Rattle.cps_frames.specs.declared.thread.ThreadState.{ThreadState as Thread};
 
@@ -27,7 +27,6 @@ pub fn under(
     requires node { frame.node < length (nodes_of (script_of shared.now.code)) }
     requires part { at < arity (shape_at (script_of shared.now.code) frame.node) }
     requires entry { IsOfPart entry }
-    requires range { InRange frame.kind frame.values }
     ensures { (r : ℕ) → rank frame < r → ComesTo frame.node r (λ sh a. under a frame (after frame sh a) entry at env) (standing shared.now state.old) result (standing shared.now state.new) }
 {
     match shared.code.part(frame.node, at) {
@@ -54,7 +53,6 @@ pub fn inside(
     requires node { node < length (nodes_of (script_of shared.now.code)) }
     requires part { at < arity (shape_at (script_of shared.now.code) node) }
     requires entry { IsOfPart entry }
-    requires range { InRange kind [] }
     ensures { (r : ℕ) → rank (frame kind node left env []) < r → ComesTo node r (λ sh a. under a (frame kind node left env []) (after (frame kind node left env []) sh a) entry at env) (standing shared.now state.old) result (standing shared.now state.new) }
 {
     let frame = Frame {

@@ -115,6 +115,7 @@ fn called(alloc: Global) -> Result<Move, Halt> {
 /// `input` waits: its move, the number of the next request, and how many frames and open requests there are.
 fn input_waits(alloc: Global) -> Result<(Move, u32, usize, usize), Halt> {
     let mut shared = begun(alloc)?;
+    shared.next_request = 1;
     let mut thread = main_thread(alloc);
     let frame = Frame {
         kind: FrameKind::InputWait,

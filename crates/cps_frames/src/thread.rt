@@ -27,6 +27,7 @@ impl ThreadState {
     pub fn push(&mut self, frame: Frame) -> Result<(), AllocError>
         ensures pushed { OnOk result (self.new.stack.items ≡ self.old.stack.items ++ frame ∷ []) }
         ensures same { OnOk result (own_of self.new ≡ own_of self.old) }
+        ensures parent { self.new.parent ≡ self.old.parent }
     {
         self.stack.push(frame)?;
         Ok(())
