@@ -1,0 +1,15 @@
+use Rattle.std.proofs.Common.{◌∙◌, arith, sym}
+use Rattle.cps_code.specs.Script.{script_of}
+use Rattle.cps_variables.proofs.NodeLaws.{count_is}
+use Rattle.cps_assignments.proofs.AssignLaws.{to_null, to_valued}
+use Rattle.cps_assignments.proofs.declare.declaration.Goals as goal
+
+pub returns-then-parts-eq0 : goal.returns-then-parts-eq0
+returns-then-parts-eq0 c = λ r lt.
+    to_null c.args.node r c.in_ok-name.name c.args.env _ _ _ c.in_ok-name.ensures (sym (c.parts.ensures ∙ count_is (script_of c.args.shared.now.code) c.args.node) ∙ c.if-parts-eq0.true) (c.declare.ensures c.args.state.now c.args.node r (omega (arith, lt)))
+
+pub inside-requires-clause-part : goal.inside-requires-clause-part
+inside-requires-clause-part c = let e = c.parts.ensures ∙ count_is (script_of c.args.shared.now.code) c.args.node in omega (arith, e, c.if-parts-eq0.false)
+
+pub returns : goal.returns
+returns c = λ r lt. to_valued c.args.node r c.args.env _ _ _ (λ z. c.if-parts-eq0.false (c.parts.ensures ∙ count_is (script_of c.args.shared.now.code) c.args.node ∙ z)) (c.inside.ensures r lt)

@@ -1,0 +1,4 @@
+pub mod Catches
+pub mod Finals
+pub mod Kinds
+pub mod Turns

@@ -1,0 +1,4 @@
+pub mod NodeLaws
+pub mod PlaceLaws
+pub mod SightLaws
+pub mod VariableLaws
