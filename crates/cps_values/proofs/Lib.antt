@@ -1,0 +1,6 @@
+pub mod ListLaws
+pub mod HeapLaws
+pub mod AtomLaws
+pub mod EntryLaws
+pub mod TextLaws
+pub mod NamedLaws
