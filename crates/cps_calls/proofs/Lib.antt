@@ -1,0 +1,9 @@
+pub mod BodyLaws
+pub mod BranchLaws
+pub mod CallLaws
+pub mod CountLaws
+pub mod MeaningLaws
+pub mod MethodLaws
+pub mod NameLaws
+pub mod VariableLemmas
+pub mod WalkLaws

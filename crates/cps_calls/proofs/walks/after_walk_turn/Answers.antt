@@ -1,0 +1,63 @@
+use Rattle.std.proofs.Common.{◌≡◌, ◌∙◌, ◌∷◌, ◌++◌, length, drop, refl, sym, ap, subst}
+use Rattle.std.specs.List.{All}
+use Rattle.cell_heap.specs.Soundness.{ValueBelow}
+use Rattle.method_names.specs.Names.{seen as table_method}
+use Rattle.model_values.specs.Limits.{product_limits}
+use Rattle.model_run.specs.Around.{position, value_at}
+use Rattle.model_run.specs.Calls.{walk_method, walks}
+use Rattle.model_run.specs.FrameTable.{walk_further, walk_values}
+use Rattle.model_run.specs.Nesting.{ValuesFit, anything, shape_at}
+use Rattle.value_ops.specs.Effects.{effect_answer}
+use Rattle.value_walks.specs.Walking.{IsAfter, held_after, held_method, walk_kept}
+use Rattle.cps_code.specs.Script.{script_of}
+use Rattle.cps_frames.specs.Order.{rank}
+use Rattle.cps_frames.specs.Standing.{common_of, standing, world_of}
+use Rattle.cps_calls.proofs.WalkLaws.{all_below, keeps_turn, same_after, turn_ranks, walk_ends, walk_goes_on}
+use Rattle.cps_calls.proofs.walks.after_walk_turn.Goals as goal
+
+pub of-walk-requires-clause-walks : goal.of-walk-requires-clause-walks
+of-walk-requires-clause-walks c =
+    let row = keeps_turn (script_of c.args.shared.now.code) (common_of c.args.shared.now) c.args.frame c.requires.may.frame.fits c.requires.kind in
+    ap walks c.walk_method-method.ensures ∙ row.walks_it
+
+pub of-walk-requires-clause-kept : goal.of-walk-requires-clause-kept
+of-walk-requires-clause-kept c =
+    let row = keeps_turn (script_of c.args.shared.now.code) (common_of c.args.shared.now) c.args.frame c.requires.may.frame.fits c.requires.kind in
+    subst (λ m. ValuesFit anything (walk_further m) (walk_values m) c.behind.result) (sym c.walk_method-method.ensures)
+    (subst (λ vs. ValuesFit anything (walk_further (walk_method (shape_at (script_of c.args.shared.now.code) c.args.frame.node).form)) (walk_values (walk_method (shape_at (script_of c.args.shared.now.code) c.args.frame.node).form)) vs) (sym c.behind.ensures) row.kept)
+
+pub after-requires-clause-held : goal.after-requires-clause-held
+after-requires-clause-held c =
+    let row = keeps_turn (script_of c.args.shared.now.code) (common_of c.args.shared.now) c.args.frame c.requires.may.frame.fits c.requires.kind in
+    subst (All (ValueBelow (length c.args.shared.now.heap.cells))) (sym (c.of-walk.ensures.values ∙ c.behind.ensures)) (all_below c.args.shared.now.heap.cells (drop 3 c.args.frame.values) row.there)
+
+pub returns-in_ok-kept-in-GoesOn : goal.returns-in_ok-kept-in-GoesOn
+returns-in_ok-kept-in-GoesOn c =
+    let f = c.args.frame in
+    let vs = f.values in
+    let w = world_of c.args.shared.now c.args.state.now in
+    let h = c.args.shared.now.heap.cells in
+    let x = c.in_ok-value.value in
+    let next = walk_kept c.in-GoesOn.walk in
+    let is = subst (IsAfter h (held_method c.of-walk.result) (held_after h c.of-walk.result x)) c.in-GoesOn.is c.in_ok-walk.ensures.after in
+    let m = walk_method (shape_at (script_of c.args.shared.now.code) f.node).form in
+    let read = same_after w (table_method c.walk_method-method.result) m c.value_at-on.result (value_at 0 vs) c.behind.result (drop 3 vs) x c.walk_method-method.ensures c.value_at-on.ensures c.behind.ensures in
+    let front : c.in_ok-kept-in-GoesOn.kept ≡ value_at 0 vs ∷ value_at 1 vs ∷ next =
+    c.in_ok-kept-in-GoesOn.ensures ∙ ap (λ xs. xs ++ next) c.in_ok-from_slice-in-GoesOn.ensures
+    ∙ ap (λ v. v ∷ c.value_at-closure.result ∷ next) c.value_at-on.ensures ∙ ap (λ v. value_at 0 vs ∷ v ∷ next) c.value_at-closure.ensures in
+    walk_goes_on f c.args.ending x c.place_of-at.result c.in_ok-kept-in-GoesOn.kept next (standing c.args.shared.now c.args.state.now) c.requires.kind (sym c.in_ok-value.ensures)
+    (c.place_of-at.ensures.place ∙ ap position c.value_at.ensures) front (sym read ∙ sym (c.of-walk.ensures.after h x) ∙ is.1)
+
+pub returns-in-Ends : goal.returns-in-Ends
+returns-in-Ends c =
+    let f = c.args.frame in
+    let vs = f.values in
+    let w = world_of c.args.shared.now c.args.state.now in
+    let h = c.args.shared.now.heap.cells in
+    let x = c.in_ok-value.value in
+    let is = subst (IsAfter h (held_method c.of-walk.result) (held_after h c.of-walk.result x)) c.in-Ends.is c.in_ok-walk.ensures.after in
+    let m = walk_method (shape_at (script_of c.args.shared.now.code) f.node).form in
+    let read = same_after w (table_method c.walk_method-method.result) m c.value_at-on.result (value_at 0 vs) c.behind.result (drop 3 vs) x c.walk_method-method.ensures c.value_at-on.ensures c.behind.ensures in
+    walk_ends f c.args.ending x (effect_answer product_limits h c.in-Ends.effect) (standing c.args.shared.now c.args.state.now) _ _ c.requires.kind (sym c.in_ok-value.ensures)
+    (sym read ∙ sym (c.of-walk.ensures.after h x) ∙ is)
+    (c.end_with.ensures c.args.state.now f.node (rank f) (λ y. effect_answer product_limits h c.in-Ends.effect) (turn_ranks f c.requires.kind) refl)
