@@ -1,0 +1,3 @@
+pub mod Rests
+pub mod Faults
+pub mod Arguments

@@ -1,0 +1,8 @@
+use Rattle.std.proofs.Common.{◌≡◌, drop}
+use Rattle.model_run.specs.State.{World}
+use Rattle.model_run.specs.StepTable.{all_fit, parameters}
+use Rattle.step_arguments.specs.Binding.{seen_with}
+use Rattle.step_arguments.proofs.checks.check_values.Given as goal
+
+abbrev pub invariant-loop-name : goal.invariant-loop-name
+invariant-loop-name l = (w : World) → all_fit (seen_with l.heap.cells w) (parameters l.step) (drop l.name-index l.arguments) ≡ all_fit (seen_with l.heap.cells w) (parameters l.step) l.arguments

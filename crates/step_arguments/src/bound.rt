@@ -1,0 +1,69 @@
+//! The arguments of a call as its step uses them.
+
+use model_run::BuildResult;
+use model_text::{Pairs, Text};
+use model_values::Value;
+
+/// A step with its arguments. The text of an argument that may be left out is there or empty, as the step has it; `body`
+/// is the closure of the step's body.
+#[derive(Drop)]
+pub enum Bound {
+    Println {
+        value: Text,
+    },
+    Echo {
+        message: Text,
+    },
+    Error {
+        message: Text,
+    },
+    MakeUnstable {
+        message: Text,
+    },
+    Stage {
+        name: Text,
+        body: Value,
+    },
+    CatchError {
+        /// What is logged as its text, where it was given.
+        message: Option<Value>,
+        /// What the build's result is at least, behind a failure.
+        result: BuildResult,
+        body: Value,
+    },
+    Retry {
+        /// How many times more the body is begun where it fails, from 0.
+        more: u32,
+        body: Value,
+    },
+    Node {
+        /// Its label, where it has one that is not blank.
+        label: Option<Text>,
+        body: Value,
+    },
+    Dir {
+        path: Text,
+        body: Value,
+    },
+    WithEnv {
+        overrides: Pairs,
+        body: Value,
+    },
+    Sh {
+        script: Text,
+        /// Whether the exit code is the step's value (`returnStatus`).
+        status: bool,
+        /// Whether its output is the step's value (`returnStdout`).
+        keep_out: bool,
+    },
+    Input {
+        message: Text,
+        /// The word for going on.
+        ok: Text,
+        id: Option<Text>,
+    },
+    Parallel {
+        /// The map of the branches.
+        branches: Option<Value>,
+    },
+}

@@ -1,0 +1,11 @@
+use Rattle.std.proofs.Common.{refl}
+use Rattle.model_run.specs.Steps.{branch_failed}
+use Rattle.cps_frames.specs.Standing.{standing}
+use Rattle.step_library.proofs.StepMoves.{to_body_end}
+use Rattle.step_library.proofs.branches.end_branch.Goals as goal
+
+pub returns : goal.returns
+returns c = λ k r above.
+    let s = c.args.start in
+    to_body_end k r s s (λ sh a. branch_failed s c.args.ending) _ (standing c.end_body.new.shared c.end_body.new.state) _ _ refl c.in_ok-end_body.ensures
+    (c.branch_failed.ensures c.end_body.new.state k r above)

@@ -1,0 +1,10 @@
+pub mod Numbers
+pub mod Changing
+pub mod Retries
+pub mod Saying
+pub mod Places
+pub mod Waits
+pub mod Kept
+pub mod Branches
+pub mod Beginning
+pub mod StepFrames
