@@ -1,0 +1,10 @@
+pub mod TermSets
+pub mod Facts
+pub mod LoopLaws
+pub mod ThreadLaws
+pub mod EndLaws
+pub mod InnerLaws
+pub mod TurnLaws
+pub mod BranchLaws
+pub mod SeatLaws
+pub mod ResumeLaws

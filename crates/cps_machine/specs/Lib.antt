@@ -1,0 +1,5 @@
+pub mod Stops
+pub mod Resuming
+pub mod Turns
+pub mod Threads
+pub mod Seats

@@ -1,0 +1,190 @@
+//! A green thread that runs a script, or a branch of a `parallel`.
+
+ghost use Rattle.std.specs.Prelude.{◌≡◌, ◌-◌, ℕ, List, None, map, length, is_some, IfOk};
+ghost use Rattle.model_run.specs.World.{outcome_of, run_limits};
+ghost use Rattle.cps_machine.specs.Threads.{IsStop, IsTurn, beginning, begins_branch, first_move, seen, to_begin};
+
+use crate::machine::{Stopped, run};
+use cps_frames::{Move, Shared, ThreadState};
+use green_threads::{NewBranch, Runner, Stop};
+use model_run::{Answer, Asked, Branch, Branches, Callee, Context, Ending, Entry, Outcome};
+use model_values::{Env, Value};
+use std::alloc::{AllocError, Global};
+
+/// What a thread runs that has not begun.
+#[derive(Drop)]
+pub enum Start {
+    /// The script.
+    Script,
+    /// The closure of a branch.
+    Branch(Callee),
+}
+
+/// A green thread that runs a script, or a branch of a `parallel`.
+#[derive(Drop)]
+pub struct MachineThread {
+    state: ThreadState,
+    /// What it runs, where it has not begun.
+    start: Option<Start>,
+    is_branch: bool,
+}
+
+impl MachineThread {
+    /// A thread that has not begun, with nothing open. Its number and its parent are those that `seat` gives it.
+    pub fn begin(alloc: Global, start: Start, head: u32, context: Context) -> MachineThread
+        ensures { (name : List ℕ) → seen (record { name = name; thread = result }) ≡ beginning name start head context (begins_branch start) }
+    {
+        let is_branch = match start {
+            Start::Script => false,
+            Start::Branch(_) => true,
+        };
+        MachineThread {
+            state: ThreadState {
+                number: 0,
+                parent: None,
+                head,
+                context,
+                calls: 0,
+                stack: Vec::new(alloc),
+            },
+            start: Some(start),
+            is_branch,
+        }
+    }
+
+    /// The thread that waits inside these frames.
+    pub fn restore(state: ThreadState) -> MachineThread
+        ensures { result ≡ record { state = state; start = None; is_branch = is_some state.parent } }
+    {
+        let is_branch = state.parent.is_some();
+        MachineThread {
+            state,
+            start: None,
+            is_branch,
+        }
+    }
+
+    /// What it has between two turns.
+    pub fn state(&self) -> &ThreadState
+        ensures { result.now ≡ self.now.state }
+    {
+        &self.state
+    }
+
+    /// What it does first with an answer. Behind it the thread has begun.
+    fn first_move(&mut self, alloc: Global, answer: Answer) -> Move
+        ensures first { result ≡ first_move self.old answer }
+        ensures begun { self.new ≡ record self.old { start = None } }
+    {
+        match self.start.take() {
+            None => Move::Ends(Ending::Answered(answer)),
+            Some(Start::Script) => Move::Enter(Entry::First, 0, Env::new(alloc)),
+            Some(Start::Branch(callee)) => {
+                Move::Enter(Entry::Branched(self.state.head), callee.node, callee.env)
+            }
+        }
+    }
+
+    /// How it stops, as other threads see it.
+    fn stop(&self, alloc: Global, stopped: Stopped) -> Result<Stop<MachineThread>, AllocError>
+        ensures { IfOk result (λ stop. IsStop stopped stop self.now.state.context) }
+    {
+        match stopped {
+            Stopped::Ended(ending) => Ok(Stop::Ended(outcome_of(ending))),
+            Stopped::Limit(limit) => Ok(Stop::Limit(limit)),
+            Stopped::Waits(Asked::ForRequest(request)) => Ok(Stop::Waits(request)),
+            Stopped::Waits(Asked::ForBranches(branches)) => {
+                let threads = threads_of(alloc, &self.state.context, branches)?;
+                Ok(Stop::Forks(threads))
+            }
+        }
+    }
+}
+
+impl Runner for MachineThread {
+    ghost use Rattle.cps_machine.specs.Seats.{Fits, nodes_left};
+    ghost use Rattle.cps_machine.specs.Threads.{IsTurn};
+
+    type Shared = Shared;
+
+    ghost number = { λ t. t.state.number };
+
+    ghost parent = { λ t. t.state.parent };
+
+    ghost branch = { λ t. t.is_branch };
+
+    ghost head = { λ t. t.state.head };
+
+    ghost seated = { λ t n p. record t { state = record t.state { number = n; parent = p } } };
+
+    ghost room = { nodes_left };
+
+    ghost fits = { Fits };
+
+    ghost turns = { IsTurn };
+
+    fn head(&self) -> u32 {
+        self.state.head
+    }
+
+    fn seat(&mut self, at: u32, under: Option<u32>) {
+        self.state.number = at;
+        self.state.parent = under;
+    }
+
+    fn resume(
+        &mut self,
+        shared: &mut Shared,
+        answer: Answer,
+    ) -> Result<Stop<MachineThread>, AllocError> {
+        let alloc = shared.alloc();
+        let first = self.first_move(alloc, answer);
+        let stopped = run(&mut self.state, shared, first)?;
+        let stop = self.stop(alloc, stopped)?;
+        Ok(stop)
+    }
+}
+
+/// What a branch has ended with: a value, or what it has thrown.
+fn outcome_of(ending: Ending) -> Outcome
+    ensures { result ≡ outcome_of ending }
+{
+    match ending {
+        Ending::Thrown(cell) => Outcome::Thrown(cell),
+        Ending::Normal(value) | Ending::Returned(value) => Outcome::Value(value),
+        Ending::Broke | Ending::Continued | Ending::Declared(_) | Ending::Answered(_) => {
+            Outcome::Value(Value::Null)
+        }
+    }
+}
+
+/// The same context once more. `AllocError` where the memory was refused.
+fn copied(context: &Context) -> Result<Context, AllocError>
+    ensures { IfOk result (λ copy. copy ≡ context.now) }
+{
+    let copy = context.clone()?;
+    Ok(copy)
+}
+
+/// The threads of branches, in their order.
+fn threads_of(
+    alloc: Global,
+    context: &Context,
+    branches: Branches,
+) -> Result<green_threads::Branches<MachineThread>, AllocError>
+    ensures { IfOk result (λ threads. map seen threads ≡ map (to_begin context.now) branches) }
+{
+    let mut threads = green_threads::Branches::new(alloc);
+    for branch in branches.into_vec() {
+        let Branch {
+            name,
+            closure,
+            env,
+            head,
+        } = branch;
+        let start = Start::Branch(Callee { node: closure, env });
+        let thread = MachineThread::begin(alloc, start, head, copied(context)?);
+        threads.push(NewBranch { name, thread })?;
+    }
+    Ok(threads)
+}
