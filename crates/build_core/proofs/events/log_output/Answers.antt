@@ -1,0 +1,52 @@
+use Rattle.std.proofs.Common.{◌≡◌, ◌∙◌, ℕ, refl, ap, length}
+use Rattle.model_values.specs.declared.limit.LimitKind.TheVariants.{LogSize}
+use Rattle.model_run.specs.World as W
+use Rattle.model_run.specs.LogText.{raw}
+use Rattle.cps_frames.specs.declared.shared.Shared.{Shared}
+use Rattle.cps_frames.specs.Standing.{setting_of, common_of}
+use Rattle.build_log.specs.Refusals.{limit_of}
+use Rattle.build_core.specs.Names.{OutputEvent, LogStream}
+use Rattle.build_core.specs.Events.{shared_after}
+use Rattle.build_core.proofs.Changes.{anew, uncounted_stand, logged_is, log_limit_is}
+use Rattle.build_core.proofs.Fitting.{log_over, log_within, room_to_take}
+use Rattle.build_core.proofs.Answering.{rests_after, rests_on, is_limited, map_ok}
+use Rattle.build_core.proofs.Rests.{over_sound}
+use Rattle.build_core.proofs.events.log_output.Goals as goal
+
+pub returns-in-Err-LogLimit-clause-stands : goal.returns-in-Err-LogLimit-clause-stands
+returns-in-Err-LogLimit-clause-stands g c =
+    let u : Shared = c.args.shared.now in
+    let u0 : Shared = record u { log = c.raw.new.self; count = 0 } in
+    map_ok c.end_by_limit.result c.end_by_limit.ensures.over
+    (λ p o from. is_limited g.R.ScriptThread.stance c.args.group.now u (OutputEvent c.args.task LogStream from c.args.bytes.now) LogSize u0 (ap (λ l. record (common_of u) { log = l; count = 0 }) c.in-Err-LogLimit.ensures.unchanged)
+    (λ w st. log_limit_is g.R.ScriptThread.stance (setting_of u) c.args.group.now (anew (common_of u)) (W.uncounted w) c.args.task c.args.bytes.now (uncounted_stand g.R.ScriptThread.stance c.args.group.now u w st) (log_over u.log c.args.bytes.now (c.in-Err-LogLimit.ensures.refusal ∙ ap limit_of c.in-Err-LogLimit.field-0-is)))
+    p _ _ o)
+
+pub count_taken-requires : goal.count_taken-requires
+count_taken-requires g c =
+    let u : Shared = c.args.shared.now in
+    room_to_take (setting_of u) (common_of u) (length c.args.bytes.now) (g.met.R.ScriptThread.shared_fits _ _ c.requires.go.fit) (log_within u.log c.args.bytes.now c.in-Ok.ensures.refusal)
+
+pub returns-clause-stands : goal.returns-clause-stands
+returns-clause-stands g c = λ from.
+    let u : Shared = c.args.shared.now in
+    let u2 : Shared = record u { log = c.raw.new.self; requests = c.count_taken.new.requests; count = 0 } in
+    let same : u2 ≡ shared_after (OutputEvent c.args.task LogStream from c.args.bytes.now) u =
+    ap (λ l. record u { log = l; requests = c.count_taken.new.requests; count = 0 }) c.in-Ok.ensures.written
+    ∙ ap (λ rs. record u { log = raw c.args.bytes.now u.log; requests = rs; count = 0 }) c.count_taken.ensures in
+    rests_on g.R.ScriptThread.stance c.args.group.now u (OutputEvent c.args.task LogStream from c.args.bytes.now) c.requires.go.few u2 same
+    (λ w st. logged_is g.R.ScriptThread.stance (setting_of u) c.args.group.now (anew (common_of u)) (W.uncounted w) c.args.task c.args.bytes.now (uncounted_stand g.R.ScriptThread.stance c.args.group.now u w st) (log_within u.log c.args.bytes.now c.in-Ok.ensures.refusal))
+
+pub returns-clause-sound : goal.returns-clause-sound
+returns-clause-sound g c =
+    let u : Shared = c.args.shared.now in
+    let from : ℕ = c.requires.accepted.0 in
+    let u2 : Shared = record u { log = c.raw.new.self; requests = c.count_taken.new.requests; count = 0 } in
+    let same : u2 ≡ shared_after (OutputEvent c.args.task LogStream from c.args.bytes.now) u =
+    ap (λ l. record u { log = l; requests = c.count_taken.new.requests; count = 0 }) c.in-Ok.ensures.written
+    ∙ ap (λ rs. record u { log = raw c.args.bytes.now u.log; requests = rs; count = 0 }) c.count_taken.ensures in
+    rests_after g.R.Runner.number g.R.Runner.parent g.R.Runner.branch g.R.Runner.room g.R.Runner.fits g.met.R.ScriptThread.room_is g.met.R.ScriptThread.awaited g.met.R.ScriptThread.event_fits c.args.group.now u c.requires.go
+    (OutputEvent c.args.task LogStream from c.args.bytes.now) c.requires.accepted.1 (log_within u.log c.args.bytes.now c.in-Ok.ensures.refusal) refl u2 same
+
+pub returns-in-Err-LogLimit-clause-sound : goal.returns-in-Err-LogLimit-clause-sound
+returns-in-Err-LogLimit-clause-sound g c = map_ok c.end_by_limit.result c.end_by_limit.ensures.over (λ p o. over_sound g.R.Runner.number g.R.Runner.parent g.R.Runner.branch g.R.Runner.room g.R.Runner.fits p _ _ _ _ _ o refl refl)

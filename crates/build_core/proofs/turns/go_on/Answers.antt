@@ -1,0 +1,49 @@
+use Rattle.std.proofs.Common.{◌∙◌, refl, arith}
+use Rattle.green_threads.proofs.Order.{rested}
+use Rattle.build_core.proofs.Going.{few_after, setting_after, waits, ends, limits}
+use Rattle.build_core.proofs.Rests.{over_sound}
+use Rattle.build_core.proofs.turns.go_on.Goals as goal
+
+pub end_script-requires : goal.end_script-requires
+end_script-requires g c = record { few = few_after g.R.ScriptThread.stance g.R.Runner.seated g.R.Runner.head g.R.Runner.turns g.met.R.ScriptThread.head_is g.met.R.ScriptThread.turned _ _ _ _ _ _ c.in_ok-settle.ensures.order (g.met.R.ScriptThread.shared_fits _ _ c.requires.go.fit).few_nodes }
+
+pub end_by_limit-requires : goal.end_by_limit-requires
+end_by_limit-requires g c = record { few = few_after g.R.ScriptThread.stance g.R.Runner.seated g.R.Runner.head g.R.Runner.turns g.met.R.ScriptThread.head_is g.met.R.ScriptThread.turned _ _ _ _ _ _ c.in_ok-settle.ensures.order (g.met.R.ScriptThread.shared_fits _ _ c.requires.go.fit).few_nodes }
+
+pub returns-in-AllWait-clause-stands : goal.returns-in-AllWait-clause-stands
+returns-in-AllWait-clause-stands g c = λ w st.
+    waits g.R.ScriptThread.stance g.R.Runner.seated g.R.Runner.head g.R.Runner.turns g.met.R.ScriptThread.head_is g.met.R.ScriptThread.turned _ _ _ _ _ _ c.in_ok-settle.ensures.order g.met.R.ScriptThread.seated_is
+    (omega (arith, c.requires.go.few, g.met.R.ScriptThread.room_is c.args.shared.now)) w st c.in-AllWait.is
+
+pub returns-in-AllWait-clause-setting : goal.returns-in-AllWait-clause-setting
+returns-in-AllWait-clause-setting g c = setting_after g.R.ScriptThread.stance g.R.Runner.seated g.R.Runner.head g.R.Runner.turns g.met.R.ScriptThread.head_is g.met.R.ScriptThread.turned _ _ _ _ _ _ c.in_ok-settle.ensures.order
+
+pub returns-in-AllWait-clause-sound : goal.returns-in-AllWait-clause-sound
+returns-in-AllWait-clause-sound g c = record {
+  grouped = c.in_ok-settle.ensures.grouped;
+  fit = c.in_ok-settle.ensures.fits c.in-AllWait.is;
+  bounded = omega (arith, c.in_ok-settle.ensures.bounded, c.requires.go.bounded);
+  few = omega (arith, rested 256 g.R.Runner.seated g.R.Runner.head g.R.Runner.turns _ _ _ _ _ _ c.in_ok-settle.ensures.order c.in-AllWait.is);
+}
+
+pub returns-in_ok-end_script-in-Ended-clause-stands : goal.returns-in_ok-end_script-in-Ended-clause-stands
+returns-in_ok-end_script-in-Ended-clause-stands g c = λ w st.
+    ends g.R.ScriptThread.stance g.R.Runner.seated g.R.Runner.head g.R.Runner.turns g.met.R.ScriptThread.head_is g.met.R.ScriptThread.turned _ _ _ _ _ _ c.in_ok-settle.ensures.order g.met.R.ScriptThread.seated_is
+    (omega (arith, c.requires.go.few, g.met.R.ScriptThread.room_is c.args.shared.now)) w st c.in-Ended.outcome c.in-Ended.is _ _ _ _ c.in_ok-end_script-in-Ended.ensures.over refl
+
+pub returns-in_ok-end_script-in-Ended-clause-setting : goal.returns-in_ok-end_script-in-Ended-clause-setting
+returns-in_ok-end_script-in-Ended-clause-setting g c = c.in_ok-end_script-in-Ended.ensures.over.setting ∙ setting_after g.R.ScriptThread.stance g.R.Runner.seated g.R.Runner.head g.R.Runner.turns g.met.R.ScriptThread.head_is g.met.R.ScriptThread.turned _ _ _ _ _ _ c.in_ok-settle.ensures.order
+
+pub returns-in_ok-end_by_limit-in-Limit-clause-stands : goal.returns-in_ok-end_by_limit-in-Limit-clause-stands
+returns-in_ok-end_by_limit-in-Limit-clause-stands g c = λ w st.
+    limits g.R.ScriptThread.stance g.R.Runner.seated g.R.Runner.head g.R.Runner.turns g.met.R.ScriptThread.head_is g.met.R.ScriptThread.turned _ _ _ _ _ _ c.in_ok-settle.ensures.order g.met.R.ScriptThread.seated_is
+    (omega (arith, c.requires.go.few, g.met.R.ScriptThread.room_is c.args.shared.now)) w st c.in-Limit.kind c.in-Limit.is _ _ _ _ c.in_ok-end_by_limit-in-Limit.ensures.over refl
+
+pub returns-in_ok-end_by_limit-in-Limit-clause-setting : goal.returns-in_ok-end_by_limit-in-Limit-clause-setting
+returns-in_ok-end_by_limit-in-Limit-clause-setting g c = c.in_ok-end_by_limit-in-Limit.ensures.over.setting ∙ setting_after g.R.ScriptThread.stance g.R.Runner.seated g.R.Runner.head g.R.Runner.turns g.met.R.ScriptThread.head_is g.met.R.ScriptThread.turned _ _ _ _ _ _ c.in_ok-settle.ensures.order
+
+pub returns-in_ok-end_script-in-Ended-clause-sound : goal.returns-in_ok-end_script-in-Ended-clause-sound
+returns-in_ok-end_script-in-Ended-clause-sound g c = over_sound g.R.Runner.number g.R.Runner.parent g.R.Runner.branch g.R.Runner.room g.R.Runner.fits _ _ _ _ _ _ c.in_ok-end_script-in-Ended.ensures.over refl refl
+
+pub returns-in_ok-end_by_limit-in-Limit-clause-sound : goal.returns-in_ok-end_by_limit-in-Limit-clause-sound
+returns-in_ok-end_by_limit-in-Limit-clause-sound g c = over_sound g.R.Runner.number g.R.Runner.parent g.R.Runner.branch g.R.Runner.room g.R.Runner.fits _ _ _ _ _ _ c.in_ok-end_by_limit-in-Limit.ensures.over refl refl

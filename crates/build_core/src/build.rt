@@ -1,0 +1,218 @@
+//! One build.
+ghost use Rattle.std.specs.Prelude.{◌≡◌, IfOk, OnOk, OnErr};
+ghost use Rattle.model_run.specs.declared.event.Event.{Event};
+ghost use Rattle.model_run.specs.declared.taken.Taken.TheVariants.{Accepted};
+ghost use Rattle.model_run.specs.GraphText.{graph_text};
+ghost use Rattle.model_run.specs.Taking.{taken};
+ghost use Rattle.model_run.specs.World as W;
+ghost use Rattle.cps_code.specs.Script.{script_of};
+ghost use Rattle.build_requests.specs.Waiting.{waiting_inputs, open_tasks, input_of};
+ghost use Rattle.build_core.specs.declared.phase.Phase.TheVariants.{Stopped};
+ghost use Rattle.build_core.specs.Builds.{StandsFor, IsSound, setting_in, standing_of};
+
+use crate::events::{accept, answer_to};
+use crate::grants::due_grant;
+use crate::phase::Phase;
+use crate::thread::ScriptThread;
+use crate::turns::begin;
+use build_log::Log;
+use build_requests::{input_of, open_tasks, waiting_inputs};
+use cell_heap::Heap;
+use cps_code::Code;
+use cps_frames::Shared;
+use flow_graph::Graph;
+use green_threads::Group;
+use model_run::{
+    BuildResult, Event, FlowNode, Held, HeldExecutors, OpenRequest, OpenRequests, Site, Taken,
+};
+use model_text::Bytes;
+use std::alloc::{AllocError, Global};
+
+/// A build of a script on the executors of a site.
+///
+/// `new` and `take` give a build that is `IsSound`, and `take` asks for one. A contract says `StandsFor R.stance build w`
+/// where the build stands for the build w of the definitions.
+#[derive(Drop)]
+pub struct Build<R> {
+    shared: Shared,
+    group: Group<R>,
+    phase: Phase,
+}
+
+impl<R: ScriptThread + Drop> Build<R> {
+    /// The build of a script that has taken no event. `AllocError` where the memory was refused.
+    pub fn new(alloc: Global, code: Code, site: Site) -> Result<Build<R>, AllocError>
+        ensures stands { IfOk result (λ build. StandsFor R.stance build W.unbegun) }
+        ensures setting { IfOk result (λ build. setting_in build ≡ W.setting_of W.run_limits (script_of code) site) }
+        ensures sound { IfOk result (λ build. IsSound R.number R.parent R.branch R.room R.fits build) }
+    {
+        let shared = Shared {
+            code,
+            site,
+            heap: Heap::new(alloc),
+            binding: Vec::new(alloc),
+            graph: Graph::start(alloc)?,
+            log: Log::new(alloc),
+            result: BuildResult::Success,
+            requests: OpenRequests::new(alloc),
+            held: HeldExecutors::new(alloc),
+            next_request: 1,
+            count: 0,
+        };
+        Ok(Build {
+            shared,
+            group: Group::new(alloc),
+            phase: Phase::Unbegun,
+        })
+    }
+
+    /// Takes an event, and says so.
+    ///
+    /// The answer is that of the definitions: `Finished` where the build has ended, `NotOpen` where the event names what is
+    /// not open or begins the build a second time, `WrongPlace` where output does not go on where the stream was left, and
+    /// else `Accepted`. Only `Accepted` changes anything: the thread that the event answers is ready, and threads go on until
+    /// each waits or the build is over.
+    ///
+    /// # Errors
+    ///
+    /// `AllocError` where the memory was refused, in this call or an earlier one: the build takes no event any more, and what
+    /// its other calls give is open.
+    pub fn take(&mut self, event: &Event) -> Result<Taken, AllocError>
+        requires sound { IsSound R.number R.parent R.branch R.room R.fits self.old }
+        ensures taken { IfOk result (λ answer. answer ≡ taken (standing_of self.old) event.now) }
+        ensures unchanged { IfOk result (λ answer. (answer ≡ Accepted → ⊥) → self.new ≡ self.old) }
+        ensures stands { OnOk result ((w : W.Build) → StandsFor R.stance self.old w → StandsFor R.stance self.new (W.after_one (setting_in self.old) w event.now)) }
+        ensures setting { OnOk result (setting_in self.new ≡ setting_in self.old) }
+        ensures sound { IsSound R.number R.parent R.branch R.room R.fits self.new }
+        ensures stopped { OnErr result (self.new.phase ≡ Stopped) }
+        ensures goes_on { OnOk result (self.old.phase ≡ Stopped → ⊥) }
+    {
+        let before = self.phase;
+        if before == Phase::Stopped {
+            return Err(AllocError);
+        }
+        // a refusal from here on leaves it so
+        self.phase = Phase::Stopped;
+        let answer = answer_to(before, &self.shared, event)?;
+        if answer != Taken::Accepted {
+            self.phase = before;
+            return Ok(answer);
+        }
+        self.phase = match before {
+            Phase::Unbegun => begin(&mut self.shared, &mut self.group)?,
+            _ => accept(&mut self.shared, &mut self.group, event)?,
+        };
+        Ok(answer)
+    }
+
+    /// The flow nodes, in order of their numbers. It takes no memory.
+    pub fn nodes(&self) -> &[FlowNode]
+        ensures { (w : W.Build) → StandsFor R.stance self.now w → result.now ≡ w.shared.nodes }
+    {
+        match self.phase {
+            Phase::Unbegun => &[],
+            _ => self.shared.graph.nodes(),
+        }
+    }
+
+    /// The text of the flow graph: a line for each node. `AllocError` where the memory was refused.
+    pub fn graph_text(&self) -> Result<Bytes, AllocError>
+        ensures { IfOk result (λ text. (w : W.Build) → StandsFor R.stance self.now w → text ≡ graph_text w.shared.nodes) }
+    {
+        match self.phase {
+            Phase::Unbegun => Ok(Bytes::new(self.shared.alloc())),
+            _ => self.shared.graph.text(),
+        }
+    }
+
+    /// The bytes of the log.
+    pub fn log(&self) -> &[u8]
+        ensures { (w : W.Build) → StandsFor R.stance self.now w → result.now ≡ w.shared.log }
+    {
+        self.shared.log.bytes()
+    }
+
+    /// The result so far; where the build has ended, its result.
+    pub fn result(&self) -> BuildResult
+        ensures { (w : W.Build) → StandsFor R.stance self.now w → result ≡ w.shared.result }
+    {
+        self.shared.result
+    }
+
+    /// The open requests, in order of their numbers.
+    pub fn requests(&self) -> &[OpenRequest]
+        ensures { (w : W.Build) → StandsFor R.stance self.now w → result.now ≡ w.shared.requests }
+    {
+        self.shared.requests.as_slice()
+    }
+
+    /// The held executors, in order of their numbers.
+    pub fn held(&self) -> &[Held]
+        ensures { (w : W.Build) → StandsFor R.stance self.now w → result.now ≡ w.shared.held }
+    {
+        self.shared.held.as_slice()
+    }
+
+    /// Whether the build has begun.
+    pub fn has_begun(&self) -> bool
+        ensures { (w : W.Build) → StandsFor R.stance self.now w → result ≡ w.started }
+    {
+        self.phase != Phase::Unbegun
+    }
+
+    /// Whether the build has ended.
+    pub fn has_ended(&self) -> bool
+        ensures { (w : W.Build) → StandsFor R.stance self.now w → result ≡ w.ended }
+    {
+        self.phase == Phase::Ended
+    }
+
+    /// The grant that is due, as the numbers of request and executor: the lowest-numbered open request of a `node` step that
+    /// some free executor fits gets the first such executor in the order of the agents file. `None` exactly where no open
+    /// request is fitted. `AllocError` where the memory was refused, in this call or while the build took an event.
+    pub fn next_grant(&self) -> Result<Option<(u32, u32)>, AllocError>
+        requires sound { IsSound R.number R.parent R.branch R.room R.fits self.now }
+        ensures { IfOk result (λ grant. (w : W.Build) → StandsFor R.stance self.now w → grant ≡ W.next_grant (setting_in self.now) w) }
+    {
+        match self.phase {
+            Phase::Running => due_grant(&self.shared),
+            Phase::Unbegun | Phase::Ended => Ok(None),
+            Phase::Stopped => Err(AllocError),
+        }
+    }
+
+    /// How many inputs wait for a decision.
+    pub fn waiting_inputs(&self) -> usize
+        ensures { (w : W.Build) → StandsFor R.stance self.now w → result ≡ waiting_inputs w.shared.requests }
+    {
+        waiting_inputs(self.shared.requests.as_slice())
+    }
+
+    /// The number of the first open input with this id; `None` exactly where there is none.
+    pub fn input_of(&self, id: &[u8]) -> Option<u32>
+        ensures { (w : W.Build) → StandsFor R.stance self.now w → result ≡ input_of id.now w.shared.requests }
+    {
+        input_of(self.shared.requests.as_slice(), id)
+    }
+
+    /// How many tasks have not ended.
+    pub fn open_tasks(&self) -> usize
+        ensures { (w : W.Build) → StandsFor R.stance self.now w → result ≡ open_tasks w.shared.requests }
+    {
+        open_tasks(self.shared.requests.as_slice())
+    }
+
+    /// Its job and its executors.
+    pub fn site(&self) -> &Site
+        ensures { result.now ≡ (setting_in self.now).site }
+    {
+        &self.shared.site
+    }
+
+    /// How far it has come.
+    pub fn phase(&self) -> Phase
+        ensures { result ≡ self.now.phase }
+    {
+        self.phase
+    }
+}

@@ -1,0 +1,6 @@
+pub mod Names
+pub mod Places
+pub mod Output
+pub mod Workspaces
+pub mod Standings
+pub mod Waiting
