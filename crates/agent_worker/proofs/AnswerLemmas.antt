@@ -1,14 +1,12 @@
 -- A line that comes byte by byte.
-use Rattle.std.proofs.Common.{◌≡◌, ◌<◌, ◌≤◌, ◌-◌, ◌++◌, ◌∷◌, [], ℕ, List, length, take, sym, ap, ◌∙◌, refl, arith, append_assoc, append-nil, length-append, length-take, take_all}
+use Rattle.std.proofs.Common.{◌≡◌, ◌≢◌, ◌<◌, ◌≤◌, ◌-◌, ◌++◌, ◌∷◌, [], ℕ, List, length, take, sym, ap, ◌∙◌, refl, arith, append_assoc, append-nil, length-append, length-take, take_all}
 use Rattle.std.proofs.lemmas.List.{take-append-le}
-use Rattle.std.proofs.Common.{Bool, true, false, suc, nat_eq, nat_le, slice_index, ne_eqb, if◌then◌else◌, Option, subst}
+use Rattle.std.proofs.Common.{Bool, true, false, suc, nat_eq, nat_le, slice_index, ne_eqb, if◌then◌else◌}
 use Rattle.std.proofs.lemmas.Bool.Decides.{nat_tests}
-use Rattle.std.specs.Io.KnownBytes.{Consumes, IsAtEnd}
-use Rattle.std.proofs.KnownBytes.{Consumes-trans}
 use Rattle.agent_worker.specs.declared.worked.Worked.{Worked}
 use Rattle.agent_worker.specs.declared.worked.Worked.TheVariants as worked
 use Rattle.agent_worker.specs.AnswerBytes.{short, without_cr, NoNewline, lines_of, begun_after, kept_line, last_line}
-use Rattle.agent_worker.specs.Operating.{Ask, given_in, OperatorRead}
+use Rattle.agent_worker.specs.Operating.{Ask, given_in, read_in, has_ended, GivesLines}
 
 -- one byte more, where there is room
 pub short-more : (bytes : List ℕ) (b : ℕ) → length (short bytes) < 1026 → short bytes ++ b ∷ [] ≡ short (bytes ++ b ∷ [])
@@ -101,16 +99,17 @@ kept-line line few = ap (λ (b : Bool). if b then without_cr line ∷ [] else []
 pub passed-line : (line : List ℕ) → 1024 < length (without_cr line) → kept_line line ≡ []
 passed-line line many = ap (λ (b : Bool). if b then without_cr line ∷ [] else []) (too-long (length (without_cr line)) many)
 
--- what was read and given so far
-pub record LinesSoFar (old_left left : Option (List ℕ)) (begun line : List ℕ) (past : List Ask) : Type 0 where
-  pub bytes : List ℕ
-  pub read : Consumes old_left left bytes
-  pub kept : line ≡ short (begun_after begun bytes)
-  pub given : given_in past ≡ lines_of begun bytes
+-- what was given so far, and what has come of the next line
+pub record LinesSoFar (begun line : List ℕ) (past : List Ask) : Type 0 where
+  pub kept : line ≡ short (begun_after begun (read_in past))
+  pub given : given_in past ≡ lines_of begun (read_in past)
 
--- an ask gives no line
-pub lines-asked : (old_left left : Option (List ℕ)) (begun line : List ℕ) (past next_past : List Ask) → LinesSoFar old_left left begun line past → given_in next_past ≡ given_in past → LinesSoFar old_left left begun line next_past
-lines-asked old_left left begun line past next_past so same = record { bytes = so.bytes; read = so.read; kept = so.kept; given = same ∙ so.given }
+-- an ask reads nothing and gives no line
+pub lines-asked : (begun line : List ℕ) (past next_past : List Ask) → LinesSoFar begun line past → read_in next_past ≡ read_in past → given_in next_past ≡ given_in past → LinesSoFar begun line next_past
+lines-asked begun line past next_past so same_read same_given = record {
+  kept = so.kept ∙ ap (λ (l : List ℕ). short (begun_after begun l)) (sym same_read);
+  given = same_given ∙ so.given ∙ ap (lines_of begun) (sym same_read);
+}
 
 -- bytes of the line that comes give no whole line
 lines-same : (begun bytes more : List ℕ) → NoNewline more → lines_of begun (bytes ++ more) ≡ lines_of begun bytes
@@ -121,67 +120,47 @@ begun-more : (begun bytes more : List ℕ) → NoNewline more → begun_after be
 begun-more begun bytes more plain = begun-on begun bytes more ∙ begun-plain (begun_after begun bytes) more plain
 
 -- one line more, with its newline
-pub one-line-more : (old_left left next_left : Option (List ℕ)) (begun line next : List ℕ) (past next_past : List Ask)
-    → (so : LinesSoFar old_left left begun line past) → (xs : List ℕ) → NoNewline xs → Consumes left next_left (xs ++ 10 ∷ [])
-    → next ≡ short (begun_after begun so.bytes ++ xs) → given_in next_past ≡ given_in past ++ kept_line next
-    → LinesSoFar old_left next_left begun [] next_past
-one-line-more old_left left next_left begun line next past next_past so xs plain read next_is given =
-    let now = begun_after begun so.bytes in
+pub one-line-more : (begun line next : List ℕ) (past next_past : List Ask) → LinesSoFar begun line past → (xs : List ℕ) → NoNewline xs → read_in next_past ≡ read_in past ++ (xs ++ 10 ∷ [])
+    → next ≡ short (begun_after begun (read_in past) ++ xs) → given_in next_past ≡ given_in past ++ kept_line next
+    → LinesSoFar begun [] next_past
+one-line-more begun line next past next_past so xs plain read_is next_is given =
+    let old = read_in past in
+    let now = begun_after begun old in
     let line_is : kept_line next ≡ lines_of now (xs ++ 10 ∷ []) = ap kept_line next_is ∙ kept-short (now ++ xs) ∙ sym (line-one now xs plain) in
     record {
-      bytes = so.bytes ++ (xs ++ 10 ∷ []);
-      read = Consumes-trans old_left left next_left so.bytes (xs ++ 10 ∷ []) so.read read;
-      kept = ap short (sym (begun-on begun so.bytes (xs ++ 10 ∷ []) ∙ begun-on now xs (10 ∷ [])));
-      given = given ∙ ap (λ (l : List (List ℕ)). l ++ kept_line next) so.given ∙ ap (λ (l : List (List ℕ)). lines_of begun so.bytes ++ l) line_is ∙ sym (lines-on begun so.bytes (xs ++ 10 ∷ []));
+      kept = ap short (sym (ap (begun_after begun) read_is ∙ begun-on begun old (xs ++ 10 ∷ []) ∙ begun-on now xs (10 ∷ [])));
+      given = given ∙ ap (λ (l : List (List ℕ)). l ++ kept_line next) so.given ∙ ap (λ (l : List (List ℕ)). lines_of begun old ++ l) line_is ∙ sym (ap (lines_of begun) read_is ∙ lines-on begun old (xs ++ 10 ∷ []));
     }
 
--- the line goes on
-pub line-goes-on : (old_left left next_left : Option (List ℕ)) (begun line next : List ℕ) (past next_past : List Ask)
-    → (so : LinesSoFar old_left left begun line past) → (xs : List ℕ) → NoNewline xs → Consumes left next_left xs
-    → next ≡ short (begun_after begun so.bytes ++ xs) → given_in next_past ≡ given_in past
-    → LinesSoFar old_left next_left begun next next_past
-line-goes-on old_left left next_left begun line next past next_past so xs plain read next_is same = record {
-  bytes = so.bytes ++ xs;
-  read = Consumes-trans old_left left next_left so.bytes xs so.read read;
-  kept = next_is ∙ ap short (sym (begun-more begun so.bytes xs plain));
-  given = same ∙ so.given ∙ sym (lines-same begun so.bytes xs plain);
+-- the work ends before the answers do
+pub gives-so-far : (begun line last : List ℕ) (past next_past : List Ask) (answer : Worked) → LinesSoFar begun line past → last ≡ line
+    → read_in next_past ≡ read_in past → given_in next_past ≡ given_in past → has_ended next_past ≡ false → GivesLines begun last next_past answer
+gives-so-far begun line last past next_past answer so same same_read same_given not_ended = record {
+  given = same_given ∙ so.given ∙ ap (lines_of begun) (sym same_read) ∙ sym (append-nil (lines_of begun (read_in next_past)))
+      ∙ ap (λ (e : Bool). lines_of begun (read_in next_past) ++ (if e then last_line (begun_after begun (read_in next_past)) else [])) (sym not_ended);
+  kept = λ not_memory. same ∙ so.kept ∙ ap (λ (l : List ℕ). short (begun_after begun l)) (sym same_read) ∙ ap (λ (e : Bool). short (if e then [] else begun_after begun (read_in next_past))) (sym not_ended);
 }
 
--- the work ends before the answers do
-pub read-so-far : (old_left left : Option (List ℕ)) (begun line last : List ℕ) (ended : Bool) (past : List Ask) (answer : Worked) → LinesSoFar old_left left begun line past
-    → last ≡ line → ended ≡ false → OperatorRead old_left left begun last ended past answer
-read-so-far old_left left begun line last ended past answer so same not_ended = subst (λ (e : Bool). OperatorRead old_left left begun last e past answer) (sym not_ended) (record {
-  bytes = so.bytes;
-  read = so.read;
-  at_end = λ is. cc;
-  given = so.given ∙ sym (append-nil (lines_of begun so.bytes));
-  kept = λ not_memory. same ∙ so.kept;
-})
-
--- and for want of memory, within a line
-pub read-lost : (old_left left next_left : Option (List ℕ)) (begun line next : List ℕ) (ended : Bool) (past next_past : List Ask)
-    → (so : LinesSoFar old_left left begun line past) → (xs : List ℕ) → NoNewline xs → Consumes left next_left xs → given_in next_past ≡ given_in past → ended ≡ false
-    → OperatorRead old_left next_left begun next ended next_past worked.Memory
-read-lost old_left left next_left begun line next ended past next_past so xs plain read same not_ended = subst (λ (e : Bool). OperatorRead old_left next_left begun next e next_past worked.Memory) (sym not_ended) (record {
-  bytes = so.bytes ++ xs;
-  read = Consumes-trans old_left left next_left so.bytes xs so.read read;
-  at_end = λ is. cc;
-  given = same ∙ so.given ∙ sym (lines-same begun so.bytes xs plain) ∙ sym (append-nil (lines_of begun (so.bytes ++ xs)));
-  kept = λ not_memory. absurd (not_memory refl);
-})
+-- and within a line
+pub gives-begun : (begun line next : List ℕ) (past next_past : List Ask) (answer : Worked) → LinesSoFar begun line past → (xs : List ℕ) → NoNewline xs
+    → read_in next_past ≡ read_in past ++ xs → given_in next_past ≡ given_in past → has_ended next_past ≡ false
+    → (answer ≢ worked.Memory → next ≡ short (begun_after begun (read_in past) ++ xs)) → GivesLines begun next next_past answer
+gives-begun begun line next past next_past answer so xs plain read_is same_given not_ended next_is = record {
+  given = same_given ∙ so.given ∙ sym (ap (lines_of begun) read_is ∙ lines-same begun (read_in past) xs plain) ∙ sym (append-nil (lines_of begun (read_in next_past)))
+      ∙ ap (λ (e : Bool). lines_of begun (read_in next_past) ++ (if e then last_line (begun_after begun (read_in next_past)) else [])) (sym not_ended);
+  kept = λ not_memory. next_is not_memory ∙ ap short (sym (ap (begun_after begun) read_is ∙ begun-more begun (read_in past) xs plain))
+      ∙ ap (λ (e : Bool). short (if e then [] else begun_after begun (read_in next_past))) (sym not_ended);
+}
 
 -- the end of the answers, within a line or behind one
-pub read-all : (old_left left next_left : Option (List ℕ)) (begun line last_kept : List ℕ) (past next_past : List Ask) (last : List (List ℕ)) (answer : Worked)
-    → (so : LinesSoFar old_left left begun line past) → (xs : List ℕ) → NoNewline xs → Consumes left next_left xs → IsAtEnd next_left
-    → last ≡ last_line (begun_after begun so.bytes ++ xs) → given_in next_past ≡ given_in past ++ last → last_kept ≡ []
-    → OperatorRead old_left next_left begun last_kept true next_past answer
-read-all old_left left next_left begun line last_kept past next_past last answer so xs plain read at_end last_is given none = record {
-  bytes = so.bytes ++ xs;
-  read = Consumes-trans old_left left next_left so.bytes xs so.read read;
-  at_end = λ is. at_end;
-  given = given ∙ ap (λ (l : List (List ℕ)). l ++ last) (so.given ∙ sym (lines-same begun so.bytes xs plain))
-      ∙ ap (λ (l : List (List ℕ)). lines_of begun (so.bytes ++ xs) ++ l) (last_is ∙ ap last_line (sym (begun-more begun so.bytes xs plain)));
-  kept = λ not_memory. none;
+pub gives-all : (begun line last_kept : List ℕ) (past next_past : List Ask) (last : List (List ℕ)) (answer : Worked) → LinesSoFar begun line past → (xs : List ℕ) → NoNewline xs
+    → read_in next_past ≡ read_in past ++ xs → last ≡ last_line (begun_after begun (read_in past) ++ xs) → given_in next_past ≡ given_in past ++ last
+    → last_kept ≡ [] → has_ended next_past ≡ true → GivesLines begun last_kept next_past answer
+gives-all begun line last_kept past next_past last answer so xs plain read_is last_is given none ended = record {
+  given = given ∙ ap (λ (l : List (List ℕ)). l ++ last) (so.given ∙ sym (ap (lines_of begun) read_is ∙ lines-same begun (read_in past) xs plain))
+      ∙ ap (λ (l : List (List ℕ)). lines_of begun (read_in next_past) ++ l) (last_is ∙ ap last_line (sym (ap (begun_after begun) read_is ∙ begun-more begun (read_in past) xs plain)))
+      ∙ ap (λ (e : Bool). lines_of begun (read_in next_past) ++ (if e then last_line (begun_after begun (read_in next_past)) else [])) (sym ended);
+  kept = λ not_memory. none ∙ ap (λ (e : Bool). short (if e then [] else begun_after begun (read_in next_past))) (sym ended);
 }
 
 pub none-begun : (bytes : List ℕ) → short bytes ≡ [] → [] ≡ last_line bytes

@@ -9,7 +9,7 @@ use Rattle.task_host.specs.declared.answers.Started.TheVariants as start
 use Rattle.agent_worker.specs.declared.turn.Turn.{Turn}
 use Rattle.agent_worker.specs.Types.{Why, NotStarted, Gone, Order, Stream, Log, Out, Call, Look}
 use Rattle.agent_worker.specs.Acts.{Act, kept, latest_look, WasDone, made_dir, started, paused}
-use Rattle.agent_worker.specs.Causes.{FoundEnd, IsVain, InVain, Exits, IsNotStarted, IsCaused}
+use Rattle.agent_worker.specs.Causes.{FoundEnd, IsVain, InVain, Exits, IsNotStarted, MayHaveStarted, IsCaused}
 use Rattle.agent_worker.specs.Serving.{Opened, Starts, Exists, Fails, MayLook, HasNoEnd, lost}
 use Rattle.agent_worker.specs.Serve.{Seen}
 use Rattle.agent_worker.specs.Standing.{Stands}
@@ -200,7 +200,7 @@ goes-on order looks vain count turn past next not_failed no_more turned goes few
 
     not_lost : (why : Why) → IsCaused order looks next (lost order why) → ⊥
     not_lost NotStarted caused = not_started caused.1
-    not_lost Gone caused = gone caused.1
+    not_lost Gone caused = gone caused.2
 
 -- The next turn, after a pause.
 pub awaits-next : (honest before : Type 0) (order : Order) (looks vain count : ℕ) (old now : Seen) (log out : ℕ) (turn : Turn) (past next : List Act) (calls : Option (List Call)) (output : ℕ → Stream → List ℕ) (exited_now : ℕ → Option ℤ)
@@ -242,6 +242,12 @@ exits-so order code turn past next turned is not_failed = record { said = turned
 pub not-started-so : (order : Order) (turn : Turn) (past next : List Act) → Turned order past next turn → IsBegun order past → (turn.look ≡ look.NotStarted) ⊎ (turn.look ≡ look.Absent) → IsNotStarted order next
 not-started-so order turn past next turned begun (inl is) = record { said = inr (inl (turned.said ∙ ap (λ l. Some l) is), still-begun order past next turned.still_done begun) }
 not-started-so order turn past next turned begun (inr is) = record { said = inr (inr (turned.said ∙ ap (λ l. Some l) is), still-begun order past next turned.still_done begun) }
+
+pub may-have-started : (order : Order) (turn : Turn) (past next : List Act) → Turned order past next turn → Goes turn → MayHaveStarted next
+may-have-started order turn past next turned goes = (λ is. goes-started turn goes (inl (some-same (sym turned.said ∙ is))), λ is. goes-started turn goes (inr (some-same (sym turned.said ∙ is))))
+  where
+    some-same : {l m : Look} → Some l ≡ Some m → l ≡ m
+    some-same e = cc
 
 pub gone-so : (order : Order) (looks vain : ℕ) (turn : Turn) (past next : List Act) → Turned order past next turn → Goes turn → turn.bytes ≡ false → vain + 1 ≡ looks
     → (vain ≡ 0) ⊎ ((before : List Act) × (past ≡ paused ∷ before) × InVain order vain before) → InVain order looks next

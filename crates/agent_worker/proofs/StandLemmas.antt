@@ -6,6 +6,8 @@ use Rattle.task_host.specs.declared.answers.Look.TheVariants as look
 use Rattle.agent_worker.proofs.HoldLemmas.{grew-of, holds-looked}
 use Rattle.agent_worker.proofs.GoesOnLemmas.{goes-further}
 use Rattle.agent_worker.specs.declared.gate.GateCall.{GateCall}
+use Rattle.agent_worker.specs.declared.gate.Said.{Said}
+use Rattle.agent_worker.specs.declared.gate.Said.TheVariants as says
 use Rattle.agent_worker.specs.declared.gate.GateCall.TheVariants as gate_call
 use Rattle.agent_worker.specs.declared.fault.TakeFault.{TakeFault}
 use Rattle.agent_worker.specs.Types.{Event, Taken, Order, Stream, Call, Look}
@@ -31,6 +33,7 @@ stands-called honest before order looks old now past call calls output exited st
     calls = becomes (with_calls past) (λ list. list ++ call ∷ []) old.calls now.calls calls stands.shows.calls (records now.calls calls call kept);
     told = stands.shows.told;
     reports = stands.shows.reports;
+    said = stands.shows.said;
   };
   lawful = (may, stands.lawful);
   holds = λ is. holds (is_honest is) (stands.holds (is_honest is));
@@ -38,17 +41,18 @@ stands-called honest before order looks old now past call calls output exited st
 }
 
 -- A report.
-pub stands-reported : (honest : Type 0) (order : Order) (looks : ℕ) (old now : Seen) (past : List Act) (event : Event) (answer : Result Taken TakeFault) (told : Option (List Told)) (reports : Option (List GateCall))
+pub stands-reported : (honest : Type 0) (order : Order) (looks : ℕ) (old now : Seen) (past : List Act) (event : Event) (answer : Result Taken TakeFault) (told : Option (List Told)) (reports : Option (List GateCall)) (said : Said)
     → Stands honest order looks old now past
-    → AddsTold event answer now.told told → Adds (gate_call.Report event answer) now.reports reports
+    → AddsTold event answer now.told told → Adds (gate_call.Report event answer) now.reports reports → said ≡ says.Report answer
     → IsCaused order looks past event → unreported past ≡ bytes_of event → MayReport order past
     → (honest → Holds order (now.output order.task) (now.exited order.task) past → Holds order (now.output order.task) (now.exited order.task) (Reported event answer ∷ past))
-    → Stands honest order looks old (record now { told = told; reports = reports }) (Reported event answer ∷ past)
-stands-reported honest order looks old now past event answer told reports stands told_so reported caused all may holds = record {
+    → Stands honest order looks old (record now { told = told; reports = reports; said = said }) (Reported event answer ∷ past)
+stands-reported honest order looks old now past event answer told reports said stands told_so reported said_so caused all may holds = record {
   shows = record {
     calls = stands.shows.calls;
     told = becomes (with_told past) (added_if (is_told answer) (told_as event answer)) old.told now.told told stands.shows.told told_so;
     reports = becomes (with_reports past) (λ list. list ++ gate_call.Report event answer ∷ []) old.reports now.reports reports stands.shows.reports reported;
+    said = said_so;
   };
   lawful = ((caused, all, may), stands.lawful);
   holds = λ is. holds is (stands.holds is);

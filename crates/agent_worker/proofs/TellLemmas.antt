@@ -1,8 +1,8 @@
 -- What is told after a call was told before it.
-use Rattle.std.proofs.Common.{List, Bool, refl, ap, ◌∙◌, Option, Some, None}
+use Rattle.std.proofs.Common.{List, refl, ap, ◌∙◌, Option, Some, None}
 use Rattle.task_host.specs.Host.{Records}
 use Rattle.agent_worker.specs.Types.{Call}
-use Rattle.agent_worker.specs.Gate.{Becomes, Adds, Stays}
+use Rattle.agent_worker.specs.Gate.{GateTells, Becomes, Adds, Stays}
 use Rattle.agent_worker.specs.Serve.{KeepsGate}
 
 pub becomes : {A : Type 0} (f g : List A → List A) (a b c : Option (List A)) → Becomes f a b → Becomes g b c → Becomes (λ list. g (f list)) a c
@@ -23,12 +23,12 @@ stays (Some list) = refl
 pub stays-on : {A : Type 0} (a b c : Option (List A)) → Stays a b → Stays b c → Stays a c
 stays-on a b c first second = becomes (λ list. list) (λ list. list) a b c first second
 
-pub keeps-gate : {Order Line : Type 0} (claimed : Option (List Order)) (lines : Option (List Line)) (is_open : Bool) → KeepsGate claimed claimed lines lines is_open is_open
-keeps-gate claimed lines is_open = record { claimed_stay = stays claimed; lines_stay = stays lines; open_stays = refl }
+pub keeps-gate : (now : GateTells) → KeepsGate now now
+keeps-gate now = record { claimed_stay = stays now.claimed; lines_stay = stays now.lines; open_stays = refl }
 
-pub keeps-gate-on : {Order Line : Type 0} (c c' c'' : Option (List Order)) (l l' l'' : Option (List Line)) (o o' o'' : Bool) → KeepsGate c c' l l' o o' → KeepsGate c' c'' l' l'' o' o'' → KeepsGate c c'' l l'' o o''
-keeps-gate-on c c' c'' l l' l'' o o' o'' first second = record {
-  claimed_stay = stays-on c c' c'' first.claimed_stay second.claimed_stay;
-  lines_stay = stays-on l l' l'' first.lines_stay second.lines_stay;
+pub keeps-gate-on : (old mid now : GateTells) → KeepsGate old mid → KeepsGate mid now → KeepsGate old now
+keeps-gate-on old mid now first second = record {
+  claimed_stay = stays-on old.claimed mid.claimed now.claimed first.claimed_stay second.claimed_stay;
+  lines_stay = stays-on old.lines mid.lines now.lines first.lines_stay second.lines_stay;
   open_stays = second.open_stays ∙ first.open_stays;
 }

@@ -1,12 +1,12 @@
 -- What a turn tells.
-use Rattle.std.proofs.Common.{◌≡◌, ◌⊎◌, ◌∷◌, ◌||◌, [], ℕ, List, Bool, true, false, length, Option, Some, None, Ok, inl, inr, sym, ap, ◌∙◌, refl, subst, append-nil, if◌then◌else◌, min, ◌+◌, ◌-◌, ◌^◌}
+use Rattle.std.proofs.Common.{◌≡◌, ◌⊎◌, ◌∷◌, ◌||◌, ◌<◌, [], ℕ, List, Bool, true, false, length, Option, Some, None, Ok, inl, inr, sym, ap, ◌∙◌, refl, subst, append-nil, if◌then◌else◌, min, ◌+◌, ◌-◌, ◌^◌}
 use Rattle.std.specs.Prelude.{MatchBool}
 use Rattle.task_host.specs.declared.answers.Look.TheVariants as look
 use Rattle.task_host.specs.declared.answers.Started.TheVariants as start
 use Rattle.agent_worker.specs.declared.turn.Turn.{Turn}
 use Rattle.agent_worker.specs.Types.{Event, Accepted, Order, Stream, Log, Out, Look}
 use Rattle.agent_worker.specs.Acts.{Act, Reported, HasStream, kept, kept_before, accepted, latest_look, unreported, bytes_in, WasDone, looked, started, read}
-use Rattle.agent_worker.specs.Causes.{FoundEnd, IsEmpty, IsReadThrough, IsVain, turn}
+use Rattle.agent_worker.specs.Causes.{FoundEnd, IsEmpty, IsReadThrough, IsReadNext, IsVain, turn}
 use Rattle.agent_worker.specs.declared.reading.Reading.{Reading}
 use Rattle.agent_worker.specs.Serving.{IsInTurn}
 use Rattle.agent_worker.specs.Serve.{Seen}
@@ -30,6 +30,11 @@ takes-not-failed order stream past _ (More place bytes next some takes) (inl is)
 takes-not-failed order stream past _ (More place bytes next some takes) (inr (inl is)) = cc
 takes-not-failed order stream past _ (More place bytes next some takes) (inr (inr done)) = takes-not-failed order stream past next takes done
 
+-- a read that gave bytes gave some
+gave-bytes : (bytes : List ℕ) → 0 < length bytes → (given : Option (List ℕ)) → IsEmpty given → Some bytes ≡ given → ⊥
+gave-bytes bytes some given (inl none) same = cc
+gave-bytes bytes some given (inr none) same = no-bytes bytes some (same ∙ none)
+
 -- none of them found an end
 takes-found : (order : Order) (stream : Stream) (past next : List Act) → TakesIn order stream past next → (s : Stream) (p : ℕ) → FoundEnd order s p next → FoundEnd order s p past
 takes-found order stream past _ None_yet s p found = found
@@ -44,6 +49,12 @@ takes-keeps-found order stream past _ (More place bytes next some takes) s p fou
 takes-keeps-through : (order : Order) (stream : Stream) (past next : List Act) → TakesIn order stream past next → (s : Stream) (p : ℕ) → IsReadThrough order s p past → IsReadThrough order s p next
 takes-keeps-through order stream past _ None_yet s p through = through
 takes-keeps-through order stream past _ (More place bytes next some takes) s p through = inr (refl, inr (refl, takes-keeps-through order stream past next takes s p through))
+
+takes-not-through : (order : Order) (stream : Stream) (past next : List Act) → TakesIn order stream past next → (s : Stream) (p : ℕ) → IsReadThrough order s p next → IsReadThrough order s p past
+takes-not-through order stream past _ None_yet s p through = through
+takes-not-through order stream past _ (More place bytes next some takes) s p (inl (given, none, is)) = cc
+takes-not-through order stream past _ (More place bytes next some takes) s p (inr (report, inl (given, none, is))) = let same : Some bytes ≡ given = cc in absurd (gave-bytes bytes some given none same)
+takes-not-through order stream past _ (More place bytes next some takes) s p (inr (report, inr (one, through))) = takes-not-through order stream past next takes s p through
 
 -- the other stream stands where it stood
 takes-log : (order : Order) (past next : List Act) → TakesIn order Log past next → accepted Out next ≡ accepted Out past
@@ -62,6 +73,22 @@ keeps-out order past next takes = kept-by order Out past next (takes-log order p
 
 pub keeps-log : (order : Order) (past next : List Act) → TakesIn order Out past next → kept order Log next ≡ kept order Log past
 keeps-log order past next takes = kept-by order Log past next (takes-out order past next takes)
+
+-- A stream that is read goes on to be.
+pub takes-next : (order : Order) (stream : Stream) (past next : List Act) → TakesIn order stream past next → IsReadNext order stream past → IsReadNext order stream next
+takes-next order Log past next takes not_through = λ p through. not_through p (takes-not-through order Log past next takes Log p through)
+takes-next order Out past next takes (log, not_through) = (
+  subst (λ (p : ℕ). IsReadThrough order Log p next) (sym (keeps-log order past next takes)) (takes-keeps-through order Out past next takes Log (kept order Log past) log),
+  λ p through. not_through p (takes-not-through order Out past next takes Out p through),
+)
+
+-- Behind a look the log is read.
+not-through : (order : Order) (l : Look) (past : List Act) (s : Stream) (p : ℕ) → IsReadThrough order s p (looked order l ∷ past) → ⊥
+not-through order l past s p (inl (given, none, is)) = cc
+not-through order l past s p (inr (is, rest)) = cc
+
+pub log-is-next : (order : Order) (l : Look) (past : List Act) → IsReadNext order Log (looked order l ∷ past)
+log-is-next order l past = λ p through. not-through order l past Log p through
 
 -- behind a look nothing was found yet
 not-found : (order : Order) (l : Look) (past : List Act) (s : Stream) (p : ℕ) → FoundEnd order s p (looked order l ∷ past) → ⊥
@@ -353,6 +380,20 @@ pub through-in-turn : (honest : Type 0) (order : Order) (looks : ℕ) (stream : 
     → (first : ReadsThrough honest order looks stream old now place past (Ok reading)) → IsInTurn past → IsInTurn first.next
 through-in-turn honest order looks stream old now place past reading first turning =
     subst IsInTurn (sym first.adds.2) (takes-in-turn order stream past first.adds.0 first.adds.4 turning)
+
+-- Behind the log comes the output.
+pub out-is-next : (honest : Type 0) (order : Order) (looks : ℕ) (old now : Seen) (l : Look) (place : ℕ) (past : List Act) (reading : Reading)
+    → (first : ReadsThrough honest order looks Log old now place (looked order l ∷ past) (Ok reading)) → IsReadNext order Out first.next
+out-is-next honest order looks old now l place past reading first =
+    let a = first.adds in
+    subst (IsReadNext order Out) (sym a.2) (
+      inl (a.1, empty-by reading.failed a.1 a.5, ap (λ (p : ℕ). read order Log p a.1) (a.3 ∙ ap (kept order Log) a.2)),
+      λ p through. by a.0 a.4 a.1 p through,
+    )
+  where
+    by : (b : List Act) → TakesIn order Log (looked order l ∷ past) b → (given : Option (List ℕ)) (p : ℕ) → IsReadThrough order Out p (read order Log place given ∷ b) → ⊥
+    by b takes given p (inl (other, none, is)) = cc
+    by b takes given p (inr (one, through)) = not-through order l past Out p (takes-not-through order Log (looked order l ∷ past) b takes Out p through)
 
 pub turns-both : (honest before : Type 0) (order : Order) (looks : ℕ) (old mid now : Seen) (l : Look) (past : List Act) (log out : ℕ) (reading reading2 : Reading) (said : Turn)
     → order.keep_out ≡ true

@@ -1,5 +1,5 @@
 -- An executor's work, after one deed more.
-use Rattle.std.proofs.Common.{◌≡◌, ◌++◌, ◌∷◌, [], ℕ, ℤ, List, Option, Some, None, IsSome, sym, refl, subst}
+use Rattle.std.proofs.Common.{◌≡◌, ◌++◌, ◌∷◌, [], ℕ, ℤ, List, Option, Some, None, IsSome, sym, ap, ◌∙◌, refl, subst}
 use Rattle.task_host.specs.Host.{Records}
 use Rattle.task_host.specs.Host.{Stays as OutputStays}
 use Rattle.task_host.specs.declared.call.Call.TheVariants as call
@@ -7,11 +7,14 @@ use Rattle.agent_worker.specs.Types.{Order, Stream, Call}
 use Rattle.agent_worker.specs.declared.gate.Claim.{Claim}
 use Rattle.agent_worker.specs.declared.gate.Claim.TheVariants as claim
 use Rattle.agent_worker.specs.declared.gate.GateCall.{GateCall}
+use Rattle.agent_worker.specs.declared.gate.Said.{Said}
+use Rattle.agent_worker.specs.declared.gate.Said.TheVariants as says
+use Rattle.agent_worker.specs.declared.gate.ClaimSaid.TheVariants as claim_says
 use Rattle.agent_worker.specs.declared.gate.GateCall.TheVariants as gate_call
 use Rattle.agent_worker.specs.declared.task.Served.{Served}
 use Rattle.agent_worker.specs.declared.worked.Worked.{Worked}
-use Rattle.agent_worker.specs.Gate.{Told, Claimed, Becomes, Stays, Adds, AddsClaim, claimed_in}
-use Rattle.agent_worker.specs.Acts.{with_calls, with_told, with_reports}
+use Rattle.agent_worker.specs.Gate.{Told, Claimed, Becomes, Stays, Adds, AddsClaim, claimed_in, claim_said}
+use Rattle.agent_worker.specs.Acts.{with_calls, with_told, with_reports, said_after}
 use Rattle.agent_worker.specs.Serve.{Seen, Tasks, tasks_at, ServesOrder}
 use Rattle.agent_worker.specs.Working.{Deed, Claims, Serves, Pauses, Halts, Telling, OnHost, WorkLaunches, WorksOnHost, WorksSoFar, WorkEnds, Works, MayWork, MayClaim, work_calls, work_told, work_reports, work_claims}
 use Rattle.agent_worker.proofs.TellLemmas.{becomes, records}
@@ -24,14 +27,15 @@ was-told f None (Some now) becomes_so some = absurd becomes_so
 was-told f (Some old) (Some now) becomes_so some = refl
 
 -- A claim, whatever it gave.
-pub work-claims : (number looks : ℕ) (honest : Type 0) (old now : Telling) (past : List Deed) (answer : Claim) (told : Option (List Told)) (reports : Option (List GateCall)) (claimed : Option (List Claimed))
+pub work-claims : (number looks : ℕ) (honest : Type 0) (old now : Telling) (past : List Deed) (answer : Claim) (told : Option (List Told)) (reports : Option (List GateCall)) (said : Said) (claimed : Option (List Claimed))
     → WorksSoFar number looks honest old now past → MayClaim past
-    → Stays now.told told → Adds (gate_call.Claim number answer) now.reports reports → AddsClaim number answer now.claimed claimed
-    → WorksSoFar number looks honest old (record now { told = told; reports = reports; claimed = claimed }) (Claims answer ∷ past)
-work-claims number looks honest old now past answer told reports claimed so may told_so called adds = record {
+    → Stays now.told told → Adds (gate_call.Claim number answer) now.reports reports → said ≡ says.Claim (claim_said answer) → AddsClaim number answer now.claimed claimed
+    → WorksSoFar number looks honest old (record now { told = told; reports = reports; said = said; claimed = claimed }) (Claims answer ∷ past)
+work-claims number looks honest old now past answer told reports said claimed so may told_so called said_so adds = record {
   calls = so.calls;
   told = becomes (work_told past) (λ list. list) old.told now.told told so.told told_so;
   reports = becomes (work_reports number past) (λ list. list ++ gate_call.Claim number answer ∷ []) old.reports now.reports reports so.reports called;
+  said = said_so;
   claimed = becomes (work_claims past) (λ list. list ++ claimed_in answer) old.claimed now.claimed claimed so.claimed adds.told;
   lawful = (may, so.lawful);
   own = λ some. so.own (was-told (λ list. list ++ claimed_in answer) now.claimed claimed adds.told some);
@@ -44,7 +48,7 @@ abbrev pub host_at : Tasks → Seen → OnHost
 host_at tasks s = record { tasks = tasks; output = s.output; exited = s.exited }
 
 abbrev pub telling_at : Option (List Claimed) → Tasks → Seen → Telling
-telling_at claimed tasks s = record { calls = s.calls; told = s.told; reports = s.reports; claimed = claimed; host = host_at tasks s }
+telling_at claimed tasks s = record { calls = s.calls; told = s.told; reports = s.reports; said = s.said; claimed = claimed; host = host_at tasks s }
 
 -- The serve of the order that the claim just gave.
 work-serves : (number looks : ℕ) (honest h : Type 0) (old : Telling) (before : List Deed) (order : Order) (seen_old seen_now : Seen) (old_tasks tasks : Tasks) (answer : Served) (claimed next_claimed : Option (List Claimed))
@@ -56,6 +60,7 @@ work-serves number looks honest h old before order seen_old seen_now old_tasks t
   calls = becomes (work_calls before) (with_calls serve.serve.past) old.calls seen_old.calls seen_now.calls so.calls serve.serve.shows.calls;
   told = becomes (work_told before) (with_told serve.serve.past) old.told seen_old.told seen_now.told so.told serve.serve.shows.told;
   reports = becomes (work_reports number (Claims (claim.Order order) ∷ before)) (with_reports serve.serve.past) old.reports seen_old.reports seen_now.reports so.reports serve.serve.shows.reports;
+  said = serve.serve.shows.said ∙ ap (said_after serve.serve.past) so.said;
   claimed = becomes (work_claims (Claims (claim.Order order) ∷ before)) (λ list. list) old.claimed claimed next_claimed so.claimed same;
   lawful = (((before, refl), serve.serve.lawful, serve.serve.ends), so.lawful);
   own = λ some. (own (was-told (λ list. list) claimed next_claimed same some), so.own (was-told (λ list. list) claimed next_claimed same some));
@@ -64,14 +69,14 @@ work-serves number looks honest h old before order seen_old seen_now old_tasks t
 }
 
 -- A claim that gave an order, and its serve, which ended so.
-pub work-order : (number looks : ℕ) (honest h : Type 0) (old : Telling) (past : List Deed) (order : Order) (told : Option (List Told)) (reports : Option (List GateCall)) (claimed mid_claimed next_claimed : Option (List Claimed))
+pub work-order : (number looks : ℕ) (honest h : Type 0) (old : Telling) (past : List Deed) (order : Order) (told : Option (List Told)) (reports : Option (List GateCall)) (said : Said) (claimed mid_claimed next_claimed : Option (List Claimed))
     (seen_old seen_now : Seen) (old_tasks tasks : Tasks) (answer ended : Served)
-    → WorksSoFar number looks honest old (telling_at claimed old_tasks (record seen_old { told = told; reports = reports })) past → MayClaim past
-    → Stays told seen_old.told → Adds (gate_call.Claim number (claim.Order order)) reports seen_old.reports → AddsClaim number (claim.Order order) claimed mid_claimed
+    → WorksSoFar number looks honest old (telling_at claimed old_tasks (record seen_old { told = told; reports = reports; said = said })) past → MayClaim past
+    → Stays told seen_old.told → Adds (gate_call.Claim number (claim.Order order)) reports seen_old.reports → seen_old.said ≡ says.Claim claim_says.Order → AddsClaim number (claim.Order order) claimed mid_claimed
     → (serve : ServesOrder h order looks seen_old seen_now old_tasks tasks answer) → (honest → h) → Stays mid_claimed next_claimed → answer ≡ ended
     → WorksSoFar number looks honest old (telling_at next_claimed tasks seen_now) (Serves order serve.serve.past ended ∷ Claims (claim.Order order) ∷ past)
-work-order number looks honest h old past order told reports claimed mid_claimed next_claimed seen_old seen_now old_tasks tasks answer ended so may told_so called adds serve is_honest same is =
-    let claims = work-claims number looks honest old (telling_at claimed old_tasks (record seen_old { told = told; reports = reports })) past (claim.Order order) seen_old.told seen_old.reports mid_claimed so may told_so called adds in
+work-order number looks honest h old past order told reports said claimed mid_claimed next_claimed seen_old seen_now old_tasks tasks answer ended so may told_so called said_so adds serve is_honest same is =
+    let claims = work-claims number looks honest old (telling_at claimed old_tasks (record seen_old { told = told; reports = reports; said = said })) past (claim.Order order) seen_old.told seen_old.reports seen_old.said mid_claimed so may told_so called said_so adds in
     let serves = work-serves number looks honest h old past order seen_old seen_now old_tasks tasks answer mid_claimed next_claimed claims serve is_honest same adds.own in
     subst (λ (a : Served). WorksSoFar number looks honest old (telling_at next_claimed tasks seen_now) (Serves order serve.serve.past a ∷ Claims (claim.Order order) ∷ past)) is serves
 
@@ -93,6 +98,7 @@ work-pauses number looks honest old now before busy calls host so kept launches 
   calls = becomes (work_calls before) (λ list. list ++ call.Pause ∷ []) old.calls now.calls calls so.calls (records now.calls calls call.Pause kept);
   told = so.told;
   reports = so.reports;
+  said = so.said;
   claimed = so.claimed;
   lawful = ((busy, before, refl), so.lawful);
   own = so.own;
@@ -104,14 +110,15 @@ work-pauses number looks honest old now before busy calls host so kept launches 
     work-launched past a b c is all = subst (WorkLaunches past a) (sym is) all
 
 -- A halt.
-pub work-halts : (number looks : ℕ) (honest : Type 0) (old now : Telling) (past : List Deed) (told : Option (List Told)) (reports : Option (List GateCall)) (claimed : Option (List Claimed))
+pub work-halts : (number looks : ℕ) (honest : Type 0) (old now : Telling) (past : List Deed) (told : Option (List Told)) (reports : Option (List GateCall)) (said : Said) (claimed : Option (List Claimed))
     → WorksSoFar number looks honest old now past → MayWork looks past Halts
-    → Stays now.told told → Adds gate_call.Halt now.reports reports → Stays now.claimed claimed
-    → WorksSoFar number looks honest old (record now { told = told; reports = reports; claimed = claimed }) (Halts ∷ past)
-work-halts number looks honest old now past told reports claimed so may told_so called same = record {
+    → Stays now.told told → Adds gate_call.Halt now.reports reports → said ≡ says.Halt → Stays now.claimed claimed
+    → WorksSoFar number looks honest old (record now { told = told; reports = reports; said = said; claimed = claimed }) (Halts ∷ past)
+work-halts number looks honest old now past told reports said claimed so may told_so called said_so same = record {
   calls = so.calls;
   told = becomes (work_told past) (λ list. list) old.told now.told told so.told told_so;
   reports = becomes (work_reports number past) (λ list. list ++ gate_call.Halt ∷ []) old.reports now.reports reports so.reports called;
+  said = said_so;
   claimed = becomes (work_claims past) (λ list. list) old.claimed now.claimed claimed so.claimed same;
   lawful = (may, so.lawful);
   own = λ some. so.own (was-told (λ list. list) now.claimed claimed same some);

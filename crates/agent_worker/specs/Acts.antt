@@ -6,6 +6,9 @@ use Rattle.task_host.specs.declared.call.Call.TheVariants as call
 use Rattle.agent_worker.specs.declared.fault.TakeFault.{TakeFault}
 use Rattle.agent_worker.specs.declared.gate.GateCall.{GateCall}
 use Rattle.agent_worker.specs.declared.gate.GateCall.TheVariants as gate_call
+use Rattle.agent_worker.specs.declared.gate.Said.{Said}
+use Rattle.agent_worker.specs.declared.gate.Said.TheVariants as says
+use Rattle.agent_worker.specs.Sizes.{piece_size}
 use Rattle.agent_worker.specs.Gate.{Told, told_as, is_accepted, is_told, added_if}
 
 -- A call on the host, or a report with what the gate answered.
@@ -31,6 +34,12 @@ with_reports [] old = old
 with_reports (Called c ∷ past) old = with_reports past old
 with_reports (Reported event answer ∷ past) old = with_reports past old ++ gate_call.Report event answer ∷ []
 
+-- what a gate said last after this
+abbrev pub said_after : List Act → Said → Said
+said_after [] old = old
+said_after (Called c ∷ past) old = said_after past old
+said_after (Reported event answer ∷ past) old = says.Report answer
+
 -- the streams of an order
 abbrev pub HasStream : Order → Stream → Type 0
 HasStream order Log = Unit {0}
@@ -41,6 +50,7 @@ abbrev pub named : Stream → EventStream
 named Log = LogStream
 named Out = OutStream
 
+-- an event of this stream, by the name that events give it
 abbrev pub is_named : Stream → EventStream → Bool
 is_named Log LogStream = true
 is_named Log OutStream = false
@@ -81,6 +91,7 @@ look_in (Called call.Pause) = None
 look_in (Called (call.Remove order answer)) = None
 look_in (Reported event answer) = None
 
+-- the first of two looks that is there
 abbrev pub first_of_two : Option Look → Option Look → Option Look
 first_of_two None other = other
 first_of_two (Some look) other = Some look
@@ -133,15 +144,18 @@ WasDone act (latest ∷ past) = (latest ≡ act) ⊎ WasDone act past
 abbrev pub made_dir : Order → Made → Act
 made_dir order answer = Called (call.MakeDir order answer)
 
+-- a start
 abbrev pub started : Order → Started → Act
 started order answer = Called (call.Start order answer)
 
+-- a look
 abbrev pub looked : Order → Look → Act
 looked order answer = Called (call.Look order answer)
 
--- a read from this place, with a buffer of 65,536 bytes, which gave these or failed
+-- a read from this place, with the buffer of a piece, which gave these or failed
 abbrev pub read : Order → Stream → ℕ → Option (List ℕ) → Act
-read order stream place given = Called (call.Read order stream place 65536 given)
+read order stream place given = Called (call.Read order stream place piece_size given)
 
+-- a pause
 abbrev pub paused : Act
 paused = Called call.Pause

@@ -1,5 +1,6 @@
 -- The lines of the answers: how the operator cuts bytes into lines.
 use Rattle.std.specs.Prelude.{◌≢◌, ◌∷◌, ◌++◌, [], List, ℕ, All, take, length, slice_index, ◌-◌, nat_eq, nat_le, if◌then◌else◌}
+use Rattle.agent_worker.specs.Sizes.{longest_line, line_room}
 use Rattle.agent_worker.specs.declared.operator.LineEnd.{LineEnd}
 use Rattle.agent_worker.specs.declared.operator.LineEnd.TheVariants as line_end
 
@@ -9,7 +10,7 @@ without_cr line = if nat_eq (slice_index line (length line - 1)) 13 then take (l
 
 -- the line, where it has at most 1,024 bytes; else it is passed over
 abbrev pub kept_line : List ℕ → List (List ℕ)
-kept_line begun = if nat_le (length (without_cr begun)) 1024 then without_cr begun ∷ [] else []
+kept_line begun = if nat_le (length (without_cr begun)) longest_line then without_cr begun ∷ [] else []
 
 -- the whole lines of these bytes, of which the first has begun so
 abbrev pub lines_of : List ℕ → List ℕ → List (List ℕ)
@@ -23,8 +24,9 @@ begun_after begun (b ∷ bytes) = if nat_eq b 10 then begun_after [] bytes else 
 
 -- what is kept of a line that comes: enough to see that it is too long
 abbrev pub short : List ℕ → List ℕ
-short bytes = take 1026 bytes
+short bytes = take line_room bytes
 
+-- bytes of one line, without the newline
 abbrev pub NoNewline : List ℕ → Type 0
 NoNewline bytes = All (λ b. b ≢ 10) bytes
 

@@ -26,6 +26,7 @@ pub record NamesInput (rest id name : List ℕ) : Type 0 where
   pub name_some : name ≢ []
   pub name_text : IsUtf8 name
 
+-- the same as a test
 abbrev pub is_blank : ℕ → Bool
 is_blank b = nat_eq b 32 || nat_eq b 9
 

@@ -1,5 +1,5 @@
 -- What each report of a serve rests on. `past` is what was done before it in this serve, the latest first.
-use Rattle.std.specs.Prelude.{◌≡◌, ◌⊎◌, ◌<◌, ◌∷◌, [], List, ℕ, ℤ, zero, suc, length, true, Option, Some, None, if◌then◌else◌}
+use Rattle.std.specs.Prelude.{◌≡◌, ◌≢◌, ◌⊎◌, ◌<◌, ◌∷◌, [], List, ℕ, ℤ, zero, suc, length, true, Option, Some, None, if◌then◌else◌}
 use Rattle.agent_worker.specs.Types.{Event, StartEvent, GrantedEvent, OutputEvent, ExitedEvent, LostEvent, DecidedEvent, NotStarted, Gone}
 use Rattle.agent_worker.specs.Types.{EventStream, Order, Stream, Log, Out, Look}
 use Rattle.task_host.specs.declared.answers.Look.TheVariants as look
@@ -43,7 +43,13 @@ abbrev pub IsReadThrough : Order → Stream → ℕ → List Act → Type 0
 IsReadThrough order stream place [] = ⊥
 IsReadThrough order stream place (act ∷ past) = ((given : Option (List ℕ)) × IsEmpty given × (act ≡ read order stream place given)) ⊎ ((look_in act ≡ None) × IsReadThrough order stream place past)
 
--- A turn, behind what was done before it: a look, and of every stream a read from its kept place.
+-- The streams of an order are read one after the other, the log first, and each until a read of it gave no byte. (This
+-- product's own rule.)
+abbrev pub IsReadNext : Order → Stream → List Act → Type 0
+IsReadNext order Log past = (place : ℕ) → ¬ (IsReadThrough order Log place past)
+IsReadNext order Out past = IsReadThrough order Log (kept order Log past) past × ((place : ℕ) → ¬ (IsReadThrough order Out place past))
+
+-- A turn, behind what was done before it: a look, and of every stream a read from its kept place, the log first.
 abbrev pub turn : Order → Look → Option (List ℕ) → Option (List ℕ) → List Act → List Act
 turn order answer log out past =
     let log_read = read order Log (kept order Log past) log ∷ looked order answer ∷ past in
@@ -59,18 +65,22 @@ pub record IsVain (order : Order) (before past : List Act) : Type 0 where
   pub no_out : IsEmpty out
   pub vain : (answer ≡ look.Running) ⊎ (answer ≡ look.Failed) ⊎ (log ≡ None) ⊎ ((order.keep_out ≡ true) × (out ≡ None))
 
+-- the latest look did not say that the task was not started, which has a cause of its own
+abbrev pub MayHaveStarted : List Act → Type 0
+MayHaveStarted past = (latest_look past ≢ Some look.NotStarted) × (latest_look past ≢ Some look.Absent)
+
 -- The last n turns in a row were vain, with a pause between each two.
 abbrev pub InVain : Order → ℕ → List Act → Type 0
 InVain order zero past = Unit {0}
 InVain order (suc zero) past = (before : List Act) × IsVain order before past
 InVain order (suc (suc n)) past = (before : List Act) × IsVain order (paused ∷ before) past × InVain order (suc n) before
 
--- The cause of a report.
+-- The cause of a report. A task that a look found not started is not gone beside that.
 abbrev pub IsCaused : Order → ℕ → List Act → Event → Type 0
 IsCaused order looks past (OutputEvent task name «from» bytes) = (task ≡ order.task) × Gave order name «from» bytes past
 IsCaused order looks past (ExitedEvent task code) = (task ≡ order.task) × Exits order code past
 IsCaused order looks past (LostEvent task NotStarted) = (task ≡ order.task) × IsNotStarted order past
-IsCaused order looks past (LostEvent task Gone) = (task ≡ order.task) × InVain order looks past
+IsCaused order looks past (LostEvent task Gone) = (task ≡ order.task) × MayHaveStarted past × InVain order looks past
 IsCaused order looks past (StartEvent script agents) = ⊥
 IsCaused order looks past (GrantedEvent request executor) = ⊥
 IsCaused order looks past (DecidedEvent request proceed name) = ⊥

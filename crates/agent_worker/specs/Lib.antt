@@ -1,4 +1,5 @@
 pub mod Types
+pub mod Sizes
 pub mod AnswerLine
 pub mod Gate
 pub mod Acts

@@ -21,6 +21,7 @@ AddsPiece order stream place now past next (Ok piece.Nothing) = (next ≡ read o
 AddsPiece order stream place now past next (Ok piece.Failed) = (next ≡ read order stream place None ∷ past) × (now ≡ place)
 AddsPiece order stream place now past next (Err answer) = EndsFor order next answer
 
+-- One read, with its report, from what was done before it.
 pub record ReadsPiece (honest : Type 0) (order : Order) (looks : ℕ) (stream : Stream) (old now : Seen) (place new_place : ℕ) (past : List Act) (answer : Result Piece Served) : Type 0 where
   pub next : List Act
   pub stands : Stands honest order looks old now next
@@ -39,6 +40,7 @@ AddsReading order stream now past next (Ok reading) = (before : List Act) × (gi
     × MatchBool reading.failed (given ≡ None) (given ≡ Some []) × MatchBool reading.bytes ((act : Act) × (rest : List Act) × (event : Event) × (before ≡ Reported event (Ok Accepted) ∷ act ∷ rest)) (before ≡ past)
 AddsReading order stream now past next (Err answer) = EndsFor order next answer
 
+-- Reading a stream through, from what was done before it.
 pub record ReadsThrough (honest : Type 0) (order : Order) (looks : ℕ) (stream : Stream) (old now : Seen) (new_place : ℕ) (past : List Act) (answer : Result Reading Served) : Type 0 where
   pub next : List Act
   pub stands : Stands honest order looks old now next

@@ -1,12 +1,13 @@
 -- A whole serve: what was done, and what it does to the gate and the host.
-use Rattle.std.specs.Prelude.{◌≡◌, ◌⊎◌, ◌∷◌, ◌++◌, [], List, ℕ, ℤ, Bool, Contains, Option}
+use Rattle.std.specs.Prelude.{◌≡◌, ◌⊎◌, ◌∷◌, ◌++◌, [], List, ℕ, ℤ, Contains, Option}
 use Rattle.task_host.specs.Host.{GoesOn}
 use Rattle.task_host.specs.declared.answers.Made.TheVariants as made
 use Rattle.agent_worker.specs.Types.{Order, Stream, Call}
 use Rattle.agent_worker.specs.declared.gate.GateCall.{GateCall}
+use Rattle.agent_worker.specs.declared.gate.Said.{Said}
 use Rattle.agent_worker.specs.declared.task.Served.{Served}
-use Rattle.agent_worker.specs.Gate.{Told, Becomes, Stays}
-use Rattle.agent_worker.specs.Acts.{Act, with_calls, with_told, with_reports, WasDone, made_dir}
+use Rattle.agent_worker.specs.Gate.{Told, GateTells, Becomes, Stays}
+use Rattle.agent_worker.specs.Acts.{Act, with_calls, with_told, with_reports, said_after, WasDone, made_dir}
 use Rattle.agent_worker.specs.Serving.{IsServe, EndsFor}
 use Rattle.agent_worker.specs.Delivering.{Delivers}
 use Rattle.agent_worker.specs.Folders.{MakesOne, LeavesFolders}
@@ -16,26 +17,30 @@ pub record Seen : Type 0 where
   pub calls : Option (List Call)
   pub told : Option (List Told)
   pub reports : Option (List GateCall)
+  pub said : Said
   pub output : ℕ → Stream → List ℕ
   pub exited : ℕ → Option ℤ
 
 module _ {H G : Type 0} where
-  abbrev pub seen : (H → Option (List Call)) → (H → ℕ → Stream → List ℕ) → (H → ℕ → Option ℤ) → (G → Option (List Told)) → (G → Option (List GateCall)) → H → G → Seen
-  seen calls output exited told reports host gate = record { calls = calls host; told = told gate; reports = reports gate; output = output host; exited = exited host }
+  -- this moment, by what host and gate tell
+  abbrev pub seen : (H → Option (List Call)) → (H → ℕ → Stream → List ℕ) → (H → ℕ → Option ℤ) → (G → GateTells) → H → G → Seen
+  seen calls output exited tells host gate = record { calls = calls host; told = (tells gate).told; reports = (tells gate).calls; said = (tells gate).said; output = output host; exited = exited host }
 
 -- the launches and the folders of a host
 pub record Tasks : Type 0 where
   pub launches : List ℕ
   pub dirs : List ℕ
 
+-- these launches and folders
 abbrev pub tasks_at : List ℕ → List ℕ → Tasks
 tasks_at launches dirs = record { launches = launches; dirs = dirs }
 
--- What was done is what they tell, where they tell it.
+-- What was done is what they tell, where they tell it; and what the gate said last, every gate tells.
 pub record Shows (old now : Seen) (past : List Act) : Type 0 where
   pub calls : Becomes (with_calls past) old.calls now.calls
   pub told : Becomes (with_told past) old.told now.told
   pub reports : Becomes (with_reports past) old.reports now.reports
+  pub said : now.said ≡ said_after past old.said
 
 -- A serve, from its beginning to its end.
 pub record Serves (honest : Type 0) (order : Order) (looks : ℕ) (old now : Seen) (answer : Served) : Type 0 where
@@ -56,20 +61,20 @@ abbrev pub LaunchesOnce : Order → List Act → List ℕ → List ℕ → Type 
 LaunchesOnce order past old now = (now ≡ old) ⊎ ((now ≡ old ++ order.task ∷ []) × WasDone (made_dir order made.Made) past)
 
 -- What a serve does to launches and folders on an honest host: its task is launched only where its folder was not there,
--- and its folder goes only where the task is done.
-pub record KeepsTasks (order : Order) (answer : Served) (old now : Tasks) : Type 0 where
+-- and its folder goes only where its exit was accepted.
+pub record KeepsTasks (order : Order) (past : List Act) (old now : Tasks) : Type 0 where
   pub launched : (now.launches ≡ old.launches)
-      ⊎ ((now.launches ≡ old.launches ++ order.task ∷ []) × (¬ Contains old.dirs order.task) × LeavesFolders order.task (old.dirs ++ order.task ∷ []) now.dirs answer)
-  pub folders : (between : List ℕ) × MakesOne order.task old.dirs between × LeavesFolders order.task between now.dirs answer
+      ⊎ ((now.launches ≡ old.launches ++ order.task ∷ []) × (¬ Contains old.dirs order.task) × LeavesFolders order past (old.dirs ++ order.task ∷ []) now.dirs)
+  pub folders : (between : List ℕ) × MakesOne order.task old.dirs between × LeavesFolders order past between now.dirs
 
 -- A whole serve of an order.
 pub record ServesOrder (honest : Type 0) (order : Order) (looks : ℕ) (old now : Seen) (old_tasks tasks : Tasks) (answer : Served) : Type 0 where
   pub serve : Serves honest order looks old now answer
   pub launched : LaunchesOnce order serve.past old_tasks.launches tasks.launches
-  pub kept : honest → KeepsTasks order answer old_tasks tasks
+  pub kept : honest → KeepsTasks order serve.past old_tasks tasks
 
 -- A gate that a serve leaves as it was, but for what it reports.
-pub record KeepsGate {Claim Line : Type 0} (old_claimed claimed : Option (List Claim)) (old_lines lines : Option (List Line)) (old_open is_open : Bool) : Type 0 where
-  pub claimed_stay : Stays old_claimed claimed
-  pub lines_stay : Stays old_lines lines
-  pub open_stays : is_open ≡ old_open
+pub record KeepsGate (old now : GateTells) : Type 0 where
+  pub claimed_stay : Stays old.claimed now.claimed
+  pub lines_stay : Stays old.lines now.lines
+  pub open_stays : now.is_open ≡ old.is_open

@@ -10,8 +10,9 @@ use Rattle.agent_worker.specs.declared.fault.TakeFault.{TakeFault}
 use Rattle.agent_worker.specs.declared.fault.TakeFault.TheVariants as take_fault
 use Rattle.agent_worker.specs.declared.task.Served.{Served}
 use Rattle.agent_worker.specs.declared.task.Served.TheVariants as served
+use Rattle.agent_worker.specs.Sizes.{piece_size}
 use Rattle.agent_worker.specs.Acts.{Act, Called, Reported, HasStream, kept, unreported, bytes_of, is_output, made_dir, started, paused}
-use Rattle.agent_worker.specs.Causes.{IsReadThrough, IsCaused}
+use Rattle.agent_worker.specs.Causes.{IsReadThrough, IsReadNext, IsCaused}
 
 -- The beginning of a serve: the folder was made and the task started, or the folder was there or may be.
 pub data Opened (order : Order) : List Act → Type 0 where
@@ -42,6 +43,7 @@ MayReport order past = IsInTurn past ⊎ (past ≡ started order start.Failed �
 abbrev pub exited : Order → ℤ → Event
 exited order code = ExitedEvent order.task code
 
+-- the loss of the task
 abbrev pub lost : Order → Why → Event
 lost order why = LostEvent order.task why
 
@@ -52,15 +54,15 @@ pub record HasNoEnd (order : Order) (looks : ℕ) (past : List Act) : Type 0 whe
 
 -- What may be done after this past. Every call is on the order, and every report has its cause: the folder is made
 -- first; the task is started only where its folder was made, and nothing else may follow then; a look comes behind that
--- beginning, and behind a pause; reads come within a turn, from kept places; what a read gave is reported before anything
--- else is done; a pause ends a turn in which every stream was read until a read gave no byte, and no last event has a
+-- beginning, and behind a pause; reads come within a turn, from kept places, first those of the log, each stream until a
+-- read of it gave no byte; what a read gave is reported before anything else is done; a pause ends a turn in which every stream was read until a read gave no byte, and no last event has a
 -- cause; behind a last event, and behind output that was not accepted, nothing comes, but for the removal of the folder
 -- after the exit was accepted. (This product's own rule.)
 abbrev pub MayDo : Order → ℕ → List Act → Act → Type 0
 MayDo order looks past (Called (call.MakeDir o answer)) = (o ≡ order) × (past ≡ [])
 MayDo order looks past (Called (call.Start o answer)) = (o ≡ order) × (past ≡ made_dir order made.Made ∷ [])
 MayDo order looks past (Called (call.Look o answer)) = (o ≡ order) × MayLook order past
-MayDo order looks past (Called (call.Read o stream «from» room answer)) = (o ≡ order) × HasStream order stream × («from» ≡ kept order stream past) × (room ≡ 65536) × (unreported past ≡ []) × IsInTurn past
+MayDo order looks past (Called (call.Read o stream «from» room answer)) = (o ≡ order) × HasStream order stream × («from» ≡ kept order stream past) × (room ≡ piece_size) × (unreported past ≡ []) × IsInTurn past × IsReadNext order stream past
 MayDo order looks past (Called call.Pause) = HasNoEnd order looks past × (unreported past ≡ []) × IsInTurn past × ((stream : Stream) → HasStream order stream → IsReadThrough order stream (kept order stream past) past)
 MayDo order looks past (Called (call.Remove o answer)) = (o ≡ order) × ((code : ℤ) × (before : List Act) × (past ≡ Reported (exited order code) (Ok Accepted) ∷ before))
 MayDo order looks past (Reported event answer) = IsCaused order looks past event × (unreported past ≡ bytes_of event) × MayReport order past
@@ -76,11 +78,18 @@ pub record EndsBy (order : Order) (event : Event) (answer : Result Taken TakeFau
   pub is : (past ≡ Reported event answer ∷ before)
       ⊎ ((removed : Result (Unit {0}) Failed) × (past ≡ Called (call.Remove order removed) ∷ Reported event answer ∷ before))
 
--- Why a serve ended.
+-- the exit was reported, and accepted
+abbrev pub ExitTaken : Order → List Act → Type 0
+ExitTaken order past = (code : ℤ) × EndsBy order (exited order code) (Ok Accepted) past
+
+-- Why a serve ended: its exit was accepted, and then its folder was to be removed, whatever came of that; its loss was
+-- accepted, and the folder is left; or its last report was not accepted. (This product's own rule.)
 abbrev pub EndsFor : Order → List Act → Served → Type 0
-EndsFor order past served.Done = (event : Event) × EndsBy order event (Ok Accepted) past × (((code : ℤ) × (event ≡ exited order code)) ⊎ ((why : Why) × (event ≡ lost order why)))
-EndsFor order past served.Finished = (event : Event) × (taken : Taken) × EndsBy order event (Ok taken) past × (taken ≢ Accepted)
-EndsFor order past served.Stopped = (event : Event) × (fault : TakeFault) × EndsBy order event (Err fault) past × (fault ≢ take_fault.Memory)
+EndsFor order past served.Done =
+    ((code : ℤ) × (removed : Result (Unit {0}) Failed) × (before : List Act) × (past ≡ Called (call.Remove order removed) ∷ Reported (exited order code) (Ok Accepted) ∷ before))
+    ⊎ ((why : Why) × (before : List Act) × (past ≡ Reported (lost order why) (Ok Accepted) ∷ before))
+EndsFor order past served.Finished = (event : Event) × (taken : Taken) × (before : List Act) × (past ≡ Reported event (Ok taken) ∷ before) × (taken ≢ Accepted)
+EndsFor order past served.Stopped = (event : Event) × (fault : TakeFault) × (before : List Act) × (past ≡ Reported event (Err fault) ∷ before) × (fault ≢ take_fault.Memory)
 EndsFor order past served.Memory = Unit {0}
 
 -- how a serve ends by the answer to its last report

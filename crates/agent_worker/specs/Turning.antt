@@ -31,10 +31,12 @@ pub record Turned (order : Order) (past next : List Act) (turn : Turn) : Type 0 
   pub in_turn : IsInTurn next
   pub read_through : (stream : Stream) → HasStream order stream → IsReadThrough order stream (kept order stream next) next
 
+-- What a turn adds: it tells this, and both places are kept; or the serve ends within it.
 abbrev pub AddsTurn : Order → ℕ → ℕ → List Act → List Act → Result Turn Served → Type 0
 AddsTurn order log out past next (Ok turn) = (log ≡ kept order Log next) × (out ≡ kept order Out next) × Turned order past next turn
 AddsTurn order log out past next (Err answer) = EndsFor order next answer
 
+-- One turn, from what was done before it.
 pub record TakesTurn (honest : Type 0) (order : Order) (looks : ℕ) (old now : Seen) (log out : ℕ) (past : List Act) (answer : Result Turn Served) : Type 0 where
   pub next : List Act
   pub stands : Stands honest order looks old now next
@@ -54,6 +56,7 @@ Decides turn vain looks next.NotStarted = (turn.look ≡ look.NotStarted) ⊎ (t
 Decides turn vain looks next.Gone = Goes turn × (turn.bytes ≡ false) × (vain + 1 ≡ looks)
 Decides turn vain looks (next.Pause count) = Goes turn × (count < looks) × MatchBool turn.bytes (count ≡ 0) (count ≡ vain + 1)
 
+-- what comes after a turn that goes on, by whether a read of it gave bytes
 abbrev pub Counts : Bool → ℕ → ℕ → Next → Type 0
 Counts bytes vain looks (next.Exited code) = ⊥
 Counts bytes vain looks next.NotStarted = ⊥

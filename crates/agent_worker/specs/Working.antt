@@ -7,12 +7,14 @@ use Rattle.agent_worker.specs.declared.gate.Claim.{Claim}
 use Rattle.agent_worker.specs.declared.gate.Claim.TheVariants as claim
 use Rattle.agent_worker.specs.declared.gate.GateCall.{GateCall}
 use Rattle.agent_worker.specs.declared.gate.GateCall.TheVariants as gate_call
+use Rattle.agent_worker.specs.declared.gate.Said.{Said}
+use Rattle.agent_worker.specs.declared.gate.Said.TheVariants as says
 use Rattle.agent_worker.specs.declared.task.Served.{Served}
 use Rattle.agent_worker.specs.declared.task.Served.TheVariants as served
 use Rattle.agent_worker.specs.declared.worked.Worked.{Worked}
 use Rattle.agent_worker.specs.declared.worked.Worked.TheVariants as worked
-use Rattle.agent_worker.specs.Gate.{Told, Claimed, claimed_in, Becomes}
-use Rattle.agent_worker.specs.Acts.{Act, with_calls, with_told, with_reports}
+use Rattle.agent_worker.specs.Gate.{Told, Claimed, GateTells, claimed_in, claim_said, Becomes}
+use Rattle.agent_worker.specs.Acts.{Act, with_calls, with_told, with_reports, said_after}
 use Rattle.agent_worker.specs.Serving.{IsServe, EndsFor}
 use Rattle.agent_worker.specs.Delivering.{Delivers}
 use Rattle.agent_worker.specs.Serve.{Tasks, tasks_at, LaunchesOnce, KeepsTasks}
@@ -48,6 +50,14 @@ work_reports number (Serves order acts answer ∷ past) old = with_reports acts 
 work_reports number (Pauses ∷ past) old = work_reports number past old
 work_reports number (Halts ∷ past) old = work_reports number past old ++ gate_call.Halt ∷ []
 
+-- what a gate said last after this
+abbrev pub work_said : List Deed → Said → Said
+work_said [] old = old
+work_said (Claims claim ∷ past) old = says.Claim (claim_said claim)
+work_said (Serves order acts answer ∷ past) old = said_after acts (work_said past old)
+work_said (Pauses ∷ past) old = work_said past old
+work_said (Halts ∷ past) old = says.Halt
+
 -- the list of claimed orders after this
 abbrev pub work_claims : List Deed → List Claimed → List Claimed
 work_claims [] old = old
@@ -79,6 +89,7 @@ MayWork looks past (Serves order acts answer) = ((before : List Deed) × (past �
 MayWork looks past Pauses = (busy : ℕ) × (before : List Deed) × (past ≡ Claims (claim.Idle busy) ∷ before)
 MayWork looks past Halts = (before : List Deed) × ((past ≡ Claims claim.Memory ∷ before) ⊎ ((order : Order) × (acts : List Act) × (past ≡ Serves order acts served.Memory ∷ before)))
 
+-- All of it may be done.
 abbrev pub IsWork : ℕ → List Deed → Type 0
 IsWork looks [] = Unit {0}
 IsWork looks (deed ∷ past) = MayWork looks past deed × IsWork looks past
@@ -106,8 +117,8 @@ pub record OnHost : Type 0 where
 
 -- What a serve does to an honest host: to its launches and folders as `KeepsTasks` says; what was accepted of the output
 -- stands there; and no other task writes or ends.
-pub record ServesOnHost (order : Order) (acts : List Act) (answer : Served) (old now : OnHost) : Type 0 where
-  pub kept : KeepsTasks order answer old.tasks now.tasks
+pub record ServesOnHost (order : Order) (acts : List Act) (old now : OnHost) : Type 0 where
+  pub kept : KeepsTasks order acts old.tasks now.tasks
   pub delivers : Delivers order acts (now.output order.task) (now.exited order.task)
   pub goes_on : GoesOn order.task old.exited now.exited old.output now.output
 
@@ -115,7 +126,7 @@ pub record ServesOnHost (order : Order) (acts : List Act) (answer : Served) (old
 abbrev pub WorksOnHost : List Deed → OnHost → OnHost → Type 0
 WorksOnHost [] old now = now ≡ old
 WorksOnHost (Claims claim ∷ past) old now = WorksOnHost past old now
-WorksOnHost (Serves order acts answer ∷ past) old now = (mid : OnHost) × WorksOnHost past old mid × ServesOnHost order acts answer mid now
+WorksOnHost (Serves order acts answer ∷ past) old now = (mid : OnHost) × WorksOnHost past old mid × ServesOnHost order acts mid now
 WorksOnHost (Pauses ∷ past) old now = WorksOnHost past old now
 WorksOnHost (Halts ∷ past) old now = WorksOnHost past old now
 
@@ -132,6 +143,7 @@ pub record Telling : Type 0 where
   pub calls : Option (List Call)
   pub told : Option (List Told)
   pub reports : Option (List GateCall)
+  pub said : Said
   pub claimed : Option (List Claimed)
   pub host : OnHost
 
@@ -140,6 +152,7 @@ pub record WorksSoFar (number looks : ℕ) (honest : Type 0) (old now : Telling)
   pub calls : Becomes (work_calls past) old.calls now.calls
   pub told : Becomes (work_told past) old.told now.told
   pub reports : Becomes (work_reports number past) old.reports now.reports
+  pub said : now.said ≡ work_said past old.said
   pub claimed : Becomes (work_claims past) old.claimed now.claimed
   pub lawful : IsWork looks past
   -- the orders are of this executor, where the gate tells its claims
@@ -156,10 +169,12 @@ pub record Works (number looks : ℕ) (honest : Type 0) (old now : Telling) (ans
   pub delivered : honest → AllDelivered past now.host
 
 module _ {H : Type 0} where
+  -- what stands on a host, by what it tells
   abbrev pub on_host : (H → List ℕ) → (H → List ℕ) → (H → ℕ → Stream → List ℕ) → (H → ℕ → Option ℤ) → H → OnHost
   on_host launches dirs output exited host = record { tasks = tasks_at (launches host) (dirs host); output = output host; exited = exited host }
 
 module _ {H G : Type 0} where
-  abbrev pub telling : (H → Option (List Call)) → (H → List ℕ) → (H → List ℕ) → (H → ℕ → Stream → List ℕ) → (H → ℕ → Option ℤ) → (G → Option (List Told)) → (G → Option (List GateCall)) → (G → Option (List Claimed)) → H → G → Telling
-  telling calls launches dirs output exited told reports claimed host gate =
-      record { calls = calls host; told = told gate; reports = reports gate; claimed = claimed gate; host = on_host launches dirs output exited host }
+  -- this moment, by what host and gate tell
+  abbrev pub telling : (H → Option (List Call)) → (H → List ℕ) → (H → List ℕ) → (H → ℕ → Stream → List ℕ) → (H → ℕ → Option ℤ) → (G → GateTells) → H → G → Telling
+  telling calls launches dirs output exited tells host gate =
+      record { calls = calls host; told = (tells gate).told; reports = (tells gate).calls; said = (tells gate).said; claimed = (tells gate).claimed; host = on_host launches dirs output exited host }

@@ -33,7 +33,8 @@ fn blank_at(rest: &[u8]) -> usize
 
 // What stands behind the word.
 fn named_input<'a>(proceed: bool, rest: &'a [u8]) -> Option<AnswerLine<'a>>
-    ensures reads { MatchOption result ((id name : List ℕ) → ¬ (NamesInput rest.now id name)) (λ line. (line.proceed ≡ proceed) × NamesInput rest.now line.id.now line.name.now) }
+    ensures reads { MatchOption result ((id name : List ℕ) → ¬ (NamesInput rest.now id name))
+        (λ line. (line.proceed ≡ proceed) × NamesInput rest.now line.id.now line.name.now) }
 {
     let at = blank_at(rest);
     let (id, more) = rest.split_at(at);
@@ -54,7 +55,8 @@ fn named_input<'a>(proceed: bool, rest: &'a [u8]) -> Option<AnswerLine<'a>>
 
 /// Reads an answer line, without what ended it. `None` comes exactly where it is not of the form.
 pub fn answer_of<'a>(line: &'a [u8]) -> Option<AnswerLine<'a>>
-    ensures reads { MatchOption result ((proceed : Bool) (id name : List ℕ) → ¬ (Answers line.now proceed id name)) (λ answer. Answers line.now answer.proceed answer.id.now answer.name.now) }
+    ensures reads { MatchOption result ((proceed : Bool) (id name : List ℕ) → ¬ (Answers line.now proceed id name))
+        (λ answer. Answers line.now answer.proceed answer.id.now answer.name.now) }
 {
     match line.strip_prefix(b"proceed ".as_slice()) {
         Some(rest) => named_input(true, rest),

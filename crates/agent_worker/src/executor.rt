@@ -1,6 +1,6 @@
 //! An executor: it claims the orders of its tasks and serves them.
 
-ghost use Rattle.std.specs.Prelude.{◌≡◌, ◌<◌, ◌↔◌};
+ghost use Rattle.std.specs.Prelude.{◌≡◌, ◌≤◌, ◌<◌, ◌↔◌};
 ghost use Rattle.agent_worker.specs.Gate.{Stays};
 ghost use Rattle.agent_worker.specs.Working.{Works, telling};
 
@@ -18,11 +18,13 @@ pub(crate) fn work_executor<R: Wait + AllocGlobal, G: Gate, H: Host>(
     looks: u32,
 ) -> Worked
     requires looks { 0 < looks }
-    ensures works { Works number looks (H.honest host.old) (telling H.calls H.launches H.dirs H.output H.exited G.told G.calls G.claimed host.old gate.old)
-        (telling H.calls H.launches H.dirs H.output H.exited G.told G.calls G.claimed host.new gate.new) result }
-    ensures lines { Stays (G.lines gate.old) (G.lines gate.new) }
-    ensures is_open { G.is_open gate.new ≡ G.is_open gate.old }
+    ensures works { Works number looks (H.honest host.old)
+        (telling H.calls H.launches H.dirs H.output H.exited G.tells host.old gate.old)
+        (telling H.calls H.launches H.dirs H.output H.exited G.tells host.new gate.new) result }
+    ensures lines { Stays (G.tells gate.old).lines (G.tells gate.new).lines }
+    ensures is_open { (G.tells gate.new).is_open ≡ (G.tells gate.old).is_open }
     ensures honest { H.honest host.new ↔ H.honest host.old }
+    ensures faults { H.faults host.old ≤ H.faults host.new }
 {
     for _ in rt.forever() {
         match gate.claim(number) {

@@ -2,11 +2,11 @@
 //!
 //! A worker knows the build only through its [`Gate`]: it claims orders there, reports what became of their tasks, and
 //! hands over answer lines. It knows the machine only through its `Host`. [`serve`] sees one task from its folder to
-//! its end; [`work`] does the work of one [`Member`], an executor or the operator. Nobody spins: a worker that has to wait
-//! pauses on its host, or sleeps.
+//! its end; [`work`] does the work of one [`Member`], an executor or the operator. A worker that has to wait pauses on
+//! its host, or sleeps.
 //!
 //! What a worker reports it has seen in this very call. `specs/Causes` says, over the list of what was done, what each
-//! report rests on; `specs/Serving` says what may be done at all, and after what.
+//! report rests on; `specs/Serving` and `specs/Operating` say what may be done at all, and after what.
 //!
 //! ```text
 //! let mut member = Member::Executor { number: 0, host };
@@ -31,7 +31,7 @@ mod worked;
 
 pub use answer_line::{AnswerLine, answer_of};
 pub use fault::TakeFault;
-pub use gate::{Claim, Gate, GateCall, Heard, Inputs};
+pub use gate::{Claim, ClaimSaid, Gate, GateCall, Heard, Inputs, Said};
 pub use member::{Member, work};
 pub use task::{Served, serve};
 pub use worked::Worked;

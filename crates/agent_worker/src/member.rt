@@ -1,7 +1,6 @@
 //! The work of one member.
 
 ghost use Rattle.std.specs.Prelude.{◌<◌};
-ghost use Rattle.agent_worker.specs.Operating.{gate_told};
 ghost use Rattle.agent_worker.specs.Working.{telling};
 ghost use Rattle.agent_worker.specs.MemberWork.{WorksAs};
 
@@ -19,11 +18,13 @@ use task_host::Host;
 pub enum Member<H, A> {
     /// An executor, with the host on which its tasks run.
     Executor {
+        /// The number of the executor, as the site has it.
         number: u32,
         host: H,
     },
     /// The operator, with the answers that are still to be read.
     Operator {
+        /// The bytes of the answers, line by line.
         answers: A,
         /// What has come of the line that comes, as far as it has to be kept.
         line: Bytes,
@@ -38,7 +39,7 @@ pub enum Member<H, A> {
 ///
 /// An executor claims its tasks and serves them, each from its folder to its end. The operator reads answer lines while an
 /// input is open, and gives them to the gate. A member that meets want of memory halts the build, so that no other
-/// waits for its claim. `looks` is as for [`serve`](crate::serve). It may wait for ever.
+/// waits for its claim. `looks`, at least 1, is as for [`serve`](crate::serve). It may wait for ever.
 pub fn work<R: Wait + Clock + AllocGlobal, G: Gate, H: Host, A: Source>(
     rt: &R,
     gate: &mut G,
@@ -46,7 +47,8 @@ pub fn work<R: Wait + Clock + AllocGlobal, G: Gate, H: Host, A: Source>(
     looks: u32,
 ) -> Worked
     requires looks { 0 < looks }
-    ensures works { WorksAs H.honest (telling H.calls H.launches H.dirs H.output H.exited G.told G.calls G.claimed) (gate_told G.calls G.told G.lines G.claimed) A.left A.faults looks member.old member.new gate.old gate.new result }
+    ensures works { WorksAs H.honest H.faults (telling H.calls H.launches H.dirs H.output H.exited G.tells) G.tells
+        A.left A.faults looks member.old member.new gate.old gate.new result }
 {
     match member {
         Member::Executor { number, host } => work_executor(rt, gate, *number, host, looks),

@@ -4,7 +4,8 @@ ghost use Rattle.std.specs.Prelude.{◌≡◌, ◌≢◌, ◌++◌, ◌∷◌, [
 ghost use Rattle.std.specs.Io.KnownBytes.{Consumes, IsAtEnd, Keeps};
 ghost use Rattle.device_faults.specs.Faults.{CountsFault, HasCause};
 ghost use Rattle.agent_worker.specs.AnswerBytes.{short, NoNewline, read_bytes, without_cr};
-ghost use Rattle.agent_worker.specs.Operating.{Ask, FoundInput, GateTold, gate_told, OperatesSoFar, GivesLine, Operates};
+ghost use Rattle.agent_worker.specs.Gate.{GateTells};
+ghost use Rattle.agent_worker.specs.Operating.{Ask, ReadLine, OperatesSoFar, GivesLine, Operates};
 
 use crate::{Gate, TakeFault, Worked};
 use device_faults::Failed;
@@ -39,7 +40,9 @@ pub(crate) enum LineEnd {
 
 // Reads a byte, where there is one.
 fn read_byte<A: Source>(answers: &mut A) -> Result<Option<u8>, Failed>
-    ensures byte { MatchResult result (λ read. MatchOption read (IsAtEnd (A.left answers.new) × Consumes (A.left answers.old) (A.left answers.new) []) (λ b. Consumes (A.left answers.old) (A.left answers.new) (b ∷ [])))
+    ensures byte { MatchResult result (λ read. MatchOption read
+        (IsAtEnd (A.left answers.new) × Consumes (A.left answers.old) (A.left answers.new) [])
+        (λ b. Consumes (A.left answers.old) (A.left answers.new) (b ∷ [])))
         (λ failed. Keeps (A.left answers.old) (A.left answers.new)) }
     ensures cause { HasCause (A.faults answers.old) (A.faults answers.new) result }
 {
@@ -67,8 +70,9 @@ fn put(line: &mut Bytes, byte: u8) -> Result<(), AllocError>
 // Reads a line on, to its newline or to the end of the answers. A line that is too long is read all the same, and not
 // all of it is kept.
 fn read_line<R: Wait, A: Source>(rt: &R, answers: &mut A, line: &mut Bytes) -> LineEnd
-    ensures bytes { (begun : List ℕ) → line.old ≡ short begun
-        → (bytes : List ℕ) × NoNewline bytes × Consumes (A.left answers.old) (A.left answers.new) (read_bytes result bytes) × (result ≢ LineEnd.Memory → line.new ≡ short (begun ++ bytes)) }
+    ensures bytes { (bytes : List ℕ) × NoNewline bytes
+        × Consumes (A.left answers.old) (A.left answers.new) (read_bytes result bytes)
+        × ((begun : List ℕ) → line.old ≡ short begun → result ≢ LineEnd.Memory → line.new ≡ short (begun ++ bytes)) }
     ensures end { result ≡ LineEnd.End → IsAtEnd (A.left answers.new) }
     ensures cause { CountsFault (A.faults answers.old) (A.faults answers.new) (result ≡ LineEnd.Failed) }
 {
@@ -106,9 +110,9 @@ fn strip_cr(line: &[u8]) -> &[u8]
 
 // Gives a line to the gate, where it is not too long, and begins the next. Where the gate refused it the work ends.
 fn give<G: Gate>(alloc: Global, gate: &mut G, line: &mut Bytes) -> Result<(), Worked>
-    requires open { G.is_open gate.old ≡ true }
-    ensures gives { (old : GateTold) (past : List Ask) → FoundInput past → OperatesSoFar old (gate_told G.calls G.told G.lines G.claimed gate.old) past
-        → GivesLine old (gate_told G.calls G.told G.lines G.claimed gate.new) past line.old result }
+    requires open { (G.tells gate.old).is_open ≡ true }
+    ensures gives { (old : GateTells) (past : List Ask) → ReadLine past → OperatesSoFar old (G.tells gate.old) past
+        → GivesLine old (G.tells gate.new) past line.old result }
     ensures next { line.new ≡ [] }
     ensures failed { IfErr result (λ ending. ending ≢ Worked.AnswersFailed) }
 {
@@ -139,7 +143,8 @@ pub(crate) fn work_operator<R: Wait + Clock + AllocGlobal, G: Gate, A: Source>(
     ended: &mut bool,
     failed: &mut bool,
 ) -> Worked
-    ensures operates { Operates (gate_told G.calls G.told G.lines G.claimed gate.old) (gate_told G.calls G.told G.lines G.claimed gate.new) (A.left answers.old) (A.left answers.new) line.old line.new ended.old ended.new result }
+    ensures operates { Operates (G.tells gate.old) (G.tells gate.new) (A.left answers.old) (A.left answers.new)
+        line.old line.new ended.old ended.new result }
     ensures cause { CountsFault (A.faults answers.old) (A.faults answers.new) (result ≡ Worked.AnswersFailed) }
     ensures failed { result ≡ Worked.AnswersFailed → failed.new ≡ true }
     ensures calm { result ≢ Worked.AnswersFailed → failed.new ≡ failed.old }

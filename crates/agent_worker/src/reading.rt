@@ -1,7 +1,9 @@
 //! Reading what a task wrote, and reporting it.
 
-ghost use Rattle.std.specs.Prelude.{◌≡◌, ◌↔◌, ℕ, [], List, length};
+ghost use Rattle.std.specs.Prelude.{◌≡◌, ◌≤◌, ◌↔◌, ℕ, [], List, length};
+ghost use Rattle.agent_worker.specs.Sizes.{piece_size};
 ghost use Rattle.agent_worker.specs.Acts.{Act, HasStream, kept, unreported, named as name_of};
+ghost use Rattle.agent_worker.specs.Causes.{IsReadNext};
 ghost use Rattle.agent_worker.specs.Serving.{IsInTurn};
 ghost use Rattle.agent_worker.specs.Serve.{Seen, seen, KeepsGate};
 ghost use Rattle.agent_worker.specs.Standing.{Stands, Tells};
@@ -47,8 +49,9 @@ fn named(stream: Stream) -> model_run::Stream
 
 /// Reports an event.
 pub(crate) fn tell<G: Gate>(gate: &mut G, event: Event) -> Served
-    ensures tells { Tells event (G.told gate.old) (G.told gate.new) (G.calls gate.old) (G.calls gate.new) result }
-    ensures gate { KeepsGate (G.claimed gate.old) (G.claimed gate.new) (G.lines gate.old) (G.lines gate.new) (G.is_open gate.old) (G.is_open gate.new) }
+    ensures tells { Tells event (G.tells gate.old).told (G.tells gate.new).told (G.tells gate.old).calls
+        (G.tells gate.new).calls (G.tells gate.new).said result }
+    ensures gate { KeepsGate (G.tells gate.old) (G.tells gate.new) }
 {
     match gate.report(event) {
         Ok(Taken::Accepted) => Served::Done,
@@ -72,14 +75,19 @@ pub(crate) fn read_piece<G: Gate, H: Host>(
     place: &mut u64,
     buf: &mut [u8],
 ) -> Result<Piece, Served>
-    requires size { length buf.old ≡ 65536 }
-    ensures reads { (looks : ℕ) (old : Seen) (past : List Act) → HasStream order.now stream → place.old ≡ kept order.now stream past → unreported past ≡ [] → IsInTurn past
-        → Stands (H.honest host.old) order.now looks old (seen H.calls H.output H.exited G.told G.calls host.old gate.old) past
-        → ReadsPiece (H.honest host.new) order.now looks stream old (seen H.calls H.output H.exited G.told G.calls host.new gate.new) place.old place.new past result }
-    ensures gate { KeepsGate (G.claimed gate.old) (G.claimed gate.new) (G.lines gate.old) (G.lines gate.new) (G.is_open gate.old) (G.is_open gate.new) }
+    requires size { length buf.old ≡ piece_size }
+    ensures reads { (looks : ℕ) (old : Seen) (past : List Act) → HasStream order.now stream
+        → place.old ≡ kept order.now stream past → unreported past ≡ [] → IsInTurn past
+        → IsReadNext order.now stream past
+        → Stands (H.honest host.old) order.now looks old
+        (seen H.calls H.output H.exited G.tells host.old gate.old) past
+        → ReadsPiece (H.honest host.new) order.now looks stream old
+        (seen H.calls H.output H.exited G.tells host.new gate.new) place.old place.new past result }
+    ensures gate { KeepsGate (G.tells gate.old) (G.tells gate.new) }
     ensures launches { H.launches host.new ≡ H.launches host.old }
     ensures folders { H.honest host.old → H.dirs host.new ≡ H.dirs host.old }
     ensures honest { H.honest host.new ↔ H.honest host.old }
+    ensures faults { H.faults host.old ≤ H.faults host.new }
 {
     let Ok(count) = host.read(order, stream, *place, buf) else {
         return Ok(Piece::Failed);
@@ -105,9 +113,8 @@ pub(crate) fn read_piece<G: Gate, H: Host>(
 }
 
 /// Reads a stream from its kept place until a read gives nothing or fails, and reports what each read gave.
-pub(crate) fn read_through<R: Wait, G: Gate, H: Host>(
+pub(crate) fn read_through<R: Wait + AllocGlobal, G: Gate, H: Host>(
     rt: &R,
-    alloc: Global,
     gate: &mut G,
     host: &mut H,
     order: &Order,
@@ -115,18 +122,23 @@ pub(crate) fn read_through<R: Wait, G: Gate, H: Host>(
     place: &mut u64,
     buf: &mut [u8],
 ) -> Result<Reading, Served>
-    requires size { length buf.old ≡ 65536 }
-    ensures reads { (looks : ℕ) (old : Seen) (past : List Act) → HasStream order.now stream → place.old ≡ kept order.now stream past → unreported past ≡ [] → IsInTurn past
-        → Stands (H.honest host.old) order.now looks old (seen H.calls H.output H.exited G.told G.calls host.old gate.old) past
-        → ReadsThrough (H.honest host.new) order.now looks stream old (seen H.calls H.output H.exited G.told G.calls host.new gate.new) place.new past result }
-    ensures gate { KeepsGate (G.claimed gate.old) (G.claimed gate.new) (G.lines gate.old) (G.lines gate.new) (G.is_open gate.old) (G.is_open gate.new) }
+    requires size { length buf.old ≡ piece_size }
+    ensures reads { (looks : ℕ) (old : Seen) (past : List Act) → HasStream order.now stream
+        → place.old ≡ kept order.now stream past → unreported past ≡ [] → IsInTurn past
+        → IsReadNext order.now stream past
+        → Stands (H.honest host.old) order.now looks old
+        (seen H.calls H.output H.exited G.tells host.old gate.old) past
+        → ReadsThrough (H.honest host.new) order.now looks stream old
+        (seen H.calls H.output H.exited G.tells host.new gate.new) place.new past result }
+    ensures gate { KeepsGate (G.tells gate.old) (G.tells gate.new) }
     ensures launches { H.launches host.new ≡ H.launches host.old }
     ensures folders { H.honest host.old → H.dirs host.new ≡ H.dirs host.old }
     ensures honest { H.honest host.new ↔ H.honest host.old }
+    ensures faults { H.faults host.old ≤ H.faults host.new }
 {
     let mut bytes = false;
     for _ in rt.forever() {
-        let piece = match read_piece(alloc, gate, host, order, stream, place, buf) {
+        let piece = match read_piece(rt.alloc(), gate, host, order, stream, place, buf) {
             Ok(piece) => piece,
             Err(answer) => return Err(answer),
         };

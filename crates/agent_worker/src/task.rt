@@ -1,11 +1,11 @@
 //! Serving one task.
 
-ghost use Rattle.std.specs.Prelude.{◌≡◌, ◌<◌, ◌↔◌, ◌++◌, ◌∷◌, [], ℕ, List, length};
+ghost use Rattle.std.specs.Prelude.{◌≡◌, ◌≤◌, ◌<◌, ◌↔◌, ◌++◌, ◌∷◌, [], ℕ, List, length};
 ghost use Rattle.task_host.specs.Host.{GoesOn};
+ghost use Rattle.agent_worker.specs.Sizes.{piece_size};
 ghost use Rattle.agent_worker.specs.Acts.{Act, unreported};
 ghost use Rattle.agent_worker.specs.Causes.{Exits};
 ghost use Rattle.agent_worker.specs.Serving.{Opened, IsInTurn, exited, lost};
-ghost use Rattle.agent_worker.specs.Folders.{LeavesFolders};
 ghost use Rattle.agent_worker.specs.Serve.{Seen, seen, tasks_at, ServesOrder, KeepsGate};
 ghost use Rattle.agent_worker.specs.Standing.{Stands, ServesOn, Tells, Opens};
 
@@ -13,7 +13,6 @@ use crate::Gate;
 use crate::reading::{PIECE, tell};
 use crate::turn::{Next, decide, take_turn};
 use model_run::{Event, Why};
-use std::alloc::Global;
 use std::sync::Wait;
 use task_host::{Host, Made, Order, Started};
 
@@ -26,15 +25,18 @@ pub enum Served {
     Finished,
     /// The build is stopped.
     Stopped,
-    /// There was no memory.
+    /// There was no memory. Whoever called halts the build then: what was read and not reported is lost to this life.
     Memory,
 }
 
 // Makes the folder, and starts the task where it was made. False where the start failed.
 fn opened<H: Host>(host: &mut H, order: &Order) -> bool
-    ensures opens { Opens (H.honest host.old) order.now (H.calls host.old) (H.calls host.new) (tasks_at (H.launches host.old) (H.dirs host.old)) (tasks_at (H.launches host.new) (H.dirs host.new)) result }
-    ensures goes_on { H.honest host.old → GoesOn order.now.task (H.exited host.old) (H.exited host.new) (H.output host.old) (H.output host.new) }
+    ensures opens { Opens (H.honest host.old) order.now (H.calls host.old) (H.calls host.new)
+        (tasks_at (H.launches host.old) (H.dirs host.old)) (tasks_at (H.launches host.new) (H.dirs host.new)) result }
+    ensures goes_on { H.honest host.old → GoesOn order.now.task (H.exited host.old) (H.exited host.new)
+        (H.output host.old) (H.output host.new) }
     ensures honest { H.honest host.new ↔ H.honest host.old }
+    ensures faults { H.faults host.old ≤ H.faults host.new }
 {
     match host.make_dir(order) {
         Made::Made => match host.start(order) {
@@ -57,13 +59,16 @@ fn exit_of(order: &Order, code: i32) -> Event
 
 // Reports that the task exited, and removes its folder where that was accepted.
 fn finish<G: Gate, H: Host>(gate: &mut G, host: &mut H, order: &Order, code: i32) -> Served
-    ensures serves { (looks : ℕ) (old : Seen) (past : List Act) → Exits order.now code past → unreported past ≡ [] → IsInTurn past
-        → Stands (H.honest host.old) order.now looks old (seen H.calls H.output H.exited G.told G.calls host.old gate.old) past
-        → ServesOn (H.honest host.new) order.now looks old (seen H.calls H.output H.exited G.told G.calls host.new gate.new) past result }
-    ensures gate { KeepsGate (G.claimed gate.old) (G.claimed gate.new) (G.lines gate.old) (G.lines gate.new) (G.is_open gate.old) (G.is_open gate.new) }
+    ensures serves { (looks : ℕ) (old : Seen) (past : List Act) → Exits order.now code past → unreported past ≡ []
+        → IsInTurn past
+        → Stands (H.honest host.old) order.now looks old
+        (seen H.calls H.output H.exited G.tells host.old gate.old) past
+        → ServesOn (H.honest host.new) order.now looks old (seen H.calls H.output H.exited G.tells host.new gate.new)
+        past (H.dirs host.old) (H.dirs host.new) result }
+    ensures gate { KeepsGate (G.tells gate.old) (G.tells gate.new) }
     ensures launches { H.launches host.new ≡ H.launches host.old }
-    ensures folders { H.honest host.old → LeavesFolders order.now.task (H.dirs host.old) (H.dirs host.new) result }
     ensures honest { H.honest host.new ↔ H.honest host.old }
+    ensures faults { H.faults host.old ≤ H.faults host.new }
 {
     match tell(gate, exit_of(order, code)) {
         Served::Done => {
@@ -75,9 +80,8 @@ fn finish<G: Gate, H: Host>(gate: &mut G, host: &mut H, order: &Order, code: i32
 }
 
 // Takes turns until the task's last event is reported.
-fn watch<R: Wait, G: Gate, H: Host>(
+fn watch<R: Wait + AllocGlobal, G: Gate, H: Host>(
     rt: &R,
-    alloc: Global,
     gate: &mut G,
     host: &mut H,
     order: &Order,
@@ -85,20 +89,22 @@ fn watch<R: Wait, G: Gate, H: Host>(
     buf: &mut [u8],
 ) -> Served
     requires looks { 0 < looks }
-    requires size { length buf.old ≡ 65536 }
+    requires size { length buf.old ≡ piece_size }
     ensures serves { (old : Seen) (past : List Act) → Opened order.now past
-        → Stands (H.honest host.old) order.now looks old (seen H.calls H.output H.exited G.told G.calls host.old gate.old) past
-        → ServesOn (H.honest host.new) order.now looks old (seen H.calls H.output H.exited G.told G.calls host.new gate.new) past result }
-    ensures gate { KeepsGate (G.claimed gate.old) (G.claimed gate.new) (G.lines gate.old) (G.lines gate.new) (G.is_open gate.old) (G.is_open gate.new) }
+        → Stands (H.honest host.old) order.now looks old
+        (seen H.calls H.output H.exited G.tells host.old gate.old) past
+        → ServesOn (H.honest host.new) order.now looks old (seen H.calls H.output H.exited G.tells host.new gate.new)
+        past (H.dirs host.old) (H.dirs host.new) result }
+    ensures gate { KeepsGate (G.tells gate.old) (G.tells gate.new) }
     ensures launches { H.launches host.new ≡ H.launches host.old }
-    ensures folders { H.honest host.old → LeavesFolders order.now.task (H.dirs host.old) (H.dirs host.new) result }
     ensures honest { H.honest host.new ↔ H.honest host.old }
+    ensures faults { H.faults host.old ≤ H.faults host.new }
 {
     let mut log = order.kept_log;
     let mut out = order.kept_out;
     let mut vain = 0;
     for _ in rt.forever() {
-        let turn = match take_turn(rt, alloc, gate, host, order, &mut log, &mut out, buf) {
+        let turn = match take_turn(rt, gate, host, order, &mut log, &mut out, buf) {
             Ok(turn) => turn,
             Err(answer) => return answer,
         };
@@ -114,8 +120,9 @@ fn watch<R: Wait, G: Gate, H: Host>(
 }
 
 fn lose<G: Gate>(gate: &mut G, order: &Order, why: Why) -> Served
-    ensures tells { Tells (lost order.now why) (G.told gate.old) (G.told gate.new) (G.calls gate.old) (G.calls gate.new) result }
-    ensures gate { KeepsGate (G.claimed gate.old) (G.claimed gate.new) (G.lines gate.old) (G.lines gate.new) (G.is_open gate.old) (G.is_open gate.new) }
+    ensures tells { Tells (lost order.now why) (G.tells gate.old).told (G.tells gate.new).told
+        (G.tells gate.old).calls (G.tells gate.new).calls (G.tells gate.new).said result }
+    ensures gate { KeepsGate (G.tells gate.old) (G.tells gate.new) }
 {
     let event = Event::Lost {
         task: order.task,
@@ -128,8 +135,9 @@ fn lose<G: Gate>(gate: &mut G, order: &Order, why: Why) -> Served
 ///
 /// It makes the task's folder, and launches the task only where it made it. Then it takes turns: it looks, reads each
 /// stream of the order on from the place that is kept, and reports what came. It ends with the task's last event,
-/// `Exited` or `Lost`, or where a report is not accepted. `looks` is after how many vain turns in a row, in which the
-/// host told neither an end nor a byte, the task counts as gone.
+/// `Exited` or `Lost`, or where a report is not accepted. `looks`, at least 1, is after how many turns in a row, in
+/// which the host told neither an end nor a byte, the task counts as gone. `Served::Memory` comes where there is no
+/// memory for what is read, or none for a report.
 ///
 /// What host and gate tell of it is a list of acts each of which may follow those before it; each report rests on what
 /// was seen in this serve. It may wait for ever.
@@ -141,10 +149,13 @@ pub fn serve<R: Wait + AllocGlobal, G: Gate, H: Host>(
     looks: u32,
 ) -> Served
     requires looks { 0 < looks }
-    ensures serves { ServesOrder (H.honest host.old) order looks (seen H.calls H.output H.exited G.told G.calls host.old gate.old) (seen H.calls H.output H.exited G.told G.calls host.new gate.new)
+    ensures serves { ServesOrder (H.honest host.old) order looks
+        (seen H.calls H.output H.exited G.tells host.old gate.old)
+        (seen H.calls H.output H.exited G.tells host.new gate.new)
         (tasks_at (H.launches host.old) (H.dirs host.old)) (tasks_at (H.launches host.new) (H.dirs host.new)) result }
-    ensures gate { KeepsGate (G.claimed gate.old) (G.claimed gate.new) (G.lines gate.old) (G.lines gate.new) (G.is_open gate.old) (G.is_open gate.new) }
+    ensures gate { KeepsGate (G.tells gate.old) (G.tells gate.new) }
     ensures honest { H.honest host.new ↔ H.honest host.old }
+    ensures faults { H.faults host.old ≤ H.faults host.new }
 {
     let Ok(mut buf) = vec![in rt.alloc(); 0_u8; PIECE] else {
         return Served::Memory;
@@ -152,5 +163,5 @@ pub fn serve<R: Wait + AllocGlobal, G: Gate, H: Host>(
     if !opened(host, &order) {
         return lose(gate, &order, Why::NotStarted);
     }
-    watch(rt, rt.alloc(), gate, host, &order, looks, &mut buf)
+    watch(rt, gate, host, &order, looks, &mut buf)
 }

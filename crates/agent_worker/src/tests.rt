@@ -1,7 +1,8 @@
 //! Tests over hosts, gates and sources in memory.
 
 use crate::{
-    Claim, Gate, Heard, Inputs, Member, Served, TakeFault, Worked, answer_of, serve, work,
+    Claim, ClaimSaid, Gate, Heard, Inputs, Member, Said, Served, TakeFault, Worked, answer_of,
+    serve, work,
 };
 use jp_io::MemorySource;
 use model_run::{Event, Stream as EventStream, Taken, Why};
@@ -9,54 +10,59 @@ use std::alloc::{AllocError, Global};
 use std::test::Fail;
 use task_host::{Bytes, Host, MemoryHost, Numbers, Order, Pairs, TaskOutcome, TaskOutcomes};
 
-// A gate that accepts so many events and is stopped then, and gives these claims, the last of the list first. An input
-// is open.
+// A gate that accepts so many events and answers this to any other; it gives these claims, and says that so much is open,
+// each time the last of its list, and then that an input is.
 #[derive(Drop)]
 struct ListGate {
     alloc: Global,
     events: Vec<Event>,
     room: usize,
+    refusal: Result<Taken, TakeFault>,
     claims: Vec<Claim>,
+    open: Vec<Inputs>,
     lines: Vec<Bytes>,
     asked: bool,
+    said: Said,
 }
 
 impl Gate for ListGate {
     ghost use Rattle.std.specs.Prelude.{None};
 
-    ghost told = { λ gate. None };
-
-    ghost lines = { λ gate. None };
-
-    ghost claimed = { λ gate. None };
-
-    ghost calls = { λ gate. None };
-
-    ghost is_open = { λ gate. gate.asked };
+    ghost tells = { λ gate. record { told = None; lines = None; claimed = None; calls = None; said = gate.said; is_open = gate.asked } };
 
     fn claim(&mut self, _executor: u32) -> Claim {
-        match self.claims.pop() {
+        let claim = match self.claims.pop() {
+            Some(Claim::Idle { busy: 0 }) => Claim::Rest,
             Some(claim) => claim,
             None => Claim::Rest,
-        }
+        };
+        self.said = Said::Claim(ClaimSaid::of(&claim));
+        claim
     }
 
     fn report(&mut self, event: Event) -> Result<Taken, TakeFault> {
-        if self.events.len() >= self.room {
-            return Err(TakeFault::Stopped);
-        }
-        match self.events.push(event) {
-            Ok(()) => Ok(Taken::Accepted),
-            Err(_) => Err(TakeFault::Memory),
-        }
+        let answer = if self.events.len() >= self.room {
+            self.refusal
+        } else if self.events.push(event).is_ok() {
+            Ok(Taken::Accepted)
+        } else {
+            Err(TakeFault::Memory)
+        };
+        self.said = Said::Report(answer);
+        answer
     }
 
     fn inputs(&mut self) -> Inputs {
-        self.asked = true;
-        Inputs {
-            waiting: 1,
-            busy: 0,
-        }
+        let answer = match self.open.pop() {
+            Some(answer) => answer,
+            None => Inputs {
+                waiting: 1,
+                busy: 0,
+            },
+        };
+        self.asked = answer.waiting > 0 || self.asked;
+        self.said = Said::Inputs(answer);
+        answer
     }
 
     fn answer(&mut self, line: &[u8]) -> Result<Heard, TakeFault> {
@@ -64,10 +70,13 @@ impl Gate for ListGate {
         if let Ok(line) = Vec::from_slice(self.alloc, line) {
             let _ = self.lines.push(Bytes::from_vec(line));
         }
+        self.said = Said::Answer(Ok(Heard::Skipped));
         Ok(Heard::Skipped)
     }
 
-    fn halt(&mut self) {}
+    fn halt(&mut self) {
+        self.said = Said::Halt;
+    }
 }
 
 fn gate(alloc: Global, room: usize) -> ListGate {
@@ -75,13 +84,16 @@ fn gate(alloc: Global, room: usize) -> ListGate {
         alloc,
         events: Vec::new(alloc),
         room,
+        refusal: Err(TakeFault::Stopped),
         claims: Vec::new(alloc),
+        open: Vec::new(alloc),
         lines: Vec::new(alloc),
         asked: false,
+        said: Said::Nothing,
     }
 }
 
-fn order(alloc: Global, kept_log: u64) -> Order {
+fn order(alloc: Global, kept_log: u64, keep_out: bool) -> Order {
     Order {
         task: 2,
         executor: 0,
@@ -89,7 +101,7 @@ fn order(alloc: Global, kept_log: u64) -> Order {
         folder: Bytes::new(alloc),
         env: Pairs::new(alloc),
         script: Bytes::new(alloc),
-        keep_out: false,
+        keep_out,
         kept_log,
         kept_out: 0,
     }
@@ -104,13 +116,13 @@ fn host(
     Ok(MemoryHost::new(alloc, failing, TaskOutcomes::from_vec(outcomes)))
 }
 
-// A host whose task 2 writes so many bytes and ends with code 7.
+// A host whose task 2 writes so many bytes to its log, and two to its output, and ends with code 7.
 fn writing_host(alloc: Global, bytes: usize) -> Result<MemoryHost, AllocError> {
     let mut outcomes = Vec::new(alloc);
     outcomes.push(TaskOutcome {
         task: 2,
         log: Bytes::from_vec(vec![in alloc; b'x'; bytes]?),
-        out: Bytes::new(alloc),
+        out: Bytes::from_slice(alloc, b"ab")?,
         running: 0,
         code: 7,
     })?;
@@ -142,7 +154,7 @@ fn a_task_that_did_not_start_or_tells_nothing_is_lost(rt: HostRuntime) -> Result
     for (fails, made, launched, why, calls, launches) in table {
         let mut gate = gate(alloc, 1);
         let mut host = host(alloc, &[fails], Vec::new(alloc))?;
-        let order = order(alloc, 0);
+        let order = order(alloc, 0, false);
         if made {
             let _ = host.make_dir(&order);
         }
@@ -163,12 +175,18 @@ fn long_output_goes_on_after_a_stop_where_it_was_kept(rt: HostRuntime) -> Result
     let mut host = writing_host(alloc, 300_000)?;
     let mut stopped = gate(alloc, 2);
     assert_eq!(rt;
-        serve(&rt, &mut stopped, &mut host, order(alloc, 0), 5),
+        serve(&rt, &mut stopped, &mut host, order(alloc, 0, false), 5),
         Served::Stopped
     );
     let mut resumed = gate(alloc, 9);
     assert_eq!(rt;
-        serve(&rt, &mut resumed, &mut host, order(alloc, 131_072), 5),
+        serve(
+            &rt,
+            &mut resumed,
+            &mut host,
+            order(alloc, 131_072, false),
+            5
+        ),
         Served::Done
     );
     let want = [
@@ -195,16 +213,64 @@ fn an_executor_serves_pauses_while_others_work_and_rests(rt: HostRuntime) -> Res
     let alloc = rt.alloc();
     let mut gate = gate(alloc, 9);
     gate.claims.push(Claim::Idle { busy: 1 })?;
-    gate.claims.push(Claim::Order(order(alloc, 0)))?;
+    gate.claims.push(Claim::Order(order(alloc, 0, true)))?;
     let mut member: Member<MemoryHost, MemorySource> = Member::Executor {
         number: 0,
         host: writing_host(alloc, 3)?,
     };
     assert_eq!(rt; work(&rt, &mut gate, &mut member, 5), Worked::Rest);
-    assert_eq!(rt; gate.events.len(), 2);
-    if let Member::Executor { number: _, host } = &member {
-        // `make_dir`, `start`, a look, two reads, `remove`, and a pause where others are at work
-        assert_eq!(rt; host.calls().map(|calls| calls.len()), Some(7));
+    // the log, the output, the exit
+    assert_eq!(rt; gate.events.len(), 3);
+    let Member::Executor { number: _, host } = &member else {
+        return Err(Fail::from("no executor"));
+    };
+    // `make_dir`, `start`, a look, two reads of each stream, `remove`, and a pause where others are at work
+    assert_eq!(rt; host.calls().map(|calls| calls.len()), Some(9));
+    Ok(())
+}
+
+#[test]
+fn what_a_refused_report_does_to_a_serve(rt: HostRuntime) -> Result<(), Fail> {
+    let alloc = rt.alloc();
+    let full = TakeFault::Full { len: 9, add: 9 };
+    let table = [
+        (Ok(Taken::NotOpen), Served::Finished),
+        (Ok(Taken::WrongPlace { kept: 1 }), Served::Finished),
+        (Ok(Taken::Finished), Served::Finished),
+        (Err(TakeFault::Disk), Served::Stopped),
+        (Err(full), Served::Stopped),
+        (Err(TakeFault::Memory), Served::Memory),
+    ];
+    for (refusal, served) in table {
+        // the log is accepted, and the exit refused
+        let mut gate = gate(alloc, 1);
+        gate.refusal = refusal;
+        let mut host = writing_host(alloc, 3)?;
+        assert_eq!(rt;
+            serve(&rt, &mut gate, &mut host, order(alloc, 0, false), 5),
+            served
+        );
+        assert_eq!(rt; host.dirs(), [2].as_slice());
+    }
+    Ok(())
+}
+
+#[test]
+fn an_executor_ends_as_its_claim_says(rt: HostRuntime) -> Result<(), Fail> {
+    let alloc = rt.alloc();
+    for (stopped, worked) in [(true, Worked::Stopped), (false, Worked::Memory)] {
+        let mut gate = gate(alloc, 0);
+        gate.claims.push(if stopped {
+            Claim::Stopped
+        } else {
+            Claim::Memory
+        })?;
+        let mut member: Member<MemoryHost, MemorySource> = Member::Executor {
+            number: 0,
+            host: writing_host(alloc, 3)?,
+        };
+        assert_eq!(rt; work(&rt, &mut gate, &mut member, 5), worked);
+        assert!(rt; (gate.said == Said::Halt) == !stopped);
     }
     Ok(())
 }
@@ -239,6 +305,21 @@ fn the_operator_gives_whole_lines_and_passes_over_long_ones(rt: HostRuntime) -> 
     assert_eq!(rt; work(&rt, &mut gate, &mut member, 5), Worked::Rest);
     let sizes = [16, 0, 1024, 4];
     assert!(rt; gate.lines.iter().map(|line| line.len()).eq(sizes));
+    Ok(())
+}
+
+#[test]
+fn the_operator_reads_nothing_while_no_input_is_open(rt: HostRuntime) -> Result<(), Fail> {
+    let alloc = rt.alloc();
+    let mut gate = gate(alloc, 0);
+    for busy in [0, 1] {
+        gate.open.push(Inputs { waiting: 0, busy })?;
+    }
+    let mut member = operator(alloc, Vec::from_slice(alloc, b"abort 2 by bob\n")?, &[1])?;
+    // it sleeps while another is at work, and rests where nobody is
+    assert_eq!(rt; work(&rt, &mut gate, &mut member, 5), Worked::Rest);
+    assert!(rt; gate.open.is_empty());
+    assert_eq!(rt; work(&rt, &mut gate, &mut member, 5), Worked::AnswersFailed);
     Ok(())
 }
 

@@ -1,7 +1,8 @@
 //! One turn of a serve.
 
-ghost use Rattle.std.specs.Prelude.{◌≡◌, ◌↔◌, ◌||◌, ◌<◌, ℕ, List, length};
+ghost use Rattle.std.specs.Prelude.{◌≡◌, ◌≤◌, ◌↔◌, ◌||◌, ◌<◌, ℕ, List, length};
 ghost use Rattle.task_host.specs.declared.order.Stream.TheVariants.{Log, Out};
+ghost use Rattle.agent_worker.specs.Sizes.{piece_size};
 ghost use Rattle.agent_worker.specs.Acts.{Act, kept};
 ghost use Rattle.agent_worker.specs.Serving.{MayLook};
 ghost use Rattle.agent_worker.specs.Serve.{Seen, seen, KeepsGate};
@@ -10,7 +11,6 @@ ghost use Rattle.agent_worker.specs.Turning.{TakesTurn, Decides, Counts};
 
 use crate::reading::{Reading, read_through};
 use crate::{Gate, Served};
-use std::alloc::Global;
 use std::sync::Wait;
 use task_host::{Host, Look, Order, Stream};
 
@@ -25,7 +25,8 @@ pub(crate) struct Turn {
 }
 
 fn turn_of(look: Look, log: Reading, out: Reading) -> Turn
-    ensures turn { result ≡ record { look = look; bytes = log.bytes || out.bytes; failed = log.failed || out.failed } }
+    ensures turn { result
+        ≡ record { look = look; bytes = log.bytes || out.bytes; failed = log.failed || out.failed } }
 {
     Turn {
         look,
@@ -35,9 +36,8 @@ fn turn_of(look: Look, log: Reading, out: Reading) -> Turn
 }
 
 /// Looks, and then reads every stream of the order through.
-pub(crate) fn take_turn<R: Wait, G: Gate, H: Host>(
+pub(crate) fn take_turn<R: Wait + AllocGlobal, G: Gate, H: Host>(
     rt: &R,
-    alloc: Global,
     gate: &mut G,
     host: &mut H,
     order: &Order,
@@ -45,17 +45,21 @@ pub(crate) fn take_turn<R: Wait, G: Gate, H: Host>(
     out: &mut u64,
     buf: &mut [u8],
 ) -> Result<Turn, Served>
-    requires size { length buf.old ≡ 65536 }
-    ensures turns { (looks : ℕ) (old : Seen) (past : List Act) → MayLook order.now past → log.old ≡ kept order.now Log past → out.old ≡ kept order.now Out past
-        → Stands (H.honest host.old) order.now looks old (seen H.calls H.output H.exited G.told G.calls host.old gate.old) past
-        → TakesTurn (H.honest host.new) order.now looks old (seen H.calls H.output H.exited G.told G.calls host.new gate.new) log.new out.new past result }
-    ensures gate { KeepsGate (G.claimed gate.old) (G.claimed gate.new) (G.lines gate.old) (G.lines gate.new) (G.is_open gate.old) (G.is_open gate.new) }
+    requires size { length buf.old ≡ piece_size }
+    ensures turns { (looks : ℕ) (old : Seen) (past : List Act) → MayLook order.now past
+        → log.old ≡ kept order.now Log past → out.old ≡ kept order.now Out past
+        → Stands (H.honest host.old) order.now looks old
+        (seen H.calls H.output H.exited G.tells host.old gate.old) past
+        → TakesTurn (H.honest host.new) order.now looks old (seen H.calls H.output H.exited G.tells host.new gate.new)
+        log.new out.new past result }
+    ensures gate { KeepsGate (G.tells gate.old) (G.tells gate.new) }
     ensures launches { H.launches host.new ≡ H.launches host.old }
     ensures folders { H.honest host.old → H.dirs host.new ≡ H.dirs host.old }
     ensures honest { H.honest host.new ↔ H.honest host.old }
+    ensures faults { H.faults host.old ≤ H.faults host.new }
 {
     let look = host.look(order);
-    let of_log = match read_through(rt, alloc, gate, host, order, Stream::Log, log, buf) {
+    let of_log = match read_through(rt, gate, host, order, Stream::Log, log, buf) {
         Ok(reading) => reading,
         Err(answer) => return Err(answer),
     };
@@ -66,7 +70,7 @@ pub(crate) fn take_turn<R: Wait, G: Gate, H: Host>(
             failed: of_log.failed,
         });
     }
-    let of_out = match read_through(rt, alloc, gate, host, order, Stream::Out, out, buf) {
+    let of_out = match read_through(rt, gate, host, order, Stream::Out, out, buf) {
         Ok(reading) => reading,
         Err(answer) => return Err(answer),
     };

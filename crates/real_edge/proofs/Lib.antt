@@ -1,1 +1,2 @@
 mod ControlLemmas
+mod ProcessLemmas

@@ -1,9 +1,14 @@
 -- The control folder of a task, its files, and what its shell runs, as texts (docs/HOSTS.md). This product's own rules.
-use Rattle.std.specs.Prelude.{◌++◌, ◌-◌, ℕ, Bool, true, false, List, length, replicate, codes, nat_eq}
-use Rattle.std.specs.List.{starts_with}
+use Rattle.std.specs.Prelude.{◌++◌, ◌-◌, ◌&&◌, not, ℕ, Bool, true, false, List, length, replicate, codes, nat_eq}
+use Rattle.std.specs.List.{starts_with, ends_with}
 use Rattle.std.specs.Fmt.{digits}
 use Rattle.task_host.specs.declared.order.Stream.{Stream}
 use Rattle.task_host.specs.declared.order.Stream.TheVariants.{Log, Out}
+
+-- A workspace is a folder of its own where its path ends neither in `/.` nor in `/..`: a job named `.` would have the folder
+-- of all workspaces, and one named `..` the agent's root.
+abbrev pub is_own_workspace : List ℕ → Bool
+is_own_workspace workspace = not (ends_with nat_eq workspace (codes "/.")) && not (ends_with nat_eq workspace (codes "/.."))
 
 -- the folder that holds the control folders of a workspace
 abbrev pub parent_of : List ℕ → List ℕ

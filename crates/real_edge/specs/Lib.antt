@@ -1,4 +1,5 @@
 pub mod OwnFolders
 pub mod Control
+pub mod Process
 pub mod FolderHost
 pub mod FileDisk

@@ -1,12 +1,12 @@
 //! The processes of tasks, until they have been asked for their end.
 
-ghost use Rattle.std.specs.Prelude.{◌≡◌, ◌≤◌, ◌<◌, ◌++◌, ◌∷◌, [], suc, None, OnOk, IsTrue, All, vec_len, vec_capacity};
+ghost use Rattle.std.specs.Prelude.{◌≡◌, ◌≤◌, ◌<◌, ◌++◌, ◌∷◌, ◌↔◌, [], suc, None, Ok, OnOk, IsTrue, All, vec_len, vec_capacity};
 ghost use Rattle.std.specs.Process.{child_status};
 
 use std::alloc::{AllocError, Global};
-use std::process::{Child, OpenProcess};
-use std::thread;
+use std::process::{Child, ExitStatus, OpenProcess};
 use std::time::{Clock, Duration};
+use std::{io, thread};
 
 /// The processes of tasks that were started and not yet reaped. A process that has ended stays in the system's table
 /// until it is reaped: until its parent asks for its end.
@@ -54,7 +54,8 @@ impl<P: OpenProcess + Drop> Children<P> {
         ensures asked { All (λ child. child_status child ≡ None) self.new.unreaped.items }
         ensures fewer { vec_len self.new.unreaped ≤ vec_len self.old.unreaped }
     {
-        self.unreaped.retain_mut(|child| is_running(child));
+        self.unreaped
+            .retain_mut(|child| is_running(child.try_wait()));
     }
 
     /// Reaps processes that have only to exit, and waits at most ten milliseconds for them.
@@ -71,11 +72,11 @@ impl<P: OpenProcess + Drop> Children<P> {
     }
 }
 
-// Where the system has no answer it has no such process.
-fn is_running<P: OpenProcess>(child: &mut Child<P>) -> bool
-    ensures { IsTrue result → child_status child.new ≡ None }
+// Whether a process that was asked for its end runs on. Where the system has no answer it has no such process.
+fn is_running(answer: io::Result<Option<ExitStatus>>) -> bool
+    ensures running { IsTrue result ↔ (answer ≡ Ok None) }
 {
-    matches!(child.try_wait(), Ok(None))
+    matches!(answer, Ok(None))
 }
 
 #[cfg(test)]

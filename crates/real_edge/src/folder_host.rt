@@ -1,7 +1,8 @@
 //! A host whose tasks are processes of this machine.
 
-ghost use Rattle.std.specs.Prelude.{◌≡◌, ◌≢◌, ◌≤◌, ◌<◌, ◌*◌, suc, min, [], None, length, IfOk, IsOk, IsErr, MatchResult};
+ghost use Rattle.std.specs.Prelude.{◌≡◌, ◌≢◌, ◌≤◌, ◌<◌, ◌*◌, suc, min, [], false, None, length, IfOk, IsOk, IsErr, MatchResult};
 ghost use Rattle.device_faults.specs.Faults.{CountsFault};
+ghost use Rattle.real_edge.specs.Control.{is_own_workspace};
 ghost use Rattle.real_edge.specs.FolderHost.{KeepsStarted, pause_after_start, pause_after_read};
 ghost use Rattle.real_edge.specs.OwnFolders.{IsOwn, forgotten, MakesOwn, RemovesOwn};
 
@@ -66,6 +67,7 @@ impl<'a, R: Files + Env + AllocGlobal + Eprint + Clock + Processes> FolderHost<'
     // Makes the control folder with its script, or finds that the build's own is there.
     fn make(&mut self, order: &Order) -> io::Result<Made>
         ensures made { MatchResult result (λ made. made ≢ Made.Failed × MakesOwn order.now.task self.old.own self.new.own made) (λ _. MakesOwn order.now.task self.old.own self.new.own Made.Failed) }
+        ensures workspace { is_own_workspace order.now.workspace ≡ false → IsErr result × (self.new.own ≡ self.old.own) }
         ensures unreaped { self.new.unreaped ≡ self.old.unreaped }
         ensures pause { self.new.next_pause ≡ self.old.next_pause }
         ensures calm { self.new.faults ≡ self.old.faults }
@@ -166,9 +168,11 @@ impl<R: Files + Env + AllocGlobal + Eprint + Clock + Processes> Host for FolderH
 
     /// As the trait says. Beside it, in each of these calls: which folders are the build's own from then on (`own`), that
     /// to a call there is no folder but the build's own (`foreign`), how many processes are kept (`unreaped`), and how long
-    /// the next pause is (`pause`).
+    /// the next pause is (`pause`). It fails, and makes no folder, where the workspace is no folder of its own
+    /// (`workspace`).
     fn make_dir(&mut self, order: &Order) -> Made
         ensures own { MakesOwn order.now.task self.old.own self.new.own result }
+        ensures workspace { is_own_workspace order.now.workspace ≡ false → (result ≡ Made.Failed) × (self.new.own ≡ self.old.own) }
         ensures unreaped { self.new.unreaped ≡ self.old.unreaped }
         ensures pause { self.new.next_pause ≡ self.old.next_pause }
         ensures cause { CountsFault self.old.faults self.new.faults (result ≡ Made.Failed) }

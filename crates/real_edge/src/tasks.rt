@@ -1,6 +1,7 @@
 //! What a host does in the control folder of a task.
 
-ghost use Rattle.std.specs.Prelude.{◌≡◌, ◌≢◌, ◌≤◌, length, IfOk};
+ghost use Rattle.std.specs.Prelude.{◌≡◌, ◌≢◌, ◌≤◌, ◌↔◌, true, length, IfOk, IsOk};
+ghost use Rattle.real_edge.specs.Control.{is_own_workspace};
 
 use crate::control::{ControlFolder, Found, text};
 use crate::launch::spawn;
@@ -20,7 +21,9 @@ use task_host::{Look, Order, Stream};
 /// # Errors
 ///
 /// There.
-pub fn check_workspace(order: &Order) -> io::Result<()> {
+pub fn check_workspace(order: &Order) -> io::Result<()>
+    ensures own { IsOk result ↔ (is_own_workspace order.now.workspace ≡ true) }
+{
     let workspace = order.workspace.as_slice();
     if workspace.ends_with(b"/.") || workspace.ends_with(b"/..") {
         return Err(io::Error::new(

@@ -1,4 +1,4 @@
-use Rattle.std.proofs.Common.{◌≡◌, ◌↔◌, List}
+use Rattle.std.proofs.Common.{◌≡◌, ◌≤◌, ◌↔◌, List}
 use Rattle.agent_worker.specs.Gate.{Stays}
 use Rattle.agent_worker.specs.Working.{Deed, WorksSoFar, MayClaim, telling}
 use Rattle.agent_worker.proofs.executor.work_executor.Given as goal
@@ -7,9 +7,10 @@ abbrev pub invariant-loop : goal.invariant-loop
 invariant-loop g l = record {
   next : (goal.iterator-loop g).can_next l.iterator';
   finite : (goal.iterator-loop g).is_finite l.iterator';
-  so_far : (past : List Deed) × WorksSoFar l.number l.looks (g.H.Host.honest l.fn.host) (telling g.H.Host.calls g.H.Host.launches g.H.Host.dirs g.H.Host.output g.H.Host.exited g.G.Gate.told g.G.Gate.calls g.G.Gate.claimed l.fn.host l.fn.gate)
-      (telling g.H.Host.calls g.H.Host.launches g.H.Host.dirs g.H.Host.output g.H.Host.exited g.G.Gate.told g.G.Gate.calls g.G.Gate.claimed l.host l.gate) past × MayClaim past;
-  lines : Stays (g.G.Gate.lines l.fn.gate) (g.G.Gate.lines l.gate);
-  is_open : g.G.Gate.is_open l.gate ≡ g.G.Gate.is_open l.fn.gate;
+  so_far : (past : List Deed) × WorksSoFar l.number l.looks (g.H.Host.honest l.fn.host) (telling g.H.Host.calls g.H.Host.launches g.H.Host.dirs g.H.Host.output g.H.Host.exited g.G.Gate.tells l.fn.host l.fn.gate)
+      (telling g.H.Host.calls g.H.Host.launches g.H.Host.dirs g.H.Host.output g.H.Host.exited g.G.Gate.tells l.host l.gate) past × MayClaim past;
+  lines : Stays (g.G.Gate.tells l.fn.gate).lines (g.G.Gate.tells l.gate).lines;
+  is_open : (g.G.Gate.tells l.gate).is_open ≡ (g.G.Gate.tells l.fn.gate).is_open;
   honest : g.H.Host.honest l.host ↔ g.H.Host.honest l.fn.host;
+  faults : g.H.Host.faults l.fn.host ≤ g.H.Host.faults l.host;
 }

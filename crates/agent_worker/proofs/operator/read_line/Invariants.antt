@@ -8,5 +8,5 @@ invariant-loop g l = record {
   next : (goal.iterator-loop g).can_next l.iterator';
   finite : (goal.iterator-loop g).is_finite l.iterator';
   faults : g.A.Source.faults l.answers ≡ g.A.Source.faults l.fn.answers;
-  bytes : (begun : List ℕ) → l.fn.line ≡ short begun → (bytes : List ℕ) × NoNewline bytes × (l.line ≡ short (begun ++ bytes)) × Consumes (g.A.Source.left l.fn.answers) (g.A.Source.left l.answers) bytes;
+  bytes : (bytes : List ℕ) × NoNewline bytes × Consumes (g.A.Source.left l.fn.answers) (g.A.Source.left l.answers) bytes × ((begun : List ℕ) → l.fn.line ≡ short begun → l.line ≡ short (begun ++ bytes));
 }

@@ -1,6 +1,7 @@
 use Rattle.std.proofs.Common.{◌≡◌, ℕ, List, false}
+use Rattle.std.specs.Io.KnownBytes.{Consumes}
 use Rattle.agent_worker.specs.AnswerBytes.{short}
-use Rattle.agent_worker.specs.Operating.{Ask, MayAsk, OperatesSoFar, gate_told}
+use Rattle.agent_worker.specs.Operating.{Ask, MayAsk, OperatesSoFar, read_in, has_ended}
 use Rattle.agent_worker.proofs.AnswerLemmas.{LinesSoFar}
 use Rattle.agent_worker.proofs.operator.work_operator.Given as goal
 
@@ -11,6 +12,6 @@ invariant-loop g l = record {
   ended : l.ended ≡ false;
   failed : l.failed ≡ l.fn.failed;
   faults : g.A.Source.faults l.answers ≡ g.A.Source.faults l.fn.answers;
-  so_far : (past : List Ask) × OperatesSoFar (gate_told g.G.Gate.calls g.G.Gate.told g.G.Gate.lines g.G.Gate.claimed l.fn.gate) (gate_told g.G.Gate.calls g.G.Gate.told g.G.Gate.lines g.G.Gate.claimed l.gate) past × MayAsk past
-      × ((begun : List ℕ) → l.fn.line ≡ short begun → LinesSoFar (g.A.Source.left l.fn.answers) (g.A.Source.left l.answers) begun l.line past);
+  so_far : (past : List Ask) × OperatesSoFar (g.G.Gate.tells l.fn.gate) (g.G.Gate.tells l.gate) past × MayAsk past
+      × Consumes (g.A.Source.left l.fn.answers) (g.A.Source.left l.answers) (read_in past) × (has_ended past ≡ false) × ((begun : List ℕ) → l.fn.line ≡ short begun → LinesSoFar begun l.line past);
 }

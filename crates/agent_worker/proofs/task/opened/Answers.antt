@@ -1,4 +1,4 @@
-use Rattle.std.proofs.Common.{◌≡◌, ◌∷◌, ◌++◌, ◌⊎◌, [], ap, ℕ, List, inl, inr, ◌∙◌, refl, subst}
+use Rattle.std.proofs.Common.{◌≡◌, ◌∷◌, ◌++◌, ◌⊎◌, [], ap, ℕ, List, inl, inr, ◌∙◌, refl, subst, arith}
 use Rattle.task_host.specs.Host.{Records, MakesFolder, LaunchesAtMost}
 use Rattle.task_host.specs.declared.call.Call.TheVariants as call
 use Rattle.task_host.specs.declared.answers.Made.{Made}
@@ -57,3 +57,12 @@ returns-in-Failed-clause-goes_on g c is = goes-stays c.args.order.now.task _ _ _
 pub returns-in-Started-clause-goes_on : goal.returns-in-Started-clause-goes_on
 returns-in-Started-clause-goes_on g c is =
     goes-further c.args.order.now.task _ _ _ _ _ _ (goes-stays c.args.order.now.task _ _ _ _ (c.make_dir.ensures.output is)) (c.start.ensures.output (c.make_dir.ensures.honest.1 is))
+
+pub returns-in-Exists-clause-faults : goal.returns-in-Exists-clause-faults
+returns-in-Exists-clause-faults g c = omega (arith, c.make_dir.ensures.cause.never_falls)
+
+pub returns-in-Failed-clause-faults : goal.returns-in-Failed-clause-faults
+returns-in-Failed-clause-faults g c = omega (arith, c.make_dir.ensures.cause.never_falls)
+
+pub returns-in-Started-clause-faults : goal.returns-in-Started-clause-faults
+returns-in-Started-clause-faults g c = omega (arith, c.make_dir.ensures.cause.never_falls, c.start.ensures.cause.never_falls)

@@ -1,4 +1,4 @@
-use Rattle.std.proofs.Common.{◌≡◌, ◌<◌, ◌↔◌, List}
+use Rattle.std.proofs.Common.{◌≡◌, ◌≤◌, ◌<◌, ◌↔◌, List}
 use Rattle.agent_worker.specs.Acts.{Act}
 use Rattle.agent_worker.specs.Serving.{Opened}
 use Rattle.agent_worker.specs.Serve.{Seen, seen, KeepsGate}
@@ -12,10 +12,11 @@ invariant-loop g l = record {
   finite : (goal.iterator-loop g).is_finite l.iterator';
   few : l.vain < l.looks;
   awaits : (old : Seen) (past : List Act) → Opened l.order past
-      → Stands (g.H.Host.honest l.fn.host) l.order l.looks old (seen g.H.Host.calls g.H.Host.output g.H.Host.exited g.G.Gate.told g.G.Gate.calls l.fn.host l.fn.gate) past
-      → Awaits (g.H.Host.honest l.host) l.order l.looks old (seen g.H.Host.calls g.H.Host.output g.H.Host.exited g.G.Gate.told g.G.Gate.calls l.host l.gate) l.log l.out l.vain past;
-  gate : KeepsGate (g.G.Gate.claimed l.fn.gate) (g.G.Gate.claimed l.gate) (g.G.Gate.lines l.fn.gate) (g.G.Gate.lines l.gate) (g.G.Gate.is_open l.fn.gate) (g.G.Gate.is_open l.gate);
+      → Stands (g.H.Host.honest l.fn.host) l.order l.looks old (seen g.H.Host.calls g.H.Host.output g.H.Host.exited g.G.Gate.tells l.fn.host l.fn.gate) past
+      → Awaits (g.H.Host.honest l.host) l.order l.looks old (seen g.H.Host.calls g.H.Host.output g.H.Host.exited g.G.Gate.tells l.host l.gate) l.log l.out l.vain past;
+  gate : KeepsGate (g.G.Gate.tells l.fn.gate) (g.G.Gate.tells l.gate);
   launches : g.H.Host.launches l.host ≡ g.H.Host.launches l.fn.host;
   folders : g.H.Host.honest l.fn.host → g.H.Host.dirs l.host ≡ g.H.Host.dirs l.fn.host;
   honest : g.H.Host.honest l.host ↔ g.H.Host.honest l.fn.host;
+  faults : g.H.Host.faults l.fn.host ≤ g.H.Host.faults l.host;
 }
