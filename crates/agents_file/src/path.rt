@@ -12,7 +12,9 @@ use std::alloc::{AllocError, Global};
 /// An object of the file: the whole file, or one of its agents, counted from 0.
 #[derive(Clone, Copy)]
 pub(crate) enum Object {
+    /// The whole file.
     File,
+    /// An agent, counted from 0.
     Agent(usize),
 }
 

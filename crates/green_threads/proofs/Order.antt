@@ -58,10 +58,6 @@ module _ {T S : Type 0} (r : Rules T S) where
   pub onward_none : (g g' : Threads T) (s s' : S) → Onward g s g' s' → ready_place g'.seats ≡ None → Settles 256 r.seated r.head r.turns (measure g s) g s AllWait g' s'
   onward_none g g' s s' on e = on.by AllWait g' s' (all_wait (measure g' s') g' s' (none_ready g'.seats e))
 
-pub none_of : (o : Option ℕ) → ((i : ℕ) → o ≡ Some i → ⊥) → o ≡ None
-none_of None h = refl
-none_of (Some i) h = absurd (h i refl)
-
 -- where all wait, none is ready
 count_none : {T : Type 0} (xs : List (Seated T)) → first_ready xs ≡ None → ready_count xs ≡ 0
 count_none [] e = refl

@@ -1,4 +1,4 @@
-ghost use Rattle.std.specs.Prelude.{◌≡◌, ◌+◌, ◌≤◌, ◌<◌, ◌++◌, ◌↔◌, ℕ, suc, [], ◌∷◌, Some, None, Ok, IfOk, IfErr, OnOk, OnErr, IsTrue, Err, length, slice_get, slice_set, true, false};
+ghost use Rattle.std.specs.Prelude.{◌≡◌, ◌+◌, ◌≤◌, ◌<◌, ◌++◌, ◌↔◌, ℕ, suc, [], ◌∷◌, Some, None, IfOk, IfErr, OnOk, OnErr, IsTrue, Err, length, slice_get, slice_set, true, false};
 ghost use Rattle.model_run.specs.World.{run_limits};
 ghost use Rattle.green_threads.specs.WaitTypes.{Answer, Ready, Begin, BranchesWait};
 ghost use Rattle.green_threads.specs.declared.runner.Seated.{Seated};
@@ -158,21 +158,16 @@ impl<R: Runner + Drop> Group<R> {
         Ok(())
     }
 
-    /// The group of just these threads, under no limit; a new one gets the number `next`. Want of memory does not come
-    /// about: nothing is copied.
-    pub fn restore(
-        alloc: Global,
-        threads: Vec<Seated<R>>,
-        next: u32,
-    ) -> Result<Group<R>, AllocError>
+    /// The group of just these threads, under no limit; a new one gets the number `next`. It takes no memory.
+    pub fn restore(alloc: Global, threads: Vec<Seated<R>>, next: u32) -> Group<R>
         requires grouped { Grouped R.number R.parent R.branch 0 threads.items next }
-        ensures restored { result ≡ Ok (record { seats = threads.items; next = next }) }
+        ensures restored { result ≡ record { seats = threads.items; next = next } }
     {
-        Ok(Group {
+        Group {
             seats: threads,
             next,
             alloc,
-        })
+        }
     }
 
     /// Resumes the lowest-numbered ready thread, until none is ready, the thread without a parent has ended, or a limit

@@ -4,7 +4,7 @@
 //! request, waits for branches that it begins, ends, or meets a limit. A [`Group`] holds such threads by rising numbers.
 //! [`Group::settle`] resumes the lowest-numbered ready one until none is ready, and is proved to follow just this order,
 //! for every thread that meets the trait (`specs/Order`). A thread that waits for branches goes on when the last of them
-//! has ended, with their ends in the order of the branches. At most 256 threads live at once.
+//! has ended, with their ends in the order of the branches. No new thread makes more than 256 live at once.
 //!
 //! A group never knows what a thread does; the trait's ghost functions say it in contracts.
 //!

@@ -158,9 +158,10 @@ fn threads_256_live_at_once_and_no_more(rt: HostRuntime) -> Result<(), Fail> {
         mut group,
         shared: _,
     } = trial;
-    if group.next() == 256 {
-        assert_eq!(rt; group.spawn(script()), Err(SpawnRefusal::ThreadLimit));
+    if group.next() != 256 {
+        return Err("256 threads have other numbers than 0 to 255".into());
     }
+    assert_eq!(rt; group.spawn(script()), Err(SpawnRefusal::ThreadLimit));
     Ok(())
 }
 
@@ -233,7 +234,7 @@ fn restored(alloc: Global) -> Result<Trial, Fail>
             head: 0,
         },
     })?;
-    let group = Group::restore(alloc, threads, 8)?;
+    let group = Group::restore(alloc, threads, 8);
     Ok(Trial {
         group,
         shared: Shared::new(alloc),

@@ -20,12 +20,15 @@ pub struct ImageFrame {
 /// A green thread.
 #[derive(Drop)]
 pub struct ImageThread {
+    /// Its number; the script's thread has 0.
     pub number: u32,
     /// The number of the thread whose `parallel` it is a branch of; the script's thread has none.
     pub parent: Option<u32>,
     /// The number of its last flow node.
     pub head: u32,
+    /// What it waits for: a request, or its branches.
     pub wait: Wait,
+    /// The executors, folders and variables of the `node`, `dir` and `withEnv` bodies round it.
     pub context: Context,
     /// What it still has to do, outermost first.
     pub frames: Sequence<ImageFrame>,
@@ -43,14 +46,20 @@ pub struct Image {
     pub next_thread: u32,
     /// The result so far.
     pub result: BuildResult,
+    /// Whether the build has ended.
     pub ended: bool,
     /// The variables of the script's binding, by rising names.
     pub bindings: Sequence<Binding>,
     /// The cells; the first has number 0.
     pub cells: Sequence<Cell>,
+    /// The flow nodes; the first has number 2.
     pub nodes: FlowNodes,
+    /// The log so far.
     pub log: Bytes,
+    /// The open requests, by rising numbers.
     pub requests: OpenRequests,
+    /// The held executors, by rising numbers of executors.
     pub held: HeldExecutors,
+    /// The green threads, by rising numbers.
     pub threads: ImageThreads,
 }
