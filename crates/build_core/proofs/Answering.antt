@@ -19,8 +19,10 @@ use Rattle.settle_laws.specs.Stances.{Stance}
 use Rattle.settle_laws.specs.Standing.{Stand, over, heads}
 use Rattle.build_requests.specs.Standings.{standing_of}
 use Rattle.build_requests.specs.Workspaces.{row_held}
-use Rattle.build_core.specs.Names.{Event, GrantedEvent, ExitedEvent, DecidedEvent, Accepted, Answer, Done, GrantedAnswer, DecidedAnswer, Phase, Running, Executor, OpenRequest}
-use Rattle.build_core.specs.Events.{shared_after, EndsNot, answer_by, seats_answered, seats_after}
+use Rattle.script_thread.specs.Names.{Event, GrantedEvent, ExitedEvent, DecidedEvent, Accepted, Answer, Done, GrantedAnswer, DecidedAnswer, Executor, OpenRequest}
+use Rattle.build_core.specs.declared.phase.Phase.{Phase}
+use Rattle.build_core.specs.declared.phase.Phase.TheVariants.{Running}
+use Rattle.script_thread.specs.Events.{shared_after, EndsNot, answer_by, seats_answered, seats_after}
 use Rattle.build_core.specs.Phases.{StandsIn, GoOn, recounted}
 use Rattle.build_core.specs.Taking.{MayAnswer, GoesOn, answered_group}
 use Rattle.build_core.specs.Endings.{IsOver}

@@ -3,6 +3,7 @@ use Rattle.std.proofs.Common.{◌≡◌, ℕ, zero, suc, List, [], ◌∷◌, �
 use Rattle.model_syntax.specs.declared.node.NodeForm.TheVariants as form
 use Rattle.model_run.specs.Meaning.{ev, eval}
 use Rattle.model_run.specs.declared.ending.Entry.TheVariants.{First}
+use Rattle.model_run.specs.Fitting.{IsFlowNode, SharedFits}
 use Rattle.model_run.specs.Terms.{Term, Numbered, no_terms, and_then, nodes_of, term_at, form_of}
 use Rattle.model_run.specs.declared.ending.Ending.TheVariants.{Normal}
 use Rattle.model_run.specs.State.{Setting, Common, Reply, State, Ended}
@@ -17,8 +18,8 @@ use Rattle.green_threads.specs.declared.runner.Seated.{Seated}
 use Rattle.cps_frames.specs.declared.shared.Shared.{Shared}
 use Rattle.cps_frames.specs.Standing.{setting_of, common_of}
 use Rattle.settle_laws.specs.Stances.{Stance, StandsAt, StandsFor, Left, Turns}
-use Rattle.build_core.specs.Names.{Site}
-use Rattle.build_core.specs.Events.{first_seat}
+use Rattle.script_thread.specs.Names.{Site}
+use Rattle.script_thread.specs.Events.{first_seat}
 use Rattle.build_core.specs.EmptyScripts.{stance_of, AsBegun}
 
 -- a script of one node that is no other
@@ -67,13 +68,16 @@ thread_is {T} one t xs x i u a at e = sym e ∙ go i (ap (λ ys. slice_get ys i)
     go zero k = let q : x ≡ first_seat one = cc k in ap (λ (z : Seated T). z.thread) q
     go (suc j) k = absurd (cc k)
 
-pub turn_meets : {T : Type 0} (stance : T → Stance) (t t' : T) (u : Shared) (x : Answer) (n : ℕ) (p : Option ℕ) → stance t ≡ stance_of n p false → stance t' ≡ stance_of n p true → length (nodes_of (script_of u.code)) ≡ 1 → form_of (term_at (script_of u.code) 0) ≡ form.Script → Turns stance common_of setting_of t u x (stop.Ended (Value Null)) t' u
-turn_meets stance t t' u x n p before behind one e = record {
+pub turn_meets : {T : Type 0} (stance : T → Stance) (t t' : T) (u : Shared) (x : Answer) (n : ℕ) (p : Option ℕ) → stance t ≡ stance_of n p false → stance t' ≡ stance_of n p true → length (nodes_of (script_of u.code)) ≡ 1 → form_of (term_at (script_of u.code) 0) ≡ form.Script → SharedFits (setting_of u) false (common_of u) → IsFlowNode u.graph 2 → Turns stance common_of setting_of t u x (stop.Ended (Value Null)) t' u
+turn_meets stance t t' u x n p before behind one e sound first = record {
   begun = ap (λ (y : Stance). y.runs) behind;
   number = ap (λ (y : Stance). y.own.number) behind ∙ sym (ap (λ (y : Stance). y.own.number) before);
   parent = ap (λ (y : Stance). y.parent) behind ∙ sym (ap (λ (y : Stance). y.parent) before);
   same_setting = refl;
-  few_nodes = λ few. few;
+  nodes_stay = omega arith;
+  sound = sound;
+  head = subst (λ (y : Stance). IsFlowNode u.graph y.own.head) (sym behind) first;
+  branches = tt;
   stops = λ h st.
       let k = one_turn (script_of u.code) u.site n p (common_of u) x one e h (subst (λ y. StandsFor (setting_of u) y h) before st) in
       (Normal Null, k.0, k.1, refl, subst (λ y. Left k.0 y (common_of u)) (sym behind) k.2);

@@ -2,7 +2,7 @@
 use Rattle.std.proofs.Common.{◌≡◌, ◌≤◌, ℕ, false, sym, subst, ◌∙◌, length, Option}
 use Rattle.model_values.specs.declared.value.Outcome.{Outcome}
 use Rattle.model_values.specs.declared.limit.LimitKind.{LimitKind}
-use Rattle.model_run.specs.Fitting.{most_nodes}
+use Rattle.model_run.specs.Fitting.{SharedFits}
 use Rattle.model_run.specs.World as W
 use Rattle.green_threads.specs.WaitTypes.{Answer}
 use Rattle.green_threads.specs.declared.runner.Stop.{Stop}
@@ -15,15 +15,16 @@ use Rattle.cps_frames.specs.declared.shared.Shared.{Shared}
 use Rattle.cps_frames.specs.Standing.{setting_of, common_of}
 use Rattle.settle_laws.specs.Stances.{Stance, seated_as, Turns}
 use Rattle.settle_laws.specs.Standing.{Comes, over}
-use Rattle.settle_laws.proofs.Turning.{settles_few, settles_setting, settles_comes}
-use Rattle.build_core.specs.Names.{Phase, Running}
+use Rattle.settle_laws.proofs.Turning.{settles_sound, settles_setting, settles_comes}
+use Rattle.build_core.specs.declared.phase.Phase.{Phase}
+use Rattle.build_core.specs.declared.phase.Phase.TheVariants.{Running}
 use Rattle.build_core.specs.Endings.{IsOver}
 use Rattle.build_core.specs.Phases.{StandsIn}
 use Rattle.build_core.proofs.Rests.{wait_stands, over_stands}
 
 module _ {T : Type 0} (stance : T → Stance) (seated : T → ℕ → Option ℕ → T) (head : T → ℕ) (turns : T → Shared → Answer → Stop T → T → Shared → Type 0) (head_is : (t : T) → head t ≡ (stance t).own.head) (turned : (t : T) (u : Shared) (x : Answer) (k : Stop T) (t' : T) (u' : Shared) → turns t u x k t' u' → Turns stance common_of setting_of t u x k t' u') (n : ℕ) (g : G.Threads T) (u : Shared) (out : Settled) (g' : G.Threads T) (u' : Shared) (order : Settles 256 seated head turns n g u out g' u') where
-  pub few_after : length u.graph ≤ most_nodes false → length u'.graph ≤ most_nodes false
-  few_after few = settles_few stance common_of (λ v. script_of v.code) (λ v. v.site) seated head turns head_is turned n g u out g' u' order few
+  pub sound_after : SharedFits (setting_of u) false (common_of u) → SharedFits (setting_of u') false (common_of u')
+  sound_after sound = settles_sound stance common_of (λ v. script_of v.code) (λ v. v.site) seated head turns head_is turned n g u out g' u' order sound
 
   pub setting_after : setting_of u' ≡ setting_of u
   setting_after = settles_setting stance common_of (λ v. script_of v.code) (λ v. v.site) seated head turns head_is turned n g u out g' u' order

@@ -13,7 +13,9 @@ use Rattle.green_threads.specs.declared.runner.Seated.{Seated}
 use Rattle.green_threads.specs.Threads.{Threads}
 use Rattle.cps_frames.specs.declared.shared.Shared.{Shared}
 use Rattle.build_core.specs.Phases.{SoundIn, GoOn}
-use Rattle.build_core.specs.Names.{Phase, Running, Executor, Held, OpenRequest, Request, NodeRequest, TaskRequest, InputRequest}
+use Rattle.script_thread.specs.Names.{Executor, Held, OpenRequest, Request, NodeRequest, TaskRequest, InputRequest}
+use Rattle.build_core.specs.declared.phase.Phase.{Phase}
+use Rattle.build_core.specs.declared.phase.Phase.TheVariants.{Running}
 
 pub labels_fit : (setting : Setting) (v : Common) → SharedFits setting false v → AllAre (λ r. WithoutFault r.request) v.requests
 labels_fit setting v fit = go (length v.log) v.requests fit.asks

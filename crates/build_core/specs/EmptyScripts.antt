@@ -1,7 +1,7 @@
 -- The build of an empty script, which ends with its first turn: what the definitions see of its thread (for the tests).
 use Rattle.std.specs.Prelude.{◌≡◌, ℕ, zero, suc, Bool, true, false, List, [], ◌∷◌, Option, Some, None, is_some, refl}
 use Rattle.std.proofs.Common.{lit<, lit≤, sym, subst}
-use Rattle.model_run.specs.Fitting.{SharedFits}
+use Rattle.model_run.specs.Fitting.{IsFlowNode, SharedFits}
 use Rattle.model_run.specs.State.{Common}
 use Rattle.model_run.specs.Taking.{request_of}
 use Rattle.model_run.specs.World as W
@@ -12,8 +12,9 @@ use Rattle.green_threads.specs.Threads.{waits_for_request}
 use Rattle.cps_frames.specs.declared.shared.Shared.{Shared}
 use Rattle.cps_frames.specs.Standing.{setting_of, common_of}
 use Rattle.settle_laws.specs.Stances.{Stance, seated_as, script_stance}
-use Rattle.build_core.specs.Events.{IsBegun, first_seat, seats_after, shared_after}
-use Rattle.build_core.specs.Names.{Event}
+use Rattle.settle_laws.specs.Standing.{HeadsStand}
+use Rattle.script_thread.specs.Events.{IsBegun, first_seat, seats_after, shared_after}
+use Rattle.script_thread.specs.Names.{Event}
 
 abbrev pub runs_of : Bool → Option Runs
 runs_of true = None
@@ -64,6 +65,14 @@ module _ {T : Type 0} where
     held = tt;
     differ = tt;
   })
+
+  pub first_node : (t : T) (xs : List (Seated T)) (u : Shared) → AsBegun t xs u → IsFlowNode u.graph 2
+  first_node t xs u a = subst (λ (v : Common). IsFlowNode v.nodes 2) (sym a.begun.shared) (lit≤ tt, lit< tt)
+
+  pub heads_begun : (stance : T → Stance) (t : T) (xs : List (Seated T)) (u : Shared) → (stance t).own.head ≡ 2 → AsBegun t xs u → HeadsStand stance u.graph xs
+  heads_begun stance t xs u e a =
+      subst (λ ys. HeadsStand stance u.graph ys) (sym a.threads)
+      (subst (λ n. IsFlowNode u.graph n) (sym e) (first_node t xs u a), tt)
 
   pub none_open : (t : T) (xs : List (Seated T)) (u : Shared) (n : ℕ) → AsBegun t xs u → is_some (request_of u.requests n) ≡ true → waits_for_request (W.thread_of n u.requests) xs ≡ true
   none_open t xs u n a there = absurd (subst IsFalse (subst (λ (v : Common). is_some (request_of v.requests n) ≡ true) a.begun.shared there) tt)

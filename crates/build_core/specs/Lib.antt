@@ -1,5 +1,3 @@
-pub mod Names
-pub mod Events
 pub mod Phases
 pub mod Endings
 pub mod Taking

@@ -1,6 +1,6 @@
 -- What the parts of the code that take an event tell one another.
 use Rattle.std.specs.Prelude.{◌≡◌, ◌≤◌, ℕ, ◌+◌, Bool, true, List, Option}
-use Rattle.build_core.specs.Names.{Event, Answer, Ready}
+use Rattle.script_thread.specs.Names.{Event, Answer, Ready}
 use Rattle.model_run.specs.World as W
 use Rattle.green_threads.specs.declared.runner.Seated.{Seated}
 use Rattle.green_threads.specs.Threads.{Threads, with_seat, waits_as, waits_for_request}

@@ -13,7 +13,6 @@ ghost use Rattle.build_core.specs.Builds.{StandsFor, IsSound, setting_in, standi
 use crate::events::{accept, answer_to};
 use crate::grants::due_grant;
 use crate::phase::Phase;
-use crate::thread::ScriptThread;
 use crate::turns::begin;
 use build_log::Log;
 use build_requests::{input_of, open_tasks, waiting_inputs};
@@ -26,6 +25,7 @@ use model_run::{
     BuildResult, Event, FlowNode, Held, HeldExecutors, OpenRequest, OpenRequests, Site, Taken,
 };
 use model_text::Bytes;
+use script_thread::ScriptThread;
 use std::alloc::{AllocError, Global};
 
 /// A build of a script on the executors of a site.

@@ -1,6 +1,6 @@
 //! What an event changes.
 ghost use Rattle.std.specs.Prelude.{◌≡◌, ℕ, IfOk, OnOk};
-ghost use Rattle.build_core.specs.Names.{Accepted, GrantedEvent, OutputEvent, ExitedEvent, DecidedEvent, LogStream, OutStream, Answer, Ready};
+ghost use Rattle.script_thread.specs.Names.{Accepted, GrantedEvent, OutputEvent, ExitedEvent, DecidedEvent, LogStream, OutStream, Answer, Ready};
 ghost use Rattle.model_run.specs.Taking.{taken, answered};
 ghost use Rattle.model_run.specs.World as W;
 ghost use Rattle.green_threads.specs.Threads.{with_seat, waits_as, waits_for_request};
@@ -12,7 +12,6 @@ ghost use Rattle.build_core.specs.Taking.{MayAnswer, GoesOn, answered_group};
 
 use crate::ending::end_by_limit;
 use crate::phase::Phase;
-use crate::thread::ScriptThread;
 use crate::turns::go_on;
 use build_log::LogRefusal;
 use build_requests::{
@@ -24,6 +23,7 @@ use green_threads::{Group, NotWaiting};
 use model_run::{Answer, Event, Stream, Taken, Why};
 use model_text::Text;
 use model_values::LimitKind;
+use script_thread::ScriptThread;
 use std::alloc::AllocError;
 
 /// What a build says to an event. `AllocError` where the memory was refused.

@@ -1,11 +1,11 @@
 //! A thread for the tests: it runs the empty script, and has no memory for any other.
 
-use crate::thread::ScriptThread;
 use cps_frames::Shared;
 use green_threads::{Runner, Stop};
 use model_run::{Answer, Outcome};
 use model_syntax::NodeForm;
 use model_values::Value;
+use script_thread::ScriptThread;
 use std::alloc::{AllocError, Global};
 
 /// The thread of the empty script.
@@ -69,7 +69,7 @@ impl Runner for EmptyScript {
 
 impl ScriptThread for EmptyScript {
     ghost use Rattle.std.specs.Prelude.{None, refl};
-    ghost use Rattle.build_core.specs.EmptyScripts.{stance_of, begun_sound, none_open, never_rests, begins};
+    ghost use Rattle.build_core.specs.EmptyScripts.{stance_of, begun_sound, heads_begun, none_open, never_rests, begins};
 
     ghost stance = { λ t. stance_of t.number t.parent t.has_begun };
 
@@ -92,6 +92,8 @@ impl ScriptThread for EmptyScript {
     ghost begun_fits = { λ t u e alone begun. begins (λ has_begun. record { number = 0; parent = None; has_begun = has_begun }) t.number t.parent t.has_begun u e begun };
 
     ghost shared_fits = { λ xs u fit. begun_sound _ xs u fit };
+
+    ghost heads_stand = { λ xs u fit. heads_begun stance _ xs u refl fit };
 
     ghost awaited = { λ xs u n fit there. none_open _ xs u n fit there };
 

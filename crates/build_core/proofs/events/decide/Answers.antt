@@ -1,7 +1,7 @@
 use Rattle.std.proofs.Common.{◌≡◌, refl, ap}
 use Rattle.cps_frames.specs.declared.shared.Shared.{Shared}
-use Rattle.build_core.specs.Names.{DecidedEvent, DecidedAnswer}
-use Rattle.build_core.specs.Events.{shared_after}
+use Rattle.script_thread.specs.Names.{DecidedEvent, DecidedAnswer}
+use Rattle.script_thread.specs.Events.{shared_after}
 use Rattle.build_core.proofs.Answering.{may_answer, decided, goes_on, map_ok}
 use Rattle.build_core.proofs.Fitting.{input_open, thread_is}
 use Rattle.build_core.proofs.events.decide.Goals as goal

@@ -3,8 +3,8 @@ use Rattle.std.specs.Prelude.{find, nat_eq}
 use Rattle.model_run.specs.World as W
 use Rattle.model_run.specs.Taking.{request_of}
 use Rattle.cps_frames.specs.declared.shared.Shared.{Shared}
-use Rattle.build_core.specs.Names.{ExitedEvent, Done, OpenRequest}
-use Rattle.build_core.specs.Events.{shared_after}
+use Rattle.script_thread.specs.Names.{ExitedEvent, Done, OpenRequest}
+use Rattle.script_thread.specs.Events.{shared_after}
 use Rattle.build_core.proofs.Answering.{may_answer, ended, goes_on, map_ok}
 use Rattle.build_core.proofs.Fitting.{task_open, thread_is, request_is}
 use Rattle.build_core.proofs.events.end_task.Goals as goal

@@ -1,8 +1,8 @@
 use Rattle.std.proofs.Common.{◌≡◌, ◌∙◌, refl, ap}
 use Rattle.cps_frames.specs.Standing.{setting_of, common_of}
 use Rattle.cps_frames.specs.declared.shared.Shared.{Shared}
-use Rattle.build_core.specs.Names.{GrantedEvent, GrantedAnswer}
-use Rattle.build_core.specs.Events.{shared_after}
+use Rattle.script_thread.specs.Names.{GrantedEvent, GrantedAnswer}
+use Rattle.script_thread.specs.Events.{shared_after}
 use Rattle.build_core.proofs.Answering.{others, may_answer, granted, granted_shared, goes_on, map_ok}
 use Rattle.build_core.proofs.Fitting.{grant_open, thread_is, few_held}
 use Rattle.build_core.proofs.events.grant.Goals as goal

@@ -4,8 +4,8 @@ use Rattle.model_run.specs.Taking.{request_of}
 use Rattle.model_run.specs.World as W
 use Rattle.cps_frames.specs.declared.shared.Shared.{Shared}
 use Rattle.cps_frames.specs.Standing.{setting_of, common_of}
-use Rattle.build_core.specs.Names.{OutputEvent, OutStream}
-use Rattle.build_core.specs.Events.{shared_after}
+use Rattle.script_thread.specs.Names.{OutputEvent, OutStream}
+use Rattle.script_thread.specs.Events.{shared_after}
 use Rattle.build_core.proofs.Changes.{anew, uncounted_stand, kept_is, text_limit_is}
 use Rattle.build_core.proofs.Answering.{rests_after, rests_on, is_limited, map_ok}
 use Rattle.build_core.proofs.Rests.{over_sound}

@@ -5,8 +5,8 @@ use Rattle.model_run.specs.LogText.{raw}
 use Rattle.cps_frames.specs.declared.shared.Shared.{Shared}
 use Rattle.cps_frames.specs.Standing.{setting_of, common_of}
 use Rattle.build_log.specs.Refusals.{limit_of}
-use Rattle.build_core.specs.Names.{OutputEvent, LogStream}
-use Rattle.build_core.specs.Events.{shared_after}
+use Rattle.script_thread.specs.Names.{OutputEvent, LogStream}
+use Rattle.script_thread.specs.Events.{shared_after}
 use Rattle.build_core.proofs.Changes.{anew, uncounted_stand, logged_is, log_limit_is}
 use Rattle.build_core.proofs.Fitting.{log_over, log_within, room_to_take}
 use Rattle.build_core.proofs.Answering.{rests_after, rests_on, is_limited, map_ok}

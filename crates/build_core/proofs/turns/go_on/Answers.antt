@@ -1,14 +1,14 @@
 use Rattle.std.proofs.Common.{◌∙◌, refl, arith}
 use Rattle.green_threads.proofs.Order.{rested}
-use Rattle.build_core.proofs.Going.{few_after, setting_after, waits, ends, limits}
+use Rattle.build_core.proofs.Going.{sound_after, setting_after, waits, ends, limits}
 use Rattle.build_core.proofs.Rests.{over_sound}
 use Rattle.build_core.proofs.turns.go_on.Goals as goal
 
 pub end_script-requires : goal.end_script-requires
-end_script-requires g c = record { few = few_after g.R.ScriptThread.stance g.R.Runner.seated g.R.Runner.head g.R.Runner.turns g.met.R.ScriptThread.head_is g.met.R.ScriptThread.turned _ _ _ _ _ _ c.in_ok-settle.ensures.order (g.met.R.ScriptThread.shared_fits _ _ c.requires.go.fit).few_nodes }
+end_script-requires g c = record { few = (sound_after g.R.ScriptThread.stance g.R.Runner.seated g.R.Runner.head g.R.Runner.turns g.met.R.ScriptThread.head_is g.met.R.ScriptThread.turned _ _ _ _ _ _ c.in_ok-settle.ensures.order (g.met.R.ScriptThread.shared_fits _ _ c.requires.go.fit)).few_nodes }
 
 pub end_by_limit-requires : goal.end_by_limit-requires
-end_by_limit-requires g c = record { few = few_after g.R.ScriptThread.stance g.R.Runner.seated g.R.Runner.head g.R.Runner.turns g.met.R.ScriptThread.head_is g.met.R.ScriptThread.turned _ _ _ _ _ _ c.in_ok-settle.ensures.order (g.met.R.ScriptThread.shared_fits _ _ c.requires.go.fit).few_nodes }
+end_by_limit-requires g c = record { few = (sound_after g.R.ScriptThread.stance g.R.Runner.seated g.R.Runner.head g.R.Runner.turns g.met.R.ScriptThread.head_is g.met.R.ScriptThread.turned _ _ _ _ _ _ c.in_ok-settle.ensures.order (g.met.R.ScriptThread.shared_fits _ _ c.requires.go.fit)).few_nodes }
 
 pub returns-in-AllWait-clause-stands : goal.returns-in-AllWait-clause-stands
 returns-in-AllWait-clause-stands g c = λ w st.

@@ -1,6 +1,6 @@
 use Rattle.std.proofs.Common.{◌≡◌, ◌∙◌, ℕ, Option, None, true, false, refl, sym, ap}
 use Rattle.build_core.specs.declared.trial.EmptyScript.{EmptyScript}
-use Rattle.build_core.specs.EmptyScripts.{stance_of}
+use Rattle.build_core.specs.EmptyScripts.{stance_of, begun_sound, first_node}
 use Rattle.build_core.proofs.EmptyScripts.{thread_is, turn_meets}
 use Rattle.build_core.proofs.trial.EmptyScriptRunner.resume.Goals as goal
 
@@ -14,3 +14,4 @@ returns-clause-turned c =
     let one : c.args.self.now ≡ first = thread_is first c.args.self.now m.0 m.1 m.2 c.args.shared.now m.3 m.4 m.5 in
     turn_meets (λ (t : EmptyScript). stance_of t.number t.parent t.has_begun) c.args.self.now behind c.args.shared.now c.args._answer n p
     (ap (λ b. stance_of n p b) (ap (λ (t : EmptyScript). t.has_begun) one)) refl (sym c.len.ensures.len ∙ c.if-len-ne1.false) (sym c.kind.ensures ∙ c.in-Script.is)
+    (begun_sound first m.0 c.args.shared.now m.3) (first_node first m.0 c.args.shared.now m.3)
