@@ -2,4 +2,3 @@ pub mod Phases
 pub mod Endings
 pub mod Taking
 pub mod Builds
-pub mod EmptyScripts

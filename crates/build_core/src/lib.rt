@@ -22,10 +22,6 @@ mod ending;
 mod events;
 mod grants;
 mod phase;
-#[cfg(test)]
-mod tests;
-#[cfg(test)]
-mod trial;
 mod turns;
 
 pub use build::Build;

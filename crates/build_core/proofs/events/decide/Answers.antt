@@ -12,7 +12,7 @@ answer-requires g c =
     let u2 : Shared = record u { requests = c.close-closed.new.requests; count = 0 } in
     let same : u2 ≡ shared_after (DecidedEvent c.args.request c.args.proceed c.args.name) u = ap (λ rs. record u { requests = rs; count = 0 }) c.close-closed.ensures.others in
     record {
-      may = may_answer g.R.Runner.number g.R.Runner.parent g.R.Runner.branch g.R.Runner.room g.R.Runner.fits g.met.R.ScriptThread.room_is g.met.R.ScriptThread.awaited g.met.R.ScriptThread.event_fits c.args.group.now u c.requires.go
+      may = may_answer g.R.Runner.number g.R.Runner.parent g.R.Runner.branch g.R.Runner.fits g.met.R.ScriptThread.awaited g.met.R.ScriptThread.event_fits c.args.group.now u c.requires.go
           (DecidedEvent c.args.request c.args.proceed c.args.name) c.requires.accepted tt c.args.request (DecidedAnswer c.args.proceed c.args.name) refl (input_open _ c.requires.accepted)
           c.close-closed.result.thread (thread_is c.args.request u.requests c.close-closed.result c.close-closed.ensures.closed) _ refl u2 same;
     }

@@ -20,7 +20,7 @@ answer-requires g c =
     let same : u2 ≡ shared_after (ExitedEvent c.args.task c.args.code) u = ap (λ rs. record u { requests = rs; count = 0 }) c.close-closed.ensures.others in
     let code_is : to_z w32 (of_z w32 c.args.code) ≡ c.args.code = search rules in
     record {
-      may = may_answer g.R.Runner.number g.R.Runner.parent g.R.Runner.branch g.R.Runner.room g.R.Runner.fits g.met.R.ScriptThread.room_is g.met.R.ScriptThread.awaited g.met.R.ScriptThread.event_fits c.args.group.now u c.requires.go
+      may = may_answer g.R.Runner.number g.R.Runner.parent g.R.Runner.branch g.R.Runner.fits g.met.R.ScriptThread.awaited g.met.R.ScriptThread.event_fits c.args.group.now u c.requires.go
           (ExitedEvent c.args.task c.args.code) c.requires.accepted tt c.args.task (Done c.args.code (W.kept_output (request_of u.requests c.args.task))) refl (task_open _ c.requires.accepted)
           c.close-closed.result.thread (thread_is c.args.task u.requests c.close-closed.result c.close-closed.ensures.closed)
           (Done (to_z w32 (of_z w32 c.args.code)) c.take_output-out.result) (answer_is c.take_output-out.result c.args.code (to_z w32 (of_z w32 c.args.code)) u.requests c.args.task c.close-closed.result code_is c.close-closed.ensures.closed c.take_output-out.ensures) u2 same;
