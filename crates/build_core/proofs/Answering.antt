@@ -1,5 +1,5 @@
 -- An accepted event that answers a thread: it may be given the answer, and what the threads then come to is what the definitions say.
-use Rattle.std.proofs.Common.{◌≡◌, ◌≤◌, ℕ, ◌+◌, ◌-◌, List, [], ◌∷◌, Bool, true, refl, sym, ap, subst, ◌∙◌, length, Option, Some, None, arith}
+use Rattle.std.proofs.Common.{◌≡◌, ◌≤◌, ℕ, List, [], ◌∷◌, Bool, true, refl, sym, ap, subst, ◌∙◌, Option, Some, None, arith}
 use Rattle.std.specs.Prelude.{is_some, not, nat_eq, Result, Ok, Err, IfOk}
 use Rattle.std.specs.List.{filter}
 use Rattle.model_values.specs.declared.limit.LimitKind.{LimitKind}
@@ -19,8 +19,10 @@ use Rattle.settle_laws.specs.Stances.{Stance}
 use Rattle.settle_laws.specs.Standing.{Stand, over, heads}
 use Rattle.build_requests.specs.Standings.{standing_of}
 use Rattle.build_requests.specs.Workspaces.{row_held}
-use Rattle.build_core.specs.Names.{Event, GrantedEvent, ExitedEvent, DecidedEvent, Accepted, Answer, Done, GrantedAnswer, DecidedAnswer, Phase, Running, Executor, OpenRequest}
-use Rattle.build_core.specs.Events.{shared_after, EndsNot, answer_by, seats_answered, seats_after}
+use Rattle.script_thread.specs.Names.{Event, GrantedEvent, ExitedEvent, DecidedEvent, Accepted, Answer, Done, GrantedAnswer, DecidedAnswer, Executor, Held, OpenRequest}
+use Rattle.build_core.specs.declared.phase.Phase.{Phase}
+use Rattle.build_core.specs.declared.phase.Phase.TheVariants.{Running}
+use Rattle.script_thread.specs.Events.{shared_after, EndsNot, answer_by, seats_answered, seats_after}
 use Rattle.build_core.specs.Phases.{StandsIn, GoOn, recounted}
 use Rattle.build_core.specs.Taking.{MayAnswer, GoesOn, answered_group}
 use Rattle.build_core.specs.Endings.{IsOver}
@@ -32,7 +34,7 @@ abbrev pub others : ℕ → List OpenRequest → List OpenRequest
 others n rs = filter (λ r. not (nat_eq r.number n)) rs
 
 -- what threads share behind each of these events
-pub granted_shared : (u : Shared) (n ex : ℕ) → record u { requests = others n u.requests; held = row_held u.site n ex (executor_of u.site ex) u.held; count = 0 } ≡ shared_after (GrantedEvent n ex) u
+granted_shared : (u : Shared) (n ex : ℕ) → record u { requests = others n u.requests; held = row_held u.site n ex (executor_of u.site ex) u.held; count = 0 } ≡ shared_after (GrantedEvent n ex) u
 granted_shared u n ex = go (executor_of u.site ex)
   where
     after : Option Executor → Common
@@ -41,6 +43,13 @@ granted_shared u n ex = go (executor_of u.site ex)
     go : (o : Option Executor) → record u { requests = others n u.requests; held = row_held u.site n ex o u.held; count = 0 } ≡ record u { requests = (after o).requests; held = (after o).held; log = (after o).log; count = 0 }
     go None = refl
     go (Some x) = refl
+
+-- by the requests and the held executors that the calls give
+pub granted_same : (u : Shared) (n ex : ℕ) (rs : List OpenRequest) (hs : List Held) → rs ≡ others n u.requests → hs ≡ row_held u.site n ex (executor_of u.site ex) u.held → record u { requests = rs; held = hs; count = 0 } ≡ shared_after (GrantedEvent n ex) u
+granted_same u n ex rs hs r h =
+    ap (λ qs. record u { requests = qs; held = hs; count = 0 }) r
+    ∙ ap (λ ks. record u { requests = others n u.requests; held = ks; count = 0 }) h
+    ∙ granted_shared u n ex
 
 granted_common : (u : Shared) (n ex : ℕ) → W.without_request n (W.held_as u.site n ex (executor_of u.site ex) (anew (common_of u))) ≡ common_of (shared_after (GrantedEvent n ex) u)
 granted_common u n ex = go (executor_of u.site ex)
@@ -52,40 +61,38 @@ granted_common u n ex = go (executor_of u.site ex)
     go None = refl
     go (Some x) = refl
 
-module _ {T : Type 0} (number : T → ℕ) (parent : T → Option ℕ) (branch : T → Bool) (room : Shared → ℕ) (fits : List (Seated T) → Shared → Type 0)
-    (room_is : (u : Shared) → room u ≡ W.run_limits.flow_nodes - length u.graph)
+module _ {T : Type 0} (number : T → ℕ) (parent : T → Option ℕ) (branch : T → Bool) (fits : List (Seated T) → Shared → Type 0)
     (awaited : (xs : List (Seated T)) (u : Shared) (n : ℕ) → fits xs u → is_some (request_of u.requests n) ≡ true → G.waits_for_request (W.thread_of n u.requests) xs ≡ true)
     (event_fits : (xs : List (Seated T)) (u : Shared) (event : Event) → fits xs u → ready_count xs ≡ 0 → answered (standing_of u.site u.requests u.held) event ≡ Accepted → EndsNot u event → fits (seats_after event u.requests xs) (shared_after event u))
-    (g : G.Threads T) (u : Shared) (go : GoOn number parent branch room fits 0 g u) (event : Event) (accepted : answered (standing_of u.site u.requests u.held) event ≡ Accepted) (ends_not : EndsNot u event) where
+    (g : G.Threads T) (u : Shared) (go : GoOn number parent branch fits 0 g u) (event : Event) (accepted : answered (standing_of u.site u.requests u.held) event ≡ Accepted) (ends_not : EndsNot u event) where
   none_ready : ready_count g.seats ≡ 0
   none_ready = omega (arith, go.few)
 
-  pub room_after : g.next + room (shared_after event u) ≤ 4294967295
-  room_after = omega (arith, go.bounded, room_is u, room_is (shared_after event u))
-
   -- an event that answers none
-  pub rests_after : answer_by event u.requests ≡ None → (u' : Shared) → u' ≡ shared_after event u → GoOn number parent branch room fits 0 g u'
+  pub rests_after : answer_by event u.requests ≡ None → (u' : Shared) → u' ≡ shared_after event u → GoOn number parent branch fits 0 g u'
   rests_after e u' same =
-      subst (λ v. GoOn number parent branch room fits 0 g v) (sym same)
+      subst (λ v. GoOn number parent branch fits 0 g v) (sym same)
       (record {
         grouped = go.grouped;
         fit = subst (λ o. fits (seats_answered u.requests o g.seats) (shared_after event u)) e (event_fits g.seats u event go.fit none_ready accepted ends_not);
-        bounded = room_after;
+        few_threads = go.few_threads;
         few = go.few;
       })
 
   -- one that answers a request
-  pub may_answer : (n : ℕ) (x : Answer) → answer_by event u.requests ≡ Some (n, x) → is_some (request_of u.requests n) ≡ true → (t : ℕ) → W.thread_of n u.requests ≡ t → (y : Answer) → x ≡ y → (u' : Shared) → u' ≡ shared_after event u → MayAnswer number parent branch room fits t y g u'
+  pub may_answer : (n : ℕ) (x : Answer) → answer_by event u.requests ≡ Some (n, x) → is_some (request_of u.requests n) ≡ true → (t : ℕ) → W.thread_of n u.requests ≡ t → (y : Answer) → x ≡ y → (u' : Shared) → u' ≡ shared_after event u → MayAnswer number parent branch fits t y g u'
   may_answer n x e there t at y is u' same =
-      subst (λ v. MayAnswer number parent branch room fits t y g v) (sym same)
-      (subst (λ z. MayAnswer number parent branch room fits t z g (shared_after event u)) is
-      (subst (λ m. MayAnswer number parent branch room fits m x g (shared_after event u)) at
+      subst (λ v. MayAnswer number parent branch fits t y g v) (sym same)
+      (subst (λ z. MayAnswer number parent branch fits t z g (shared_after event u)) is
+      (subst (λ m. MayAnswer number parent branch fits m x g (shared_after event u)) at
       (record {
-        grouped = go.grouped;
-        fit = subst (λ o. fits (seats_answered u.requests o g.seats) (shared_after event u)) e (event_fits g.seats u event go.fit none_ready accepted ends_not);
-        bounded = room_after;
-        few = go.few;
         waits = awaited g.seats u n go.fit there;
+        go = record {
+          grouped = go.grouped;
+          fit = subst (λ o. fits (seats_answered u.requests o g.seats) (shared_after event u)) e (event_fits g.seats u event go.fit none_ready accepted ends_not);
+          few_threads = go.few_threads;
+          few = go.few;
+        };
       })))
 
 module _ {T : Type 0} (stance : T → Stance) (g : G.Threads T) (u : Shared) where

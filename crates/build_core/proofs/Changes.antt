@@ -4,7 +4,7 @@ use Rattle.std.specs.Prelude.{if◌then◌else◌, map}
 use Rattle.std.proofs.lemmas.Bool.{le-ltb, lt-ltb}
 use Rattle.model_values.specs.declared.limit.LimitKind.TheVariants.{LogSize, TextLength}
 use Rattle.model_values.specs.Limits.{limit_line}
-use Rattle.build_core.specs.Names.{Answer, Ready, Executor, Site, GrantedAnswer, Done}
+use Rattle.script_thread.specs.Names.{Answer, Ready, Executor, Site, GrantedAnswer, Done}
 use Rattle.model_run.specs.declared.result.BuildResult.TheVariants.{Failure}
 use Rattle.model_run.specs.Results.{worse}
 use Rattle.model_run.specs.LogText.{raw}

@@ -4,7 +4,7 @@ use Rattle.std.specs.Prelude.{nat_eq, map, find, nat_lt, is_some, option_map, if
 use Rattle.std.specs.List.{AllByRecursion as AllAre, list_any, IsDistinct}
 use Rattle.std.proofs.lemmas.Bool.{ne_eqb, eqb-true, ltb-true, ltb-false}
 use Rattle.std.proofs.lemmas.Map.Steps.{length-le_from_distinct_below}
-use Rattle.build_core.specs.Names.{Request, NodeRequest, TaskRequest, InputRequest, OpenRequest, Held, Site, Accepted}
+use Rattle.script_thread.specs.Names.{Request, NodeRequest, TaskRequest, InputRequest, OpenRequest, Held, Site, Accepted}
 use Rattle.model_run.specs.Fitting.{Rise, Distinct, HeldFits, RequestFits, SharedFits}
 use Rattle.model_run.specs.Requests.{numbers_of}
 use Rattle.model_run.specs.Taking.{request_of, accepted_if, granted, is_task, is_input}

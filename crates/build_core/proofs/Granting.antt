@@ -13,7 +13,9 @@ use Rattle.green_threads.specs.declared.runner.Seated.{Seated}
 use Rattle.green_threads.specs.Threads.{Threads}
 use Rattle.cps_frames.specs.declared.shared.Shared.{Shared}
 use Rattle.build_core.specs.Phases.{SoundIn, GoOn}
-use Rattle.build_core.specs.Names.{Phase, Running, Executor, Held, OpenRequest, Request, NodeRequest, TaskRequest, InputRequest}
+use Rattle.script_thread.specs.Names.{Executor, Held, OpenRequest, Request, NodeRequest, TaskRequest, InputRequest}
+use Rattle.build_core.specs.declared.phase.Phase.{Phase}
+use Rattle.build_core.specs.declared.phase.Phase.TheVariants.{Running}
 
 pub labels_fit : (setting : Setting) (v : Common) → SharedFits setting false v → AllAre (λ r. WithoutFault r.request) v.requests
 labels_fit setting v fit = go (length v.log) v.requests fit.asks
@@ -46,7 +48,7 @@ never_unknown o refusal n e told none =
     absurd (cc q)
 
 -- a build that goes on fits
-pub running_fits : {T : Type 0} (number : T → ℕ) (parent : T → Option ℕ) (branch : T → Bool) (room : Shared → ℕ) (fits : List (Seated T) → Shared → Type 0) (p : Phase) (g : Threads T) (u : Shared) → p ≡ Running → SoundIn number parent branch room fits p g u → fits g.seats u
-running_fits number parent branch room fits p g u e so =
-    let go : GoOn number parent branch room fits 0 g u = subst (λ q. SoundIn number parent branch room fits q g u) e so in
+pub running_fits : {T : Type 0} (number : T → ℕ) (parent : T → Option ℕ) (branch : T → Bool) (fits : List (Seated T) → Shared → Type 0) (p : Phase) (g : Threads T) (u : Shared) → p ≡ Running → SoundIn number parent branch fits p g u → fits g.seats u
+running_fits number parent branch fits p g u e so =
+    let go : GoOn number parent branch fits 0 g u = subst (λ q. SoundIn number parent branch fits q g u) e so in
     go.fit

@@ -1,5 +1,5 @@
 -- A build whose threads have settled stands for the build of the definitions whose threads have.
-use Rattle.std.proofs.Common.{◌≡◌, ◌≤◌, ℕ, List, [], ◌∷◌, true, false, refl, sym, ap, subst, ◌∙◌, None, arith, Option, Bool}
+use Rattle.std.proofs.Common.{◌≡◌, ◌≤◌, ℕ, List, [], ◌∷◌, true, false, refl, sym, ap, subst, ◌∙◌, None, arith}
 use Rattle.model_run.specs.State.{Setting, Common}
 use Rattle.model_run.specs.Threads.{Thread}
 use Rattle.model_run.specs.World as W
@@ -16,7 +16,7 @@ use Rattle.settle_laws.proofs.Link.{matches_none, rests}
 use Rattle.build_core.specs.declared.phase.Phase.{Phase}
 use Rattle.build_core.specs.declared.phase.Phase.TheVariants.{Running}
 use Rattle.build_core.specs.Endings.{IsOver}
-use Rattle.build_core.specs.Phases.{StandsIn, SoundIn}
+use Rattle.build_core.specs.Phases.{StandsIn}
 
 module _ {T : Type 0} where
   -- where none is ready, no thread goes on
@@ -61,9 +61,3 @@ module _ {T : Type 0} (stance : T → Stance) where
   -- a build whose threads wait
   pub wait_stands : (g : G.Threads T) (u : Shared) (w c : W.Build) → Comes stance (setting_of u) settled.AllWait g (common_of u) w c → w.started ≡ true → w.ended ≡ false → StandsIn stance Running g u c
   wait_stands g u w c k begun going = record { started = k.1 ∙ begun; ended = k.2 ∙ going; stand = k.0 }
-
--- and keeps what an ended build does
-pub over_sound : {T : Type 0} (number : T → ℕ) (parent : T → Option ℕ) (branch : T → Bool) (room : Shared → ℕ) (fits : List (Seated T) → Shared → Type 0) (p : Phase) (g : G.Threads T) (u : Shared) (d : Common) (g' : G.Threads T) (u' : Shared) → IsOver p g u d g' u' → d.requests ≡ [] → d.held ≡ [] → SoundIn number parent branch room fits p g' u'
-over_sound {T} number parent branch room fits p g u d g' u' o none free =
-    subst (λ q. SoundIn number parent branch room fits q g' u') (sym o.phase)
-    (record { threads = ap (λ (k : G.Threads T). k.seats) o.threads; requests = ap (λ (v : Common). v.requests) o.shared ∙ none; held = ap (λ (v : Common). v.held) o.shared ∙ free })

@@ -1,7 +1,4 @@
-pub mod Names
-pub mod Events
 pub mod Phases
 pub mod Endings
 pub mod Taking
 pub mod Builds
-pub mod EmptyScripts

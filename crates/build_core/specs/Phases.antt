@@ -1,5 +1,6 @@
 -- A build within an event: its threads and what they share, the build of the definitions that it stands for, and what it keeps.
-use Rattle.std.specs.Prelude.{◌≡◌, ◌≤◌, ℕ, ◌+◌, Bool, true, false, List, [], ◌∷◌, Option}
+use Rattle.std.specs.Prelude.{◌≡◌, ◌≤◌, ℕ, ◌+◌, Bool, true, false, List, [], ◌∷◌, length, Option}
+use Rattle.model_run.specs.Fitting.{SharedFits}
 use Rattle.model_run.specs.State.{Common}
 use Rattle.model_run.specs.Taking.{Standing}
 use Rattle.model_run.specs.World as W
@@ -41,11 +42,11 @@ recounted n w = record w { shared = record w.shared { count = n } }
 abbrev pub standing_in : Phase → Shared → Standing
 standing_in p u = record { started = has_begun p; ended = has_ended p; site = u.site; requests = u.requests; held = u.held }
 
--- What threads keep that go on: they fit, there is room for all numbers, and at most n are ready.
-pub record GoOn {T : Type 0} (number : T → ℕ) (parent : T → Option ℕ) (branch : T → Bool) (room : Shared → ℕ) (fits : List (Seated T) → Shared → Type 0) (n : ℕ) (g : Threads T) (u : Shared) : Type 0 where
+-- What threads keep that go on: they fit, few have begun for the flow nodes that there are, and at most n are ready.
+pub record GoOn {T : Type 0} (number : T → ℕ) (parent : T → Option ℕ) (branch : T → Bool) (fits : List (Seated T) → Shared → Type 0) (n : ℕ) (g : Threads T) (u : Shared) : Type 0 where
   pub grouped : Grouped number parent branch 0 g.seats g.next
   pub fit : fits g.seats u
-  pub bounded : g.next + room u ≤ 4294967295
+  pub few_threads : g.next ≤ 100000000 + length u.graph
   pub few : ready_count g.seats ≤ n
 
 -- nothing has happened yet, but that the graph has its first node
@@ -54,15 +55,17 @@ pub record IsEmpty {T : Type 0} (g : Threads T) (u : Shared) : Type 0 where
   pub shared : common_of u ≡ record W.no_state { nodes = W.start_node ∷ [] }
   pub heap : u.heap ≡ record { cells = []; changed = []; spare = 0 }
 
--- no thread is left, no request is open and no executor is held
+-- What a build keeps that has ended: no thread is left, no request is open and no executor is held; and it is sound, as one that has ended is.
 pub record IsDone {T : Type 0} (g : Threads T) (u : Shared) : Type 0 where
   pub threads : g.seats ≡ []
   pub requests : u.requests ≡ []
   pub held : u.held ≡ []
+  pub sound : SharedFits (setting_of u) true (common_of u)
+  pub few_threads : g.next ≤ 100000000 + length u.graph
 
 -- What a build keeps between two events.
-abbrev pub SoundIn : {T : Type 0} → (T → ℕ) → (T → Option ℕ) → (T → Bool) → (Shared → ℕ) → (List (Seated T) → Shared → Type 0) → Phase → Threads T → Shared → Type 0
-SoundIn number parent branch room fits Unbegun g u = IsEmpty g u
-SoundIn number parent branch room fits Running g u = GoOn number parent branch room fits 0 g u
-SoundIn number parent branch room fits Ended g u = IsDone g u
-SoundIn number parent branch room fits Stopped g u = Unit {0}
+abbrev pub SoundIn : {T : Type 0} → (T → ℕ) → (T → Option ℕ) → (T → Bool) → (List (Seated T) → Shared → Type 0) → Phase → Threads T → Shared → Type 0
+SoundIn number parent branch fits Unbegun g u = IsEmpty g u
+SoundIn number parent branch fits Running g u = GoOn number parent branch fits 0 g u
+SoundIn number parent branch fits Ended g u = IsDone g u
+SoundIn number parent branch fits Stopped g u = Unit {0}

@@ -2,18 +2,19 @@
 ghost use Rattle.std.specs.Prelude.{◌≡◌, IfOk, OnOk, OnErr};
 ghost use Rattle.model_run.specs.declared.event.Event.{Event};
 ghost use Rattle.model_run.specs.declared.taken.Taken.TheVariants.{Accepted};
+ghost use Rattle.model_run.specs.Grants.{grant};
 ghost use Rattle.model_run.specs.GraphText.{graph_text};
 ghost use Rattle.model_run.specs.Taking.{taken};
 ghost use Rattle.model_run.specs.World as W;
 ghost use Rattle.cps_code.specs.Script.{script_of};
 ghost use Rattle.build_requests.specs.Waiting.{waiting_inputs, open_tasks, input_of};
 ghost use Rattle.build_core.specs.declared.phase.Phase.TheVariants.{Stopped};
-ghost use Rattle.build_core.specs.Builds.{StandsFor, IsSound, setting_in, standing_of};
+ghost use Rattle.build_core.specs.Phases.{has_begun, has_ended};
+ghost use Rattle.build_core.specs.Builds.{StandsFor, setting_in, standing_of, nodes_of};
 
 use crate::events::{accept, answer_to};
 use crate::grants::due_grant;
 use crate::phase::Phase;
-use crate::thread::ScriptThread;
 use crate::turns::begin;
 use build_log::Log;
 use build_requests::{input_of, open_tasks, waiting_inputs};
@@ -26,17 +27,30 @@ use model_run::{
     BuildResult, Event, FlowNode, Held, HeldExecutors, OpenRequest, OpenRequests, Site, Taken,
 };
 use model_text::Bytes;
+use script_thread::ScriptThread;
 use std::alloc::{AllocError, Global};
+use std::marker::Model;
 
 /// A build of a script on the executors of a site.
 ///
-/// `new` and `take` give a build that is `IsSound`, and `take` asks for one. A contract says `StandsFor R.stance build w`
-/// where the build stands for the build w of the definitions.
+/// A contract sees how far it has come, its threads, and what they share; and says `StandsFor R.stance build w` where the
+/// build stands for the build w of the definitions. What it keeps between two events is the invariant of the type.
 #[derive(Drop)]
-pub struct Build<R> {
+pub struct Build<R: ScriptThread> {
     shared: Shared,
     group: Group<R>,
     phase: Phase,
+}
+
+impl<R: ScriptThread> Model for Build<R> {
+    ghost use Rattle.build_core.specs.Builds.{Parts};
+    ghost use Rattle.build_core.specs.Phases.{SoundIn};
+
+    ghost Value = { Parts R };
+
+    ghost view = { λ b. record { phase = b.phase; group = b.group; shared = b.shared } };
+
+    ghost invariant = { λ b. SoundIn R.number R.parent R.branch R.fits b.phase b.group b.shared };
 }
 
 impl<R: ScriptThread + Drop> Build<R> {
@@ -44,7 +58,6 @@ impl<R: ScriptThread + Drop> Build<R> {
     pub fn new(alloc: Global, code: Code, site: Site) -> Result<Build<R>, AllocError>
         ensures stands { IfOk result (λ build. StandsFor R.stance build W.unbegun) }
         ensures setting { IfOk result (λ build. setting_in build ≡ W.setting_of W.run_limits (script_of code) site) }
-        ensures sound { IfOk result (λ build. IsSound R.number R.parent R.branch R.room R.fits build) }
     {
         let shared = Shared {
             code,
@@ -78,12 +91,10 @@ impl<R: ScriptThread + Drop> Build<R> {
     /// `AllocError` where the memory was refused, in this call or an earlier one: the build takes no event any more, and what
     /// its other calls give is open.
     pub fn take(&mut self, event: &Event) -> Result<Taken, AllocError>
-        requires sound { IsSound R.number R.parent R.branch R.room R.fits self.old }
         ensures taken { IfOk result (λ answer. answer ≡ taken (standing_of self.old) event.now) }
         ensures unchanged { IfOk result (λ answer. (answer ≡ Accepted → ⊥) → self.new ≡ self.old) }
         ensures stands { OnOk result ((w : W.Build) → StandsFor R.stance self.old w → StandsFor R.stance self.new (W.after_one (setting_in self.old) w event.now)) }
         ensures setting { OnOk result (setting_in self.new ≡ setting_in self.old) }
-        ensures sound { IsSound R.number R.parent R.branch R.room R.fits self.new }
         ensures stopped { OnErr result (self.new.phase ≡ Stopped) }
         ensures goes_on { OnOk result (self.old.phase ≡ Stopped → ⊥) }
     {
@@ -107,7 +118,8 @@ impl<R: ScriptThread + Drop> Build<R> {
 
     /// The flow nodes, in order of their numbers. It takes no memory.
     pub fn nodes(&self) -> &[FlowNode]
-        ensures { (w : W.Build) → StandsFor R.stance self.now w → result.now ≡ w.shared.nodes }
+        ensures here { result.now ≡ nodes_of self.now }
+        ensures world { (w : W.Build) → StandsFor R.stance self.now w → result.now ≡ w.shared.nodes }
     {
         match self.phase {
             Phase::Unbegun => &[],
@@ -117,7 +129,8 @@ impl<R: ScriptThread + Drop> Build<R> {
 
     /// The text of the flow graph: a line for each node. `AllocError` where the memory was refused.
     pub fn graph_text(&self) -> Result<Bytes, AllocError>
-        ensures { IfOk result (λ text. (w : W.Build) → StandsFor R.stance self.now w → text ≡ graph_text w.shared.nodes) }
+        ensures here { IfOk result (λ text. text ≡ graph_text (nodes_of self.now)) }
+        ensures world { IfOk result (λ text. (w : W.Build) → StandsFor R.stance self.now w → text ≡ graph_text w.shared.nodes) }
     {
         match self.phase {
             Phase::Unbegun => Ok(Bytes::new(self.shared.alloc())),
@@ -127,42 +140,48 @@ impl<R: ScriptThread + Drop> Build<R> {
 
     /// The bytes of the log.
     pub fn log(&self) -> &[u8]
-        ensures { (w : W.Build) → StandsFor R.stance self.now w → result.now ≡ w.shared.log }
+        ensures here { result.now ≡ self.now.shared.log }
+        ensures world { (w : W.Build) → StandsFor R.stance self.now w → result.now ≡ w.shared.log }
     {
         self.shared.log.bytes()
     }
 
     /// The result so far; where the build has ended, its result.
     pub fn result(&self) -> BuildResult
-        ensures { (w : W.Build) → StandsFor R.stance self.now w → result ≡ w.shared.result }
+        ensures here { result ≡ self.now.shared.result }
+        ensures world { (w : W.Build) → StandsFor R.stance self.now w → result ≡ w.shared.result }
     {
         self.shared.result
     }
 
     /// The open requests, in order of their numbers.
     pub fn requests(&self) -> &[OpenRequest]
-        ensures { (w : W.Build) → StandsFor R.stance self.now w → result.now ≡ w.shared.requests }
+        ensures here { result.now ≡ self.now.shared.requests }
+        ensures world { (w : W.Build) → StandsFor R.stance self.now w → result.now ≡ w.shared.requests }
     {
         self.shared.requests.as_slice()
     }
 
     /// The held executors, in order of their numbers.
     pub fn held(&self) -> &[Held]
-        ensures { (w : W.Build) → StandsFor R.stance self.now w → result.now ≡ w.shared.held }
+        ensures here { result.now ≡ self.now.shared.held }
+        ensures world { (w : W.Build) → StandsFor R.stance self.now w → result.now ≡ w.shared.held }
     {
         self.shared.held.as_slice()
     }
 
     /// Whether the build has begun.
     pub fn has_begun(&self) -> bool
-        ensures { (w : W.Build) → StandsFor R.stance self.now w → result ≡ w.started }
+        ensures here { result ≡ has_begun self.now.phase }
+        ensures world { (w : W.Build) → StandsFor R.stance self.now w → result ≡ w.started }
     {
         self.phase != Phase::Unbegun
     }
 
     /// Whether the build has ended.
     pub fn has_ended(&self) -> bool
-        ensures { (w : W.Build) → StandsFor R.stance self.now w → result ≡ w.ended }
+        ensures here { result ≡ has_ended self.now.phase }
+        ensures world { (w : W.Build) → StandsFor R.stance self.now w → result ≡ w.ended }
     {
         self.phase == Phase::Ended
     }
@@ -171,8 +190,8 @@ impl<R: ScriptThread + Drop> Build<R> {
     /// some free executor fits gets the first such executor in the order of the agents file. `None` exactly where no open
     /// request is fitted. `AllocError` where the memory was refused, in this call or while the build took an event.
     pub fn next_grant(&self) -> Result<Option<(u32, u32)>, AllocError>
-        requires sound { IsSound R.number R.parent R.branch R.room R.fits self.now }
-        ensures { IfOk result (λ grant. (w : W.Build) → StandsFor R.stance self.now w → grant ≡ W.next_grant (setting_in self.now) w) }
+        ensures here { IfOk result (λ due. due ≡ grant self.now.shared.site self.now.shared.held self.now.shared.requests) }
+        ensures world { IfOk result (λ due. (w : W.Build) → StandsFor R.stance self.now w → due ≡ W.next_grant (setting_in self.now) w) }
     {
         match self.phase {
             Phase::Running => due_grant(&self.shared),
@@ -183,21 +202,24 @@ impl<R: ScriptThread + Drop> Build<R> {
 
     /// How many inputs wait for a decision.
     pub fn waiting_inputs(&self) -> usize
-        ensures { (w : W.Build) → StandsFor R.stance self.now w → result ≡ waiting_inputs w.shared.requests }
+        ensures here { result ≡ waiting_inputs self.now.shared.requests }
+        ensures world { (w : W.Build) → StandsFor R.stance self.now w → result ≡ waiting_inputs w.shared.requests }
     {
         waiting_inputs(self.shared.requests.as_slice())
     }
 
     /// The number of the first open input with this id; `None` exactly where there is none.
     pub fn input_of(&self, id: &[u8]) -> Option<u32>
-        ensures { (w : W.Build) → StandsFor R.stance self.now w → result ≡ input_of id.now w.shared.requests }
+        ensures here { result ≡ input_of id.now self.now.shared.requests }
+        ensures world { (w : W.Build) → StandsFor R.stance self.now w → result ≡ input_of id.now w.shared.requests }
     {
         input_of(self.shared.requests.as_slice(), id)
     }
 
     /// How many tasks have not ended.
     pub fn open_tasks(&self) -> usize
-        ensures { (w : W.Build) → StandsFor R.stance self.now w → result ≡ open_tasks w.shared.requests }
+        ensures here { result ≡ open_tasks self.now.shared.requests }
+        ensures world { (w : W.Build) → StandsFor R.stance self.now w → result ≡ open_tasks w.shared.requests }
     {
         open_tasks(self.shared.requests.as_slice())
     }

@@ -13,7 +13,6 @@ ghost use Rattle.settle_laws.specs.Standing.{causes, end_result, heads, first_he
 ghost use Rattle.build_core.specs.Endings.{IsOver, lines_of};
 
 use crate::phase::Phase;
-use crate::thread::ScriptThread;
 use build_log::Log;
 use cell_heap::Heap;
 use cps_frames::Shared;
@@ -21,6 +20,7 @@ use green_threads::{Group, Seated};
 use model_run::{BuildResult, HeldExecutors, OpenRequests, Outcome};
 use model_text::{Ids, Text};
 use model_values::{Cell, Class, LimitKind};
+use script_thread::ScriptThread;
 use std::alloc::{AllocError, Global};
 
 /// The script's thread has ended so, and with it the build.

@@ -1,6 +1,6 @@
 //! What an event changes.
 ghost use Rattle.std.specs.Prelude.{◌≡◌, ℕ, IfOk, OnOk};
-ghost use Rattle.build_core.specs.Names.{Accepted, GrantedEvent, OutputEvent, ExitedEvent, DecidedEvent, LogStream, OutStream, Answer, Ready};
+ghost use Rattle.script_thread.specs.Names.{Accepted, GrantedEvent, OutputEvent, ExitedEvent, DecidedEvent, LogStream, OutStream, Answer, Ready};
 ghost use Rattle.model_run.specs.Taking.{taken, answered};
 ghost use Rattle.model_run.specs.World as W;
 ghost use Rattle.green_threads.specs.Threads.{with_seat, waits_as, waits_for_request};
@@ -12,7 +12,6 @@ ghost use Rattle.build_core.specs.Taking.{MayAnswer, GoesOn, answered_group};
 
 use crate::ending::end_by_limit;
 use crate::phase::Phase;
-use crate::thread::ScriptThread;
 use crate::turns::go_on;
 use build_log::LogRefusal;
 use build_requests::{
@@ -24,6 +23,7 @@ use green_threads::{Group, NotWaiting};
 use model_run::{Answer, Event, Stream, Taken, Why};
 use model_text::Text;
 use model_values::LimitKind;
+use script_thread::ScriptThread;
 use std::alloc::AllocError;
 
 /// What a build says to an event. `AllocError` where the memory was refused.
@@ -49,11 +49,11 @@ pub(crate) fn accept<R: ScriptThread + Drop>(
     group: &mut Group<R>,
     event: &Event,
 ) -> Result<Phase, AllocError>
-    requires go { GoOn R.number R.parent R.branch R.room R.fits 0 group.old shared.old }
+    requires go { GoOn R.number R.parent R.branch R.fits 0 group.old shared.old }
     requires accepted { answered (standing_of shared.old.site shared.old.requests shared.old.held) event.now ≡ Accepted }
     ensures stands { IfOk result (λ phase. GoesOn R.stance event.now group.old shared.old phase group.new shared.new) }
     ensures setting { OnOk result (setting_of shared.new ≡ setting_of shared.old) }
-    ensures sound { IfOk result (λ phase. SoundIn R.number R.parent R.branch R.room R.fits phase group.new shared.new) }
+    ensures sound { IfOk result (λ phase. SoundIn R.number R.parent R.branch R.fits phase group.new shared.new) }
 {
     match event {
         Event::Start { .. } => unreachable!(),
@@ -94,11 +94,11 @@ fn grant<R: ScriptThread + Drop>(
     request: u32,
     executor: u32,
 ) -> Result<Phase, AllocError>
-    requires go { GoOn R.number R.parent R.branch R.room R.fits 0 group.old shared.old }
+    requires go { GoOn R.number R.parent R.branch R.fits 0 group.old shared.old }
     requires accepted { answered (standing_of shared.old.site shared.old.requests shared.old.held) (GrantedEvent request executor) ≡ Accepted }
     ensures stands { IfOk result (λ phase. GoesOn R.stance (GrantedEvent request executor) group.old shared.old phase group.new shared.new) }
     ensures setting { OnOk result (setting_of shared.new ≡ setting_of shared.old) }
-    ensures sound { IfOk result (λ phase. SoundIn R.number R.parent R.branch R.room R.fits phase group.new shared.new) }
+    ensures sound { IfOk result (λ phase. SoundIn R.number R.parent R.branch R.fits phase group.new shared.new) }
 {
     let alloc = shared.alloc();
     hold_executor(alloc, &shared.site, &mut shared.held, request, executor)?;
@@ -114,11 +114,11 @@ fn end_task<R: ScriptThread + Drop>(
     task: u32,
     code: i32,
 ) -> Result<Phase, AllocError>
-    requires go { GoOn R.number R.parent R.branch R.room R.fits 0 group.old shared.old }
+    requires go { GoOn R.number R.parent R.branch R.fits 0 group.old shared.old }
     requires accepted { answered (standing_of shared.old.site shared.old.requests shared.old.held) (ExitedEvent task code) ≡ Accepted }
     ensures stands { IfOk result (λ phase. GoesOn R.stance (ExitedEvent task code) group.old shared.old phase group.new shared.new) }
     ensures setting { OnOk result (setting_of shared.new ≡ setting_of shared.old) }
-    ensures sound { IfOk result (λ phase. SoundIn R.number R.parent R.branch R.room R.fits phase group.new shared.new) }
+    ensures sound { IfOk result (λ phase. SoundIn R.number R.parent R.branch R.fits phase group.new shared.new) }
 {
     let alloc = shared.alloc();
     shared.count = 0;
@@ -136,11 +136,11 @@ fn decide<R: ScriptThread + Drop>(
     proceed: bool,
     name: Text,
 ) -> Result<Phase, AllocError>
-    requires go { GoOn R.number R.parent R.branch R.room R.fits 0 group.old shared.old }
+    requires go { GoOn R.number R.parent R.branch R.fits 0 group.old shared.old }
     requires accepted { answered (standing_of shared.old.site shared.old.requests shared.old.held) (DecidedEvent request proceed name) ≡ Accepted }
     ensures stands { IfOk result (λ phase. GoesOn R.stance (DecidedEvent request proceed name) group.old shared.old phase group.new shared.new) }
     ensures setting { OnOk result (setting_of shared.new ≡ setting_of shared.old) }
-    ensures sound { IfOk result (λ phase. SoundIn R.number R.parent R.branch R.room R.fits phase group.new shared.new) }
+    ensures sound { IfOk result (λ phase. SoundIn R.number R.parent R.branch R.fits phase group.new shared.new) }
 {
     let alloc = shared.alloc();
     shared.count = 0;
@@ -160,10 +160,10 @@ fn answer<R: ScriptThread + Drop>(
     thread: u32,
     answer: Answer,
 ) -> Result<Phase, AllocError>
-    requires may { MayAnswer R.number R.parent R.branch R.room R.fits thread answer group.old shared.old }
+    requires may { MayAnswer R.number R.parent R.branch R.fits thread answer group.old shared.old }
     ensures stands { IfOk result (λ phase. (w : W.Build) → StandsIn R.stance Running (answered_group thread answer group.old) shared.old w → StandsIn R.stance phase group.new shared.new (W.settle (W.turn_bound W.run_limits) (setting_of shared.old) w)) }
     ensures setting { OnOk result (setting_of shared.new ≡ setting_of shared.old) }
-    ensures sound { IfOk result (λ phase. SoundIn R.number R.parent R.branch R.room R.fits phase group.new shared.new) }
+    ensures sound { IfOk result (λ phase. SoundIn R.number R.parent R.branch R.fits phase group.new shared.new) }
 {
     match group.answer(thread, answer) {
         Ok(()) => {}
@@ -179,11 +179,11 @@ fn log_output<R: ScriptThread + Drop>(
     task: u32,
     bytes: &[u8],
 ) -> Result<Phase, AllocError>
-    requires go { GoOn R.number R.parent R.branch R.room R.fits 0 group.old shared.old }
+    requires go { GoOn R.number R.parent R.branch R.fits 0 group.old shared.old }
     requires accepted { (from : ℕ) × (answered (standing_of shared.old.site shared.old.requests shared.old.held) (OutputEvent task LogStream from bytes.now) ≡ Accepted) }
     ensures stands { IfOk result (λ phase. (from : ℕ) → GoesOn R.stance (OutputEvent task LogStream from bytes.now) group.old shared.old phase group.new shared.new) }
     ensures setting { OnOk result (setting_of shared.new ≡ setting_of shared.old) }
-    ensures sound { IfOk result (λ phase. SoundIn R.number R.parent R.branch R.room R.fits phase group.new shared.new) }
+    ensures sound { IfOk result (λ phase. SoundIn R.number R.parent R.branch R.fits phase group.new shared.new) }
 {
     let alloc = shared.alloc();
     shared.count = 0;
@@ -204,11 +204,11 @@ fn keep_out<R: ScriptThread + Drop>(
     task: u32,
     bytes: &[u8],
 ) -> Result<Phase, AllocError>
-    requires go { GoOn R.number R.parent R.branch R.room R.fits 0 group.old shared.old }
+    requires go { GoOn R.number R.parent R.branch R.fits 0 group.old shared.old }
     requires accepted { (from : ℕ) × (answered (standing_of shared.old.site shared.old.requests shared.old.held) (OutputEvent task OutStream from bytes.now) ≡ Accepted) }
     ensures stands { IfOk result (λ phase. (from : ℕ) → GoesOn R.stance (OutputEvent task OutStream from bytes.now) group.old shared.old phase group.new shared.new) }
     ensures setting { OnOk result (setting_of shared.new ≡ setting_of shared.old) }
-    ensures sound { IfOk result (λ phase. SoundIn R.number R.parent R.branch R.room R.fits phase group.new shared.new) }
+    ensures sound { IfOk result (λ phase. SoundIn R.number R.parent R.branch R.fits phase group.new shared.new) }
 {
     let alloc = shared.alloc();
     shared.count = 0;

@@ -6,8 +6,8 @@
 //! stands for that one with the event taken too (`specs/Builds`). So its log, flow graph, result, requests and held
 //! executors are those of the definitions.
 //!
-//! The threads are of any kind that meets [`ScriptThread`]: a `Runner` of `green_threads` whose turns are those of the
-//! definitions.
+//! The threads are of any kind that meets `ScriptThread` of `script_thread`: a `Runner` of `green_threads` whose turns are
+//! those of the definitions.
 //!
 //! ```text
 //! let mut build: Build<Thread> = Build::new(alloc, code, site)?;
@@ -22,13 +22,7 @@ mod ending;
 mod events;
 mod grants;
 mod phase;
-#[cfg(test)]
-mod tests;
-mod thread;
-#[cfg(test)]
-mod trial;
 mod turns;
 
 pub use build::Build;
 pub use phase::Phase;
-pub use thread::ScriptThread;

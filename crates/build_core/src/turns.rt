@@ -10,10 +10,10 @@ ghost use Rattle.build_core.specs.Phases.{StandsIn, SoundIn, GoOn, IsEmpty};
 
 use crate::ending::{end_by_limit, end_script};
 use crate::phase::Phase;
-use crate::thread::ScriptThread;
 use cps_frames::Shared;
 use green_threads::{Group, Settled, SpawnRefusal};
 use model_run::Answer;
+use script_thread::ScriptThread;
 use std::alloc::AllocError;
 
 /// The build begins: its first line is logged, and its script's thread goes on.
@@ -24,8 +24,10 @@ pub(crate) fn begin<R: ScriptThread + Drop>(
     requires empty { IsEmpty group.old shared.old }
     ensures stands { IfOk result (λ phase. StandsIn R.stance phase group.new shared.new (W.settle (W.turn_bound W.run_limits) (setting_of shared.old) W.begun)) }
     ensures setting { OnOk result (setting_of shared.new ≡ setting_of shared.old) }
-    ensures sound { IfOk result (λ phase. SoundIn R.number R.parent R.branch R.room R.fits phase group.new shared.new) }
+    ensures sound { IfOk result (λ phase. SoundIn R.number R.parent R.branch R.fits phase group.new shared.new) }
 {
+    // code that is read tells that it is a script's, as the thread asks
+    let _nodes = shared.code.len();
     shared.log.end_line(b"[Pipeline] Start of Pipeline")?;
     let thread = R::script(shared.alloc())?;
     match group.spawn(thread) {
@@ -41,10 +43,10 @@ pub(crate) fn go_on<R: ScriptThread + Drop>(
     shared: &mut Shared,
     group: &mut Group<R>,
 ) -> Result<Phase, AllocError>
-    requires go { GoOn R.number R.parent R.branch R.room R.fits 1 group.old shared.old }
+    requires go { GoOn R.number R.parent R.branch R.fits 1 group.old shared.old }
     ensures stands { IfOk result (λ phase. (w : W.Build) → StandsIn R.stance Running group.old shared.old w → StandsIn R.stance phase group.new shared.new (W.settle (W.turn_bound W.run_limits) (setting_of shared.old) w)) }
     ensures setting { OnOk result (setting_of shared.new ≡ setting_of shared.old) }
-    ensures sound { IfOk result (λ phase. SoundIn R.number R.parent R.branch R.room R.fits phase group.new shared.new) }
+    ensures sound { IfOk result (λ phase. SoundIn R.number R.parent R.branch R.fits phase group.new shared.new) }
 {
     match group.settle(shared)? {
         Settled::AllWait => Ok(Phase::Running),

@@ -1,3 +1,4 @@
 pub mod Link
 pub mod Settling
+pub mod Heads
 pub mod Turning

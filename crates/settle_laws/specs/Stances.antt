@@ -1,5 +1,6 @@
 -- What the definitions see of a green thread that runs a script, and what its turns are then (this product's own).
 use Rattle.std.specs.Prelude.{◌≡◌, ◌≤◌, ℕ, false, List, [], ◌∷◌, length, Option, Some, None}
+use Rattle.std.specs.List.{AllByRecursion as AllAre}
 use Rattle.green_threads.specs.WaitTypes.{Answer}
 use Rattle.green_threads.specs.declared.runner.Stop.{Stop}
 use Rattle.green_threads.specs.declared.runner.Stop.TheVariants as stop
@@ -9,7 +10,8 @@ use Rattle.model_run.specs.declared.ending.Branch.{Branch}
 use Rattle.model_run.specs.declared.ending.Asked.{Asked}
 use Rattle.model_run.specs.declared.ending.Asked.TheVariants.{ForRequest as For_request, ForBranches as For_branches}
 use Rattle.model_run.specs.declared.frame.Frame.{Frame}
-use Rattle.model_run.specs.Fitting.{most_nodes}
+use Rattle.model_run.specs.declared.flow.FlowNode.{FlowNode}
+use Rattle.model_run.specs.Fitting.{IsFlowNode, SharedFits}
 use Rattle.model_run.specs.State.{Setting, Common, Own, Reply, State, Result, Ended, Waits, Limited}
 use Rattle.model_run.specs.Threads.{Runs, Script, Closure, Thread, stands}
 use Rattle.model_run.specs.World.{given_answer, outcome_of, first_own}
@@ -68,12 +70,21 @@ StopsAs stance r (stop.Forks bs) x u = (ds : List Branch) × (s : State) × (r �
 StopsAs stance r (stop.Ended o) x u = (e : Ending) × (s : State) × (r ≡ Ended e s) × (outcome_of e ≡ o) × Left s x u
 StopsAs stance r (stop.Limit k) x u = (s : State) × (r ≡ Limited k s) × Left s x u
 
+-- the branches that a thread begins stand behind flow nodes
+abbrev pub BranchesBehind : {T : Type 0} → (T → Stance) → List FlowNode → Stop T → Type 0
+BranchesBehind {T} stance nodes (stop.Forks bs) = AllAre (λ (b : NewBranch T). IsFlowNode nodes (stance b.thread).own.head) bs
+BranchesBehind stance nodes s = Unit {0}
+
 -- A turn is one of the definitions: for every thread that it stands for, it stops as that thread does with one answer more, over the same
--- shared state. It has begun then, and keeps its number and parent, and the setting; and it makes no flow node beyond those that an image has room for.
+-- shared state. It has begun then, and keeps its number and parent, and the setting. However it stops, the shared state is sound then, no
+-- flow node has gone, and it stands behind one, as the branches do that it begins.
 pub record Turns {T S : Type 0} (stance : T → Stance) (common : S → Common) (setting : S → Setting) (t : T) (u : S) (x : Answer) (stopped : Stop T) (t' : T) (u' : S) : Type 0 where
   pub begun : (stance t').runs ≡ None
   pub number : (stance t').own.number ≡ (stance t).own.number
   pub parent : (stance t').parent ≡ (stance t).parent
   pub same_setting : setting u' ≡ setting u
-  pub few_nodes : length (common u).nodes ≤ most_nodes false → length (common u').nodes ≤ most_nodes false
+  pub nodes_stay : length (common u).nodes ≤ length (common u').nodes
+  pub sound : SharedFits (setting u') false (common u')
+  pub head : IsFlowNode (common u').nodes (stance t').own.head
+  pub branches : BranchesBehind stance (common u').nodes stopped
   pub stops : (h : Thread) → StandsFor (setting u) (stance t) h → StopsAs stance (stands (setting u) (given_answer (common u) x h)) stopped (stance t') (common u')

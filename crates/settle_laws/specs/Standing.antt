@@ -1,11 +1,14 @@
 -- The threads of a group that stand for those of a build of the definitions, and what that build comes to where they have settled.
 use Rattle.std.specs.Prelude.{◌≡◌, ◌≤◌, ℕ, suc, true, List, [], ◌∷◌, map, slice_get, None}
+use Rattle.std.specs.List.{AllByRecursion as AllAre}
 use Rattle.model_values.specs.declared.value.Outcome.{Outcome}
 use Rattle.model_values.specs.declared.value.Outcome.TheVariants as outcome
 use Rattle.model_values.specs.declared.cell.Cell.{Cell}
 use Rattle.model_values.specs.Limits.{limit_line}
 use Rattle.model_run.specs.declared.result.BuildResult.{BuildResult}
 use Rattle.model_run.specs.declared.result.BuildResult.TheVariants.{Failure}
+use Rattle.model_run.specs.declared.flow.FlowNode.{FlowNode}
+use Rattle.model_run.specs.Fitting.{IsFlowNode}
 use Rattle.model_run.specs.Results.{worse}
 use Rattle.model_run.specs.State.{Setting, Common}
 use Rattle.model_run.specs.Threads.{Thread}
@@ -68,6 +71,10 @@ heads stance xs = map (λ x. (stance x.thread).own.head) xs
 abbrev pub first_head : {T : Type 0} → (T → Stance) → List (Seated T) → ℕ
 first_head stance [] = 0
 first_head stance (x ∷ xs) = (stance x.thread).own.head
+
+-- the last flow node of each thread is there
+abbrev pub HeadsStand : {T : Type 0} → (T → Stance) → List FlowNode → List (Seated T) → Type 0
+HeadsStand {T} stance nodes xs = AllAre (λ (x : Seated T). IsFlowNode nodes (stance x.thread).own.head) xs
 
 -- What a build of the definitions comes to where its threads have settled so: it goes on with threads that wait, or is over.
 abbrev pub Comes : {T : Type 0} → (T → Stance) → Setting → Settled → Threads T → Common → Build → Build → Type 0

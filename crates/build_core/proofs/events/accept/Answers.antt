@@ -1,5 +1,5 @@
 use Rattle.std.proofs.Common.{◌≡◌, ◌∙◌, sym, ap, subst}
-use Rattle.build_core.specs.Names.{Event, OutputEvent, LogStream, OutStream}
+use Rattle.script_thread.specs.Names.{Event, OutputEvent, LogStream, OutStream}
 use Rattle.build_core.specs.Taking.{GoesOn}
 use Rattle.build_core.proofs.Answering.{map_ok}
 use Rattle.build_core.proofs.events.accept.Goals as goal

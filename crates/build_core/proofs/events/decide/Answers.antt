@@ -1,7 +1,7 @@
 use Rattle.std.proofs.Common.{◌≡◌, refl, ap}
 use Rattle.cps_frames.specs.declared.shared.Shared.{Shared}
-use Rattle.build_core.specs.Names.{DecidedEvent, DecidedAnswer}
-use Rattle.build_core.specs.Events.{shared_after}
+use Rattle.script_thread.specs.Names.{DecidedEvent, DecidedAnswer}
+use Rattle.script_thread.specs.Events.{shared_after}
 use Rattle.build_core.proofs.Answering.{may_answer, decided, goes_on, map_ok}
 use Rattle.build_core.proofs.Fitting.{input_open, thread_is}
 use Rattle.build_core.proofs.events.decide.Goals as goal
@@ -12,7 +12,7 @@ answer-requires g c =
     let u2 : Shared = record u { requests = c.close-closed.new.requests; count = 0 } in
     let same : u2 ≡ shared_after (DecidedEvent c.args.request c.args.proceed c.args.name) u = ap (λ rs. record u { requests = rs; count = 0 }) c.close-closed.ensures.others in
     record {
-      may = may_answer g.R.Runner.number g.R.Runner.parent g.R.Runner.branch g.R.Runner.room g.R.Runner.fits g.met.R.ScriptThread.room_is g.met.R.ScriptThread.awaited g.met.R.ScriptThread.event_fits c.args.group.now u c.requires.go
+      may = may_answer g.R.Runner.number g.R.Runner.parent g.R.Runner.branch g.R.Runner.fits g.met.R.ScriptThread.awaited g.met.R.ScriptThread.event_fits c.args.group.now u c.requires.go
           (DecidedEvent c.args.request c.args.proceed c.args.name) c.requires.accepted tt c.args.request (DecidedAnswer c.args.proceed c.args.name) refl (input_open _ c.requires.accepted)
           c.close-closed.result.thread (thread_is c.args.request u.requests c.close-closed.result c.close-closed.ensures.closed) _ refl u2 same;
     }

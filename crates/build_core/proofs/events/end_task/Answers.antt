@@ -3,8 +3,8 @@ use Rattle.std.specs.Prelude.{find, nat_eq}
 use Rattle.model_run.specs.World as W
 use Rattle.model_run.specs.Taking.{request_of}
 use Rattle.cps_frames.specs.declared.shared.Shared.{Shared}
-use Rattle.build_core.specs.Names.{ExitedEvent, Done, OpenRequest}
-use Rattle.build_core.specs.Events.{shared_after}
+use Rattle.script_thread.specs.Names.{ExitedEvent, Done, OpenRequest}
+use Rattle.script_thread.specs.Events.{shared_after}
 use Rattle.build_core.proofs.Answering.{may_answer, ended, goes_on, map_ok}
 use Rattle.build_core.proofs.Fitting.{task_open, thread_is, request_is}
 use Rattle.build_core.proofs.events.end_task.Goals as goal
@@ -20,7 +20,7 @@ answer-requires g c =
     let same : u2 ≡ shared_after (ExitedEvent c.args.task c.args.code) u = ap (λ rs. record u { requests = rs; count = 0 }) c.close-closed.ensures.others in
     let code_is : to_z w32 (of_z w32 c.args.code) ≡ c.args.code = search rules in
     record {
-      may = may_answer g.R.Runner.number g.R.Runner.parent g.R.Runner.branch g.R.Runner.room g.R.Runner.fits g.met.R.ScriptThread.room_is g.met.R.ScriptThread.awaited g.met.R.ScriptThread.event_fits c.args.group.now u c.requires.go
+      may = may_answer g.R.Runner.number g.R.Runner.parent g.R.Runner.branch g.R.Runner.fits g.met.R.ScriptThread.awaited g.met.R.ScriptThread.event_fits c.args.group.now u c.requires.go
           (ExitedEvent c.args.task c.args.code) c.requires.accepted tt c.args.task (Done c.args.code (W.kept_output (request_of u.requests c.args.task))) refl (task_open _ c.requires.accepted)
           c.close-closed.result.thread (thread_is c.args.task u.requests c.close-closed.result c.close-closed.ensures.closed)
           (Done (to_z w32 (of_z w32 c.args.code)) c.take_output-out.result) (answer_is c.take_output-out.result c.args.code (to_z w32 (of_z w32 c.args.code)) u.requests c.args.task c.close-closed.result code_is c.close-closed.ensures.closed c.take_output-out.ensures) u2 same;

@@ -1,14 +1,19 @@
-use Rattle.std.proofs.Common.{◌≡◌, ◌<◌, ◌≤◌, ◌+◌, ℕ, refl, ap, length, arith}
+use Rattle.std.proofs.Common.{[], ◌∷◌, ◌≡◌, ◌<◌, ◌≤◌, ◌+◌, ℕ, refl, ap, length, arith}
+use Rattle.model_values.specs.Limits.{limit_line}
+use Rattle.model_run.specs.declared.result.BuildResult.TheVariants.{Failure}
+use Rattle.model_run.specs.Results.{worse}
 use Rattle.model_values.specs.declared.limit.LimitKind.TheVariants.{TextLength}
 use Rattle.model_run.specs.Taking.{request_of}
 use Rattle.model_run.specs.World as W
 use Rattle.cps_frames.specs.declared.shared.Shared.{Shared}
 use Rattle.cps_frames.specs.Standing.{setting_of, common_of}
-use Rattle.build_core.specs.Names.{OutputEvent, OutStream}
-use Rattle.build_core.specs.Events.{shared_after}
+use Rattle.settle_laws.specs.Standing.{heads}
+use Rattle.settle_laws.proofs.Heads.{heads_are}
+use Rattle.script_thread.specs.Names.{OutputEvent, OutStream}
+use Rattle.script_thread.specs.Events.{shared_after}
 use Rattle.build_core.proofs.Changes.{anew, uncounted_stand, kept_is, text_limit_is}
 use Rattle.build_core.proofs.Answering.{rests_after, rests_on, is_limited, map_ok}
-use Rattle.build_core.proofs.Rests.{over_sound}
+use Rattle.build_core.proofs.Ended.{counted_fits, over_sound}
 use Rattle.build_core.proofs.events.keep_out.Goals as goal
 
 pub returns-then-saturating_add-gt-MAX_TEXT-clause-stands : goal.returns-then-saturating_add-gt-MAX_TEXT-clause-stands
@@ -37,8 +42,13 @@ returns-clause-sound g c =
     let few : length (W.kept_output (request_of u.requests c.args.task)) + length c.args.bytes.now ≤ W.run_limits.values.text = omega (arith, c.if-saturating_add-gt-MAX_TEXT.false, c.saturating_add.ensures, c.kept_len-kept.ensures) in
     let u2 : Shared = record u { requests = c.keep_output.new.requests; count = 0 } in
     let same : u2 ≡ shared_after (OutputEvent c.args.task OutStream from c.args.bytes.now) u = ap (λ rs. record u { requests = rs; count = 0 }) c.in_ok-keep_output.ensures in
-    rests_after g.R.Runner.number g.R.Runner.parent g.R.Runner.branch g.R.Runner.room g.R.Runner.fits g.met.R.ScriptThread.room_is g.met.R.ScriptThread.awaited g.met.R.ScriptThread.event_fits c.args.group.now u c.requires.go
+    rests_after g.R.Runner.number g.R.Runner.parent g.R.Runner.branch g.R.Runner.fits g.met.R.ScriptThread.awaited g.met.R.ScriptThread.event_fits c.args.group.now u c.requires.go
     (OutputEvent c.args.task OutStream from c.args.bytes.now) c.requires.accepted.1 few refl u2 same
 
 pub returns-then-saturating_add-gt-MAX_TEXT-clause-sound : goal.returns-then-saturating_add-gt-MAX_TEXT-clause-sound
-returns-then-saturating_add-gt-MAX_TEXT-clause-sound g c = map_ok c.end_by_limit.result c.end_by_limit.ensures.over (λ p o. over_sound g.R.Runner.number g.R.Runner.parent g.R.Runner.branch g.R.Runner.room g.R.Runner.fits p _ _ _ _ _ o refl refl)
+returns-then-saturating_add-gt-MAX_TEXT-clause-sound g c =
+    let u : Shared = c.args.shared.now in
+    map_ok c.end_by_limit.result c.end_by_limit.ensures.over
+    (λ p o. over_sound g.R.Runner.number g.R.Runner.parent g.R.Runner.branch g.R.Runner.fits p c.args.group.now (record u { count = 0 }) (heads g.R.ScriptThread.stance c.args.group.now.seats) (limit_line TextLength ∷ []) (worse u.result Failure) _ _ o
+    (counted_fits (setting_of u) (common_of u) 0 (g.met.R.ScriptThread.shared_fits _ _ c.requires.go.fit))
+    (heads_are g.R.ScriptThread.stance _ _ (g.met.R.ScriptThread.heads_stand _ _ c.requires.go.fit)) c.requires.go.few_threads)

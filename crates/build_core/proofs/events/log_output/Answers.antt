@@ -1,16 +1,22 @@
-use Rattle.std.proofs.Common.{◌≡◌, ◌∙◌, ℕ, refl, ap, length}
+use Rattle.std.proofs.Common.{[], ◌∷◌, ◌≡◌, ◌∙◌, ℕ, false, refl, sym, ap, subst, length}
+use Rattle.model_values.specs.Limits.{limit_line}
+use Rattle.model_run.specs.declared.result.BuildResult.TheVariants.{Failure}
+use Rattle.model_run.specs.Results.{worse}
 use Rattle.model_values.specs.declared.limit.LimitKind.TheVariants.{LogSize}
+use Rattle.model_run.specs.Fitting.{SharedFits}
 use Rattle.model_run.specs.World as W
 use Rattle.model_run.specs.LogText.{raw}
 use Rattle.cps_frames.specs.declared.shared.Shared.{Shared}
 use Rattle.cps_frames.specs.Standing.{setting_of, common_of}
 use Rattle.build_log.specs.Refusals.{limit_of}
-use Rattle.build_core.specs.Names.{OutputEvent, LogStream}
-use Rattle.build_core.specs.Events.{shared_after}
+use Rattle.settle_laws.specs.Standing.{heads}
+use Rattle.settle_laws.proofs.Heads.{heads_are}
+use Rattle.script_thread.specs.Names.{OutputEvent, LogStream}
+use Rattle.script_thread.specs.Events.{shared_after}
 use Rattle.build_core.proofs.Changes.{anew, uncounted_stand, logged_is, log_limit_is}
 use Rattle.build_core.proofs.Fitting.{log_over, log_within, room_to_take}
 use Rattle.build_core.proofs.Answering.{rests_after, rests_on, is_limited, map_ok}
-use Rattle.build_core.proofs.Rests.{over_sound}
+use Rattle.build_core.proofs.Ended.{counted_fits, over_sound}
 use Rattle.build_core.proofs.events.log_output.Goals as goal
 
 pub returns-in-Err-LogLimit-clause-stands : goal.returns-in-Err-LogLimit-clause-stands
@@ -45,8 +51,13 @@ returns-clause-sound g c =
     let same : u2 ≡ shared_after (OutputEvent c.args.task LogStream from c.args.bytes.now) u =
     ap (λ l. record u { log = l; requests = c.count_taken.new.requests; count = 0 }) c.in-Ok.ensures.written
     ∙ ap (λ rs. record u { log = raw c.args.bytes.now u.log; requests = rs; count = 0 }) c.count_taken.ensures in
-    rests_after g.R.Runner.number g.R.Runner.parent g.R.Runner.branch g.R.Runner.room g.R.Runner.fits g.met.R.ScriptThread.room_is g.met.R.ScriptThread.awaited g.met.R.ScriptThread.event_fits c.args.group.now u c.requires.go
+    rests_after g.R.Runner.number g.R.Runner.parent g.R.Runner.branch g.R.Runner.fits g.met.R.ScriptThread.awaited g.met.R.ScriptThread.event_fits c.args.group.now u c.requires.go
     (OutputEvent c.args.task LogStream from c.args.bytes.now) c.requires.accepted.1 (log_within u.log c.args.bytes.now c.in-Ok.ensures.refusal) refl u2 same
 
 pub returns-in-Err-LogLimit-clause-sound : goal.returns-in-Err-LogLimit-clause-sound
-returns-in-Err-LogLimit-clause-sound g c = map_ok c.end_by_limit.result c.end_by_limit.ensures.over (λ p o. over_sound g.R.Runner.number g.R.Runner.parent g.R.Runner.branch g.R.Runner.room g.R.Runner.fits p _ _ _ _ _ o refl refl)
+returns-in-Err-LogLimit-clause-sound g c =
+    let u : Shared = c.args.shared.now in
+    map_ok c.end_by_limit.result c.end_by_limit.ensures.over
+    (λ p o. over_sound g.R.Runner.number g.R.Runner.parent g.R.Runner.branch g.R.Runner.fits p c.args.group.now (record u { log = c.raw.new.self; count = 0 }) (heads g.R.ScriptThread.stance c.args.group.now.seats) (limit_line LogSize ∷ []) (worse u.result Failure) _ _ o
+    (subst (λ l. SharedFits (setting_of u) false (record (common_of u) { log = l; count = 0 })) (sym c.in-Err-LogLimit.ensures.unchanged) (counted_fits (setting_of u) (common_of u) 0 (g.met.R.ScriptThread.shared_fits _ _ c.requires.go.fit)))
+    (heads_are g.R.ScriptThread.stance _ _ (g.met.R.ScriptThread.heads_stand _ _ c.requires.go.fit)) c.requires.go.few_threads)

@@ -1,6 +1,6 @@
 -- What an event changes of what the threads of a build share, and which thread it answers, before any thread goes on.
 use Rattle.std.specs.Prelude.{◌≡◌, ◌≤◌, ◌+◌, ℕ, List, [], length, Option, Some, None}
-use Rattle.build_core.specs.Names.{Event, StartEvent, GrantedEvent, OutputEvent, ExitedEvent, LostEvent, DecidedEvent, LogStream, OutStream, OpenRequest, Answer, Begin, GrantedAnswer, Done, DecidedAnswer, Ready}
+use Rattle.script_thread.specs.Names.{Event, StartEvent, GrantedEvent, OutputEvent, ExitedEvent, LostEvent, DecidedEvent, LogStream, OutStream, OpenRequest, Answer, Begin, GrantedAnswer, Done, DecidedAnswer, Ready}
 use Rattle.model_run.specs.Grants.{executor_of}
 use Rattle.model_run.specs.LogText.{raw}
 use Rattle.model_run.specs.Taking.{request_of}
@@ -8,10 +8,11 @@ use Rattle.model_run.specs.State.{Setting, Common}
 use Rattle.model_run.specs.World as W
 use Rattle.green_threads.specs.declared.runner.Seated.{Seated}
 use Rattle.green_threads.specs.Threads.{with_seat, waits_as}
+use Rattle.cps_code.specs.Script.{IsScript, script_of}
 use Rattle.cps_frames.specs.declared.shared.Shared.{Shared}
 use Rattle.cps_frames.specs.Standing.{setting_of, common_of}
 
--- the shared state of the definitions behind an event that does not end the build (`World`, `changed_by`)
+-- the shared state of the definitions behind an event that does not end the build (`World`, `changed_by`); none that goes on takes a start
 abbrev pub common_after : Setting → Event → Common → Common
 common_after g (StartEvent script agents) u = u
 common_after g (GrantedEvent request executor) u = W.without_request request (W.held_as g.site request executor (executor_of g.site executor) u)
@@ -53,8 +54,9 @@ seats_answered rs (Some (n, x)) xs = with_seat (waits_as (Ready x)) (W.thread_of
 abbrev pub seats_after : {T : Type 0} → Event → List OpenRequest → List (Seated T) → List (Seated T)
 seats_after event rs xs = seats_answered rs (answer_by event rs) xs
 
--- The shared state of a build that begins: that of the definitions, over a new heap.
+-- The shared state of a build of a script that begins: that of the definitions, over a new heap.
 pub record IsBegun (u : Shared) : Type 0 where
+  pub script : IsScript (script_of u.code)
   pub shared : common_of u ≡ W.begun.shared
   pub heap : u.heap ≡ record { cells = []; changed = []; spare = 0 }
 

@@ -1,4 +1,4 @@
--- The names by which the definitions call the types of `model_run` and of this crate.
+-- The names by which the definitions call the types of `model_run`.
 pub use Rattle.model_run.specs.declared.site.Site.{Site}
 pub use Rattle.model_run.specs.declared.site.Executor.{Executor}
 pub use Rattle.model_run.specs.declared.held.Held.{Held}
@@ -14,5 +14,3 @@ pub use Rattle.model_run.specs.declared.taken.Taken.TheVariants.{Accepted, NotOp
 pub use Rattle.model_run.specs.declared.wait.Answer.{Answer}
 pub use Rattle.model_run.specs.declared.wait.Answer.TheVariants.{Begin, Granted as GrantedAnswer, Done, Decided as DecidedAnswer}
 pub use Rattle.model_run.specs.declared.wait.Wait.TheVariants.{Ready}
-pub use Rattle.build_core.specs.declared.phase.Phase.{Phase}
-pub use Rattle.build_core.specs.declared.phase.Phase.TheVariants.{Unbegun, Running, Ended, Stopped}

@@ -13,8 +13,9 @@ ghost use Rattle.green_threads.specs.Threads.{waits_for_request};
 ghost use Rattle.cps_frames.specs.declared.shared.Shared.{Shared};
 ghost use Rattle.cps_frames.specs.Standing.{setting_of, common_of};
 ghost use Rattle.settle_laws.specs.Stances.{Stance, seated_as, script_stance, Turns};
+ghost use Rattle.settle_laws.specs.Standing.{HeadsStand};
 ghost use Rattle.build_requests.specs.Standings.{standing_of};
-ghost use Rattle.build_core.specs.Events.{EndsNot, seats_after, shared_after, IsBegun, first_seat};
+ghost use Rattle.script_thread.specs.Events.{EndsNot, seats_after, shared_after, IsBegun, first_seat};
 
 use cps_frames::Shared;
 use green_threads::Runner;
@@ -49,6 +50,9 @@ pub trait ScriptThread: Runner<Shared = Shared> {
 
     /// Threads that fit have a sound shared state.
     ghost shared_fits: { (xs : List (Seated Self)) (u : Shared) → Self.fits xs u → SharedFits (setting_of u) false (common_of u) };
+
+    /// The last flow node of each thread that fits is there.
+    ghost heads_stand: { (xs : List (Seated Self)) (u : Shared) → Self.fits xs u → HeadsStand stance u.graph xs };
 
     /// The thread of an open request waits for the answer to a request.
     ghost awaited: { (xs : List (Seated Self)) (u : Shared) (n : ℕ) → Self.fits xs u → is_some (request_of u.requests n) ≡ true → waits_for_request (thread_of n u.requests) xs ≡ true };
