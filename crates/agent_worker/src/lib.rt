@@ -33,6 +33,7 @@ pub use answer_line::{AnswerLine, answer_of};
 pub use fault::TakeFault;
 pub use gate::{Claim, ClaimSaid, Gate, GateCall, Heard, Inputs, Said};
 pub use member::{Member, work};
+pub use operator::{LineEnd, answer_in, read_line};
 pub use task::{Served, serve};
 pub use worked::Worked;
 

@@ -3,7 +3,7 @@
 ghost use Rattle.std.specs.Prelude.{◌≡◌, ◌≢◌, ◌++◌, ◌∷◌, [], ℕ, List, length, true, MatchResult, MatchOption, OnOk, IfErr};
 ghost use Rattle.std.specs.Io.KnownBytes.{Consumes, IsAtEnd, Keeps};
 ghost use Rattle.device_faults.specs.Faults.{CountsFault, HasCause};
-ghost use Rattle.agent_worker.specs.AnswerBytes.{short, NoNewline, read_bytes, without_cr};
+ghost use Rattle.agent_worker.specs.AnswerBytes.{short, NoNewline, read_bytes, without_cr, kept_line};
 ghost use Rattle.agent_worker.specs.Gate.{GateTells};
 ghost use Rattle.agent_worker.specs.Operating.{Ask, ReadLine, OperatesSoFar, GivesLine, Operates};
 
@@ -27,7 +27,7 @@ const PAUSE: u64 = 20;
 
 /// Where reading a line stopped.
 #[derive(Clone, Copy, Debug, PartialEq, Eq)]
-pub(crate) enum LineEnd {
+pub enum LineEnd {
     /// At a newline, which was read.
     Line,
     /// At the end of the answers.
@@ -67,9 +67,10 @@ fn put(line: &mut Bytes, byte: u8) -> Result<(), AllocError>
     Ok(())
 }
 
-// Reads a line on, to its newline or to the end of the answers. A line that is too long is read all the same, and not
-// all of it is kept.
-fn read_line<R: Wait, A: Source>(rt: &R, answers: &mut A, line: &mut Bytes) -> LineEnd
+/// Reads a line of the answers on, byte by byte, to its newline or to the end of the answers, and tells where reading it
+/// stopped. `line` has what of the line came before. A line that is too long is read all the same, and no more of it is kept
+/// than shows that it is ([`answer_in`]). It may wait for ever.
+pub fn read_line<R: Wait, A: Source>(rt: &R, answers: &mut A, line: &mut Bytes) -> LineEnd
     ensures bytes { (bytes : List ℕ) × NoNewline bytes
         × Consumes (A.left answers.old) (A.left answers.new) (read_bytes result bytes)
         × ((begun : List ℕ) → line.old ≡ short begun → result ≢ LineEnd.Memory → line.new ≡ short (begun ++ bytes)) }
@@ -92,6 +93,18 @@ fn read_line<R: Wait, A: Source>(rt: &R, answers: &mut A, line: &mut Bytes) -> L
         }
     }
     unreachable!()
+}
+
+/// The answer line in what is kept of a line: the line without a CR at its end. `None` comes exactly where it has more than
+/// 1,024 bytes, and is passed over.
+pub fn answer_in(line: &[u8]) -> Option<&[u8]>
+    ensures { MatchOption result (kept_line line.now ≡ []) (λ answer. kept_line line.now ≡ answer.now ∷ []) }
+{
+    let answer = strip_cr(line);
+    if answer.len() > LONGEST {
+        return None;
+    }
+    Some(answer)
 }
 
 // The line without a CR at its end.
@@ -117,10 +130,9 @@ fn give<G: Gate>(alloc: Global, gate: &mut G, line: &mut Bytes) -> Result<(), Wo
     ensures failed { IfErr result (λ ending. ending ≢ Worked.AnswersFailed) }
 {
     let whole = std::mem::replace(line, Bytes::new(alloc));
-    let answer = strip_cr(whole.as_slice());
-    if answer.len() > LONGEST {
+    let Some(answer) = answer_in(whole.as_slice()) else {
         return Ok(());
-    }
+    };
     match gate.answer(answer) {
         Ok(_) => Ok(()),
         Err(fault) => match fault {

@@ -1,0 +1,4 @@
+pub mod Begun
+pub mod Decisions
+pub mod Turns
+pub mod RunLaws
