@@ -1,0 +1,78 @@
+ghost use Rattle.std.specs.Prelude.{All, IfOk};
+ghost use Rattle.cell_heap.specs.Soundness.{ValueBelow};
+
+use cell_heap::{CellRefusal, Heap};
+use model_values::{Cell, Entries, Key, Value, Values};
+use std::alloc::{AllocError, Global};
+use std::test::Fail;
+
+fn nulls(alloc: Global, count: usize) -> Result<Values, AllocError>
+    ensures { IfOk result (All (ValueBelow 0)) }
+{
+    let mut values = Values::new(alloc);
+    for _ in 0..count {
+        values.push(Value::Null)?;
+    }
+    Ok(values)
+}
+
+#[test]
+fn new_and_written_cells_are_changed_since_the_mark(rt: HostRuntime) -> Result<(), Fail> {
+    let mut heap = Heap::new(rt.alloc());
+    heap.new_cell(Cell::List(Values::new(rt.alloc())))?;
+    heap.mark();
+    heap.new_cell(Cell::Variable(Value::Int(5)))?;
+    heap.list_push(0, Value::Cell(1))?;
+    assert_eq!(rt; heap.changed_since()?.as_slice(), [0, 1].as_slice());
+    assert_eq!(rt; heap.len(), 2);
+    assert_eq!(rt; heap.bytes(), 48);
+    Ok(())
+}
+
+#[test]
+fn reserved_cells_are_made(rt: HostRuntime) -> Result<(), Fail> {
+    let mut heap = Heap::new(rt.alloc());
+    assert!(rt; heap.is_empty());
+    heap.reserve(2)?;
+    assert_eq!(rt; heap.new_cell(Cell::Variable(Value::Null)), Ok(0));
+    assert_eq!(rt; heap.new_cell(Cell::Variable(Value::Bool(true))), Ok(1));
+    heap.set(0, Value::Int(7));
+    match heap.get(0) {
+        Cell::Variable(value) => assert_eq!(rt; *value, Value::Int(7)),
+        _ => assert!(rt; false),
+    }
+    Ok(())
+}
+
+#[test]
+fn a_list_of_65536_entries_takes_no_more(rt: HostRuntime) -> Result<(), Fail> {
+    let mut heap = Heap::new(rt.alloc());
+    heap.new_cell(Cell::List(nulls(rt.alloc(), 65536)?))?;
+    assert_eq!(rt; heap.list_push(0, Value::Null), Err(CellRefusal::Entries));
+    Ok(())
+}
+
+#[test]
+fn maps_take_and_give_back_entries(rt: HostRuntime) -> Result<(), Fail> {
+    let mut heap = Heap::new(rt.alloc());
+    heap.new_cell(Cell::Map(Entries::new(rt.alloc())))?;
+    assert_eq!(rt; heap.map_put(0, Key::Int(3), Value::Null), Ok(None));
+    assert_eq!(rt;
+        heap.map_put(0, Key::Int(3), Value::Int(1)),
+        Ok(Some(Value::Null))
+    );
+    assert_eq!(rt; heap.bytes(), 48);
+    assert_eq!(rt; heap.map_remove(0, &Key::Int(3)), Some(Value::Int(1)));
+    assert_eq!(rt; heap.map_remove(0, &Key::Int(3)), None);
+    Ok(())
+}
+
+#[test]
+fn a_restored_heap_has_its_cells_unchanged(rt: HostRuntime) -> Result<(), Fail> {
+    let mut cells = Vec::new(rt.alloc());
+    cells.push(Cell::Variable(Value::Int(4)))?;
+    let heap = Heap::restore(rt.alloc(), cells)?;
+    assert_eq!(rt; heap.len(), 1);
+    assert_eq!(rt; heap.changed_since()?.len(), 0);
+    Ok(())
+}
