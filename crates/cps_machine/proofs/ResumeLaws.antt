@@ -1,5 +1,5 @@
 -- A turn keeps the fit of all threads, and makes a flow node for each branch that begins or ends.
-use Rattle.std.proofs.Common.{◌≡◌, ◌∙◌, ℕ, suc, ◌+◌, ◌≤◌, true, false, List, [], ◌∷◌, ◌++◌, map, length, Option, Some, None, arith, refl, ap, subst, sym}
+use Rattle.std.proofs.Common.{◌≡◌, ◌∙◌, ℕ, suc, ◌+◌, ◌<◌, ◌≤◌, true, false, List, [], ◌∷◌, ◌++◌, map, length, Option, Some, None, arith, refl, ap, subst, sym}
 use Rattle.std.specs.Prelude.{find, is_some, nat_eq, slice_get}
 use Rattle.std.specs.List.{AllByRecursion as AllAre}
 use Rattle.model_syntax.specs.declared.node.NodeForm.TheVariants as form
@@ -15,7 +15,7 @@ use Rattle.model_run.specs.declared.wait.Answer.{Answer}
 use Rattle.model_run.specs.declared.wait.Answer.TheVariants.{Begin}
 use Rattle.model_run.specs.declared.wait.Wait.{Wait}
 use Rattle.model_run.specs.declared.wait.Wait.TheVariants.{Ready, Request as RequestWait, Branches as BranchesWait}
-use Rattle.model_run.specs.Fitting.{Distinct, ForRequest as IsForRequest, IsFlowNode, IsWaitedFor, OutcomeFits, Rise, SharedFits, outermost}
+use Rattle.model_run.specs.Fitting.{Above, Distinct, ForRequest as IsForRequest, IsFlowNode, IsWaitedFor, OutcomeFits, outermost, ParentFits, ParentIs, Rise, SharedFits, WaitsFor}
 use Rattle.model_run.specs.Requests.{numbers_of}
 use Rattle.model_run.specs.Nesting.{Any_body, Any_branch, Begun, Body_of, For_branches, For_executor, For_person, For_task, Spot, innermost, shape_at}
 use Rattle.model_run.specs.State.{Common, Setting}
@@ -42,7 +42,7 @@ use Rattle.cps_frames.specs.declared.thread.Move.TheVariants as move
 use Rattle.cps_frames.specs.declared.thread.ThreadState.{ThreadState}
 use Rattle.cps_frames.proofs.Beginnings.{branch_poised, thread_with}
 use Rattle.cps_machine.specs.Resuming.{BeginsAs, ResumesAs}
-use Rattle.thread_fits.specs.Seats.{Fits, HasBegun, IsAlone, IsGranted, IsReady, SeatStands, StartStands, WaitStands, as_seat, first_of, nodes_left, waiting_move}
+use Rattle.thread_fits.specs.Seats.{Family, Fits, HasBegun, IsAlone, IsGranted, IsReady, SeatStands, StartStands, WaitStands, as_seat, first_of, nodes_left, waiting_move}
 use Rattle.cps_machine.specs.Stops.{Begins as May_begin, MayRun, Stops}
 use Rattle.cps_machine.specs.Threads.{Beginning, IsStop, IsTurn, branch_by, first_move, is_branch, runs_of, seated, seen, stance_of, to_begin}
 use Rattle.cps_machine.specs.Turns.{IsAsked}
@@ -54,7 +54,8 @@ use Rattle.cps_machine.specs.declared.thread.Start.TheVariants as start
 use Rattle.thread_fits.proofs.Facts.{facts_of}
 use Rattle.cps_machine.proofs.ThreadLaws.{begins_branch, begins_script, resumes_as}
 use Rattle.thread_fits.proofs.SeatLaws.{joined_grants, joined_stands, latest_found, outcome_there, stands_on, wait_then, with_move}
-use Rattle.thread_fits.proofs.SeatRows.{IsAwaited, all_at, all_both, all_more, awaited_more, awaited_now, awaited_with, awaited_without, below_with, differ_more, differ_with, differ_without, numbers, ready_awaits, same_parent, with_all, without_all}
+use Rattle.thread_fits.proofs.FamilyLaws.{changed_family, ended_family, forked_family}
+use Rattle.thread_fits.proofs.SeatRows.{IsAwaited, all_at, all_both, all_more, below_with, differ_more, differ_with, differ_without, found, found_at, found_more, found_now, found_with, found_without, numbers, ready_above, ready_awaits, same_parent, with_all, without_all}
 use Rattle.thread_fits.proofs.SharedLaws.{turn_shared}
 
 abbrev pub Seat : Type 0
@@ -74,6 +75,10 @@ all_stand u (x ∷ xs) h = ((h.0).0, all_stand u xs h.1)
 all_alone : (u : Shared) (all xs : List Seat) → AllAre (Quiet u) xs → AllAre (IsAlone all) xs
 all_alone u all [] h = tt
 all_alone u all (x ∷ xs) h = ((λ given. absurd ((h.0).1 given)), all_alone u all xs h.1)
+
+-- a thread has one parent
+one_parent : (m p : ℕ) (o : Option ℕ) → o ≡ Some m → o ≡ Some p → m ≡ p
+one_parent m p o a b = let same : Some m ≡ Some p = sym a ∙ b in cc same
 
 -- a thread that waits for a request does so still where a branch has ended
 joined_request : (n head : ℕ) (o : Outcome) (r : ℕ) (w : Wait) → w ≡ RequestWait r → join_wait n head o w ≡ RequestWait r
@@ -217,6 +222,10 @@ module _ (xs : List Seat) (u u' : Shared) (x : Seat) (i : ℕ) (t t' : MachineTh
     runs_none : (stance_of t').runs ≡ None
     runs_none = ap (λ o. runs_of o t'.state.head) begun
 
+    -- it waits for no branch
+    never : (m : ℕ) → Above m (found stance_of xs x.number) → ⊥
+    never m = ready_above stance_of xs i x a m fits.numbers at ready
+
     -- it stands in its seat again
     turned_stands : (w : Wait) → Poised (setting_of u') begun_at.0 (outermost x.parent) (standing u' t'.state) (waiting_move w (stance_of t')) → HasBegun w (stance_of t').runs → WaitStands (common_of u') (innermost (script_of u'.code) (outermost x.parent) t'.state.stack.items) x.number w
         → (y : Seat) → y.number ≡ x.number → Known y → SeatStands stance_of u' (turned_seat w t' y)
@@ -246,8 +255,8 @@ module _ (xs : List Seat) (u u' : Shared) (x : Seat) (i : ℕ) (t t' : MachineTh
       shared' : SharedFits (setting_of u') false (common_of u')
       shared' = turn_shared (setting_of u') (common_of u) (standing u' t'.state).world (runs.leaves).follows poised.sound (subst (λ g. SharedFits g false (common_of u)) (sym same) fits.shared)
 
-      fits_now : (ys : List Seat) → Distinct (numbers ys) → AllAre (IsWaitedFor (map (as_seat stance_of) ys)) u'.requests → AllAre (Quiet u') ys → Fits stance_of ys u'
-      fits_now ys differ awaited h = record { script = script'; shared = shared'; numbers = differ; seats = all_stand u' ys h; alone = all_alone u' ys ys h; waited_for = awaited }
+      fits_now : (ys : List Seat) → Distinct (numbers ys) → Family stance_of (common_of u') ys → AllAre (IsWaitedFor (map (as_seat stance_of) ys)) u'.requests → AllAre (Quiet u') ys → Fits stance_of ys u'
+      fits_now ys differ family awaited h = record { script = script'; shared = shared'; numbers = differ; family = family; seats = all_stand u' ys h; alone = all_alone u' ys ys h; waited_for = awaited }
 
     -- it waits for a request
     module _ (r : ℕ) where
@@ -263,11 +272,12 @@ module _ (xs : List Seat) (u u' : Shared) (x : Seat) (i : ℕ) (t t' : MachineTh
           subst (λ n. IsForRequest (innermost (script_of u'.code) (outermost x.parent) t'.state.stack.items) (find (λ q. nat_eq q.number r) u'.requests) n) own_number
           (subst (λ (g : Setting). IsForRequest (innermost g.script (outermost x.parent) t'.state.stack.items) (find (λ q. nat_eq q.number r) u'.requests) t'.state.number) (sym same) found) in
           fits_now (move.Asks (ForRequest r)) poised _ (differ_with asks (λ y. refl) x.number xs fits.numbers)
+          (changed_family stance_of (common_of u) (common_of u') ((runs.leaves).follows).later xs fits.family x.number never (λ y. RequestWait r) (λ y. t') (λ y e. tt))
           (subst (AllAre (IsWaitedFor (map (as_seat stance_of) (with_seat asks x.number xs)))) (sym asked.requests)
           (all_append _ u.requests (asked.latest ∷ [])
-          (open_still (with_seat asks x.number xs) (λ q other h. awaited_with stance_of asks (λ y. refl) x.number q.thread q.number (λ y e w. absurd (other e)) xs h)) (
+          (open_still (with_seat asks x.number xs) (λ q other h. found_with stance_of (WaitsFor q.number) asks (λ y. refl) x.number q.thread (λ y e w. absurd (other e)) xs h)) (
             subst (λ n. IsAwaited stance_of (asked.latest).number n (with_seat asks x.number xs)) (sym (asked.thread ∙ own_number))
-                (awaited_now stance_of asks (λ y. refl) (asked.latest).number (λ y. ap RequestWait (sym asked.number)) xs i x at),
+                (found_now stance_of (WaitsFor (asked.latest).number) asks (λ y. refl) (λ y. ap RequestWait (sym asked.number)) xs i x at),
             tt,
           )))
           (with_all Known (Quiet u') asks x.number (λ y e k. (turned_stands (RequestWait r) poised runs_none wait y e k, λ given. given)) (others (move.Asks (ForRequest r)) poised) xs all)
@@ -277,17 +287,18 @@ module _ (xs : List Seat) (u u' : Shared) (x : Seat) (i : ℕ) (t t' : MachineTh
       abbrev forks : Seat → Seat
       forks = turned_seat (BranchesWait (new_joins next ts)) t'
 
-      branches_kept : AllBelow next xs → u'.requests ≡ u.requests → (ds : List Branch) → map seen ts ≡ map (to_begin t'.state.context) ds → Poised (setting_of u') begun_at.0 (outermost x.parent) (standing u' t'.state) (move.Asks (ForBranches ds))
+      branches_kept : AllBelow next xs → 1 ≤ length ts → u'.requests ≡ u.requests → (ds : List Branch) → map seen ts ≡ map (to_begin t'.state.context) ds → Poised (setting_of u') begun_at.0 (outermost x.parent) (standing u' t'.state) (move.Asks (ForBranches ds))
           → Fits stance_of (with_seat (turned_seat (BranchesWait (new_joins next ts)) t') x.number xs ++ new_seats seated x.number next ts) u'
-      branches_kept below quiet ds e poised =
+      branches_kept below some quiet ds e poised =
           let waits : Poised (setting_of u') begun_at.0 (outermost x.parent) (standing u' t'.state) (move.Asks (ForBranches [])) =
           with_move (setting_of u') begun_at.0 (outermost x.parent) (standing u' t'.state) (move.Asks (ForBranches ds)) (move.Asks (ForBranches []))
           (any_branches (script_of u'.code) (common_of u') (innermost (script_of u'.code) (outermost x.parent) t'.state.stack.items) ds poised.move) poised in
           fits_now (move.Asks (ForBranches ds)) poised _
           (differ_more seated x.number next ts (with_seat forks x.number xs) (below_with forks (λ y. refl) x.number next xs below) (differ_with forks (λ y. refl) x.number xs fits.numbers))
+          (forked_family stance_of (common_of u) (common_of u') ((runs.leaves).follows).later xs fits.family x.number never t' seated next ts below (all_at (λ y. y.number < next) xs i x below at) some i x at refl)
           (subst (AllAre (IsWaitedFor (map (as_seat stance_of) (with_seat forks x.number xs ++ new_seats seated x.number next ts)))) (sym quiet)
           (open_still (with_seat forks x.number xs ++ new_seats seated x.number next ts)
-          (λ q other h. awaited_more stance_of q.thread q.number (with_seat forks x.number xs) (new_seats seated x.number next ts) (awaited_with stance_of forks (λ y. refl) x.number q.thread q.number (λ y e w. absurd (other e)) xs h))))
+          (λ q other h. found_more stance_of (WaitsFor q.number) (λ none. none) q.thread (with_seat forks x.number xs) (new_seats seated x.number next ts) (found_with stance_of (WaitsFor q.number) forks (λ y. refl) x.number q.thread (λ y e w. absurd (other e)) xs h))))
           (all_more (Quiet u') _ _
           (with_all Known (Quiet u') forks x.number (λ y e k. (turned_stands (BranchesWait (new_joins next ts)) waits runs_none (none_ended (common_of u') next ts) y e k, λ given. given)) (others (move.Asks (ForBranches ds)) poised) xs all)
           (all_new u' script' (sound' (move.Asks (ForBranches ds)) poised) t'.state.context ts ds next x.number e (poised.move).1))
@@ -297,18 +308,25 @@ module _ (xs : List Seat) (u u' : Shared) (x : Seat) (i : ℕ) (t t' : MachineTh
       abbrev joins : Seat → Seat
       joins = joined_seat x.number t'.state.head o
 
-      ended_kept : (e : Ending) (p : ℕ) → u'.requests ≡ u.requests → o ≡ outcome_of e → t'.state.stack.items ≡ [] → Poised (setting_of u') begun_at.0 (outermost x.parent) (standing u' t'.state) (move.Ends e)
+      ended_kept : (e : Ending) (p : ℕ) → x.parent ≡ Some p → u'.requests ≡ u.requests → o ≡ outcome_of e → t'.state.stack.items ≡ [] → Poised (setting_of u') begun_at.0 (outermost x.parent) (standing u' t'.state) (move.Ends e)
           → Fits stance_of (with_seat (joined_seat x.number t'.state.head o) p (without_seat x.number xs)) u'
-      ended_kept e p quiet is_outcome none poised =
+      ended_kept e p under quiet is_outcome none poised =
           let there : OutcomeFits (common_of u') o = subst (OutcomeFits (common_of u')) (sym is_outcome) (ended_there (script_of u'.code) (common_of u') x.parent t'.state.stack.items e none poised.move) in
+          let own : ParentFits (map (as_seat stance_of) xs) x.number (Some p) = subst (ParentFits (map (as_seat stance_of) xs) x.number) under (all_at (λ y. ParentFits (map (as_seat stance_of) xs) y.number y.parent) xs i x (fits.family).parents at) in
           fits_now (move.Ends e) poised _ (differ_with joins (λ y. refl) p (without_seat x.number xs) (differ_without x.number xs fits.numbers))
+          (ended_family stance_of (common_of u) (common_of u') ((runs.leaves).follows).later xs fits.family x.number never p t'.state.head o own.0 (λ m h. one_parent m p x.parent (subst (ParentIs m) (found_at stance_of xs i x fits.numbers at) h) under) (λ place. ((poised.sound).head, there)))
           (subst (AllAre (IsWaitedFor (map (as_seat stance_of) (with_seat joins p (without_seat x.number xs))))) (sym quiet)
           (open_still (with_seat joins p (without_seat x.number xs))
-          (λ q other h. awaited_with stance_of joins (λ y. refl) p q.thread q.number (λ y e w. joined_request x.number t'.state.head o q.number y.wait w) (without_seat x.number xs) (awaited_without stance_of x.number q.thread q.number other xs h))))
+          (λ q other h. found_with stance_of (WaitsFor q.number) joins (λ y. refl) p q.thread (λ y e w. joined_request x.number t'.state.head o q.number y.wait w) (without_seat x.number xs) (found_without stance_of (WaitsFor q.number) x.number q.thread other xs h))))
           (with_all (Quiet u') (Quiet u') joins p
           (λ y at h. (joined_stands stance_of u' x.number t'.state.head o (poised.sound).head there y y.wait h.0, joined_grants x.number t'.state.head o y.wait h.1))
           (λ y other h. h) (without_seat x.number xs)
           (without_all Known (Quiet u') x.number (others (move.Ends e) poised) xs all))
+
+-- and it waits for one of them at least
+some_branch : (u u' : Shared) (t t' : MachineThread) (m : Move) (ds : List Branch) (ts : List (NewBranch MachineThread)) → map seen ts ≡ map (to_begin t'.state.context) ds → Stops (standing u t.state) m (stopped.Waits (ForBranches ds)) (standing u' t'.state) → 1 ≤ length ts
+some_branch u u' t t' m [] ts e runs = absurd ((runs.leaves).waits Any_branch)
+some_branch u u' t t' m (d ∷ ds) ts e runs = (let many : length ts ≡ length (d ∷ ds) = same_many t'.state.context ts (d ∷ ds) e in omega (arith, many))
 
 -- a thread that waits for branches has opened no request
 no_request : (u u' : Shared) (t t' : MachineThread) (m : Move) (ds : List Branch) → Stops (standing u t.state) m (stopped.Waits (ForBranches ds)) (standing u' t'.state) → u'.requests ≡ u.requests
@@ -317,24 +335,24 @@ no_request u u' t t' m (d ∷ ds) runs = (runs.leaves).waits Any_branch
 
 -- So a turn keeps the fit of all threads.
 turn_fits : (g : Threads MachineThread) (u u' : Shared) (x : Seat) (i : ℕ) (t t' : MachineThread) (a : Answer) (fits : Fits stance_of g.seats u) → AllBelow g.next g.seats → (at : slice_get g.seats i ≡ Some x) (is : x.thread ≡ t) (ready : x.wait ≡ Ready a) (s : Stopped) (stops : Stop MachineThread)
-    → IsStop s stops t'.state.context → Stops (standing u t.state) (first_move t a) s (standing u' t'.state) → t'.start ≡ None → (parent : Option ℕ) → GoesOn parent stops
+    → IsStop s stops t'.state.context → Stops (standing u t.state) (first_move t a) s (standing u' t'.state) → t'.start ≡ None → (parent : Option ℕ) → x.parent ≡ parent → GoesOn parent stops
     → Fits stance_of (turned seated last_node g (record { number = x.number; parent = parent; wait = x.wait; thread = x.thread }) stops t').seats u'
-turn_fits g u u' x i t t' a fits below at is ready (stopped.Waits (ForRequest r)) (stop.Waits q) e runs begun parent goes =
+turn_fits g u u' x i t t' a fits below at is ready (stopped.Waits (ForRequest r)) (stop.Waits q) e runs begun parent under goes =
     let b = begun_at g.seats u u' x i t t' a fits at is ready in
     subst (λ j. Fits stance_of (with_seat (turned_seat (RequestWait j) t') x.number g.seats) u') (sym e)
     (request_kept g.seats u u' x i t t' a fits at is ready (stopped.Waits (ForRequest r)) runs begun r (runs.stands b.0 (outermost x.parent) b.1) ((runs.leaves).waits (outermost x.parent)))
-turn_fits g u u' x i t t' a fits below at is ready (stopped.Waits (ForBranches ds)) (stop.Forks ts) e runs begun parent goes =
+turn_fits g u u' x i t t' a fits below at is ready (stopped.Waits (ForBranches ds)) (stop.Forks ts) e runs begun parent under goes =
     let b = begun_at g.seats u u' x i t t' a fits at is ready in
-    branches_kept g.seats u u' x i t t' a fits at is ready (stopped.Waits (ForBranches ds)) runs begun g.next ts below (no_request u u' t t' (first_move t a) ds runs) ds e (runs.stands b.0 (outermost x.parent) b.1)
-turn_fits g u u' x i t t' a fits below at is ready (stopped.Ended e) (stop.Ended o) same runs begun (Some p) goes =
+    branches_kept g.seats u u' x i t t' a fits at is ready (stopped.Waits (ForBranches ds)) runs begun g.next ts below (some_branch u u' t t' (first_move t a) ds ts e runs) (no_request u u' t t' (first_move t a) ds runs) ds e (runs.stands b.0 (outermost x.parent) b.1)
+turn_fits g u u' x i t t' a fits below at is ready (stopped.Ended e) (stop.Ended o) same runs begun (Some p) under goes =
     let b = begun_at g.seats u u' x i t t' a fits at is ready in
-    ended_kept g.seats u u' x i t t' a fits at is ready (stopped.Ended e) runs begun o e p ((runs.leaves).waits Any_branch) same runs.over (runs.stands b.0 (outermost x.parent) b.1)
-turn_fits g u u' x i t t' a fits below at is ready (stopped.Ended e) (stop.Ended o) outcome runs begun None goes = absurd goes
-turn_fits g u u' x i t t' a fits below at is ready s (stop.Limit k) never runs begun parent goes = absurd goes
-turn_fits g u u' x i t t' a fits below at is ready s stops never runs begun parent goes = absurd never
+    ended_kept g.seats u u' x i t t' a fits at is ready (stopped.Ended e) runs begun o e p under ((runs.leaves).waits Any_branch) same runs.over (runs.stands b.0 (outermost x.parent) b.1)
+turn_fits g u u' x i t t' a fits below at is ready (stopped.Ended e) (stop.Ended o) outcome runs begun None under goes = absurd goes
+turn_fits g u u' x i t t' a fits below at is ready s (stop.Limit k) never runs begun parent under goes = absurd goes
+turn_fits g u u' x i t t' a fits below at is ready s stops never runs begun parent under goes = absurd never
 
 pub turn_keeps : (t t' : MachineThread) (u u' : Shared) (a : Answer) (stops : Stop MachineThread) → IsTurn t u a stops t' u' → Keeps seated last_node (Fits stance_of) t u a stops t' u'
-turn_keeps t t' u u' a stops turn g x i fits below at is ready goes = turn_fits g u u' x i t t' a fits below at is ready turn.stopped_so stops turn.stop turn.runs turn.begun x.parent goes
+turn_keeps t t' u u' a stops turn g x i fits below at is ready goes = turn_fits g u u' x i t t' a fits below at is ready turn.stopped_so stops turn.stop turn.runs turn.begun x.parent refl goes
 
 -- A thread in its seat has a parent exactly where it is a branch.
 branch_is : (s : Option Start) (head : ℕ) (own p : Option ℕ) (fs : List Frame) → own ≡ p → StartStands (runs_of s head) p fs → branch_by s own ≡ is_some p

@@ -55,6 +55,7 @@ module _ {T : Type 0} (stance : T → Stance) where
         script = b.script;
         shared = shared;
         numbers = (tt, tt);
+        family = record { main = λ e. absurd (cc e); parents = (refl, tt); joins = (tt, tt) };
         seats = (
           record {
             above = no_context;

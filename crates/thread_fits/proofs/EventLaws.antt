@@ -18,7 +18,7 @@ use Rattle.model_run.specs.declared.wait.Answer.{Answer}
 use Rattle.model_run.specs.declared.wait.Answer.TheVariants.{Granted, Done, Decided}
 use Rattle.model_run.specs.declared.wait.Wait.{Wait}
 use Rattle.model_run.specs.declared.wait.Wait.TheVariants.{Ready, Request as RequestWait, Branches as BranchesWait}
-use Rattle.model_run.specs.Fitting.{Asks, ForRequest as IsForRequest, IsWaitedFor, Later, SharedFits, outermost}
+use Rattle.model_run.specs.Fitting.{Asks, ForRequest as IsForRequest, IsWaitedFor, Later, SharedFits, WaitsFor, outermost}
 use Rattle.model_run.specs.Grants.{executor_of, is_held, with_held, workspace_number}
 use Rattle.model_run.specs.LogText.{raw}
 use Rattle.model_run.specs.Nesting.{For_executor, For_person, For_task, Spot, innermost}
@@ -46,7 +46,8 @@ use Rattle.cps_frames.specs.declared.thread.Move.TheVariants as move
 use Rattle.thread_fits.specs.Seats.{Fits, HasBegun, IsAlone, IsGranted, IsReady, SeatStands, WaitStands, as_seat, first_of, waiting_move}
 use Rattle.thread_fits.proofs.HeldLaws.{all_kept, granted_there, none_of_it, number_of_it}
 use Rattle.thread_fits.proofs.SeatLaws.{joins_then, poised_on, stands_on}
-use Rattle.thread_fits.proofs.SeatRows.{IsAwaited, all_both, awaited_with, awaits_one, differ_with, each_waits, waits_there, with_all}
+use Rattle.thread_fits.proofs.FamilyLaws.{changed_family, same_family}
+use Rattle.thread_fits.proofs.SeatRows.{IsAwaited, all_both, awaited_above, found_with, awaits_one, differ_with, each_waits, waits_there, with_all}
 use Rattle.thread_fits.proofs.SharedLaws.{closed_shared, granted_shared, kept_shared, sound_of, taken_shared}
 
 -- the same of what threads share, but for requests, held executors, the log and the count
@@ -193,6 +194,7 @@ module _ {T : Type 0} (stance : T → Stance) where
         script = fits.script;
         shared = shared;
         numbers = fits.numbers;
+        family = same_family stance (common_of u) (common_of (changed u rs held log)) later xs fits.family;
         seats = all_stay xs fits.seats (none_ready xs none);
         alone = fits.alone;
         waited_for = subst (AllAre (IsWaitedFor (map (as_seat stance) xs))) (sym is) (awaited_changed f n xs u.requests fits.waited_for);
@@ -262,7 +264,7 @@ module _ {T : Type 0} (stance : T → Stance) where
       alone_now = all_weaker (λ y. IsReady y.wait → y.number ≡ p) (IsAlone now) (λ y h given. all_weaker _ _ (λ z other ready. other ready ∙ sym (h (granted_ready y.wait given))) now ready_is) now ready_is
 
       still_awaited : (q : OpenRequest) → (q.number ≡ n → ⊥) → IsWaitedFor (map (as_seat stance) xs) q → IsWaitedFor (map (as_seat stance) now) q
-      still_awaited q other h = awaited_with stance (waits_as (Ready x)) (λ y. refl) p q.thread q.number (λ y e w. absurd (other (awaits_one stance xs p q.number n (subst (λ k. IsAwaited stance q.number k xs) e h) awaits))) xs h
+      still_awaited q other h = found_with stance (WaitsFor q.number) (waits_as (Ready x)) (λ y. refl) p q.thread (λ y e w. absurd (other (awaits_one stance xs p q.number n (subst (λ k. IsAwaited stance q.number k xs) e h) awaits))) xs h
 
       all_awaited : (qs : List OpenRequest) → NoneOf n qs → AllAre (IsWaitedFor (map (as_seat stance) xs)) qs → AllAre (IsWaitedFor (map (as_seat stance) now)) qs
       all_awaited [] a b = tt
@@ -273,6 +275,7 @@ module _ {T : Type 0} (stance : T → Stance) where
         script = fits.script;
         shared = shared;
         numbers = differ_with (waits_as (Ready x)) (λ y. refl) p xs fits.numbers;
+        family = changed_family stance (common_of u) (common_of (changed u rs held log)) later xs fits.family p (λ m. awaited_above stance xs p n m awaits) (λ y. Ready x) (λ y. y.thread) (λ y e. tt);
         seats = with_all Known (SeatStands stance (changed u rs held log)) (waits_as (Ready x)) p answered_stands other_stands xs known;
         alone = alone_now;
         waited_for = subst (AllAre (IsWaitedFor (map (as_seat stance) now))) (sym is) (all_awaited (filter (other_than n) u.requests) (closed_now n u.requests) (all_kept _ (other_than n) u.requests fits.waited_for));

@@ -4,5 +4,6 @@ pub mod HeldLaws
 pub mod SharedLaws
 pub mod SeatRows
 pub mod SeatLaws
+pub mod FamilyLaws
 pub mod BeginLaws
 pub mod EventLaws

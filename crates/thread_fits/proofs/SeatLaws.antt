@@ -45,7 +45,7 @@ use Rattle.cps_frames.proofs.Poise.{all_later}
 use Rattle.thread_fits.specs.Seats.{Fits, IsGranted, SeatStands, WaitStands, first_of, standing_as, waiting_move}
 
 -- what branches ended with is there still
-end_then : (u v : Common) → Later u v → (e : JoinEnd) → BranchEnded u e → BranchEnded v e
+pub end_then : (u v : Common) → Later u v → (e : JoinEnd) → BranchEnded u e → BranchEnded v e
 end_then u v l e h = (node_then u v l e.node h.0, outcome_then u v l e.outcome h.1)
 
 end_if_then : (u v : Common) → Later u v → (o : Option JoinEnd) → EndIf u o → EndIf v o

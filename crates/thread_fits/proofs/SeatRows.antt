@@ -1,11 +1,11 @@
 -- Threads in a row, which differ in their numbers: each is found by its number, and the thread of an open request waits for it.
-use Rattle.std.proofs.Common.{arith, ◌≡◌, ◌∙◌, ◌<◌, ℕ, zero, suc, Bool, true, false, List, [], ◌∷◌, ◌++◌, map, Option, Some, None, refl, ap, subst, sym}
+use Rattle.std.proofs.Common.{arith, ◌≡◌, ◌∙◌, ◌<◌, ◌≤◌, ℕ, zero, suc, Bool, true, false, List, [], ◌∷◌, ◌++◌, map, Option, Some, None, refl, ap, subst, sym}
 use Rattle.std.specs.Prelude.{if◌then◌else◌, nat_eq, not, slice_get}
 use Rattle.std.specs.List.{AllByRecursion as AllAre}
 use Rattle.std.proofs.lemmas.Bool.{eqb-true, eqb-false, eq-eqb, ne_eqb}
 use Rattle.model_run.specs.declared.wait.Answer.{Answer}
 use Rattle.model_run.specs.declared.wait.Wait.TheVariants.{Ready, Request as RequestWait}
-use Rattle.model_run.specs.Fitting.{Distinct, Seat as Image_seat, WaitsFor, seat_of}
+use Rattle.model_run.specs.Fitting.{Above, Distinct, Seat as Image_seat, Waited, WaitsFor, seat_of}
 use Rattle.green_threads.specs.declared.runner.NewBranch.{NewBranch}
 use Rattle.green_threads.specs.declared.runner.Seated.{Seated}
 use Rattle.settle_laws.specs.Stances.{Stance}
@@ -142,62 +142,68 @@ module _ {T : Type 0} (stance : T → Stance) where
       by None a b = absurd a
       by (Some t) a b = (let same : RequestWait r ≡ RequestWait q = sym a ∙ b in cc same)
 
-  -- where a thread is changed, but for the requests that others wait for
-  pub awaited_with : (g : Seated T → Seated T) → KeepsNumber g → (n m r : ℕ) → ((y : Seated T) → m ≡ n → y.wait ≡ RequestWait r → (g y).wait ≡ RequestWait r) → (xs : List (Seated T)) → IsAwaited r m xs → IsAwaited r m (with_seat g n xs)
-  awaited_with g keeps n m r still [] h = h
-  awaited_with g keeps n m r still (x ∷ xs) h = one (nat_eq x.number n) refl h (awaited_with g keeps n m r still xs)
+  -- What holds of the thread of a number, where a thread is changed.
+  pub found_with : (Q : Option Image_seat → Type 0) (g : Seated T → Seated T) → KeepsNumber g → (n m : ℕ) → ((y : Seated T) → m ≡ n → Q (Some (as_seat stance y)) → Q (Some (as_seat stance (g y)))) → (xs : List (Seated T)) → Q (found xs m) → Q (found (with_seat g n xs) m)
+  found_with Q g keeps n m still [] h = h
+  found_with Q g keeps n m still (x ∷ xs) h = one (nat_eq x.number n) refl h (found_with Q g keeps n m still xs)
     where
-      changed : nat_eq x.number n ≡ true → (c : Bool) → nat_eq x.number m ≡ c → WaitsFor r (if c then Some (as_seat stance x) else found xs m) → (IsAwaited r m xs → IsAwaited r m (with_seat g n xs)) → WaitsFor r (if c then Some (as_seat stance (g x)) else found (with_seat g n xs) m)
+      changed : nat_eq x.number n ≡ true → (c : Bool) → nat_eq x.number m ≡ c → Q (if c then Some (as_seat stance x) else found xs m) → (Q (found xs m) → Q (found (with_seat g n xs) m)) → Q (if c then Some (as_seat stance (g x)) else found (with_seat g n xs) m)
       changed e true at h more = still x (sym (eqb-true _ _ at) ∙ eqb-true _ _ e) h
       changed e false at h more = more h
 
-      same : (c : Bool) → WaitsFor r (if c then Some (as_seat stance x) else found xs m) → (IsAwaited r m xs → IsAwaited r m (with_seat g n xs)) → WaitsFor r (if c then Some (as_seat stance x) else found (with_seat g n xs) m)
+      same : (c : Bool) → Q (if c then Some (as_seat stance x) else found xs m) → (Q (found xs m) → Q (found (with_seat g n xs) m)) → Q (if c then Some (as_seat stance x) else found (with_seat g n xs) m)
       same true h more = h
       same false h more = more h
 
-      one : (b : Bool) → nat_eq x.number n ≡ b → WaitsFor r (if nat_eq x.number m then Some (as_seat stance x) else found xs m) → (IsAwaited r m xs → IsAwaited r m (with_seat g n xs)) → IsAwaited r m ((if b then g x else x) ∷ with_seat g n xs)
-      one true e h more = subst (λ k. WaitsFor r (if nat_eq k m then Some (as_seat stance (g x)) else found (with_seat g n xs) m)) (sym (keeps x)) (changed e (nat_eq x.number m) refl h more)
+      one : (b : Bool) → nat_eq x.number n ≡ b → Q (if nat_eq x.number m then Some (as_seat stance x) else found xs m) → (Q (found xs m) → Q (found (with_seat g n xs) m)) → Q (found ((if b then g x else x) ∷ with_seat g n xs) m)
+      one true e h more = subst (λ k. Q (if nat_eq k m then Some (as_seat stance (g x)) else found (with_seat g n xs) m)) (sym (keeps x)) (changed e (nat_eq x.number m) refl h more)
       one false e h more = same (nat_eq x.number m) h more
 
-  -- the thread that was changed
-  pub awaited_now : (g : Seated T → Seated T) → KeepsNumber g → (r : ℕ) → ((y : Seated T) → (g y).wait ≡ RequestWait r) → (xs : List (Seated T)) (i : ℕ) (x : Seated T) → slice_get xs i ≡ Some x → IsAwaited r x.number (with_seat g x.number xs)
-  awaited_now g keeps r waits [] i x e = absurd (cc e)
-  awaited_now g keeps r waits (y ∷ ys) zero x e = one (nat_eq y.number x.number) refl
+  -- and of the thread that is changed
+  pub found_now : (Q : Option Image_seat → Type 0) (g : Seated T → Seated T) → KeepsNumber g → ((y : Seated T) → Q (Some (as_seat stance (g y)))) → (xs : List (Seated T)) (i : ℕ) (x : Seated T) → slice_get xs i ≡ Some x → Q (found (with_seat g x.number xs) x.number)
+  found_now Q g keeps holds [] i x e = absurd (cc e)
+  found_now Q g keeps holds (y ∷ ys) zero x e = one (nat_eq y.number x.number) refl
     where
-      one : (b : Bool) → nat_eq y.number x.number ≡ b → IsAwaited r x.number ((if b then g y else y) ∷ with_seat g x.number ys)
-      one true is = subst (λ c. WaitsFor r (if c then Some (as_seat stance (g y)) else found (with_seat g x.number ys) x.number)) (sym (ap (λ k. nat_eq k x.number) (keeps y) ∙ is)) (waits y)
+      one : (b : Bool) → nat_eq y.number x.number ≡ b → Q (found ((if b then g y else y) ∷ with_seat g x.number ys) x.number)
+      one true is = subst (λ c. Q (if c then Some (as_seat stance (g y)) else found (with_seat g x.number ys) x.number)) (sym (ap (λ k. nat_eq k x.number) (keeps y) ∙ is)) (holds y)
       one false is = absurd (eqb-false _ _ is (ap (λ (z : Seated T). z.number) (some_same y x e)))
-  awaited_now g keeps r waits (y ∷ ys) (suc i) x e = one (nat_eq y.number x.number) refl (awaited_now g keeps r waits ys i x e)
+  found_now Q g keeps holds (y ∷ ys) (suc i) x e = one (nat_eq y.number x.number) refl (found_now Q g keeps holds ys i x e)
     where
-      one : (b : Bool) → nat_eq y.number x.number ≡ b → IsAwaited r x.number (with_seat g x.number ys) → IsAwaited r x.number ((if b then g y else y) ∷ with_seat g x.number ys)
-      one true is more = subst (λ c. WaitsFor r (if c then Some (as_seat stance (g y)) else found (with_seat g x.number ys) x.number)) (sym (ap (λ k. nat_eq k x.number) (keeps y) ∙ is)) (waits y)
-      one false is more = subst (λ c. WaitsFor r (if c then Some (as_seat stance y) else found (with_seat g x.number ys) x.number)) (sym is) more
+      one : (b : Bool) → nat_eq y.number x.number ≡ b → Q (found (with_seat g x.number ys) x.number) → Q (found ((if b then g y else y) ∷ with_seat g x.number ys) x.number)
+      one true is more = subst (λ c. Q (if c then Some (as_seat stance (g y)) else found (with_seat g x.number ys) x.number)) (sym (ap (λ k. nat_eq k x.number) (keeps y) ∙ is)) (holds y)
+      one false is more = subst (λ c. Q (if c then Some (as_seat stance y) else found (with_seat g x.number ys) x.number)) (sym is) more
 
   -- where another thread is gone
-  pub awaited_without : (n m r : ℕ) → (m ≡ n → ⊥) → (xs : List (Seated T)) → IsAwaited r m xs → IsAwaited r m (without_seat n xs)
-  awaited_without n m r other [] h = h
-  awaited_without n m r other (x ∷ xs) h = one (nat_eq x.number n) refl h (awaited_without n m r other xs)
+  pub found_without : (Q : Option Image_seat → Type 0) (n m : ℕ) → (m ≡ n → ⊥) → (xs : List (Seated T)) → Q (found xs m) → Q (found (without_seat n xs) m)
+  found_without Q n m other [] h = h
+  found_without Q n m other (x ∷ xs) h = one (nat_eq x.number n) refl h (found_without Q n m other xs)
     where
-      gone : nat_eq x.number n ≡ true → (c : Bool) → nat_eq x.number m ≡ c → WaitsFor r (if c then Some (as_seat stance x) else found xs m) → (IsAwaited r m xs → IsAwaited r m (without_seat n xs)) → IsAwaited r m (without_seat n xs)
+      gone : nat_eq x.number n ≡ true → (c : Bool) → nat_eq x.number m ≡ c → Q (if c then Some (as_seat stance x) else found xs m) → (Q (found xs m) → Q (found (without_seat n xs) m)) → Q (found (without_seat n xs) m)
       gone e true at h more = absurd (other (sym (eqb-true _ _ at) ∙ eqb-true _ _ e))
       gone e false at h more = more h
 
-      same : (c : Bool) → WaitsFor r (if c then Some (as_seat stance x) else found xs m) → (IsAwaited r m xs → IsAwaited r m (without_seat n xs)) → WaitsFor r (if c then Some (as_seat stance x) else found (without_seat n xs) m)
+      same : (c : Bool) → Q (if c then Some (as_seat stance x) else found xs m) → (Q (found xs m) → Q (found (without_seat n xs) m)) → Q (if c then Some (as_seat stance x) else found (without_seat n xs) m)
       same true h more = h
       same false h more = more h
 
-      one : (b : Bool) → nat_eq x.number n ≡ b → WaitsFor r (if nat_eq x.number m then Some (as_seat stance x) else found xs m) → (IsAwaited r m xs → IsAwaited r m (without_seat n xs)) → IsAwaited r m (if not b then x ∷ without_seat n xs else without_seat n xs)
+      one : (b : Bool) → nat_eq x.number n ≡ b → Q (if nat_eq x.number m then Some (as_seat stance x) else found xs m) → (Q (found xs m) → Q (found (without_seat n xs) m)) → Q (found (if not b then x ∷ without_seat n xs else without_seat n xs) m)
       one true e h more = gone e (nat_eq x.number m) refl h more
       one false e h more = same (nat_eq x.number m) h more
 
   -- where others stand behind
-  pub awaited_more : (m r : ℕ) (xs ys : List (Seated T)) → IsAwaited r m xs → IsAwaited r m (xs ++ ys)
-  awaited_more m r [] ys h = absurd h
-  awaited_more m r (x ∷ xs) ys h = one (nat_eq x.number m) h (awaited_more m r xs ys)
+  pub found_more : (Q : Option Image_seat → Type 0) → (Q None → ⊥) → (m : ℕ) (xs ys : List (Seated T)) → Q (found xs m) → Q (found (xs ++ ys) m)
+  found_more Q never m [] ys h = absurd (never h)
+  found_more Q never m (x ∷ xs) ys h = one (nat_eq x.number m) h (found_more Q never m xs ys)
     where
-      one : (c : Bool) → WaitsFor r (if c then Some (as_seat stance x) else found xs m) → (IsAwaited r m xs → IsAwaited r m (xs ++ ys)) → WaitsFor r (if c then Some (as_seat stance x) else found (xs ++ ys) m)
+      one : (c : Bool) → Q (if c then Some (as_seat stance x) else found xs m) → (Q (found xs m) → Q (found (xs ++ ys) m)) → Q (if c then Some (as_seat stance x) else found (xs ++ ys) m)
       one true h more = h
       one false h more = more h
+
+  -- and of those that stand behind
+  pub found_behind : (n k : ℕ) (xs ys : List (Seated T)) → AllBelow n xs → n ≤ k → found (xs ++ ys) k ≡ found ys k
+  found_behind n k [] ys below le = refl
+  found_behind n k (x ∷ xs) ys below le =
+      ap (λ c. if c then Some (as_seat stance x) else found (xs ++ ys) k) (ne_eqb x.number k (λ e. (let lt : x.number < n = below.0 in omega (arith, lt, le, e)))) ∙ found_behind n k xs ys below.1 le
 
   -- and so a group sees it
   pub waits_there : (m r : ℕ) (xs : List (Seated T)) → IsAwaited r m xs → waits_for_request m xs ≡ true
@@ -219,3 +225,14 @@ module _ {T : Type 0} (stance : T → Stance) where
   pub same_parent : (i : ℕ) (x : Seated T) (xs : List (Seated T)) → Distinct (numbers xs) → slice_get xs i ≡ Some x → AllAre (λ y. y.number ≡ x.number → y.parent ≡ x.parent) xs
   same_parent i x xs d at = all_from (λ y. y.number ≡ x.number → y.parent ≡ x.parent) xs
       (λ j y e same. ap (λ (s : Image_seat). s.parent) (same_seat (as_seat stance y) (as_seat stance x) (sym (found_at xs j y d e) ∙ ap (found xs) same ∙ found_at xs i x d at)))
+
+  -- who waits for a request, and who is ready, waits for no branch
+  pub awaited_above : (xs : List (Seated T)) (n r m : ℕ) → IsAwaited r n xs → Above m (found xs n) → ⊥
+  awaited_above xs n r m h above = by (found xs n) h above
+    where
+      by : (o : Option Image_seat) → WaitsFor r o → Above m o → ⊥
+      by None h above = h
+      by (Some t) h above = subst (Waited m) h above
+
+  pub ready_above : (xs : List (Seated T)) (i : ℕ) (x : Seated T) (a : Answer) (m : ℕ) → Distinct (numbers xs) → slice_get xs i ≡ Some x → x.wait ≡ Ready a → Above m (found xs x.number) → ⊥
+  ready_above xs i x a m d at ready above = subst (Waited m) ready (subst (Above m) (found_at xs i x d at) above)

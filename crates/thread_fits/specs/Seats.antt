@@ -12,7 +12,7 @@ use Rattle.model_run.specs.declared.wait.Answer.{Answer}
 use Rattle.model_run.specs.declared.wait.Answer.TheVariants.{Granted}
 use Rattle.model_run.specs.declared.wait.Wait.{Wait}
 use Rattle.model_run.specs.declared.wait.Wait.TheVariants.{Ready, Request as RequestWait, Branches as BranchesWait}
-use Rattle.model_run.specs.Fitting.{Distinct, ForRequest as IsForRequest, IsWaitedFor, Seat, SharedFits, outermost, started_by}
+use Rattle.model_run.specs.Fitting.{Distinct, ForRequest as IsForRequest, IsOpen, IsWaitedFor, JoinFits, ParentFits, Seat, SharedFits, Some_of, outermost, seat_of, started_by}
 use Rattle.model_run.specs.Nesting.{Spot, innermost}
 use Rattle.model_run.specs.State.{Common}
 use Rattle.model_run.specs.Threads.{Closure, Runs, Script}
@@ -81,6 +81,12 @@ abbrev pub closure_of : Option Runs → Option Callee
 closure_of None = None
 closure_of (Some runs) = started_by runs
 
+-- a thread waits for branches of its own, of which one has not ended
+abbrev pub JoinsFit : Common → List Seat → ℕ → Wait → Type 0
+JoinsFit u seats n (Ready x) = Unit {0}
+JoinsFit u seats n (RequestWait r) = Unit {0}
+JoinsFit u seats n (BranchesWait js) = AllAre (JoinFits u seats n) js × Some_of IsOpen js × Distinct (map (λ j. j.thread) js)
+
 module _ {T : Type 0} (stance : T → Stance) where
   -- One thread in its seat, from the spot on where its frames begin.
   pub record SeatStands (u : Shared) (x : Seated T) : Type 0 where
@@ -104,11 +110,19 @@ module _ {T : Type 0} (stance : T → Stance) where
     start = closure_of (stance x.thread).runs;
   }
 
+  -- Thread 0 has no parent, and each other is one of the branches that its parent waits for; who waits for branches is the parent of each
+  -- that has not ended, and there is such a one.
+  pub record Family (u : Common) (xs : List (Seated T)) : Type 0 where
+    pub main : seat_of (map as_seat xs) 0 ≡ None → ⊥
+    pub parents : AllAre (λ x. ParentFits (map as_seat xs) x.number x.parent) xs
+    pub joins : AllAre (λ x. JoinsFit u (map as_seat xs) x.number x.wait) xs
+
   -- A sound shared state, and threads of different numbers: each stands soundly, and the thread of each open request waits for it.
   pub record Fits (xs : List (Seated T)) (u : Shared) : Type 0 where
     pub script : IsScript (script_of u.code)
     pub shared : SharedFits (setting_of u) false (common_of u)
     pub numbers : Distinct (map (λ x. x.number) xs)
+    pub family : Family (common_of u) xs
     pub seats : AllAre (SeatStands u) xs
     pub alone : AllAre (IsAlone xs) xs
     pub waited_for : AllAre (IsWaitedFor (map as_seat xs)) u.requests
