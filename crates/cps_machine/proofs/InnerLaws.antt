@@ -8,7 +8,7 @@ use Rattle.model_run.specs.declared.frame.FrameKind.{FrameKind}
 use Rattle.model_run.specs.declared.frame.FrameKind.TheVariants as kind
 use Rattle.model_run.specs.Around.{Shape, arity, form_at, frame}
 use Rattle.model_run.specs.Assignments.{place_size}
-use Rattle.model_run.specs.FrameTable.{Within, Inner, current, frame_row, gathered_within, gathers, is_arm, is_catch, is_choice, is_computed, is_if_true, is_target_form, passes, passes_inner, row_of, same_form, suffixed_within}
+use Rattle.model_run.specs.FrameTable.{Within, Inner, current, frame_row, gathered_within, gathers, is_arm, is_catch, is_choice, is_computed, is_target_form, passes, passes_inner, same_form, suffixed_within}
 use Rattle.model_run.specs.Meaning.{shape_of}
 use Rattle.model_run.specs.Nesting.{MeetsRow, anything, part_number, shape_at}
 use Rattle.model_run.specs.State.{Env}

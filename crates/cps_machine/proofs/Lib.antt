@@ -1,10 +1,9 @@
-pub mod TermSets
-pub mod Facts
+pub mod LimitLaws
 pub mod LoopLaws
 pub mod ThreadLaws
 pub mod EndLaws
 pub mod InnerLaws
 pub mod TurnLaws
 pub mod BranchLaws
-pub mod SeatLaws
 pub mod ResumeLaws
+pub mod StanceLaws

@@ -34,11 +34,13 @@ use Rattle.cps_frames.proofs.Poise.{Taken, ends_keep, ends_spend, enters_keep, e
 use Rattle.cps_frames.proofs.MoveLaws.{beside_same}
 use Rattle.cps_frames.proofs.Runs.{onward_ends, onward_enters, onward_here, onward_on}
 use Rattle.cps_frames.proofs.Weights.{ends_lower, enters_lower}
+use Rattle.run_laws.specs.Soundness.{SoundWorld}
 use Rattle.run_laws.proofs.Evaluation.{ScriptFacts}
 use Rattle.cps_machine.specs.Stops.{Begins, IsEnd, Leaves, MayRun, Stops, made_for, nodes_left}
 use Rattle.cps_machine.specs.Turns.{HasPart, WaitsSo}
 use Rattle.cps_machine.specs.declared.machine.Stopped.TheVariants as stopped
-use Rattle.cps_machine.proofs.Facts.{facts_of}
+use Rattle.thread_fits.proofs.Facts.{facts_of}
+use Rattle.cps_machine.proofs.LimitLaws.{ends_limited, enters_limited}
 use Rattle.cps_machine.proofs.TurnLaws.{Left, entry_ends, entry_leaves, frame_ends, frame_leaves}
 
 -- a thread that was poised is poised again, where the build goes on
@@ -50,10 +52,10 @@ abbrev pub with_stack : List Frame → Standing → Standing
 with_stack fs u = record { world = u.world; stack = fs; parent = u.parent; heap = u.heap }
 
 -- before the first move nothing is left behind
-waits_here : (u : Standing) (m : Move) → Begins m → (at : Spot) → WaitsSo at u m
-waits_here u (Ends e) b at = tt
+waits_here : (u : Standing) (m : Move) → Begins m → (at : Spot) → WaitsSo at u.world.shared.requests u m
+waits_here u (Ends e) b at = refl
 waits_here u (Hits k) b at = absurd b
-waits_here u (Enter e p env) b at = tt
+waits_here u (Enter e p env) b at = refl
 waits_here u (Asks asked) b at = absurd b
 
 nothing_made : (m : Move) → Begins m → made_for m ≡ 0
@@ -87,16 +89,17 @@ innermost_append root at [] gs = refl
 innermost_append root at (f ∷ fs) gs = innermost_append root (spot_in root f) fs gs
 
 -- and one move behind the others
-leaves_on : (u v : Standing) (m : Move) (fs : List Frame) (w : Standing) (m' : Move) → Leaves u v m → v.world.setting ≡ u.world.setting → (gs : List Frame) → w.stack ≡ fs ++ gs → (script : IsScript v.world.setting.script) → Left v.world.setting.script script v.world.setting v.world.shared v.world.own.number gs m' w → nodes_left w.world + made_for m' ≤ nodes_left v.world → Leaves u w m'
-leaves_on u v m fs w m' l is gs pushed script left made = record {
+leaves_on : (u v : Standing) (m : Move) (fs : List Frame) (w : Standing) (m' : Move) → Leaves u v m → v.world.setting ≡ u.world.setting → (gs : List Frame) → w.stack ≡ fs ++ gs → (script : IsScript v.world.setting.script) → Left v.world.setting.script script v.world.setting v.world.shared v.world.own.number gs m' w → nodes_left w.world + made_for m' ≤ nodes_left v.world → v.world.shared.requests ≡ u.world.shared.requests → Leaves u w m'
+leaves_on u v m fs w m' l is gs pushed script left made same = record {
   inside = subst (λ (s : Setting). HasPart s.script m') is left.inside;
   follows = follows_on u.world.shared v.world.shared w.world.shared l.follows left.follows;
   number = left.number ∙ l.number;
   spent = (let before : nodes_left v.world + made_for m ≤ nodes_left u.world = l.spent in omega (arith, before, made));
   waits = λ at.
-      let here : WaitsSo (innermost v.world.setting.script (innermost v.world.setting.script at fs) gs) w m' = left.asked (innermost v.world.setting.script at fs) in
-      subst (λ s. WaitsSo (innermost s.script at w.stack) w m') is
-      (subst (λ x. WaitsSo x w m') (sym (ap (innermost v.world.setting.script at) pushed ∙ innermost_append v.world.setting.script at fs gs)) here);
+      let here : WaitsSo (innermost v.world.setting.script (innermost v.world.setting.script at fs) gs) v.world.shared.requests w m' = left.asked (innermost v.world.setting.script at fs) in
+      subst (λ rs. WaitsSo (innermost u.world.setting.script at w.stack) rs w m') same
+      (subst (λ s. WaitsSo (innermost s.script at w.stack) v.world.shared.requests w m') is
+      (subst (λ x. WaitsSo x v.world.shared.requests w m') (sym (ap (innermost v.world.setting.script at) pushed ∙ innermost_append v.world.setting.script at fs gs)) here));
 }
 
 left_is : (g : Setting) (w : World) → w.setting ≡ g → nodes_left w ≡ g.limits.flow_nodes - length w.shared.nodes
@@ -123,10 +126,16 @@ branch_kind root f (any_branch is) = is
 meets_anything : (root : Term) (u : Common) (f : Frame) → FrameStands root u f → MeetsRow anything (shape_at root f.node) f
 meets_anything root u f h = (frame_wider (known u) anything (λ s v k. tt) root f h.fits).meets
 
+-- a limit was met
+abbrev pub IsHit : Move → Type 0
+IsHit (Hits k) = Unit {0}
+IsHit m = ⊥
+
 -- From where it began, the loop has come to this thread and this next move.
 pub record Reached (u : Standing) (first : Move) (v : Standing) (m : Move) : Type 0 where
   pub on : Onward u.world.setting.script u first v m
   pub keeps : Keeps u first v m
+  pub halts : (above : Context) (at : Spot) → Poised u.world.setting above at u first → IsHit m → SoundWorld u.world.setting v.world
   pub leaves : Leaves u v m
   pub ends : (above : Context) → Poised u.world.setting above Any_branch u first → IsEnd v m → suc (nodes_left v.world) ≤ nodes_left u.world
 
@@ -137,8 +146,14 @@ no_end_here g above u (Hits k) b poised none = none
 no_end_here g above u (Enter e p env) b poised none = none
 no_end_here g above u (Asks asked) b poised none = none
 
+no_hit_here : (m : Move) → Begins m → IsHit m → ⊥
+no_hit_here (Ends e) b hit = hit
+no_hit_here (Hits k) b hit = b
+no_hit_here (Enter e p env) b hit = hit
+no_hit_here (Asks asked) b hit = hit
+
 pub reached_here : (u : Standing) (first : Move) → MayRun u first → Reached u first u first
-reached_here u first may = record { on = onward_here u.world.setting.script u first; keeps = λ above at poised on. poised; leaves = leaves_here u first may.3; ends = λ above poised none. absurd (no_end_here u.world.setting above u first may.3 poised none) }
+reached_here u first may = record { on = onward_here u.world.setting.script u first; keeps = λ above at poised on. poised; halts = λ above at poised hit. absurd (no_hit_here first may.3 hit); leaves = leaves_here u first may.3; ends = λ above poised none. absurd (no_end_here u.world.setting above u first may.3 poised none) }
 
 -- how the loop stops
 pub stops_ended : (u : Standing) (first : Move) (v : Standing) (fs : List Frame) (e : Ending) → Reached u first v (Ends e) → v.stack ≡ [] → fs ≡ [] → Stops u first (stopped.Ended e) (with_stack fs v)
@@ -147,7 +162,7 @@ stops_ended u first v fs e h none none' =
     record {
       onward = subst (λ s. Onward u.world.setting.script u first (with_stack s v) (Ends e)) same h.on;
       over = none';
-      leaves = record { follows = (h.leaves).follows; number = (h.leaves).number; waits = λ at. tt; spent = (h.leaves).spent; inside = tt };
+      leaves = record { follows = (h.leaves).follows; number = (h.leaves).number; waits = λ at. (h.leaves).waits at; spent = (h.leaves).spent; inside = tt };
       branch_ends = λ above poised end. h.ends above poised none;
       stands = λ above at poised.
           subst (λ s. Poised v.world.setting above at (with_stack s v) (Ends e)) same
@@ -155,7 +170,7 @@ stops_ended u first v fs e h none none' =
     }
 
 pub stops_limit : (u : Standing) (first : Move) (v : Standing) (k : LimitKind) → Reached u first v (Hits k) → Stops u first (stopped.Limit k) v
-stops_limit u first v k h = record { onward = h.on; over = tt; leaves = h.leaves; branch_ends = λ above poised end. absurd end; stands = λ above at poised. tt }
+stops_limit u first v k h = record { onward = h.on; over = tt; leaves = h.leaves; branch_ends = λ above poised end. absurd end; stands = λ above at poised. subst (λ s. SoundWorld s v.world) (sym (h.on).setting) (h.halts above at poised tt) }
 
 pub stops_waits : (u : Standing) (first : Move) (v : Standing) (asked : Asked) → Reached u first v (Asks asked) → Stops u first (stopped.Waits asked) v
 stops_waits u first v asked h = record { onward = h.on; over = tt; leaves = h.leaves; branch_ends = λ above poised end. absurd end; stands = λ above at poised. subst (λ s. Poised s above at v (Asks asked)) (sym (h.on).setting) (h.keeps above at poised tt) }
@@ -184,6 +199,12 @@ module _ (u : Standing) (first : Move) (script : IsScript u.world.setting.script
     frame_over (Enter x p env) w c above poised none = absurd none
     frame_over (Asks asked) w c above poised none = absurd none
 
+    frame_hit : {above : Context} {at : Spot} (m : Move) (w : Standing) → Comes f.node (rank f) (λ sh a. after f sh a e) (with_stack fs v) m w → Taken u.world.setting facts above at (with_stack fs v) f e → IsHit m → SoundWorld u.world.setting w.world
+    frame_hit {above} {at} (Hits k) w c taken hit = ends_limited u.world.setting facts above at (rank f) (with_stack fs v) f e k w taken c
+    frame_hit (Ends e') w c taken hit = absurd hit
+    frame_hit (Enter x p env) w c taken hit = absurd hit
+    frame_hit (Asks asked) w c taken hit = absurd hit
+
     pub frame_reached : (m : Move) (w : Standing) → Comes f.node (rank f) (λ sh a. after f sh a e) (with_stack fs v) m w → Reached u first w m
     frame_reached m w c =
         let meets : MeetsRow anything (shape_at v.world.setting.script f.node) f =
@@ -198,7 +219,8 @@ module _ (u : Standing) (first : Move) (script : IsScript u.world.setting.script
         record {
           on = onward_on u.world.setting.script u first v (Ends e) w m h.on (onward_ends u.world.setting.script (rank f) v (with_stack fs v) f e m w (sym (ap (λ s. s.script) (h.on).setting)) refl at_top (beside_same v (with_stack fs v) refl refl) c);
           keeps = λ above at poised goes. ends_keep u.world.setting facts above at (rank f) (with_stack fs v) f e m w (taken_in above at poised) goes c;
-          leaves = leaves_on u v (Ends e) fs w m h.leaves (h.on).setting c.frames c.pushed (script_stays v (Ends e) h) left made;
+          halts = λ above at poised hit. frame_hit m w c (taken_in above at poised) hit;
+          leaves = leaves_on u v (Ends e) fs w m h.leaves (h.on).setting c.frames c.pushed (script_stays v (Ends e) h) left made ((h.leaves).waits Any_branch);
           ends = λ above poised none.
               let now : suc (nodes_left w.world) ≤ nodes_left v.world = frame_over m w c above poised none in
               let before : nodes_left v.world + 0 ≤ nodes_left u.world = (h.leaves).spent in
@@ -245,11 +267,18 @@ module _ (u : Standing) (first : Move) (script : IsScript u.world.setting.script
     entry_over (Enter x p env') w c above poised none = absurd none
     entry_over (Asks asked) w c above poised none = absurd none
 
+    entry_hit : {above : Context} {at : Spot} (m : Move) (w : Standing) → Comes k (2 ^ 66) (λ sh a. enter e a k sh env) v m w → Poised u.world.setting above at v (Enter e k env) → IsHit m → SoundWorld u.world.setting w.world
+    entry_hit {above} {at} (Hits l) w c poised hit = enters_limited u.world.setting facts above at (2 ^ 66) v e k env l w poised c
+    entry_hit (Ends e') w c poised hit = absurd hit
+    entry_hit (Enter x p env') w c poised hit = absurd hit
+    entry_hit (Asks asked) w c poised hit = absurd hit
+
     pub entry_reached : (m : Move) (w : Standing) → Comes k (2 ^ 66) (λ sh a. enter e a k sh env) v m w → Reached u first w m
     entry_reached m w c = record {
       on = onward_on u.world.setting.script u first v (Enter e k env) w m h.on (onward_enters u.world.setting.script (2 ^ 66) v e k env m w (sym (ap (λ s. s.script) (h.on).setting)) (facts.numbers k node_there) c);
       keeps = λ above at poised goes. enters_keep u.world.setting facts above at (2 ^ 66) v e k env m w (h.keeps above at poised tt) goes c;
-      leaves = leaves_on u v (Enter e k env) v.stack w m h.leaves (h.on).setting c.frames c.pushed (script_stays v (Enter e k env) h) (entry_leaves (2 ^ 66) v (script_stays v (Enter e k env) h) e k env m w c) (entry_made m w c);
+      halts = λ above at poised hit. entry_hit m w c (h.keeps above at poised tt) hit;
+      leaves = leaves_on u v (Enter e k env) v.stack w m h.leaves (h.on).setting c.frames c.pushed (script_stays v (Enter e k env) h) (entry_leaves (2 ^ 66) v (script_stays v (Enter e k env) h) e k env m w c) (entry_made m w c) ((h.leaves).waits Any_branch);
       ends = λ above poised none.
           let now : suc (nodes_left w.world) ≤ nodes_left v.world = entry_over m w c above poised none in
           let before : nodes_left v.world + 0 ≤ nodes_left u.world = (h.leaves).spent in

@@ -23,7 +23,7 @@ use Rattle.cps_machine.specs.Resuming.{BeginsAs, ResumesAs, reply, stopping}
 use Rattle.cps_machine.specs.Stops.{Stops, last_move, IsOver}
 use Rattle.cps_machine.specs.declared.machine.Stopped.{Stopped}
 use Rattle.cps_machine.specs.declared.machine.Stopped.TheVariants as stopped
-use Rattle.cps_machine.proofs.Facts.{node_of, same_script, script_at}
+use Rattle.thread_fits.proofs.Facts.{node_of, same_script, script_at}
 
 -- a thread that was given an answer stands somewhere
 finished : (setting : Setting) → Small setting → (runs : Runs) (own : Own) (first : Reply) (rs : List Reply) → IsFinished (stands_from setting runs own (first ∷ rs))

@@ -39,7 +39,7 @@ use Rattle.cps_frames.proofs.Probing.{nowhere, over_waits}
 use Rattle.cps_machine.specs.Stops.{nodes_left}
 use Rattle.cps_machine.proofs.EndLaws.{branch_end_spends, through_ended}
 use Rattle.cps_code.specs.Script.{IsScript}
-use Rattle.cps_machine.proofs.Facts.{facts_of, found_of}
+use Rattle.thread_fits.proofs.Facts.{facts_of, found_of}
 use Rattle.cps_machine.proofs.InnerLaws.{IsThere, frame_there, passed_there}
 use Rattle.cps_machine.specs.Turns.{HasPart, AskedSo, IsAsked, WaitsSo}
 
@@ -51,11 +51,14 @@ module _ (root : Term) (script : IsScript root) (g : Setting) (u : Common) (n : 
     pub follows : Follows u s.world.shared
     pub number : s.world.own.number ≡ n
 
-  -- request r is the latest one, and of the kind that a wait at w is for
+  -- and in which it has opened no request
+  abbrev pub Unasked : State → Type 0
+  Unasked s = Behind s × (s.world.shared.requests ≡ u.requests)
+
+  -- request r is the one that it has opened, and of the kind that a wait at w is for
   pub record OpenAt (w : Within) (r : ℕ) (s : State) : Type 0 where
-    pub before : List OpenRequest
     pub latest : OpenRequest
-    pub requests : s.world.shared.requests ≡ before ++ latest ∷ []
+    pub requests : s.world.shared.requests ≡ u.requests ++ latest ∷ []
     pub number : latest.number ≡ r
     pub thread : latest.thread ≡ n
     pub kind : AskedAt w latest.request
@@ -68,22 +71,22 @@ module _ (root : Term) (script : IsScript root) (g : Setting) (u : Common) (n : 
   abbrev pub WaitsIn : Within → Asked → List Frame → State → Type 0
   WaitsIn w (ForRequest r) path s = OpenIn w path r s
   WaitsIn w (ForBranches []) path s = ⊥
-  WaitsIn w (ForBranches (b ∷ bs)) path s = Unit {0}
+  WaitsIn w (ForBranches (b ∷ bs)) path s = s.world.shared.requests ≡ u.requests
 
   -- what stands at w inside a node's frames comes to
   abbrev pub GoesSo : Within → Result → Type 0
-  GoesSo w (Ended e s) = Behind s
+  GoesSo w (Ended e s) = Unasked s
   GoesSo w (Waits asked path s) = Behind s × WaitsIn w asked path s
-  GoesSo w (Limited k s) = Behind s
+  GoesSo w (Limited k s) = Unasked s
   GoesSo w Unfinished = Unit {0}
 
   behind_change : (h : World → World) (s : State) → Follows s.world.shared (h s.world).shared → (h s.world).own.number ≡ s.world.own.number → Behind s → Behind (with_world (h s.world) s)
   behind_change h s more same q = record { alone = q.alone; setting = q.setting; follows = follows_on u s.world.shared (h s.world).shared q.follows more; number = same ∙ q.number }
 
-  behind_kept : (h : World → World) (s : State) → Keeps s.world (h s.world) → Behind s → Behind (with_world (h s.world) s)
-  behind_kept h s keeps q = behind_change h s (keeps_follows s.world (h s.world) keeps) keeps.number q
+  behind_kept : (h : World → World) (s : State) → Keeps s.world (h s.world) → Unasked s → Unasked (with_world (h s.world) s)
+  behind_kept h s keeps q = (behind_change h s (keeps_follows s.world (h s.world) keeps) keeps.number q.0, keeps.requests ∙ q.1)
 
-  goes_unless : (w : Within) (o : Option LimitKind) (go : State → Result) (s : State) → Behind s → GoesSo w (go s) → GoesSo w (unless_limit o go s)
+  goes_unless : (w : Within) (o : Option LimitKind) (go : State → Result) (s : State) → Unasked s → GoesSo w (go s) → GoesSo w (unless_limit o go s)
   goes_unless w (Some k) go s q h = q
   goes_unless w None go s q h = h
 
@@ -92,7 +95,7 @@ module _ (root : Term) (script : IsScript root) (g : Setting) (u : Common) (n : 
   goes_reply w asked s (r ∷ rs) e q h = let none : r ∷ rs ≡ [] = sym e ∙ q.alone in absurd (cc)
 
   open_else : (w w' : Within) (path : List Frame) (r : ℕ) (s : State) → ((x : Request) → AskedAt w x → AskedAt w' x) → OpenIn w path r s → OpenIn w' path r s
-  open_else w w' [] r s up h = record { before = h.before; latest = h.latest; requests = h.requests; number = h.number; thread = h.thread; kind = up _ h.kind }
+  open_else w w' [] r s up h = record { latest = h.latest; requests = h.requests; number = h.number; thread = h.thread; kind = up _ h.kind }
   open_else w w' (f ∷ fs) r s up h = h
 
   waits_else : (w w' : Within) (asked : Asked) (path : List Frame) (s : State) → ((x : Request) → AskedAt w x → AskedAt w' x) → WaitsIn w asked path s → WaitsIn w' asked path s
@@ -111,7 +114,7 @@ module _ (root : Term) (script : IsScript root) (g : Setting) (u : Common) (n : 
   waits_under w f (ForBranches []) path s is h = h
   waits_under w f (ForBranches (b ∷ bs)) path s is h = h
 
-  goes_through : (w : Within) (f : Frame) (go : Ending → State → Result) → (row_at root f).inside ≡ w → ((e : Ending) (s : State) → Behind s → GoesSo Own_body (go e s)) → (r : Result) → GoesSo w r → GoesSo Own_body (through f go r)
+  goes_through : (w : Within) (f : Frame) (go : Ending → State → Result) → (row_at root f).inside ≡ w → ((e : Ending) (s : State) → Unasked s → GoesSo Own_body (go e s)) → (r : Result) → GoesSo w r → GoesSo Own_body (through f go r)
   unfolding through
   goes_through w f go is h (Ended e s) q = h e s q
   goes_through w f go is h (Waits asked path s) q = (q.0, waits_under w f asked path s is q.1)
@@ -123,8 +126,8 @@ module _ (root : Term) (script : IsScript root) (g : Setting) (u : Common) (n : 
 
   abbrev turn_relation : ℕ → Relation
   turn_relation k = record {
-    States = λ s s'. Behind s;
-    Less = λ s s'. Behind s;
+    States = λ s s'. Unasked s;
+    Less = λ s s'. Unasked s;
     Results = λ r r'. GoesSo Own_body r;
     Inner = λ w r r'. There k w → GoesSo w r;
     Turns = λ r r'. GoesSo Own_body r;
@@ -140,9 +143,9 @@ module _ (root : Term) (script : IsScript root) (g : Setting) (u : Common) (n : 
     looks_less = λ go go' s s' q h. h;
     descends = λ limit g go go' h s s' spends q. goes_unless Own_body (limit s.world) (changed g go) s q (h _ s' (behind_kept g s spends.keeps q));
     asks = λ r w at s s' q there.
-        goes_reply w (ForRequest s.world.shared.next_request) (with_world (with_request r s.world) s) s.replies refl (behind_change (with_request r) s (asks_follows r s.world) refl q)
-        (record { before = s.world.shared.requests; latest = record { number = s.world.shared.next_request; thread = s.world.own.number; request = r }; requests = refl; number = refl; thread = q.number; kind = at });
-    forks = λ b bs s s' q there. goes_reply _ (ForBranches (b ∷ bs)) s s.replies refl q tt;
+        goes_reply w (ForRequest s.world.shared.next_request) (with_world (with_request r s.world) s) s.replies refl (behind_change (with_request r) s (asks_follows r s.world) refl q.0)
+        (record { latest = record { number = s.world.shared.next_request; thread = s.world.own.number; request = r }; requests = ap (λ rs. rs ++ record { number = s.world.shared.next_request; thread = s.world.own.number; request = r } ∷ []) q.1; number = refl; thread = (q.0).number; kind = at });
+    forks = λ b bs s s' q there. goes_reply _ (ForBranches (b ∷ bs)) s s.replies refl q.0 q.1;
     throughs = λ f w go go' fits stands h r r' q. goes_through w f go stands.0 (λ e s. h e s s) r (q stands.1);
     descends_through = λ f go go' fits stands h limit g body body' b s s' spends q.
         goes_through _ f go stands.0 (λ e s. h e s s) _ (goes_unless _ (limit s.world) (changed g body) s q (goes_else Own_body _ _ (λ x a. absurd a) (b _ s' (behind_kept g s spends.keeps q))));
@@ -167,13 +170,13 @@ module _ (root : Term) (script : IsScript root) (g : Setting) (u : Common) (n : 
   abbrev resting_around : ℕ → Around
   resting_around k = record { part = λ e i env. resting_part k e i; again = λ i kept env. resting; call = λ p args env. resting }
 
-  rests_if : (w : Within) (j m : ℕ) (s : State) → j < m → Behind s → GoesSo w (resting_if (nat_lt j m) s)
-  rests_if w j m s lt q = subst (λ b. GoesSo w (resting_if b s)) (sym (lt-ltb j m lt)) (q, tt)
+  rests_if : (w : Within) (j m : ℕ) (s : State) → j < m → Unasked s → GoesSo w (resting_if (nat_lt j m) s)
+  rests_if w j m s lt q = subst (λ b. GoesSo w (resting_if b s)) (sym (lt-ltb j m lt)) q
 
-  part_rests : (k : ℕ) (e : Entry) → OfPart e → (i : ℕ) (s : State) → Behind s → There k (within e i) → GoesSo (within e i) (resting_part k e i s)
-  part_rests k First of i s q there = (q, tt)
+  part_rests : (k : ℕ) (e : Entry) → OfPart e → (i : ℕ) (s : State) → Unasked s → There k (within e i) → GoesSo (within e i) (resting_part k e i s)
+  part_rests k First of i s q there = q
   part_rests k (Inside j) of i s q there = rests_if (Inner i j) j (arity (shape_of (part_of root (term_at root k) i))) s there q
-  part_rests k (On v) of i s q there = (q, tt)
+  part_rests k (On v) of i s q there = q
   part_rests k (Turn j kept) of i s q there = absurd of
   part_rests k (Body args) of i s q there = absurd of
   part_rests k (Branched start) of i s q there = absurd of
@@ -187,8 +190,8 @@ module _ (root : Term) (script : IsScript root) (g : Setting) (u : Common) (n : 
   agrees : (k : ℕ) → Agree (turn_relation k) (shape_at root k) k (resting_around k) (resting_around k)
   agrees k = record {
     parts = λ e of i env s s' q there. part_rests k e of i s q there;
-    agains = λ i kept env s s' q. (q, tt);
-    calls = λ c args env s s' q. (q, tt);
+    agains = λ i kept env s s' q. q;
+    calls = λ c args env s s' q. q;
     fits = λ f at m. tt;
     stands = λ f at own m. (ap (λ j. (row_of (shape_at root j) f).inside) at, frame_there root (found_of root script) script (facts_of root script) k f.kind f.left f.env f.values (record { stands = m.stands; left = m.left; values = m.values }));
     passed = λ w pass r r' q. goes_else w Own_body r (passes_no_wait (shape_at root k) w pass) (q (passed_there root (found_of root script) script (facts_of root script) k w pass));
@@ -204,12 +207,12 @@ module _ (root : Term) (script : IsScript root) (g : Setting) (u : Common) (n : 
 
   bodies : (k : ℕ) → is_callable (shape_at root k).form ≡ true → BodiesGo (turn_relation k) (shape_at root k) k (resting_around k) (resting_around k)
   bodies k call =
-      bodies_law (turn_relation k) (shape_at root k) k (resting_around k) (resting_around k) (λ s s' q. behind_change opened s (follows_itself s.world.shared) refl q) (λ s s' q. behind_change closed s (follows_itself s.world.shared) refl q)
-      (λ f is at m. (inside_is k f (Part 0) at (ap (λ d. (frame_row d (shape_at root k) f.left f.env).inside) is), tt)) (λ f at m. tt) (λ env s s' q there. (q, tt)) call
+      bodies_law (turn_relation k) (shape_at root k) k (resting_around k) (resting_around k) (λ s s' q. (behind_change opened s (follows_itself s.world.shared) refl q.0, q.1)) (λ s s' q. (behind_change closed s (follows_itself s.world.shared) refl q.0, q.1))
+      (λ f is at m. (inside_is k f (Part 0) at (ap (λ d. (frame_row d (shape_at root k) f.left f.env).inside) is), tt)) (λ f at m. tt) (λ env s s' q there. q) call
 
   entered_so : (k : ℕ) (e : Entry) → Entered (turn_relation k) (shape_at root k) k (resting_around k) (resting_around k) e
   entered_so k First = agrees k
-  entered_so k (Inside i) = λ env s s' q. (q, tt)
+  entered_so k (Inside i) = λ env s s' q. q
   entered_so k (On v) = agrees k
   entered_so k (Turn i kept) = agrees k
   entered_so k (Body args) = bodies k
@@ -220,11 +223,11 @@ module _ (root : Term) (script : IsScript root) (g : Setting) (u : Common) (n : 
   }
 
   -- so goes a node that is entered, and a frame that meets the table
-  enters_so : (k : ℕ) (e : Entry) (env : Env) (s : State) → Behind s → GoesSo Own_body (enter e (resting_around k) k (shape_at root k) env s)
+  enters_so : (k : ℕ) (e : Entry) (env : Env) (s : State) → Unasked s → GoesSo Own_body (enter e (resting_around k) k (shape_at root k) env s)
   enters_so k e env s q = enter_law (turn_relation k) k (resting_around k) (resting_around k) (shape_at root k).parts e (shape_at root k).form env (entered_so k e) s s q
 
-  ends_so : (f : Frame) → MeetsRow anything (shape_at root f.node) f → (e : Ending) (s : State) → Behind s → GoesSo Own_body (after f (shape_at root f.node) (resting_around f.node) e s)
-  ends_so f m e s q = after_law (turn_relation f.node) (λ s s' q. q) (λ s s' q. behind_change closed s (follows_itself s.world.shared) refl q) (shape_at root f.node) (resting_around f.node) (resting_around f.node) f m (agrees f.node) e s s q
+  ends_so : (f : Frame) → MeetsRow anything (shape_at root f.node) f → (e : Ending) (s : State) → Unasked s → GoesSo Own_body (after f (shape_at root f.node) (resting_around f.node) e s)
+  ends_so f m e s q = after_law (turn_relation f.node) (λ s s' q. q) (λ s s' q. (behind_change closed s (follows_itself s.world.shared) refl q.0, q.1)) (shape_at root f.node) (resting_around f.node) (resting_around f.node) f m (agrees f.node) e s s q
 
   -- at the spot inside these frames
   asks_at : (k : ℕ) (w : Within) (x : Request) → AskedAt w x → Asks (spot root k w) x
@@ -233,54 +236,54 @@ module _ (root : Term) (script : IsScript root) (g : Setting) (u : Common) (n : 
   asks_at k Person_wait (Input id) at = tt
   asks_at k w x at = absurd at
 
-  asked_in : (w : Within) (at : Spot) → ((x : Request) → AskedAt w x → Asks at x) → (fs : List Frame) (r : ℕ) (s : State) → OpenIn w fs r s → IsAsked (innermost root at fs) s.world.shared n r
-  asked_in w at up [] r s h = record { before = h.before; latest = h.latest; requests = h.requests; number = h.number; thread = h.thread; kind = up _ h.kind }
+  asked_in : (w : Within) (at : Spot) → ((x : Request) → AskedAt w x → Asks at x) → (fs : List Frame) (r : ℕ) (s : State) → OpenIn w fs r s → IsAsked (innermost root at fs) u.requests s.world.shared n r
+  asked_in w at up [] r s h = record { latest = h.latest; requests = h.requests; number = h.number; thread = h.thread; kind = up _ h.kind }
   asked_in w at up (f ∷ fs) r s h = asked_in (row_at root f).inside (spot_in root f) (asks_at f.node (row_at root f).inside) fs r s h
 
   -- what a move leaves that has put these frames up
   pub record Left (fs : List Frame) (m : Move) (v : Standing) : Type 0 where
     pub follows : Follows u v.world.shared
     pub number : v.world.own.number ≡ n
-    pub asked : (at : Spot) → WaitsSo (innermost root at fs) v m
+    pub asked : (at : Spot) → WaitsSo (innermost root at fs) u.requests v m
     pub inside : HasPart root m
 
-  quiet : (fs : List Frame) (m : Move) (v : Standing) → ((at : Spot) → WaitsSo at v m) → HasPart root m → Behind (state v.world []) → Left fs m v
+  quiet : (fs : List Frame) (m : Move) (v : Standing) → ((at : Spot) → WaitsSo at u.requests v m) → HasPart root m → Behind (state v.world []) → Left fs m v
   quiet fs m v none there q = record { follows = q.follows; number = q.number; asked = λ at. none (innermost root at fs); inside = there }
 
-  waits_so : (fs : List Frame) (asked : Asked) (v : Standing) → v.world.own.number ≡ n → WaitsIn Own_body asked fs (state v.world []) → (at : Spot) → AskedSo (innermost root at fs) v asked
-  waits_so fs (ForRequest r) v is h at = subst (λ j. IsAsked (innermost root at fs) v.world.shared j r) (sym is) (asked_in Own_body at (λ x a. absurd a) fs r (state v.world []) h)
+  waits_so : (fs : List Frame) (asked : Asked) (v : Standing) → v.world.own.number ≡ n → WaitsIn Own_body asked fs (state v.world []) → (at : Spot) → AskedSo (innermost root at fs) u.requests v asked
+  waits_so fs (ForRequest r) v is h at = subst (λ j. IsAsked (innermost root at fs) u.requests v.world.shared j r) (sym is) (asked_in Own_body at (λ x a. absurd a) fs r (state v.world []) h)
   waits_so fs (ForBranches []) v is h at = absurd h
-  waits_so fs (ForBranches (b ∷ bs)) v is h at = tt
+  waits_so fs (ForBranches (b ∷ bs)) v is h at = h
 
   rested : (k : ℕ) (fs : List Frame) (asked : Asked) (v : Standing) → GoesSo Own_body (over (shape_at root k) (resting_around k) fs (Waits asked [] (state v.world []))) → Behind (state v.world []) × WaitsIn Own_body asked fs (state v.world [])
   rested k fs asked v h = subst (GoesSo Own_body) (over_waits (shape_at root k) (resting_around k) fs asked (state v.world [])) h
 
   left_by : (k : ℕ) (how : How) (fs : List Frame) (m : Move) (v : Standing) → Placed root k how fs m → GoesSo Own_body (over (shape_at root k) (resting_around k) fs (does (resting_around k) how m (state v.world []))) → Left fs m v
-  left_by k how [] (move.Ends e) v p h = quiet [] (move.Ends e) v (λ at. tt) tt h
+  left_by k how [] (move.Ends e) v p h = quiet [] (move.Ends e) v (λ at. h.1) tt h.0
   left_by k how (x ∷ xs) (move.Ends e) v p h = absurd (cc p)
-  left_by k how [] (move.Hits l) v p h = quiet [] (move.Hits l) v (λ at. tt) tt h
+  left_by k how [] (move.Hits l) v p h = quiet [] (move.Hits l) v (λ at. h.1) tt h.0
   left_by k how (x ∷ xs) (move.Hits l) v p h = absurd (cc p)
-  left_by k (As_part i) fs (move.Enter First p env) v placed h = quiet fs (move.Enter First p env) v (λ at. tt) tt (rested k fs _ v h).0
-  left_by k (As_part i) fs (move.Enter (On x) p env) v placed h = quiet fs (move.Enter (On x) p env) v (λ at. tt) tt (rested k fs _ v h).0
+  left_by k (As_part i) fs (move.Enter First p env) v placed h = quiet fs (move.Enter First p env) v (λ at. (rested k fs _ v h).1) tt (rested k fs _ v h).0
+  left_by k (As_part i) fs (move.Enter (On x) p env) v placed h = quiet fs (move.Enter (On x) p env) v (λ at. (rested k fs _ v h).1) tt (rested k fs _ v h).0
   left_by k (As_part i) fs (move.Enter (Inside j) p env) v placed h = by_part (nat_lt j (arity (shape_of (part_of root (term_at root k) i)))) refl h
     where
       by_part : (b : Bool) → nat_lt j (arity (shape_of (part_of root (term_at root k) i))) ≡ b → GoesSo Own_body (over (shape_at root k) (resting_around k) fs (resting_if b (state v.world []))) → Left fs (move.Enter (Inside j) p env) v
-      by_part true is h = quiet fs (move.Enter (Inside j) p env) v (λ at. tt) (subst (λ t. j < arity (shape_of t)) (sym (placed.0).found) (ltb-true j (arity (shape_of (part_of root (term_at root k) i))) is)) (rested k fs (ForBranches (nowhere root ∷ [])) v h).0
+      by_part true is h = quiet fs (move.Enter (Inside j) p env) v (λ at. (rested k fs (ForBranches (nowhere root ∷ [])) v h).1) (subst (λ t. j < arity (shape_of t)) (sym (placed.0).found) (ltb-true j (arity (shape_of (part_of root (term_at root k) i))) is)) (rested k fs (ForBranches (nowhere root ∷ [])) v h).0
       by_part false is h = absurd (rested k fs (ForBranches []) v h).1
   left_by k (As_part i) fs (move.Enter e p env) v placed h = absurd placed.1
-  left_by k Again fs (move.Enter (Turn i kept) p env) v placed h = quiet fs (move.Enter (Turn i kept) p env) v (λ at. tt) tt (rested k fs _ v h).0
+  left_by k Again fs (move.Enter (Turn i kept) p env) v placed h = quiet fs (move.Enter (Turn i kept) p env) v (λ at. (rested k fs _ v h).1) tt (rested k fs _ v h).0
   left_by k Again fs (move.Enter e p env) v placed h = absurd placed.1
-  left_by k Call fs (move.Enter (Body args) p env) v placed h = quiet fs (move.Enter (Body args) p env) v (λ at. tt) tt (rested k fs _ v h).0
+  left_by k Call fs (move.Enter (Body args) p env) v placed h = quiet fs (move.Enter (Body args) p env) v (λ at. (rested k fs _ v h).1) tt (rested k fs _ v h).0
   left_by k Call fs (move.Enter e p env) v placed h = absurd placed
   left_by k how fs (move.Asks asked) v p h =
       let w = rested k fs asked v h in
       record { follows = (w.0).follows; number = (w.0).number; asked = waits_so fs asked v (w.0).number w.1; inside = tt }
 
-  begun_behind : (w : World) → w.setting ≡ g → w.shared ≡ u → w.own.number ≡ n → Behind (state w [])
-  begun_behind w at is same = record { alone = refl; setting = at; follows = subst (Follows u) (sym is) (follows_itself u); number = same }
+  begun_behind : (w : World) → w.setting ≡ g → w.shared ≡ u → w.own.number ≡ n → Unasked (state w [])
+  begun_behind w at is same = (record { alone = refl; setting = at; follows = subst (Follows u) (sym is) (follows_itself u); number = same }, ap (λ (x : Common). x.requests) is)
 
   -- a branch that ends as it begins
-  branch_of : (k start : ℕ) (env : Env) (f : NodeForm) (s : State) (e' : Ending) (s' : State) → is_closure_form f ≡ true → Behind s → is_closure_form (shape_at root k).form ≡ true → branched (resting_around k) k (shape_at root k) env start f s ≡ Ended e' s' → (e : Ending) × (s1 : State) × Behind s1 × (after_branch start e s1 ≡ Ended e' s')
+  branch_of : (k start : ℕ) (env : Env) (f : NodeForm) (s : State) (e' : Ending) (s' : State) → is_closure_form f ≡ true → Unasked s → is_closure_form (shape_at root k).form ≡ true → branched (resting_around k) k (shape_at root k) env start f s ≡ Ended e' s' → (e : Ending) × (s1 : State) × Unasked s1 × (after_branch start e s1 ≡ Ended e' s')
   branch_of k start env (form.Closure heads) s e' s' closure q here h =
       let in_frame = through_ended (frame kind.BranchBody k 0 env (whole start ∷ [])) (after_branch start) (body (resting_around k) (shape_at root k) k env [] s) e' s' h in
       let inner : GoesSo Own_body (body (resting_around k) (shape_at root k) k env [] s) = body_law (turn_relation k) (shape_at root k) k (resting_around k) (resting_around k) (bodies k (closure_callable (shape_at root k).form here)) env [] s s q in
@@ -291,8 +294,8 @@ module _ (root : Term) (script : IsScript root) (g : Setting) (u : Common) (n : 
   branch_begun_ends k start env w e' s' at is same closure h =
       let b = branch_of k start env (shape_at root k).form (state w []) e' s' closure (begun_behind w at is same) closure h in
       let ends : suc (nodes_left s'.world) ≤ nodes_left (b.1).world = branch_end_spends start b.0 b.1 e' s' b.3 in
-      let longer : length u.nodes ≤ length (b.1).world.shared.nodes = front_length u.nodes (b.1).world.shared.nodes (((b.2).follows).later).nodes in
-      let limit : (b.1).world.setting.limits.flow_nodes ≡ w.setting.limits.flow_nodes = ap (λ (x : Setting). x.limits.flow_nodes) ((b.2).setting ∙ sym at) in
+      let longer : length u.nodes ≤ length (b.1).world.shared.nodes = front_length u.nodes (b.1).world.shared.nodes ((((b.2).0).follows).later).nodes in
+      let limit : (b.1).world.setting.limits.flow_nodes ≡ w.setting.limits.flow_nodes = ap (λ (x : Setting). x.limits.flow_nodes) (((b.2).0).setting ∙ sym at) in
       let nodes : length u.nodes ≡ length w.shared.nodes = ap (λ (x : Common). length x.nodes) (sym is) in
       omega (arith, ends, longer, limit, nodes)
 

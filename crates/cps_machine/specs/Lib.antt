@@ -2,4 +2,3 @@ pub mod Stops
 pub mod Resuming
 pub mod Turns
 pub mod Threads
-pub mod Seats

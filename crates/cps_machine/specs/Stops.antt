@@ -6,7 +6,7 @@ use Rattle.model_run.specs.declared.ending.Entry.TheVariants.{Inside}
 use Rattle.model_run.specs.Nesting.{Any_branch, Spot, innermost}
 use Rattle.model_run.specs.Since.{Follows}
 use Rattle.model_run.specs.State.{World}
-use Rattle.run_laws.specs.Soundness.{branching}
+use Rattle.run_laws.specs.Soundness.{SoundWorld, branching}
 use Rattle.cps_frames.specs.Standing.{Standing}
 use Rattle.cps_frames.specs.Places.{Poised}
 use Rattle.cps_frames.specs.Runs.{Onward}
@@ -47,12 +47,12 @@ IsEnd v m = ⊥
 abbrev pub MayRun : Standing → Move → Type 0
 MayRun u m = (above : Context) × (at : Spot) × Poised u.world.setting above at u m × Begins m
 
--- What a thread leaves to the others by its moves: the shared state is a later one, in which what it waits for was asked; and each
--- branch that begins or ends has made a flow node.
+-- What a thread leaves to the others by its moves: the shared state is a later one, in which it has opened the request that it waits
+-- for, and no other; and each branch that begins or ends has made a flow node.
 pub record Leaves (u v : Standing) (m : Move) : Type 0 where
   pub follows : Follows u.world.shared v.world.shared
   pub number : v.world.own.number ≡ u.world.own.number
-  pub waits : (at : Spot) → WaitsSo (innermost u.world.setting.script at v.stack) v m
+  pub waits : (at : Spot) → WaitsSo (innermost u.world.setting.script at v.stack) u.world.shared.requests v m
   pub spent : nodes_left v.world + made_for m ≤ nodes_left u.world
   pub inside : HasPart u.world.setting.script m
 
@@ -61,9 +61,9 @@ abbrev pub IsOver : Stopped → Standing → Type 0
 IsOver (stopped.Ended e) v = v.stack ≡ []
 IsOver s v = Unit {0}
 
--- where no limit was met, the thread still stands soundly
+-- where no limit was met the thread still stands soundly, and where one was met the shared state is sound
 abbrev pub StandsStill : Context → Spot → Stopped → Standing → Type 0
-StandsStill above at (stopped.Limit k) v = Unit {0}
+StandsStill above at (stopped.Limit k) v = SoundWorld v.world.setting v.world
 StandsStill above at s v = Poised v.world.setting above at v (last_move s)
 
 -- The machine comes from the thread and the first move to where it stops.

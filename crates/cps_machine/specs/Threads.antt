@@ -1,21 +1,20 @@
 -- A green thread that runs a script, or a branch: what it does first with an answer, and how it stops.
-use Rattle.std.specs.Prelude.{◌≡◌, ℕ, false, true, List, [], map, Option, Some, None, Bool}
+use Rattle.std.specs.Prelude.{◌≡◌, ℕ, false, true, List, [], map, Option, Some, None, Bool, is_some}
 use Rattle.model_run.specs.declared.context.Context.{Context}
 use Rattle.model_run.specs.declared.ending.Asked.TheVariants.{ForBranches, ForRequest}
 use Rattle.model_run.specs.declared.ending.Branch.{Branch}
-use Rattle.model_run.specs.declared.ending.Ending.TheVariants.{Answered}
-use Rattle.model_run.specs.declared.ending.Entry.TheVariants.{Branched, First}
 use Rattle.model_run.specs.declared.frame.Frame.{Frame}
 use Rattle.model_run.specs.declared.wait.Answer.{Answer}
-use Rattle.model_run.specs.Nesting.{Any_branch, Begun, Spot}
+use Rattle.model_run.specs.Threads.{Closure, Runs, Script}
 use Rattle.model_run.specs.World.{outcome_of}
 use Rattle.green_threads.specs.declared.runner.NewBranch.{NewBranch}
 use Rattle.green_threads.specs.declared.runner.Stop.{Stop}
 use Rattle.green_threads.specs.declared.runner.Stop.TheVariants as stop
-use Rattle.cps_frames.specs.Standing.{standing}
+use Rattle.settle_laws.specs.Stances.{Stance}
+use Rattle.cps_frames.specs.Standing.{own_of, standing}
 use Rattle.cps_frames.specs.declared.shared.Shared.{Shared}
 use Rattle.cps_frames.specs.declared.thread.Move.{Move}
-use Rattle.cps_frames.specs.declared.thread.Move.TheVariants.{Ends, Enter}
+use Rattle.thread_fits.specs.Seats.{first_of}
 use Rattle.cps_machine.specs.Stops.{Stops}
 use Rattle.cps_machine.specs.declared.machine.Stopped.{Stopped}
 use Rattle.cps_machine.specs.declared.machine.Stopped.TheVariants as stopped
@@ -23,19 +22,31 @@ use Rattle.cps_machine.specs.declared.thread.MachineThread.{MachineThread}
 use Rattle.cps_machine.specs.declared.thread.Start.{Start}
 use Rattle.cps_machine.specs.declared.thread.Start.TheVariants as start
 
--- What a thread does first with an answer: one that has begun goes on with it.
-abbrev pub first_of : Option Start → ℕ → Answer → Move
-first_of None head x = Ends (Answered x)
-first_of (Some start.Script) head x = Enter First 0 []
-first_of (Some (start.Branch c)) head x = Enter (Branched head) c.node c.env
+-- What the definitions see of a thread: it has what it runs where it has not begun.
+abbrev pub runs_of : Option Start → ℕ → Option Runs
+runs_of None head = None
+runs_of (Some start.Script) head = Some Script
+runs_of (Some (start.Branch c)) head = Some (Closure c.node c.env head)
 
+abbrev pub stance_of : MachineThread → Stance
+stance_of t = record { own = own_of t.state; parent = t.state.parent; runs = runs_of t.start t.state.head; frames = t.state.stack.items }
+
+-- what it does first with an answer
 abbrev pub first_move : MachineThread → Answer → Move
-first_move t x = first_of t.start t.state.head x
+first_move t x = first_of (stance_of t).runs x
 
--- where its frames begin
-abbrev pub outer_of : Bool → Spot
-outer_of true = Any_branch
-outer_of false = Begun 0
+-- whether a `parallel` began it: it has a parent, or is a closure that has not begun
+abbrev pub branch_by : Option Start → Option ℕ → Bool
+branch_by None parent = is_some parent
+branch_by (Some start.Script) parent = false
+branch_by (Some (start.Branch c)) parent = true
+
+abbrev pub is_branch : MachineThread → Bool
+is_branch t = branch_by t.start t.state.parent
+
+-- the thread with this number and parent
+abbrev pub seated : MachineThread → ℕ → Option ℕ → MachineThread
+seated t n p = record t { state = record t.state { number = n; parent = p } }
 
 -- what the definitions see of a branch that is to begin
 pub record Beginning : Type 0 where
@@ -45,7 +56,6 @@ pub record Beginning : Type 0 where
   pub context : Context
   pub calls : ℕ
   pub frames : List Frame
-  pub is_branch : Bool
 
 abbrev pub seen : NewBranch MachineThread → Beginning
 seen b = record {
@@ -55,20 +65,15 @@ seen b = record {
   context = b.thread.state.context;
   calls = b.thread.state.calls;
   frames = b.thread.state.stack.items;
-  is_branch = b.thread.is_branch;
 }
 
 -- a thread that has not begun
-abbrev pub beginning : List ℕ → Start → ℕ → Context → Bool → Beginning
-beginning name s head context is_branch = record { name = name; start = Some s; head = head; context = context; calls = 0; frames = []; is_branch = is_branch }
+abbrev pub beginning : List ℕ → Start → ℕ → Context → Beginning
+beginning name s head context = record { name = name; start = Some s; head = head; context = context; calls = 0; frames = [] }
 
 -- A branch begins with its closure, behind its flow node, in the context of the thread that waits for it (Jenkins).
 abbrev pub to_begin : Context → Branch → Beginning
-to_begin context b = beginning b.name (start.Branch (record { node = b.closure; env = b.env })) b.head context true
-
-abbrev pub begins_branch : Start → Bool
-begins_branch start.Script = false
-begins_branch (start.Branch c) = true
+to_begin context b = beginning b.name (start.Branch (record { node = b.closure; env = b.env })) b.head context
 
 -- how a thread stops, as other threads see it
 abbrev pub IsStop : Stopped → Stop MachineThread → Context → Type 0
@@ -84,4 +89,3 @@ pub record IsTurn (t : MachineThread) (u : Shared) (x : Answer) (stops : Stop Ma
   pub stop : IsStop stopped_so stops t'.state.context
   pub runs : Stops (standing u t.state) (first_move t x) stopped_so (standing u' t'.state)
   pub begun : t'.start ≡ None
-  pub same : t'.is_branch ≡ t.is_branch

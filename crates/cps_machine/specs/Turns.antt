@@ -1,4 +1,4 @@
--- What a thread leaves to the others where it makes its moves: a later state, in which what it waits for was asked.
+-- What a thread leaves to the others where it makes its moves: a later state, in which it has opened the request that it waits for, and no other.
 use Rattle.std.specs.Prelude.{◌≡◌, ◌<◌, ℕ, List, [], ◌∷◌, ◌++◌}
 use Rattle.model_run.specs.declared.ending.Asked.{Asked}
 use Rattle.model_run.specs.declared.ending.Asked.TheVariants.{ForBranches, ForRequest}
@@ -13,24 +13,24 @@ use Rattle.cps_frames.specs.Standing.{Standing}
 use Rattle.cps_frames.specs.declared.thread.Move.{Move}
 use Rattle.cps_frames.specs.declared.thread.Move.TheVariants as move
 
--- the latest request is this one, is thread n's, and is of the kind that a wait at this spot is for
-pub record IsAsked (at : Spot) (u : Common) (n r : ℕ) : Type 0 where
-  pub before : List OpenRequest
+-- The thread n has opened one request more than these: the latest one, which is this, and of the kind that a wait at this spot is for.
+pub record IsAsked (at : Spot) (before : List OpenRequest) (u : Common) (n r : ℕ) : Type 0 where
   pub latest : OpenRequest
   pub requests : u.requests ≡ before ++ latest ∷ []
   pub number : latest.number ≡ r
   pub thread : latest.thread ≡ n
   pub kind : Asks at latest.request
 
--- a thread waits for a request that it has made, or for one branch or more
-abbrev pub AskedSo : Spot → Standing → Asked → Type 0
-AskedSo at v (ForRequest r) = IsAsked at v.world.shared v.world.own.number r
-AskedSo at v (ForBranches []) = ⊥
-AskedSo at v (ForBranches (b ∷ bs)) = Unit {0}
+-- a thread waits for the one request that it has opened, or for one branch or more, and has opened none then
+abbrev pub AskedSo : Spot → List OpenRequest → Standing → Asked → Type 0
+AskedSo at before v (ForRequest r) = IsAsked at before v.world.shared v.world.own.number r
+AskedSo at before v (ForBranches []) = ⊥
+AskedSo at before v (ForBranches (b ∷ bs)) = v.world.shared.requests ≡ before
 
-abbrev pub WaitsSo : Spot → Standing → Move → Type 0
-WaitsSo at v (move.Asks asked) = AskedSo at v asked
-WaitsSo at v m = Unit {0}
+-- where it does not wait it has opened none
+abbrev pub WaitsSo : Spot → List OpenRequest → Standing → Move → Type 0
+WaitsSo at before v (move.Asks asked) = AskedSo at before v asked
+WaitsSo at before v m = v.world.shared.requests ≡ before
 
 -- where a part of a part is entered, it is there
 abbrev pub HasPart : Term → Move → Type 0

@@ -1,15 +1,20 @@
 //! A green thread that runs a script, or a branch of a `parallel`.
 
-ghost use Rattle.std.specs.Prelude.{◌≡◌, ◌-◌, ℕ, List, None, map, length, is_some, IfOk};
-ghost use Rattle.model_run.specs.World.{outcome_of, run_limits};
-ghost use Rattle.cps_machine.specs.Threads.{IsStop, IsTurn, beginning, begins_branch, first_move, seen, to_begin};
+ghost use Rattle.std.specs.Prelude.{◌≡◌, ℕ, List, None, map, IfOk};
+ghost use Rattle.model_run.specs.World.{outcome_of};
+ghost use Rattle.cps_machine.specs.Threads.{IsStop, beginning, first_move, seen, to_begin};
 
 use crate::machine::{Stopped, run};
 use cps_frames::{Move, Shared, ThreadState};
 use green_threads::{NewBranch, Runner, Stop};
 use model_run::{Answer, Asked, Branch, Branches, Callee, Context, Ending, Entry, Outcome};
+use model_text::{Ids, Pairs, Texts};
 use model_values::{Env, Value};
+use script_thread::ScriptThread;
 use std::alloc::{AllocError, Global};
+
+/// The number of a build's first flow node.
+const START_NODE: u32 = 2;
 
 /// What a thread runs that has not begun.
 #[derive(Drop)]
@@ -26,18 +31,13 @@ pub struct MachineThread {
     state: ThreadState,
     /// What it runs, where it has not begun.
     start: Option<Start>,
-    is_branch: bool,
 }
 
 impl MachineThread {
     /// A thread that has not begun, with nothing open. Its number and its parent are those that `seat` gives it.
     pub fn begin(alloc: Global, start: Start, head: u32, context: Context) -> MachineThread
-        ensures { (name : List ℕ) → seen (record { name = name; thread = result }) ≡ beginning name start head context (begins_branch start) }
+        ensures { (name : List ℕ) → seen (record { name = name; thread = result }) ≡ beginning name start head context }
     {
-        let is_branch = match start {
-            Start::Script => false,
-            Start::Branch(_) => true,
-        };
         MachineThread {
             state: ThreadState {
                 number: 0,
@@ -48,20 +48,14 @@ impl MachineThread {
                 stack: Vec::new(alloc),
             },
             start: Some(start),
-            is_branch,
         }
     }
 
     /// The thread that waits inside these frames.
     pub fn restore(state: ThreadState) -> MachineThread
-        ensures { result ≡ record { state = state; start = None; is_branch = is_some state.parent } }
+        ensures { result ≡ record { state = state; start = None } }
     {
-        let is_branch = state.parent.is_some();
-        MachineThread {
-            state,
-            start: None,
-            is_branch,
-        }
+        MachineThread { state, start: None }
     }
 
     /// What it has between two turns.
@@ -102,8 +96,10 @@ impl MachineThread {
 }
 
 impl Runner for MachineThread {
-    ghost use Rattle.cps_machine.specs.Seats.{Fits, nodes_left};
-    ghost use Rattle.cps_machine.specs.Threads.{IsTurn};
+    ghost use Rattle.settle_laws.specs.Stances.{Turns};
+    ghost use Rattle.cps_frames.specs.Standing.{common_of, setting_of};
+    ghost use Rattle.thread_fits.specs.Seats.{Fits, nodes_left};
+    ghost use Rattle.cps_machine.specs.Threads.{is_branch, seated, stance_of};
 
     type Shared = Shared;
 
@@ -111,17 +107,17 @@ impl Runner for MachineThread {
 
     ghost parent = { λ t. t.state.parent };
 
-    ghost branch = { λ t. t.is_branch };
+    ghost branch = { is_branch };
 
     ghost head = { λ t. t.state.head };
 
-    ghost seated = { λ t n p. record t { state = record t.state { number = n; parent = p } } };
+    ghost seated = { seated };
 
     ghost room = { nodes_left };
 
-    ghost fits = { Fits };
+    ghost fits = { Fits stance_of };
 
-    ghost turns = { IsTurn };
+    ghost turns = { Turns stance_of common_of setting_of };
 
     fn head(&self) -> u32 {
         self.state.head
@@ -143,6 +139,44 @@ impl Runner for MachineThread {
         let stop = self.stop(alloc, stopped)?;
         Ok(stop)
     }
+}
+
+impl ScriptThread for MachineThread {
+    ghost use Rattle.std.specs.Prelude.{refl};
+    ghost use Rattle.thread_fits.specs.Seats.{Fits};
+    ghost use Rattle.thread_fits.proofs.BeginLaws.{script_fits};
+    ghost use Rattle.thread_fits.proofs.EventLaws.{awaited_there, event_fits};
+    ghost use Rattle.thread_fits.proofs.SeatLaws.{heads_stand};
+    ghost use Rattle.cps_machine.specs.Threads.{seated, stance_of};
+
+    ghost stance = { stance_of };
+
+    fn script(alloc: Global) -> Result<MachineThread, AllocError> {
+        let outside = Context {
+            held: Ids::new(alloc),
+            folders: Texts::new(alloc),
+            env: Pairs::new(alloc),
+        };
+        Ok(MachineThread::begin(alloc, Start::Script, START_NODE, outside))
+    }
+
+    ghost head_is = { λ t. refl };
+
+    ghost seated_is = { λ t n p. refl };
+
+    ghost turned = { λ t u x stopped t' u' turns. turns };
+
+    ghost room_is = { λ u. refl };
+
+    ghost begun_fits = { λ t u e alone begun. script_fits stance_of (seated t 0 None) u e begun };
+
+    ghost shared_fits = { λ xs u fit. fit.shared };
+
+    ghost heads_stand = { heads_stand stance_of };
+
+    ghost awaited = { awaited_there stance_of };
+
+    ghost event_fits = { event_fits stance_of };
 }
 
 /// What a branch has ended with: a value, or what it has thrown.

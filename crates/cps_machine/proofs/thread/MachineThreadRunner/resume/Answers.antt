@@ -1,9 +1,15 @@
-use Rattle.cps_machine.proofs.ResumeLaws.{turn_begins, turn_keeps, turn_lowers, turn_made}
+use Rattle.cps_machine.proofs.ResumeLaws.{turn_begins, turn_branch, turn_keeps, turn_lowers, turn_made}
+use Rattle.cps_machine.proofs.StanceLaws.{turn_is}
 use Rattle.cps_machine.proofs.thread.MachineThreadRunner.resume.Goals as goal
 
 pub returns-clause-keeps : goal.returns-clause-keeps
 returns-clause-keeps c =
     turn_keeps c.args.self.now _ c.args.shared.now c.run.new.shared c.args.answer c.in_ok-stop.stop
+    (turn_made c.args.self.now c.first_move-first.new.self c.args.shared.now c.run.new.shared c.args.answer _ c.in_ok-stopped.stopped c.run.new.state c.in_ok-stop.stop c.first_move-first.ensures.begun c.first_move-first.ensures.first c.in_ok-stopped.ensures c.in_ok-stop.ensures)
+
+pub returns-clause-turned : goal.returns-clause-turned
+returns-clause-turned c =
+    turn_is c.args.self.now _ c.args.shared.now c.run.new.shared c.args.answer c.in_ok-stop.stop c.requires.ready
     (turn_made c.args.self.now c.first_move-first.new.self c.args.shared.now c.run.new.shared c.args.answer _ c.in_ok-stopped.stopped c.run.new.state c.in_ok-stop.stop c.first_move-first.ensures.begun c.first_move-first.ensures.first c.in_ok-stopped.ensures c.in_ok-stop.ensures)
 
 pub returns-clause-lowers : goal.returns-clause-lowers
@@ -14,4 +20,9 @@ returns-clause-lowers c =
 pub returns-clause-begins : goal.returns-clause-begins
 returns-clause-begins c =
     turn_begins c.args.self.now _ c.args.shared.now c.run.new.shared c.args.answer c.in_ok-stop.stop
+    (turn_made c.args.self.now c.first_move-first.new.self c.args.shared.now c.run.new.shared c.args.answer _ c.in_ok-stopped.stopped c.run.new.state c.in_ok-stop.stop c.first_move-first.ensures.begun c.first_move-first.ensures.first c.in_ok-stopped.ensures c.in_ok-stop.ensures)
+
+pub returns-clause-branch : goal.returns-clause-branch
+returns-clause-branch c =
+    turn_branch c.args.self.now _ c.args.shared.now c.run.new.shared c.args.answer c.in_ok-stop.stop c.requires.ready
     (turn_made c.args.self.now c.first_move-first.new.self c.args.shared.now c.run.new.shared c.args.answer _ c.in_ok-stopped.stopped c.run.new.state c.in_ok-stop.stop c.first_move-first.ensures.begun c.first_move-first.ensures.first c.in_ok-stopped.ensures c.in_ok-stop.ensures)

@@ -17,13 +17,14 @@ use Rattle.model_run.specs.declared.wait.Join.{Join}
 use Rattle.model_run.specs.declared.wait.JoinEnd.{JoinEnd}
 use Rattle.model_run.specs.declared.wait.Wait.{Wait}
 use Rattle.model_run.specs.declared.wait.Wait.TheVariants.{Ready, Request as RequestWait, Branches as BranchesWait}
-use Rattle.model_run.specs.Fitting.{Asks, EndFits as BranchEnded, ForRequest as IsForRequest, IsFlowNode, Later, OutcomeFits, Rise}
+use Rattle.model_run.specs.Fitting.{Asks, EndFits as BranchEnded, ForRequest as IsForRequest, IsFlowNode, Later, OutcomeFits, Rise, outermost}
 use Rattle.model_run.specs.Nesting.{Any_body, Any_branch, Begun, Body_of, For_branches, For_executor, For_person, For_task, Spot, innermost}
-use Rattle.model_run.specs.Requests.{RequestsFit, numbers_of}
+use Rattle.model_run.specs.Requests.{numbers_of}
 use Rattle.model_run.specs.Scoping.{names_at}
 use Rattle.model_run.specs.Since.{Follows}
 use Rattle.model_run.specs.State.{Common, Setting, World}
 use Rattle.model_run.specs.Terms.{Term}
+use Rattle.model_run.specs.Threads.{Closure, Runs, Script}
 use Rattle.model_run.specs.World.{all_ended, and_end, branch_end, ends_before, join_end, join_wait, joined_wait, outcome_of}
 use Rattle.model_run.proofs.LaterLaws.{env_later}
 use Rattle.run_laws.specs.Soundness.{EndFits, SoundWorld}
@@ -31,19 +32,17 @@ use Rattle.run_laws.specs.Worlds.{EndIf, SharedSound}
 use Rattle.run_laws.proofs.Flow.{node_then}
 use Rattle.run_laws.proofs.SoundBranches.{outcome_then}
 use Rattle.green_threads.specs.declared.runner.Seated.{Seated}
+use Rattle.green_threads.specs.Threads.{waits_as}
+use Rattle.settle_laws.specs.Stances.{Stance}
+use Rattle.settle_laws.specs.Standing.{HeadsStand}
 use Rattle.cps_code.specs.Script.{script_of}
 use Rattle.cps_frames.specs.Places.{AnswersAt, EndsAt, MoveFits, Poised}
-use Rattle.cps_frames.specs.Standing.{Standing, common_of, setting_of, standing}
+use Rattle.cps_frames.specs.Standing.{Standing, common_of, setting_of}
 use Rattle.cps_frames.specs.declared.shared.Shared.{Shared}
 use Rattle.cps_frames.specs.declared.thread.Move.{Move}
 use Rattle.cps_frames.specs.declared.thread.Move.TheVariants as move
 use Rattle.cps_frames.proofs.Poise.{all_later}
-use Rattle.cps_machine.specs.Seats.{IsGranted, SeatStands, WaitStands, waiting_move}
-use Rattle.cps_machine.specs.Threads.{first_move, first_of, outer_of}
-use Rattle.cps_machine.specs.Turns.{IsAsked}
-use Rattle.cps_machine.specs.declared.thread.MachineThread.{MachineThread}
-use Rattle.cps_machine.specs.declared.thread.Start.{Start}
-use Rattle.cps_machine.specs.declared.thread.Start.TheVariants as start
+use Rattle.thread_fits.specs.Seats.{Fits, IsGranted, SeatStands, WaitStands, first_of, standing_as, waiting_move}
 
 -- what branches ended with is there still
 end_then : (u v : Common) → Later u v → (e : JoinEnd) → BranchEnded u e → BranchEnded v e
@@ -57,7 +56,7 @@ ends_then : (u v : Common) → Later u v → (ends : List BranchEnd) → AllAre 
 ends_then u v l [] h = tt
 ends_then u v l (b ∷ bs) h = (end_then u v l b.end h.0, ends_then u v l bs h.1)
 
-joins_then : (u v : Common) → Later u v → (js : List Join) → AllAre (λ j. EndIf u j.ended) js → AllAre (λ j. EndIf v j.ended) js
+pub joins_then : (u v : Common) → Later u v → (js : List Join) → AllAre (λ j. EndIf u j.ended) js → AllAre (λ j. EndIf v j.ended) js
 joins_then u v l [] h = tt
 joins_then u v l (j ∷ js) h = (end_if_then u v l j.ended h.0, joins_then u v l js h.1)
 
@@ -80,13 +79,13 @@ answered_then root u v l For_person x never h = answers_then u v l For_person x 
 answered_then root u v l For_branches x never h = answers_then u v l For_branches x never h
 answered_then root u v l at x never h = absurd h
 
-first_then : (root : Term) (u v : Common) → Later u v → (at : Spot) (s : Option Start) (head : ℕ) (x : Answer) → (IsGranted (Ready x) → ⊥) → MoveFits root u at (first_of s head x) → MoveFits root v at (first_of s head x)
-first_then root u v l at None head x never h = answered_then root u v l at x never h
-first_then root u v l at (Some start.Script) head x never h = (h.0, h.1, λ plain. env_later u v l (names_at root 0) [] (h.2 plain))
-first_then root u v l at (Some (start.Branch c)) head x never h = (h.0, h.1, ((h.2).0, env_later u v l (names_at root c.node) c.env (h.2).1, node_then u v l head (h.2).2))
+first_then : (root : Term) (u v : Common) → Later u v → (at : Spot) (s : Option Runs) (x : Answer) → (IsGranted (Ready x) → ⊥) → MoveFits root u at (first_of s x) → MoveFits root v at (first_of s x)
+first_then root u v l at None x never h = answered_then root u v l at x never h
+first_then root u v l at (Some Script) x never h = (h.0, h.1, λ plain. env_later u v l (names_at root 0) [] (h.2 plain))
+first_then root u v l at (Some (Closure k env head)) x never h = (h.0, h.1, ((h.2).0, env_later u v l (names_at root k) env (h.2).1, node_then u v l head (h.2).2))
 
-move_then : (root : Term) (u v : Common) → Later u v → (at : Spot) (w : Wait) (t : MachineThread) → (IsGranted w → ⊥) → MoveFits root u at (waiting_move w t) → MoveFits root v at (waiting_move w t)
-move_then root u v l at (Ready x) t never h = first_then root u v l at t.start t.state.head x never h
+move_then : (root : Term) (u v : Common) → Later u v → (at : Spot) (w : Wait) (t : Stance) → (IsGranted w → ⊥) → MoveFits root u at (waiting_move w t) → MoveFits root v at (waiting_move w t)
+move_then root u v l at (Ready x) t never h = first_then root u v l at t.runs x never h
 move_then root u v l at (RequestWait r) t never h = h
 move_then root u v l at (BranchesWait js) t never h = h
 
@@ -104,7 +103,7 @@ not_below : (low m : ℕ) (xs : List OpenRequest) (q : OpenRequest) → Rise low
 not_below low m [] q h = h.0
 not_below low m (x ∷ xs) q h = let le : suc x.number ≤ q.number = not_below (suc x.number) m xs q h.2 in let l : low ≤ x.number = h.0 in omega (arith, le, l)
 
-latest_found : (at : Spot) (n low m : ℕ) (xs : List OpenRequest) (q : OpenRequest) → Rise low m (numbers_of (xs ++ q ∷ [])) → q.thread ≡ n → Asks at q.request → IsForRequest at (find (λ x. nat_eq x.number q.number) (xs ++ q ∷ [])) n
+pub latest_found : (at : Spot) (n low m : ℕ) (xs : List OpenRequest) (q : OpenRequest) → Rise low m (numbers_of (xs ++ q ∷ [])) → q.thread ≡ n → Asks at q.request → IsForRequest at (find (λ x. nat_eq x.number q.number) (xs ++ q ∷ [])) n
 latest_found at n low m [] q h is asks = subst (λ b. IsForRequest at (if b then Some q else None) n) (sym (eq-eqb q.number q.number refl)) (is, asks)
 latest_found at n low m (x ∷ xs) q h is asks = one (nat_eq x.number q.number) refl (latest_found at n (suc x.number) m xs q h.2 is asks)
   where
@@ -112,13 +111,7 @@ latest_found at n low m (x ∷ xs) q h is asks = one (nat_eq x.number q.number) 
     one true e more = let same : x.number ≡ q.number = eqb-true _ _ e in let above : suc x.number ≤ q.number = not_below (suc x.number) m xs q h.2 in absurd (omega (arith, same, above))
     one false e more = more
 
-pub asked_found : (site : _) (u : Common) (at : Spot) (n r : ℕ) → RequestsFit site u → IsAsked at u n r → IsForRequest at (find (λ q. nat_eq q.number r) u.requests) n
-asked_found site u at n r fit h =
-    subst (λ rs. IsForRequest at (find (λ q. nat_eq q.number r) rs) n) (sym h.requests)
-    (subst (λ j. IsForRequest at (find (λ q. nat_eq q.number j) (h.before ++ h.latest ∷ [])) n) h.number
-    (latest_found at n 1 u.next_request h.before h.latest (subst (λ rs. Rise 1 u.next_request (numbers_of rs)) h.requests fit.requests) h.thread h.kind))
-
-wait_then : (u v : Common) → Follows u v → (at : Spot) (n : ℕ) (w : Wait) → WaitStands u at n w → WaitStands v at n w
+pub wait_then : (u v : Common) → Follows u v → (at : Spot) (n : ℕ) (w : Wait) → WaitStands u at n w → WaitStands v at n w
 wait_then u v f at n (Ready x) h = tt
 wait_then u v f at n (RequestWait r) h = subst (λ rs. IsForRequest at (find (λ q. nat_eq q.number r) rs) n) (sym (f.asks).requests) (found_still at n r u.requests (f.asks).new h)
 wait_then u v f at n (BranchesWait js) h = joins_then u v f.later js h
@@ -127,28 +120,33 @@ wait_then u v f at n (BranchesWait js) h = joins_then u v f.later js h
 pub sound_world : (g : Setting) (w : World) → w.setting ≡ g → SharedSound g false w.shared → IsFlowNode w.shared.nodes w.own.head → SoundWorld g w
 sound_world g w is s head = record { setting = is; narrow = s.narrow; cells = s.cells; binding = s.binding; head = head; bounds = s.bounds }
 
-module _ (u u' : Shared) (same : setting_of u' ≡ setting_of u) (f : Follows (common_of u) (common_of u')) (sound : SharedSound (setting_of u') false (common_of u')) where
-  -- a thread that had no turn, and is about to be given no executor
-  pub stands_on : (x : Seated MachineThread) → (IsGranted x.wait → ⊥) → SeatStands u x → SeatStands u' x
-  stands_on x never h =
+module _ {T : Type 0} (stance : T → Stance) (u u' : Shared) (same : setting_of u' ≡ setting_of u) (later : Later (common_of u) (common_of u')) (sound : SharedSound (setting_of u') false (common_of u')) where
+  -- a thread that had no turn, with a move that may be made there
+  pub poised_on : (t : Stance) (above : Context) (at : Spot) (m m' : Move) → MoveFits (script_of u.code) (common_of u') (innermost (script_of u.code) at t.frames) m' → Poised (setting_of u) above at (standing_as u t) m → Poised (setting_of u') above at (standing_as u' t) m'
+  poised_on t above at m m' fits p =
       let shared : SharedSound (setting_of u) false (common_of u') = subst (λ g. SharedSound g false (common_of u')) same sound in
-      let p : Poised (setting_of u) h.above (outer_of x.thread.is_branch) (standing u x.thread.state) (waiting_move x.wait x.thread) = h.poised in
-      let here : Poised (setting_of u) h.above (outer_of x.thread.is_branch) (standing u' x.thread.state) (waiting_move x.wait x.thread) = record {
-        sound = sound_world (setting_of u) (standing u' x.thread.state).world same shared (node_then (common_of u) (common_of u') f.later x.thread.state.head (p.sound).head);
+      let here : Poised (setting_of u) above at (standing_as u' t) m' = record {
+        sound = sound_world (setting_of u) (standing_as u' t).world same shared (node_then (common_of u) (common_of u') later t.own.head (p.sound).head);
         executors = shared.held;
         opened = record { own = (p.opened).own; held = (p.opened).held; many = (p.opened).many; folders = (p.opened).folders };
-        frames = all_later (script_of u.code) (common_of u) (common_of u') f.later x.thread.state.stack.items p.frames;
+        frames = all_later (script_of u.code) (common_of u) (common_of u') later t.frames p.frames;
         chain = p.chain;
-        move = move_then (script_of u.code) (common_of u) (common_of u') f.later (innermost (script_of u.code) (outer_of x.thread.is_branch) x.thread.state.stack.items) x.wait x.thread never p.move;
+        move = fits;
       } in
-      record {
-        above = h.above;
-        poised = subst (λ g. Poised g h.above (outer_of x.thread.is_branch) (standing u' x.thread.state) (waiting_move x.wait x.thread)) (sym same) here;
-        begun = h.begun;
-        number = h.number;
-        wait = subst (λ (g : Setting). WaitStands (common_of u') (innermost g.script (outer_of x.thread.is_branch) x.thread.state.stack.items) x.number x.wait) (sym same)
-            (wait_then (common_of u) (common_of u') f (innermost (script_of u.code) (outer_of x.thread.is_branch) x.thread.state.stack.items) x.number x.wait h.wait);
-      }
+      subst (λ g. Poised g above at (standing_as u' t) m') (sym same) here
+
+  -- and is about to be given no executor
+  pub stands_on : (x : Seated T) → (IsGranted x.wait → ⊥) → WaitStands (common_of u') (innermost (script_of u.code) (outermost x.parent) (stance x.thread).frames) x.number x.wait → SeatStands stance u x → SeatStands stance u' x
+  stands_on x never wait h = record {
+    above = h.above;
+    poised = poised_on (stance x.thread) h.above (outermost x.parent) (waiting_move x.wait (stance x.thread)) (waiting_move x.wait (stance x.thread))
+        (move_then (script_of u.code) (common_of u) (common_of u') later (innermost (script_of u.code) (outermost x.parent) (stance x.thread).frames) x.wait (stance x.thread) never (h.poised).move) h.poised;
+    begun = h.begun;
+    start = h.start;
+    number = h.number;
+    parent = h.parent;
+    wait = subst (λ (g : Setting). WaitStands (common_of u') (innermost g.script (outermost x.parent) (stance x.thread).frames) x.number x.wait) (sym same) wait;
+  }
 
 -- the ends of branches, where one more has ended
 ended_one : (u : Common) (n : ℕ) (e : JoinEnd) → BranchEnded u e → (js : List Join) → AllAre (λ j. EndIf u j.ended) js → AllAre (λ j. EndIf u j.ended) (map (join_end n e) js)
@@ -182,46 +180,45 @@ outcome_there f u (Declared b) h = tt
 outcome_there f u (Answered x) h = tt
 
 -- a thread that waits for branches stands where it takes their ends
-joins_at : (root : Term) (u : Common) (at : Spot) (s : Option Start) (head : ℕ) (ends : List BranchEnd) → s ≡ None → AllAre (λ b. BranchEnded u b.end) ends → MoveFits root u at (move.Asks (ForBranches [])) → MoveFits root u at (first_of s head (Joined ends))
-joins_at root u For_branches s head ends none there h = subst (λ x. MoveFits root u For_branches (first_of x head (Joined ends))) (sym none) there
-joins_at root u For_executor s head ends none there h = absurd h.0
-joins_at root u For_task s head ends none there h = absurd h.0
-joins_at root u For_person s head ends none there h = absurd h.0
-joins_at root u (Begun k) s head ends none there h = absurd h.0
-joins_at root u Any_body s head ends none there h = absurd h.0
-joins_at root u (Body_of k) s head ends none there h = absurd h.0
-joins_at root u Any_branch s head ends none there h = absurd h.0
+joins_at : (root : Term) (u : Common) (at : Spot) (s : Option Runs) (ends : List BranchEnd) → s ≡ None → AllAre (λ b. BranchEnded u b.end) ends → MoveFits root u at (move.Asks (ForBranches [])) → MoveFits root u at (first_of s (Joined ends))
+joins_at root u For_branches s ends none there h = subst (λ x. MoveFits root u For_branches (first_of x (Joined ends))) (sym none) there
+joins_at root u For_executor s ends none there h = absurd h.0
+joins_at root u For_task s ends none there h = absurd h.0
+joins_at root u For_person s ends none there h = absurd h.0
+joins_at root u (Begun k) s ends none there h = absurd h.0
+joins_at root u Any_body s ends none there h = absurd h.0
+joins_at root u (Body_of k) s ends none there h = absurd h.0
+joins_at root u Any_branch s ends none there h = absurd h.0
 
-with_move : (g : Setting) (above : Context) (at : Spot) (u : Standing) (m m' : Move) → MoveFits g.script u.world.shared (innermost g.script at u.stack) m' → Poised g above at u m → Poised g above at u m'
+pub with_move : (g : Setting) (above : Context) (at : Spot) (u : Standing) (m m' : Move) → MoveFits g.script u.world.shared (innermost g.script at u.stack) m' → Poised g above at u m → Poised g above at u m'
 with_move g above at u m m' fits p = record { sound = p.sound; executors = p.executors; opened = p.opened; frames = p.frames; chain = p.chain; move = fits }
 
-abbrev pub waits_with : Wait → Seated MachineThread → Seated MachineThread
-waits_with w x = record { number = x.number; parent = x.parent; wait = w; thread = x.thread }
+module _ {T : Type 0} (stance : T → Stance) (u : Shared) where
+  -- the same thread, which waits for its branches or is ready with their ends
+  joined_as : (x : Seated T) (js : List Join) (o : Option (List BranchEnd)) → AllAre (λ j. EndIf (common_of u) j.ended) js → EndsIf (common_of u) o → SeatStands stance u (waits_as (BranchesWait js) x) → SeatStands stance u (waits_as (joined_wait js o) x)
+  joined_as x js None all there h = h
+  joined_as x js (Some ends) all there h = record {
+    above = h.above;
+    poised = with_move (setting_of u) h.above (outermost x.parent) (standing_as u (stance x.thread)) (move.Asks (ForBranches [])) (first_of (stance x.thread).runs (Joined ends))
+        (joins_at (script_of u.code) (common_of u) (innermost (script_of u.code) (outermost x.parent) (stance x.thread).frames) (stance x.thread).runs ends h.begun there (h.poised).move) h.poised;
+    begun = tt;
+    start = h.start;
+    number = h.number;
+    parent = h.parent;
+    wait = tt;
+  }
 
-joined_as : (u : Shared) (x : Seated MachineThread) (js : List Join) (o : Option (List BranchEnd)) → AllAre (λ j. EndIf (common_of u) j.ended) js → EndsIf (common_of u) o → x.thread.start ≡ None → (above : Context)
-    → Poised (setting_of u) above (outer_of x.thread.is_branch) (standing u x.thread.state) (move.Asks (ForBranches [])) → x.thread.state.number ≡ x.number → SeatStands u (waits_with (joined_wait js o) x)
-joined_as u x js None all ends none above p number = record { above = above; poised = p; begun = none; number = number; wait = all }
-joined_as u x js (Some ends) all there none above p number = record {
-  above = above;
-  poised = with_move (setting_of u) above (outer_of x.thread.is_branch) (standing u x.thread.state) (move.Asks (ForBranches [])) (first_move x.thread (Joined ends))
-      (joins_at (script_of u.code) (common_of u) (innermost (script_of u.code) (outer_of x.thread.is_branch) x.thread.state.stack.items) x.thread.start x.thread.state.head ends none there p.move) p;
-  begun = tt;
-  number = number;
-  wait = tt;
-}
+  other_joins : (x : Seated T) (js ks : List Join) → AllAre (λ j. EndIf (common_of u) j.ended) ks → SeatStands stance u (waits_as (BranchesWait js) x) → SeatStands stance u (waits_as (BranchesWait ks) x)
+  other_joins x js ks all h = record { above = h.above; poised = h.poised; begun = h.begun; start = h.start; number = h.number; parent = h.parent; wait = all }
 
-stands_as : (u : Shared) (x : Seated MachineThread) (w : Wait) → x.wait ≡ w → SeatStands u x → SeatStands u (waits_with w x)
-stands_as u x w is h = subst (λ y. SeatStands u (waits_with y x)) is h
-
--- a branch of this thread has ended
-pub joined_stands : (u : Shared) (n head : ℕ) (o : Outcome) → IsFlowNode u.graph head → OutcomeFits (common_of u) o → (x : Seated MachineThread) (w : Wait) → SeatStands u (waits_with w x) → SeatStands u (waits_with (join_wait n head o w) x)
-joined_stands u n head o node fits x (Ready a) h = h
-joined_stands u n head o node fits x (RequestWait r) h = h
-joined_stands u n head o node fits x (BranchesWait js) h =
-    let e : JoinEnd = record { node = head; outcome = o; place = ends_before js } in
-    let all : AllAre (λ j. EndIf (common_of u) j.ended) (map (join_end n (record { node = head; outcome = o; place = ends_before js })) js) = ended_one (common_of u) n (record { node = head; outcome = o; place = ends_before js }) (node, fits) js h.wait in
-    joined_as u x (map (join_end n (record { node = head; outcome = o; place = ends_before js })) js) (all_ended (map (join_end n (record { node = head; outcome = o; place = ends_before js })) js)) all
-    (ends_of (common_of u) (map (join_end n (record { node = head; outcome = o; place = ends_before js })) js) all) h.begun h.above h.poised h.number
+  -- a branch of this thread has ended
+  pub joined_stands : (n head : ℕ) (o : Outcome) → IsFlowNode u.graph head → OutcomeFits (common_of u) o → (x : Seated T) (w : Wait) → SeatStands stance u (waits_as w x) → SeatStands stance u (waits_as (join_wait n head o w) x)
+  joined_stands n head o node fits x (Ready a) h = h
+  joined_stands n head o node fits x (RequestWait r) h = h
+  joined_stands n head o node fits x (BranchesWait js) h =
+      let all : AllAre (λ j. EndIf (common_of u) j.ended) (map (join_end n (record { node = head; outcome = o; place = ends_before js })) js) = ended_one (common_of u) n (record { node = head; outcome = o; place = ends_before js }) (node, fits) js h.wait in
+      joined_as x (map (join_end n (record { node = head; outcome = o; place = ends_before js })) js) (all_ended (map (join_end n (record { node = head; outcome = o; place = ends_before js })) js)) all
+      (ends_of (common_of u) (map (join_end n (record { node = head; outcome = o; place = ends_before js })) js) all) (other_joins x js (map (join_end n (record { node = head; outcome = o; place = ends_before js })) js) all h)
 
 -- and it grants nothing
 pub joined_grants : (n head : ℕ) (o : Outcome) (w : Wait) → (IsGranted w → ⊥) → IsGranted (join_wait n head o w) → ⊥
@@ -232,3 +229,11 @@ joined_grants n head o (BranchesWait js) never g = one (all_ended (map (join_end
     one : (x : Option (List BranchEnd)) → IsGranted (joined_wait (map (join_end n (record { node = head; outcome = o; place = ends_before js })) js) x) → ⊥
     one None g = g
     one (Some ends) g = g
+
+-- the last flow node of each thread that fits is there
+heads_by : {T : Type 0} (stance : T → Stance) (u : Shared) (xs : List (Seated T)) → AllAre (SeatStands stance u) xs → HeadsStand stance u.graph xs
+heads_by stance u [] h = tt
+heads_by stance u (x ∷ xs) h = ((((h.0).poised).sound).head, heads_by stance u xs h.1)
+
+pub heads_stand : {T : Type 0} (stance : T → Stance) (xs : List (Seated T)) (u : Shared) → Fits stance xs u → HeadsStand stance u.graph xs
+heads_stand stance xs u fits = heads_by stance u xs fits.seats

@@ -15,7 +15,7 @@ use Rattle.run_laws.proofs.Evaluation.{ScriptFacts}
 use Rattle.run_laws.proofs.NodeLaws.{Real, number_at, real_script}
 use Rattle.run_laws.proofs.ShapedScripts.{script_shaped}
 use Rattle.cps_code.specs.Script.{IsScript}
-use Rattle.cps_machine.proofs.TermSets.{term_set}
+use Rattle.thread_fits.proofs.TermSets.{term_set}
 
 -- the node of a term, without its numbers
 abbrev mutual
