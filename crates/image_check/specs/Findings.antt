@@ -13,7 +13,7 @@ outside k = record { thread = nowhere; frame = nowhere; kind = k }
 abbrev pub in_thread : ℕ → CheckKind → Finding
 in_thread thread k = record { thread = thread; frame = nowhere; kind = k }
 
--- a frame's number stands still at the last one
+-- from the 4294967295th frame on the number stands still
 abbrev pub frame_number : ℕ → ℕ
 frame_number place = if nat_lt place nowhere then place else nowhere
 

@@ -1,3 +1,6 @@
+pub mod Cells
 pub mod Findings
+pub mod Images
+pub mod Requests
 pub mod Scans
 pub mod Shared

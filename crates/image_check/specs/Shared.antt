@@ -1,20 +1,15 @@
 -- The tests of what all threads of an image share, but for its cells.
-use Rattle.std.specs.Prelude.{ℕ, ◌+◌, ◌-◌, nat_eq, nat_lt, Bool, true, false, not, ◌&&◌, List, [], ◌∷◌, length, Option, Some, None, slice_get, option_map}
+use Rattle.std.specs.Prelude.{ℕ, ◌+◌, ◌-◌, nat_eq, nat_lt, Bool, true, false, not, ◌&&◌, List, [], ◌∷◌, length, Option, Some, None, slice_get}
 use Rattle.std.specs.Cmp.Lexicographic.{slice_cmp}
 use Rattle.std.specs.Ordering.{nat_cmp, is_lt}
 use Rattle.model_values.specs.declared.cell.Binding.{Binding}
-use Rattle.model_values.specs.declared.cell.Cell.{Cell}
-use Rattle.model_values.specs.declared.cell.Cell.TheVariants as cell
 use Rattle.model_run.specs.declared.flow.FlowNode.{FlowNode}
 use Rattle.model_run.specs.declared.flow.NodeKind.{NodeKind}
 use Rattle.model_run.specs.declared.flow.NodeKind.TheVariants.{EndBody as EndBodyNode, EndBlock as EndBlockNode}
 use Rattle.model_run.specs.Fitting.{most_nodes}
 use Rattle.image_form.specs.declared.image.Image.{Image}
-use Rattle.model_run.specs.declared.request.OpenRequest.{OpenRequest}
-use Rattle.model_run.specs.declared.held.Held.{Held}
-use Rattle.image_form.specs.declared.image.ImageThread.{ImageThread}
+use Rattle.script_names.specs.Variables.{is_variable}
 use Rattle.image_check.specs.declared.finding.Finding.{Finding}
-use Rattle.image_check.specs.declared.finding.CheckKind.{CheckKind}
 use Rattle.image_check.specs.declared.finding.CheckKind.TheVariants as check
 use Rattle.image_check.specs.Findings.{outside}
 use Rattle.image_check.specs.Scans.{need, ◌then◌, each}
@@ -40,10 +35,6 @@ next_thread_fits i = is_low i i.next_thread && all_below (λ t. t.number) i.next
 abbrev pub is_above : Option Binding → Binding → Bool
 is_above None b = true
 is_above (Some a) b = is_lt (slice_cmp nat_cmp a.name b.name)
-
-abbrev pub is_variable : Option Cell → Bool
-is_variable (Some (cell.Variable v)) = true
-is_variable o = false
 
 -- names rise, and each stands for a variable
 abbrev pub binding_fault : Image → ℕ → Option Binding → Binding → Option Finding
@@ -76,31 +67,10 @@ count_fits i = nat_lt 0 (length i.nodes) && not (nat_lt (most_nodes i.ended) (le
 abbrev pub number_fault : Image → Option Finding
 number_fault i = need (next_request_fits i) (outside check.Request) then need (next_thread_fits i) (outside check.Parent)
 
--- a number is above the one before it
-abbrev pub is_higher : Option ℕ → ℕ → Bool
-is_higher None n = true
-is_higher (Some m) n = nat_lt m n
+-- the first fault of the parts in front of the cells
+abbrev pub head_fault : Image → Option Finding
+head_fault i = number_fault i then each (binding_fault i) 0 None i.bindings
 
-abbrev pub rising_fault : {A : Type 0} → (A → ℕ) → CheckKind → ℕ → Option A → A → Option Finding
-rising_fault number k place before x = need (is_higher (option_map number before) (number x)) (outside k)
-
--- cells have numbers of 4 bytes
-abbrev pub cells_fit : Image → Bool
-cells_fit i = nat_lt (length i.cells) 4294967296
-
--- the first fault of the lists behind the flow nodes: their numbers rise
-abbrev pub list_fault : Image → Option Finding
-list_fault i =
-    each (rising_fault (λ (r : OpenRequest). r.number) check.Request) 0 None i.requests
-    then (each (rising_fault (λ (x : Held). x.executor) check.Executor) 0 None i.held
-    then each (rising_fault (λ (t : ImageThread). t.number) check.Parent) 0 None i.threads)
-
--- the first fault of what all threads share, as far as it is tested
-abbrev pub shared_fault : Image → Option Finding
-shared_fault i =
-    number_fault i
-    then (each (binding_fault i) 0 None i.bindings
-    then (need (cells_fit i) (outside check.MissingCell)
-    then (need (count_fits i) (outside check.Node)
-    then (each node_fault 0 None i.nodes
-    then list_fault i))))
+-- the first fault of the flow nodes
+abbrev pub nodes_fault : Image → Option Finding
+nodes_fault i = need (count_fits i) (outside check.Node) then each node_fault 0 None i.nodes

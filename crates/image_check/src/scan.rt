@@ -2,7 +2,7 @@
 
 ghost use Rattle.std.specs.Prelude.{◌≡◌, ℕ, Option, None};
 ghost use Rattle.image_check.specs.declared.finding.Finding.{Finding as Found};
-ghost use Rattle.image_check.specs.Findings.{outside};
+ghost use Rattle.image_check.specs.Findings.{in_thread, outside};
 ghost use Rattle.image_check.specs.Scans.{each, need};
 ghost use Rattle.std.specs.Option.{option_copied};
 
@@ -10,14 +10,19 @@ use crate::{CheckKind, Finding};
 
 /// A test of an item of a list, which may look at what is around it and at the item before it.
 pub(crate) trait Check<X, T> {
+    /// What is known of what is around.
+    ghost known: { X → Type 0 };
+
     ghost fault: { X → ℕ → Option T → T → Option Found };
 
     fn fault_of(around: &X, place: usize, before: Option<&T>, item: &T) -> Option<Finding>
+        requires { known around.now }
         ensures { result ≡ fault around.now place (option_copied before.entry) item.now };
 }
 
 /// The first fault among the items of a list.
 pub(crate) fn first_in<X, T, C: Check<X, T>>(around: &X, items: &[T]) -> Option<Finding>
+    requires { C.known around.now }
     ensures { result ≡ each (C.fault around.now) 0 None items.now }
 {
     let mut before = None;
@@ -44,6 +49,17 @@ pub(crate) fn outside(kind: CheckKind) -> Finding
 {
     Finding {
         thread: u32::MAX,
+        frame: u32::MAX,
+        kind,
+    }
+}
+
+/// A fault of a thread outside all its frames.
+pub(crate) fn in_thread(thread: u32, kind: CheckKind) -> Finding
+    ensures { result ≡ in_thread thread kind }
+{
+    Finding {
+        thread,
         frame: u32::MAX,
         kind,
     }

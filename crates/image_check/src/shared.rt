@@ -1,62 +1,37 @@
-//! What all threads of an image share.
+//! The numbers, the binding and the flow nodes of an image.
 
-ghost use Rattle.std.specs.Prelude.{◌≡◌, ◌+◌, slice_get};
+ghost use Rattle.std.specs.Prelude.{◌≡◌, ◌+◌};
 ghost use Rattle.std.specs.Option.{option_copied};
 ghost use Rattle.model_run.specs.Fitting.{most_nodes};
-ghost use Rattle.image_check.specs.Shared.{all_before, all_below, binding_fault, count_fits, is_above, is_before, is_low, is_variable, list_fault, next_request_fits, next_thread_fits, node_fault, node_fits, number_fault, rising_fault, shared_fault, starts_at};
-ghost use Rattle.image_check.specs.declared.finding.CheckKind.TheVariants as check;
+ghost use Rattle.image_check.specs.Shared.{all_before, all_below, binding_fault, count_fits, is_above, is_before, head_fault, is_low, next_request_fits, next_thread_fits, node_fault, node_fits, nodes_fault, number_fault, starts_at};
 
 use crate::scan::{Check, first_in, need, outside};
 use crate::{CheckKind, Finding};
 use image_form::{Image, ImageThread};
 use model_run::{FlowNode, Held, NodeKind, OpenRequest};
-use model_text::Sequence;
-use model_values::{Binding, Cell};
+use model_values::Binding;
+use script_names::is_variable;
 
-/// The first fault of what all threads of an image share, in the order of the image, as far as it is tested: of the next
-/// numbers, the binding, the number of cells, the flow nodes, and the numbers of requests, held executors and threads.
-pub fn shared_fault(image: &Image) -> Option<Finding>
-    ensures { result ≡ shared_fault image.now }
+/// The first fault of the parts in front of the cells: of the next numbers and of the binding.
+pub(crate) fn head_fault(image: &Image) -> Option<Finding>
+    ensures { result ≡ head_fault image.now }
 {
     let numbers = number_fault(image);
     if numbers.is_some() {
         return numbers;
     }
-    let binding = first_in::<Image, Binding, BindingCheck>(image, image.bindings.as_slice());
-    if binding.is_some() {
-        return binding;
-    }
-    let cells = need(
-        image.cells.len() < 4294967296,
-        outside(CheckKind::MissingCell),
-    );
-    if cells.is_some() {
-        return cells;
-    }
+    first_in::<Image, Binding, BindingCheck>(image, image.bindings.as_slice())
+}
+
+/// The first fault of the flow nodes.
+pub(crate) fn nodes_fault(image: &Image) -> Option<Finding>
+    ensures { result ≡ nodes_fault image.now }
+{
     let count = need(count_fits(image), outside(CheckKind::Node));
     if count.is_some() {
         return count;
     }
-    let nodes = first_in::<(), FlowNode, NodeCheck>(&(), image.nodes.as_slice());
-    if nodes.is_some() {
-        return nodes;
-    }
-    list_fault(image)
-}
-
-/// The first number of a request, a held executor or a thread that does not rise.
-fn list_fault(image: &Image) -> Option<Finding>
-    ensures { result ≡ list_fault image.now }
-{
-    let requests = first_in::<(), OpenRequest, RequestOrder>(&(), image.requests.as_slice());
-    if requests.is_some() {
-        return requests;
-    }
-    let held = first_in::<(), Held, ExecutorOrder>(&(), image.held.as_slice());
-    if held.is_some() {
-        return held;
-    }
-    first_in::<(), ImageThread, ThreadOrder>(&(), image.threads.as_slice())
+    first_in::<(), FlowNode, NodeCheck>(&(), image.nodes.as_slice())
 }
 
 /// The first fault of the next numbers.
@@ -127,6 +102,8 @@ fn threads_below(next: u32, threads: &[ImageThread]) -> bool
 struct BindingCheck;
 
 impl Check<Image, Binding> for BindingCheck {
+    ghost known = { λ around. Unit {0} };
+
     ghost fault = { binding_fault };
 
     fn fault_of(
@@ -140,7 +117,7 @@ impl Check<Image, Binding> for BindingCheck {
             return order;
         }
         need(
-            is_variable(&around.cells, item.cell),
+            is_variable(around.cells.as_slice(), item.cell),
             outside(CheckKind::MissingCell),
         )
     }
@@ -154,12 +131,6 @@ fn is_above(before: Option<&Binding>, binding: &Binding) -> bool
         None => true,
         Some(before) => before.name.as_slice().cmp(binding.name.as_slice()).is_lt(),
     }
-}
-
-fn is_variable(cells: &Sequence<Cell>, cell: u32) -> bool
-    ensures { result ≡ is_variable (slice_get cells.now cell) }
-{
-    matches!(cells.get(cell as usize), Some(Cell::Variable(_)))
 }
 
 /// Whether there is a node, and no more than a build has.
@@ -179,6 +150,8 @@ fn most_nodes(ended: bool) -> usize
 struct NodeCheck;
 
 impl Check<(), FlowNode> for NodeCheck {
+    ghost known = { λ around. Unit {0} };
+
     ghost fault = { λ around. node_fault };
 
     fn fault_of(
@@ -225,61 +198,4 @@ fn all_before(id: u32, nodes: &[u32]) -> bool
         }
     }
     true
-}
-
-struct RequestOrder;
-
-impl Check<(), OpenRequest> for RequestOrder {
-    ghost fault = { λ around. rising_fault (λ x. x.number) check.Request };
-
-    fn fault_of(
-        _around: &(),
-        _place: usize,
-        before: Option<&OpenRequest>,
-        item: &OpenRequest,
-    ) -> Option<Finding> {
-        let rises = match before {
-            None => true,
-            Some(before) => before.number < item.number,
-        };
-        need(rises, outside(CheckKind::Request))
-    }
-}
-
-struct ExecutorOrder;
-
-impl Check<(), Held> for ExecutorOrder {
-    ghost fault = { λ around. rising_fault (λ x. x.executor) check.Executor };
-
-    fn fault_of(
-        _around: &(),
-        _place: usize,
-        before: Option<&Held>,
-        item: &Held,
-    ) -> Option<Finding> {
-        let rises = match before {
-            None => true,
-            Some(before) => before.executor < item.executor,
-        };
-        need(rises, outside(CheckKind::Executor))
-    }
-}
-
-struct ThreadOrder;
-
-impl Check<(), ImageThread> for ThreadOrder {
-    ghost fault = { λ around. rising_fault (λ x. x.number) check.Parent };
-
-    fn fault_of(
-        _around: &(),
-        _place: usize,
-        before: Option<&ImageThread>,
-        item: &ImageThread,
-    ) -> Option<Finding> {
-        let rises = match before {
-            None => true,
-            Some(before) => before.number < item.number,
-        };
-        need(rises, outside(CheckKind::Parent))
-    }
 }

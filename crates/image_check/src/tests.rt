@@ -1,5 +1,10 @@
 use crate::{CheckKind, shared_fault};
+use cps_code::number;
 use image_form::read_image;
+use model_run::{Executors, Site};
+use model_syntax::Tree;
+use model_text::Text;
+use sqlite_items::Items;
 use std::alloc::Global;
 
 // One binding variable, its cell and the start of the graph; no log, request, executor or thread.
@@ -15,10 +20,20 @@ fn kind_with(alloc: Global, place: usize, byte: u8) -> Option<CheckKind> {
     if place < bytes.len() {
         bytes[place] = byte;
     }
+    let site = Site {
+        job: Text::new(alloc),
+        looks: 10,
+        executors: Executors::new(alloc),
+    };
+    let nothing = Tree {
+        tops: Items::new(alloc),
+    };
+    let code = number(alloc, nothing).ok()?;
     match read_image(alloc, &bytes) {
-        Ok(image) => match shared_fault(&image) {
-            Some(finding) => Some(finding.kind),
-            None => None,
+        Ok(image) => match shared_fault(alloc, &code, &site, &image) {
+            Ok(Some(finding)) => Some(finding.kind),
+            Ok(None) => None,
+            Err(_) => Some(CheckKind::Kind),
         },
         Err(_) => Some(CheckKind::Kind),
     }
