@@ -4,13 +4,25 @@ from script import source
 TEXTS = ["ab", "", "A b", "a,b,,c", " 42 ", "x", "l1\nl2\r\n\nl3", "k 1", "-7", "\u00e9a\u00e9", "2147483648"]
 NUMBERS = [0, 1, 2, 3, 4, 7, 2147483647, 65536]
 NAMES = ["a", "b", "c", "x", "y", "m", "l", "t"]
-METHODS = [
-    ("size", 0), ("length", 0), ("isEmpty", 0), ("trim", 0), ("toUpperCase", 0), ("toLowerCase", 0), ("contains", 1),
-    ("startsWith", 1), ("endsWith", 1), ("indexOf", 1), ("replace", 2), ("substring", 1), ("substring", 2), ("tokenize", 0),
-    ("tokenize", 1), ("readLines", 0), ("toInteger", 0), ("toString", 0), ("equals", 1), ("add", 1), ("get", 1), ("first", 0),
-    ("last", 0), ("join", 1), ("reverse", 0), ("put", 2), ("containsKey", 1), ("remove", 1), ("keySet", 0), ("values", 0),
-    ("intdiv", 1), ("getMessage", 0), ("call", 1), ("unknown", 1),
-]
+# The methods of each kind of value, with the kinds of their arguments.
+METHODS = {
+    "text": [
+        ("size",), ("length",), ("isEmpty",), ("trim",), ("toUpperCase",), ("toLowerCase",), ("contains", "text"),
+        ("startsWith", "text"), ("endsWith", "text"), ("indexOf", "text"), ("replace", "text", "text"),
+        ("substring", "number"), ("substring", "number", "number"), ("tokenize",), ("tokenize", "text"), ("readLines",),
+        ("toInteger",), ("toString",), ("equals", "text"),
+    ],
+    "list": [
+        ("size",), ("isEmpty",), ("add", "any"), ("get", "number"), ("contains", "any"), ("indexOf", "any"), ("first",),
+        ("last",), ("join", "text"), ("reverse",), ("equals", "list"),
+    ],
+    "map": [
+        ("size",), ("isEmpty",), ("containsKey", "any"), ("get", "any"), ("put", "any", "any"), ("remove", "any"),
+        ("keySet",), ("values",), ("equals", "map"),
+    ],
+    "number": [("intdiv", "number"), ("toInteger",), ("toString",), ("equals", "number")],
+    "any": [("getMessage",), ("call", "any"), ("unknown", "any"), ("toString",)],
+}
 WALKS = ["each", "collect", "find", "findAll", "any", "every", "times"]
 
 
@@ -63,6 +75,7 @@ class Scripts:
             lambda: ("group", ("joined", "..", of(self.random.randint(0, 3)), of(self.random.randint(0, 4)))),
             lambda: self.step(depth),
             *(4 * [lambda: self.suffixed(depth)]),
+            *(4 * [lambda: self.typed(depth)]),
         )
 
     def key(self, depth):
@@ -94,10 +107,40 @@ class Scripts:
             on = ("group", on)
         return ("suffixed", on, self.some(lambda: self.suffix(depth), 1, 2))
 
+    def of_kind(self, kind, depth):
+        """An expression whose value is of this kind, but for some."""
+        below = lambda: self.expression(depth - 1)  # noqa: E731
+        some = {
+            "text": lambda: of(self.random.choice(TEXTS)),
+            "number": lambda: self.pick(lambda: of(self.random.choice(NUMBERS)), lambda: ("group", ("signed", ["-"], of(self.random.randint(1, 9))))),
+            "list": lambda: ("list", self.some(below, 0, 3)),
+            "map": lambda: ("map", self.some(lambda: (self.key(depth), below()), 1, 3)),
+            "any": below,
+        }
+        return below() if self.random.random() < 0.1 else some[kind]()
+
+    def typed(self, depth):
+        """A method, an operator or an index on values of the kinds that it takes."""
+        kind = self.pick("text", "list", "map", "number")
+        method, *kinds = self.random.choice(METHODS[kind])
+        sign, left, right = self.pick(("+", "any", "text"), ("+", "text", "any"), ("+", "list", "any"), ("+", "map", "map"), ("%", "number", "number"),
+                                      ("*", "number", "number"), ("-", "number", "number"), ("<", "text", "text"), (">=", "number", "number"),
+                                      ("==", "any", "any"), ("==", "list", "list"), ("!=", "map", "map"))
+        index = self.pick(lambda: of(self.random.randint(0, 3)), lambda: ("signed", ["-"], of(self.random.randint(1, 4))))
+        return self.pick(
+            *(3 * [lambda: ("suffixed", self.bare(self.of_kind(kind, depth)), [("method", method, False, ([], [self.of_kind(k, depth) for k in kinds]))])]),
+            lambda: ("group", ("joined", sign, self.bare(self.of_kind(left, depth)), self.bare(self.of_kind(right, depth)))),
+            lambda: ("suffixed", self.bare(self.of_kind(self.pick("text", "list"), depth)), [("index", index)]),
+        )
+
+    def bare(self, expression):
+        """An operand that holds together."""
+        return expression if expression[0] in ("literal", "name", "list", "map", "group", "text") else ("group", expression)
+
     def suffix(self, depth):
         is_safe = self.pick(False, False, True)
-        method, count = self.random.choice(METHODS)
-        count += self.random.random() < 0.05
+        method, *kinds = self.random.choice(METHODS[self.pick(*METHODS)])
+        count = len(kinds) + (self.random.random() < 0.05)
         return self.pick(
             lambda: ("index", self.expression(depth - 1)),
             lambda: ("property", self.pick(self.name, "message"), is_safe),
