@@ -60,7 +60,7 @@ def best_of(program, text, runs):
         results = [measure([program, "run", folder]) for _ in range(runs)]
     for _, _, status, said in results:
         if status != 0 and said != b"Jenkinsfile:1:1: not built yet\n":
-            sys.exit(f"bench: 'run' ended with status {status}, and said: {said.decode(errors='replace').strip()}")
+            sys.exit(f"bench: 'run' ended with status {status}, and said: {said[:200].decode(errors='replace').strip()}")
     return min(r[0] for r in results), max(r[1] for r in results)
 
 

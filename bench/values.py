@@ -51,7 +51,7 @@ def best_of(program, what, size, times, runs):
     results = [measure([program, what, str(size), str(times)]) for _ in range(runs)]
     for _, _, status, said in results:
         if status != 0:
-            sys.exit(f"bench: '{what} {size} {times}' ended with status {status}: {said.decode(errors='replace').strip()}")
+            sys.exit(f"bench: '{what} {size} {times}' ended with status {status}: {said[:200].decode(errors='replace').strip()}")
     return min(r[0] for r in results), max(r[1] for r in results)
 
 
