@@ -1,8 +1,8 @@
 -- A decision of an open input is accepted.
-use Rattle.std.proofs.Common.{arith, ◌≡◌, ◌<◌, ◌≤◌, ◌∙◌, ap, refl, sym, subst, ℕ, zero, suc, Bool, true, false, List, [], ◌∷◌, map, Option, Some, None}
-use Rattle.std.specs.Prelude.{nat_eq, find, option_map, if◌then◌else◌, IsTrue}
+use Rattle.std.proofs.Common.{arith, ◌≡◌, ◌<◌, ◌≤◌, ◌∙◌, ap, refl, subst, ℕ, suc, Bool, true, false, List, [], ◌∷◌, Option, Some, None}
+use Rattle.std.specs.Prelude.{nat_eq, find, option_map, if◌then◌else◌}
 use Rattle.std.proofs.lemmas.Bool.{eqb-true, eqb-false}
-use Rattle.build_requests.specs.Waiting.{waiting_inputs, is_input_of, input_of}
+use Rattle.build_requests.specs.Waiting.{is_input_of, input_of}
 use Rattle.model_syntax.specs.Nodes.{Node}
 use Rattle.model_run.specs.declared.event.Event.TheVariants.{Decided as DecidedEvent}
 use Rattle.model_run.specs.declared.request.OpenRequest.{OpenRequest}
@@ -12,12 +12,12 @@ use Rattle.model_run.specs.declared.taken.Taken.{Taken}
 use Rattle.model_run.specs.declared.taken.Taken.TheVariants.{Accepted, NotOpen, Finished}
 use Rattle.model_run.specs.declared.event.Event.{Event}
 use Rattle.model_run.specs.Below.{Small}
-use Rattle.model_run.specs.Fitting.{Rise, Some_of}
+use Rattle.model_run.specs.Fitting.{Rise}
 use Rattle.model_run.specs.Requests.{numbers_of}
 use Rattle.model_run.specs.State.{Setting}
 use Rattle.model_run.specs.Taking.{request_of, is_input, accepted_if}
 use Rattle.model_run.specs.Terms.{term}
-use Rattle.model_run.specs.World.{Build, answer_to, world_in}
+use Rattle.model_run.specs.World.{answer_to, world_in}
 use Rattle.model_run.proofs.LaterWorlds.{open_of, world_requests}
 use Rattle.model_run.proofs.RequestLaws.{some_all, rise_from}
 

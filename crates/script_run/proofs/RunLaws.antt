@@ -1,10 +1,10 @@
 -- What holds of every run.
-use Rattle.std.proofs.Common.{◌≡◌, sym, subst, true, ℕ, Bool, List, [], ◌∷◌, ◌++◌}
+use Rattle.std.proofs.Common.{◌≡◌, true, ℕ, Bool, List}
 use Rattle.model_run.specs.declared.event.Event.{Event}
 use Rattle.model_run.specs.declared.event.Event.TheVariants.{Start as StartEvent, Granted as GrantedEvent}
 use Rattle.model_run.specs.State.{Setting}
-use Rattle.model_run.specs.World.{Build, world_in}
-use Rattle.script_run.specs.Running.{Decides, Hears, decides, passes_over, Runs, begins, grants, hears}
+use Rattle.model_run.specs.World.{world_in}
+use Rattle.script_run.specs.Running.{Hears, decides, passes_over, Runs, begins, grants, hears}
 use Rattle.script_run.proofs.Begun.{starts_begun, stays_begun}
 
 module _ (setting : Setting) (script agents : List ℕ) where

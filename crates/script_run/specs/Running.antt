@@ -1,6 +1,6 @@
 -- Which events a build takes, and which lines of the answers it takes them from, where nobody but the operator and the queue gives
 -- any (this product's own): after each event all grants that are due, one by one; then, while an input is open, a line of the answers.
-use Rattle.std.specs.Prelude.{◌≡◌, ◌<◌, ◌⊎◌, ℕ, Bool, true, false, List, [], ◌∷◌, ◌++◌, Some, None}
+use Rattle.std.specs.Prelude.{◌≡◌, ◌<◌, ℕ, Bool, true, false, List, [], ◌∷◌, ◌++◌, Some, None}
 use Rattle.agent_worker.specs.AnswerBytes.{NoNewline, kept_line, read_bytes}
 use Rattle.agent_worker.specs.AnswerLine.{Answers}
 use Rattle.agent_worker.specs.declared.operator.LineEnd.{LineEnd}

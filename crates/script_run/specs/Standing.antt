@@ -1,5 +1,5 @@
 -- A run, and the build of the definitions that it stands for.
-use Rattle.std.specs.Prelude.{◌≡◌, ℕ, true, map}
+use Rattle.std.specs.Prelude.{◌≡◌, true, map}
 use Rattle.build_core.specs.Builds.{StandsFor, setting_in}
 use Rattle.model_run.specs.declared.site.Site.{Site}
 use Rattle.model_run.specs.Fitting.{Distinct}

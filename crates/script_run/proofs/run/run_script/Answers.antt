@@ -1,4 +1,4 @@
-use Rattle.std.proofs.Common.{◌∷◌, [], ℕ, List, sym, subst, refl, ap, ◌∙◌}
+use Rattle.std.proofs.Common.{List, sym, subst, refl}
 use Rattle.build_core.specs.Builds.{setting_in}
 use Rattle.model_run.specs.declared.event.Event.{Event}
 use Rattle.model_run.specs.declared.event.Event.TheVariants.{Start as StartEvent}

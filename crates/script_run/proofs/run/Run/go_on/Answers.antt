@@ -1,4 +1,4 @@
-use Rattle.std.proofs.Common.{[], ℕ, List, Option, sym, subst}
+use Rattle.std.proofs.Common.{[], Option, sym, subst}
 use Rattle.build_core.specs.Builds.{setting_in}
 use Rattle.model_run.specs.State.{Setting}
 use Rattle.script_run.specs.declared.rest.Rest.{Rest}

@@ -1,4 +1,4 @@
-use Rattle.std.proofs.Common.{◌≡◌, ◌++◌, ◌∷◌, [], ℕ, List, sym, ap, subst}
+use Rattle.std.proofs.Common.{ℕ, List, sym, ap, subst}
 use Rattle.build_core.specs.Builds.{setting_in}
 use Rattle.model_run.specs.declared.event.Event.{Event}
 use Rattle.model_run.specs.declared.event.Event.TheVariants.{Decided as DecidedEvent}

@@ -1,4 +1,4 @@
-use Rattle.std.proofs.Common.{◌≡◌, ◌++◌, ◌∷◌, [], ℕ, List, Option, Bool, true, false, refl, sym, ap, subst, ◌∙◌, MatchResult}
+use Rattle.std.proofs.Common.{◌≡◌, [], ℕ, List, Bool, true, false, refl, sym, ap, subst, ◌∙◌}
 use Rattle.std.proofs.lemmas.Result.{err_from_is_err_and}
 use Rattle.agent_worker.specs.AnswerBytes.{read_bytes, short}
 use Rattle.agent_worker.specs.declared.operator.LineEnd.TheVariants as line_end

@@ -1,3 +1,0 @@
-pub mod EchoBuild
-pub mod Echoes
-pub mod Steps

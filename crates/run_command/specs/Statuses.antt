@@ -1,0 +1,24 @@
+-- The exit status of a build. This product's own.
+use Rattle.std.specs.Prelude.{◌≡◌, ◌⊎◌, ℕ, if◌then◌else◌}
+use Rattle.model_run.specs.declared.result.BuildResult.{BuildResult}
+use Rattle.model_run.specs.declared.result.BuildResult.TheVariants.{Success, Unstable, Failure, NotBuilt, Aborted}
+use Rattle.model_run.specs.World.{Build}
+
+-- each result has a status of its own
+abbrev pub result_status : BuildResult → ℕ
+result_status Success = 0
+result_status Failure = 1
+result_status Unstable = 10
+result_status NotBuilt = 11
+result_status Aborted = 12
+
+-- the status of a build that has ended is that of its result; one that waits has its own
+abbrev pub world_status : Build → ℕ
+world_status b = if b.ended then result_status b.shared.result else 3
+
+-- the status is that of a build that has ended, or waits
+abbrev pub IsEnded : ℕ → Type 0
+IsEnded status = (result : BuildResult) × (status ≡ result_status result)
+
+abbrev pub HasLog : ℕ → Type 0
+HasLog status = IsEnded status ⊎ (status ≡ 3)
