@@ -41,8 +41,8 @@ Entered root h at (f ∷ fs) asked = Enters root f at × EnteredAt root h at f �
 abbrev pub Behind : List Cell → State → Type 0
 Behind h s = (s.replies ≡ []) × CellsLater h s.world.shared.cells
 
--- What is evaluated at a spot behind such cells comes to: an end behind them, or a wait inside frames that are entered so. The closures
--- that are called are those among the cells at the wait, which may have been made on the way.
+-- What is evaluated at a spot behind such cells comes to: an end behind them, or a wait inside frames that are entered so. What is
+-- called is a closure of the script, or one among the cells at the wait, which may have been made on the way.
 abbrev pub ComesTo : Term → List Cell → Spot → Result → Type 0
 ComesTo root h at (Ended e s) = Behind h s
 ComesTo root h at (Waits asked path s) = CellsLater h s.world.shared.cells × Entered root s.world.shared.cells at path asked
