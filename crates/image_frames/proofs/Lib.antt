@@ -1,0 +1,4 @@
+pub mod ChainLaws
+pub mod FrameLaws
+pub mod LeadTests
+pub mod PassLaws
