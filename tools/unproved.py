@@ -56,7 +56,7 @@ def main(words):
     told = ran.stderr.decode(errors="replace")
     ended = re.search(r"^run=ended status=(\d+) .*$", told, re.M)
     if ended:
-        own = re.sub(r"^(checked: ended|run=ended) .*\n?", "", told, flags=re.M)
+        own = re.sub(r"^(checked: ended|run=ended|races:) .*\n?", "", told, flags=re.M)
         sys.stderr.write(own)
         return int(ended[1])
     sys.stderr.write(told)
