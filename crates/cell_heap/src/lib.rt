@@ -22,8 +22,6 @@ mod contents;
 mod heap;
 mod refusal;
 mod sizes;
-#[cfg(test)]
-mod tests;
 
 pub use heap::Heap;
 pub use refusal::CellRefusal;

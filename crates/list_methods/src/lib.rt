@@ -19,8 +19,6 @@ mod keys;
 mod lists;
 mod maps;
 mod search;
-#[cfg(test)]
-mod tests;
 mod throws;
 
 pub use calls::call;

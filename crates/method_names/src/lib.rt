@@ -5,7 +5,5 @@
 #![tactic(auto)]
 
 mod method;
-#[cfg(test)]
-mod tests;
 
 pub use method::Method;

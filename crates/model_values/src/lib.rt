@@ -19,8 +19,6 @@ mod entries;
 mod key;
 mod limit;
 mod operator;
-#[cfg(test)]
-mod tests;
 mod throwable;
 mod value;
 

@@ -16,8 +16,6 @@ mod calls;
 mod numbers;
 mod parts;
 mod search;
-#[cfg(test)]
-mod tests;
 mod texts;
 mod trim;
 mod values;

@@ -12,8 +12,6 @@
 
 mod index;
 mod operators;
-#[cfg(test)]
-mod tests;
 
 pub use index::{get_at, get_property, set_at, set_property};
 pub use operators::{apply, decremented, incremented};

@@ -17,8 +17,6 @@
 mod cells;
 mod effect;
 mod key;
-#[cfg(test)]
-mod tests;
 mod throws;
 
 pub use cells::{MAX_BYTES, MAX_CELLS, new_cells};

@@ -18,8 +18,6 @@ mod equality;
 mod groovy_truth;
 mod kind;
 mod refusal;
-#[cfg(test)]
-mod tests;
 mod text;
 
 pub use characters::{character_count, character_range, start_count};

@@ -25,8 +25,6 @@
 mod kept;
 mod loops;
 mod place;
-#[cfg(test)]
-mod tests;
 mod turns;
 mod walk;
 
