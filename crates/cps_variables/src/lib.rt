@@ -17,6 +17,6 @@ mod nodes;
 mod tests;
 mod variables;
 
-pub use names::look;
+pub use names::{look, look_binding};
 pub use nodes::{part_form, value_at};
 pub use variables::{declare, new_variable, read_name, variable, write_name};

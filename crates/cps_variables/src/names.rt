@@ -35,7 +35,7 @@ fn place(name: &[u8], binding: &[Binding]) -> usize
 }
 
 /// The cell of the binding variable of this name, and `None` exactly where there is none. It takes time logarithmic in their number.
-pub(crate) fn look_binding(name: &[u8], binding: &[Binding]) -> Option<u32>
+pub fn look_binding(name: &[u8], binding: &[Binding]) -> Option<u32>
     requires { NamesRise binding.now }
     ensures { result ≡ look name.now binding.now }
 {
