@@ -3,9 +3,9 @@
 ghost use Rattle.std.specs.Prelude.{◌≡◌, ◌<◌, IfOk, IfSome, length, slice_get};
 ghost use Rattle.std.specs.List.{AllByRecursion as AllAre};
 ghost use Rattle.model_values.specs.Fitting.{HasVariable};
+ghost use Rattle.model_run.specs.Fitting.{NamesRise};
 ghost use Rattle.model_run.specs.Callables.{function_if, function_named};
 ghost use Rattle.model_run.specs.Calls.{binding_closure, meant_function};
-ghost use Rattle.model_run.specs.Names.{look};
 ghost use Rattle.cps_frames.specs.Standing.{world_of};
 ghost use Rattle.cps_frames.specs.declared.thread.ThreadState.{ThreadState as Thread};
 ghost use Rattle.cps_calls.specs.Meanings.{is_function_of, meant_of};
@@ -13,10 +13,10 @@ ghost use Rattle.cps_calls.specs.Meanings.{is_function_of, meant_of};
 use crate::closures::closure_of;
 use crate::step_names::step_named;
 use cps_frames::Shared;
-use cps_variables::variable;
+use cps_variables::{look_binding, variable};
 use model_run::{Callee, Step};
 use model_syntax::NodeForm;
-use model_values::{Binding, Env};
+use model_values::Env;
 use std::alloc::AllocError;
 
 /// What a name that is called means, where no variable of this name is declared.
@@ -31,7 +31,8 @@ pub(crate) enum Meant {
 /// What a name that is called means, where no variable of this name is declared: a function; a binding variable that holds a
 /// closure; a step.
 pub(crate) fn meaning(shared: &Shared, name: &[u8]) -> Result<Meant, AllocError>
-    requires { AllAre (λ b. HasVariable (slice_get shared.now.heap.cells b.cell)) shared.now.binding.items }
+    requires bound { AllAre (λ b. HasVariable (slice_get shared.now.heap.cells b.cell)) shared.now.binding.items }
+    requires rising { NamesRise shared.now.binding.items }
     ensures { (t : Thread) → IfOk result (λ meant. meant_of meant ≡ meant_function name.now (world_of shared.now t) (function_named name.now (world_of shared.now t))) }
 {
     if let Some(callee) = function_named(shared, name) {
@@ -48,25 +49,14 @@ pub(crate) fn meaning(shared: &Shared, name: &[u8]) -> Result<Meant, AllocError>
 
 /// The closure that the binding variable of this name holds, and `None` exactly where there is none.
 fn binding_closure(shared: &Shared, name: &[u8]) -> Result<Option<Callee>, AllocError>
-    requires { AllAre (λ b. HasVariable (slice_get shared.now.heap.cells b.cell)) shared.now.binding.items }
+    requires bound { AllAre (λ b. HasVariable (slice_get shared.now.heap.cells b.cell)) shared.now.binding.items }
+    requires rising { NamesRise shared.now.binding.items }
     ensures { (t : Thread) → IfOk result (λ callee. callee ≡ binding_closure name.now (world_of shared.now t)) }
 {
     match look_binding(name, shared.binding.as_slice()) {
         Some(cell) => closure_of(shared, &variable(&shared.heap, cell)),
         None => Ok(None),
     }
-}
-
-/// The cell of the binding variable of this name, and `None` exactly where there is none. It goes over the binding variables.
-fn look_binding(name: &[u8], binding: &[Binding]) -> Option<u32>
-    ensures { result ≡ look name.now binding.now }
-{
-    for variable in binding {
-        if variable.name.as_slice() == name {
-            return Some(variable.cell);
-        }
-    }
-    None
 }
 
 /// The function of this name, and `None` exactly where there is none: functions stand at the top of a script. It goes over what

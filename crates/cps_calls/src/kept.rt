@@ -1,6 +1,6 @@
 //! Values in order, from the front.
 
-ghost use Rattle.std.specs.Prelude.{◌≡◌, ◌∷◌, [], drop, MatchOption};
+ghost use Rattle.std.specs.Prelude.{◌≡◌, ◌∷◌, [], MatchOption};
 
 use model_values::{Value, Values};
 
@@ -14,14 +14,4 @@ pub(crate) fn split_first(values: Values) -> Option<(Value, Values)>
     }
     let first = rest.remove(0);
     Some((first, Values::from_vec(rest)))
-}
-
-/// The values behind the first `count`. It takes no memory.
-pub(crate) fn behind(values: Values, count: usize) -> Values
-    ensures { result ≡ drop count values }
-{
-    let mut rest = values.into_vec();
-    let taken = count.min(rest.len());
-    rest.drain(..taken);
-    Values::from_vec(rest)
 }

@@ -27,7 +27,6 @@ ghost use Rattle.cps_calls.specs.Walking.{IsCount, WalkStands};
 
 use crate::closures::closure_of;
 use crate::effects::end_with;
-use crate::kept::behind;
 use crate::parameters::parameter_count;
 use cps_code::Code;
 use cps_frames::{Halt, Move, Shared, ThreadState, tick, value_of};
@@ -36,7 +35,7 @@ use method_names::Method;
 use model_run::{Callee, Ending, Entry, Frame, FrameKind};
 use model_syntax::NodeForm;
 use model_values::{Env, Value, Values};
-use value_walks::{Next, Walk, WalkInTurn, has_walk_turn, walk_turn as turn_of_walk};
+use value_walks::{Next, Tail, Walk, WalkInTurn, has_walk_turn, walk_turn as turn_of_walk};
 
 /// A walk at a node before turn `at`, counted from 0: over this value with this closure.
 #[derive(Drop)]
@@ -64,7 +63,7 @@ pub fn walk_turn(
 {
     let on = value_at(&kept, 0);
     let closure = value_at(&kept, 1);
-    match Walk::of(walk_method(&shared.code, node), behind(kept, 2)) {
+    match Walk::of(walk_method(&shared.code, node), Tail::behind(kept, 2)) {
         None => Ok(Move::Ends(Ending::Normal(Value::Null))),
         Some(walk) => begin_turn(
             state,
@@ -173,7 +172,7 @@ pub(crate) fn after_walk_turn(
     let closure = value_at(&frame.values, 1);
     let at = place_of(&value_at(&frame.values, 2));
     let method = walk_method(&shared.code, frame.node);
-    let walk = WalkInTurn::of(&shared.heap, method, &on, behind(frame.values, 3));
+    let walk = WalkInTurn::of(&shared.heap, method, &on, Tail::behind(frame.values, 3));
     match walk.after(alloc, &shared.heap, &value)? {
         Next::GoesOn(walk) => {
             let kept = walk.into_values(Values::from_slice(alloc, &[on, closure])?)?;

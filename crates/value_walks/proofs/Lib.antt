@@ -1,5 +1,6 @@
 pub mod KeptLemmas
 pub mod LoopLemmas
 pub mod PlaceLemmas
+pub mod TailLemmas
 pub mod TurnLemmas
 pub mod WalkLemmas

@@ -13,8 +13,7 @@ ghost use Rattle.model_values.specs.declared.value.Value.{Value as HeldValue};
 ghost use Rattle.value_walks.specs.Turns.{listed};
 ghost use Rattle.value_walks.specs.Walking.{frame_after, held_after, held_method, held_values, kept_between, walk_kept, walk_method};
 
-use crate::walk::with_element;
-use crate::{Parts, Walk, WalkInTurn};
+use crate::{Parts, Tail, Walk, WalkInTurn};
 use cell_heap::Heap;
 use method_names::Method;
 use model_values::{Value, Values};
@@ -26,14 +25,28 @@ impl Parts {
     pub fn into_values(self, alloc: Global) -> Result<Values, AllocError>
         ensures { IfOk result (λ values. values ≡ listed self) }
     {
-        with_element(Values::new(alloc), self)
+        self.behind(Values::new(alloc))
+    }
+
+    /// These values, and behind them its own. `AllocError` where the memory was refused.
+    fn behind(self, mut front: Values) -> Result<Values, AllocError>
+        ensures { IfOk result (λ values. values ≡ front ++ listed self) }
+    {
+        match self {
+            Parts::One(value) => front.push(value)?,
+            Parts::Two(key, value) => {
+                front.push(key)?;
+                front.push(value)?;
+            }
+        }
+        Ok(front)
     }
 }
 
 impl Walk {
     /// The walk that has kept these values from its turns so far, and `None` exactly where the method walks over
     /// nothing. Only `collect` and `findAll` keep any. It takes no memory.
-    pub fn of(method: Method, kept: Values) -> Option<Walk>
+    pub fn of(method: Method, kept: Tail) -> Option<Walk>
         ensures walks { is_some result ≡ walks (table_method method) }
         ensures method { IfSome result (λ walk. walk_method walk ≡ table_method method) }
         ensures kept { IfSome result (λ walk. walk_kept walk ≡ kept_between (table_method method) kept) }
@@ -55,8 +68,8 @@ impl Walk {
         ensures { IfOk result (λ values. values ≡ front ++ walk_kept self) }
     {
         match self {
-            Walk::Collect(kept) => with_all(front, &kept),
-            Walk::FindAll(kept) => with_all(front, &kept),
+            Walk::Collect(kept) => kept.into_values(front),
+            Walk::FindAll(kept) => kept.into_values(front),
             _ => Ok(front),
         }
     }
@@ -65,7 +78,7 @@ impl Walk {
 impl WalkInTurn {
     /// The walk whose turn runs, of what a saved build keeps of it: the method, the value over which it goes, and what it
     /// keeps behind that value, its closure and its position. It takes no memory.
-    pub fn of(heap: &Heap, method: Method, on: &Value, kept: Values) -> WalkInTurn
+    pub fn of(heap: &Heap, method: Method, on: &Value, kept: Tail) -> WalkInTurn
         requires on { ValueBelow (length heap.now.cells) on.now }
         requires walks { walks (table_method method) ≡ true }
         requires kept { ValuesFit anything (walk_further (table_method method)) (walk_values (table_method method)) kept }
@@ -90,9 +103,9 @@ impl WalkInTurn {
         ensures { IfOk result (λ values. values ≡ front ++ held_values self) }
     {
         match self {
-            WalkInTurn::Collect(kept) => with_all(front, &kept),
-            WalkInTurn::Find(arguments) => with_element(front, arguments),
-            WalkInTurn::FindAll(element, kept) => with_all(with_element(front, element)?, &kept),
+            WalkInTurn::Collect(kept) => kept.into_values(front),
+            WalkInTurn::Find(arguments) => arguments.behind(front),
+            WalkInTurn::FindAll(element, kept) => kept.into_values(element.behind(front)?),
             _ => Ok(front),
         }
     }
@@ -111,29 +124,20 @@ fn parts_of(kept: &[Value]) -> Parts
 }
 
 /// `findAll` in a turn: the element is what is kept in front, of a map a key and its value.
-fn found_before(heap: &Heap, on: &Value, kept: Values) -> WalkInTurn
+fn found_before(heap: &Heap, on: &Value, kept: Tail) -> WalkInTurn
     requires on { ValueBelow (length heap.now.cells) on.now }
     requires kept { ValuesFit anything (walk_further FindAll) (walk_values FindAll) kept }
     ensures method { held_method result ≡ FindAll }
     ensures values { held_values result ≡ kept }
     ensures after { (h : List HeldCell) (v : HeldValue) → held_after h result v ≡ frame_after h FindAll (element_size (kind heap.now.cells on.now)) kept v }
 {
-    let mut kept = kept.into_vec();
-    let first = kept.remove(0);
+    let values = kept.as_slice();
+    let first = values[0];
     let is_map = matches!(kind_of(heap, on), Kind::Map(_, _));
-    if is_map && !kept.is_empty() {
-        let second = kept.remove(0);
-        WalkInTurn::FindAll(Parts::Two(first, second), Values::from_vec(kept))
+    if is_map && values.len() > 1 {
+        let second = values[1];
+        WalkInTurn::FindAll(Parts::Two(first, second), kept.skip(2))
     } else {
-        WalkInTurn::FindAll(Parts::One(first), Values::from_vec(kept))
+        WalkInTurn::FindAll(Parts::One(first), kept.skip(1))
     }
-}
-
-/// These values with others behind.
-fn with_all(front: Values, kept: &Values) -> Result<Values, AllocError>
-    ensures { IfOk result (λ values. values ≡ front ++ kept.now) }
-{
-    let mut values = front.into_vec();
-    values.extend_from_slice(kept.as_slice())?;
-    Ok(Values::from_vec(values))
 }

@@ -25,9 +25,11 @@
 mod kept;
 mod loops;
 mod place;
+mod tail;
 mod turns;
 mod walk;
 
 pub use loops::{LoopPlace, has_loop_turn, loop_turn};
+pub use tail::Tail;
 pub use turns::{Parts, Turn, has_walk_turn, walk_turn};
 pub use walk::{Next, Walk, WalkInTurn};

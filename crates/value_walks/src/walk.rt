@@ -14,6 +14,7 @@ ghost use Rattle.value_view.specs.Answers.{Answers, Leaves};
 ghost use Rattle.value_walks.specs.Turns.{PartsBelow, listed};
 ghost use Rattle.value_walks.specs.Walking.{NextBelow, IsAfter, element_length, held_after, held_method, held_values, walk_kept, walk_method};
 
+use crate::tail::Tail;
 use crate::turns::{Parts, Turn, entry_map};
 use cell_heap::Heap;
 use method_names::Method;
@@ -26,9 +27,9 @@ use value_view::{Kind, OpRefusal, kind_of, truth};
 #[derive(Drop)]
 pub enum Walk {
     Each,
-    Collect(Values),
+    Collect(Tail),
     Find,
-    FindAll(Values),
+    FindAll(Tail),
     Any,
     Every,
     Times,
@@ -38,11 +39,11 @@ pub enum Walk {
 #[derive(Drop)]
 pub enum WalkInTurn {
     Each,
-    Collect(Values),
+    Collect(Tail),
     /// What the closure got.
     Find(Parts),
     /// The element of the turn, and what was found before it.
-    FindAll(Parts, Values),
+    FindAll(Parts, Tail),
     Any,
     Every,
     Times,
@@ -63,7 +64,7 @@ impl Walk {
         ensures walks { is_some result ≡ walks (table_method method) }
         ensures begun { IfSome result (λ walk. (walk_method walk ≡ table_method method) × (walk_kept walk ≡ [])) }
     {
-        Walk::of(method, Values::new(alloc))
+        Walk::of(method, Tail::new(alloc))
     }
 
     /// The walk while the closure of this turn runs. It takes no memory.
@@ -107,7 +108,7 @@ impl Walk {
     {
         match self {
             Walk::Each => Ok(Effect::Give(*on)),
-            Walk::Collect(values) => Ok(Effect::NewList(values)),
+            Walk::Collect(values) => Ok(Effect::NewList(values.into_values(Values::new(alloc))?)),
             Walk::FindAll(values) => all_found(alloc, heap, on, values),
             Walk::Any => Ok(Effect::Give(Value::Bool(false))),
             Walk::Every => Ok(Effect::Give(Value::Bool(true))),
@@ -118,7 +119,7 @@ impl Walk {
 }
 
 /// What `findAll` found: of a map a new map, of any other value a new list.
-fn all_found(alloc: Global, heap: &Heap, on: &Value, kept: Values) -> Result<Effect, AllocError>
+fn all_found(alloc: Global, heap: &Heap, on: &Value, kept: Tail) -> Result<Effect, AllocError>
     requires on { ValueBelow (length heap.now.cells) on.now }
     requires kept { All (ValueBelow (length heap.now.cells)) kept }
     ensures answer { IfOk result (λ effect. effect_answer product_limits heap.now.cells effect ≡ all_found product_limits heap.now.cells (kind heap.now.cells on.now) kept) }
@@ -126,7 +127,7 @@ fn all_found(alloc: Global, heap: &Heap, on: &Value, kept: Values) -> Result<Eff
 {
     match kind_of(heap, on) {
         Kind::Map(_, _) => Ok(Effect::NewMap(kept_entries(alloc, heap, kept.as_slice())?)),
-        _ => Ok(Effect::NewList(kept)),
+        _ => Ok(Effect::NewList(kept.into_values(Values::new(alloc))?)),
     }
 }
 
@@ -206,7 +207,7 @@ impl WalkInTurn {
 }
 
 /// These values with one behind.
-fn with(mut values: Values, value: Value) -> Result<Values, AllocError>
+fn with(mut values: Tail, value: Value) -> Result<Tail, AllocError>
     ensures { IfOk result (λ more. more ≡ values ++ value ∷ []) }
 {
     values.push(value)?;
@@ -214,7 +215,7 @@ fn with(mut values: Values, value: Value) -> Result<Values, AllocError>
 }
 
 /// These values with an element behind.
-pub(crate) fn with_element(values: Values, element: Parts) -> Result<Values, AllocError>
+fn with_element(values: Tail, element: Parts) -> Result<Tail, AllocError>
     ensures { IfOk result (λ more. more ≡ values ++ listed element) }
 {
     match element {
