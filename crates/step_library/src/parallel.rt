@@ -155,19 +155,18 @@ fn thrown_by(outcome: &Outcome) -> Ending
     }
 }
 
-/// The branch that failed first, where one has failed.
+/// The branch that failed first, where one has failed. It goes over the branches from the last to the first.
 fn first_failure(ends: &[BranchEnd]) -> Option<&BranchEnd>
     ensures { option_copied result ≡ first_failure ends.now }
 {
-    let [branch, rest @ ..] = ends else {
-        return None;
-    };
-    let later = first_failure(rest);
-    if is_thrown(&branch.end.outcome) {
-        Some(earlier(branch, later))
-    } else {
-        later
+    let mut first = None;
+    for at in (0..ends.len()).rev() {
+        let branch = &ends[at];
+        if is_thrown(&branch.end.outcome) {
+            first = Some(earlier(branch, first));
+        }
     }
+    first
 }
 
 /// The branch of the two that ended first.
