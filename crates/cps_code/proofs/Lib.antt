@@ -1,4 +1,5 @@
 pub mod Parts
 pub mod Decoding
 pub mod Growth
+pub mod FunctionLaws
 pub mod WalkLaws

@@ -1,15 +1,21 @@
 //! The numbered nodes of a script.
 
 ghost use Rattle.std.specs.Prelude.{◌≡◌, ◌<◌, length, IfOk, IfSome};
+ghost use Rattle.std.specs.Option.{option_map};
 ghost use Rattle.model_syntax.specs.TreeNodes.{tree_node};
-ghost use Rattle.model_run.specs.Terms.{Found, term, nodes_of, term_at, form_of, part_of};
+ghost use Rattle.model_run.specs.Callables.{function_in};
+ghost use Rattle.model_run.specs.Terms.{Found, term, nodes_of, term_at, form_of, part_of, parts_of};
+ghost use Rattle.cps_code.specs.Functions.{function_at};
 ghost use Rattle.cps_code.specs.Rows.{part_count, part_number, rows_of};
 ghost use Rattle.cps_code.specs.Script.{IsScript, script_of};
 
+use crate::functions::functions_of;
 use crate::row::Row;
 use crate::walk::rows_of_tree;
 use model_syntax::{NodeForm, Tree};
+use model_text::Text;
 use std::alloc::{AllocError, Global};
+use std::collections::BTreeMap;
 use std::marker::Model;
 
 /// The syntax of a script: its nodes by their numbers. A contract sees the rows of the nodes, which are those of one
@@ -17,6 +23,8 @@ use std::marker::Model;
 #[derive(Drop)]
 pub struct Code {
     rows: Vec<Row>,
+    /// The nodes of the functions, by their names. Of functions of one name it is the first.
+    functions: BTreeMap<Text, u32>,
 }
 
 impl Model for Code {
@@ -68,10 +76,19 @@ impl Code {
     {
         self.rows[node as usize].parts.get(at as usize).copied()
     }
+
+    /// The number of the node of the function of this name, and `None` exactly where there is none: functions stand at the top of a
+    /// script. It takes time logarithmic in the number of functions.
+    pub fn function(&self, name: &Text) -> Option<u32>
+        ensures { option_map function_at result ≡ function_in name.now (parts_of (script_of self.now)) }
+    {
+        self.functions.get(name).copied()
+    }
 }
 
-/// Numbers the nodes of a tree, in time and memory linear in the tree. A tree of any size will do that `parse` gives; it
-/// may be as deep as the stack allows, and brackets of a script nest at most 128 deep.
+/// Numbers the nodes of a tree, in time and memory linear in the tree, but for its functions: to find them by their names takes
+/// a time logarithmic in their number for each. A tree of any size will do that `parse` gives; it may be as deep as the stack
+/// allows, and brackets of a script nest at most 128 deep.
 ///
 /// Each node is found by its number (`found`), and so the numbers of its parts find its parts.
 ///
@@ -85,5 +102,6 @@ pub fn number(alloc: Global, tree: Tree) -> Result<Code, AllocError>
     ensures found { IfOk result (λ code. Found (script_of code) (script_of code)) }
 {
     let rows = rows_of_tree(alloc, &tree)?;
-    Ok(Code { rows })
+    let functions = functions_of(alloc, rows.as_slice())?;
+    Ok(Code { rows, functions })
 }

@@ -3,7 +3,7 @@
 //! [`number`] gives each node of a tree a number, from 0 on in the order of the script, an outer node before those within
 //! it. A contract sees a [`Code`] as the script's term of `model_run` (`specs/Terms`): the node of the script with its
 //! number, and its parts within it with theirs. Each node is found by its number (`Found`), and the numbers of its parts
-//! find its parts.
+//! find its parts. The functions of the script are found by their names ([`Code::function`]).
 //!
 //! ```
 //! // `while (true) { }`: the script, the loop, its test and its block
@@ -14,6 +14,7 @@
 #![tactic(auto)]
 
 mod code;
+mod functions;
 mod row;
 mod table;
 #[cfg(test)]

@@ -182,6 +182,20 @@ fn nodes_are_numbered_in_the_order_of_the_script(rt: HostRuntime) -> Result<(), 
     Ok(())
 }
 
+// Of two functions of one name the first is found.
+#[test]
+fn a_function_is_found_by_its_name(rt: HostRuntime) -> Result<(), Fail> {
+    let alloc = rt.alloc();
+    let mut tops = Vec::new(alloc);
+    tops.push(function(alloc)?)?;
+    tops.push(function(alloc)?)?;
+    let tops = Items::from_vec(tops);
+    let code = number(alloc, Tree { tops })?;
+    assert!(rt; code.function(&Text::from_str(alloc, "f")?) == Some(1));
+    assert!(rt; code.function(&Text::from_str(alloc, "g")?).is_none());
+    Ok(())
+}
+
 #[test]
 fn a_deep_and_long_script_is_numbered(rt: HostRuntime) -> Result<(), Fail> {
     let code = number(rt.alloc(), deep_and_long(rt.alloc())?)?;
