@@ -182,7 +182,7 @@ class Steps:
         return number
 
     def step_node(self, thread, words, given, body):
-        number = self.ask(thread, "node")
+        number = self.ask(thread, "node", label=words.get("label"))
         yield
         ended = yield from self.in_folder(thread, body, f"Running on m in {WORKSPACE}", WORKSPACE)
         assert self.holder == number
@@ -204,7 +204,7 @@ class Steps:
     def step_input(self, thread, words, given, body):
         self.line(words["message"])
         self.line(words.get("ok", "Proceed") + " or Abort")
-        self.ask(thread, "input")
+        self.ask(thread, "input", id=words.get("id"))
         proceeds, name = yield
         if not proceeds:
             raise throws("FlowInterrupted", f"Rejected by {name}")
