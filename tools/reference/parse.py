@@ -1,4 +1,6 @@
 """The tree of a script, as the grammar in docs/LANGUAGE.md says, in the tuples that `build.py` runs; or its first fault."""
+import contextlib
+
 from tokens import Fault, Token, tokens_of
 
 CLASSES = ("Exception", "RuntimeException", "Error")
@@ -8,6 +10,28 @@ CHANGES = ("=", "+=", "-=", "*=", "%=")
 class Parser:
     def __init__(self, tokens):
         self.tokens, self.at = tokens, 0
+        # The names of each scope around, whether a loop is around, and the faults of scopes that were found.
+        self.scopes, self.functions, self.in_loop, self.scope_faults = [set()], set(), False, []
+
+    # --- scopes
+
+    @contextlib.contextmanager
+    def scope(self, *names, in_loop=None):
+        was = self.in_loop
+        self.in_loop = was if in_loop is None else in_loop
+        self.scopes.append(set(names))
+        yield
+        self.scopes.pop()
+        self.in_loop = was
+
+    def declared(self, name, names=None):
+        """The name of a token that declares it."""
+        names = self.scopes[-1] if names is None else names
+        if name.value in names:
+            kind = "function" if names is self.functions else "name"
+            self.scope_faults.append(Fault(f"{kind} already declared", name.at))
+        names.add(name.value)
+        return name.value
 
     # --- tokens
 
@@ -67,23 +91,28 @@ class Parser:
         if not is_function:
             return self.statement()
         self.at += 1
-        name = self.take("name").value
+        name = self.declared(self.take("name"), self.functions)
         self.want("(")
         parameters = []
-        while not self.took(")"):
-            if parameters:
-                self.want(",")
-            if self.sees("def") or self.is_kind("name", by=1):
-                self.at += 1
-            parameters.append(self.take("name").value)
-        self.newline()
-        return ("function", name, parameters, self.block())
+        with self.scope(in_loop=False):
+            while not self.took(")"):
+                if parameters:
+                    self.want(",")
+                if self.sees("def") or self.is_kind("name", by=1):
+                    self.at += 1
+                parameters.append(self.declared(self.take("name")))
+            self.newline()
+            return ("function", name, parameters, self.in_braces())
 
-    def block(self):
+    def in_braces(self):
         self.want("{")
         made = self.statements()
         self.want("}")
         return made
+
+    def block(self):
+        with self.scope():
+            return self.in_braces()
 
     def statements(self):
         made = []
@@ -94,9 +123,10 @@ class Parser:
                 break
         return made
 
-    def body(self):
+    def body(self, in_loop=None):
         self.newline()
-        return self.block() if self.sees("{") else [self.simple()]
+        with self.scope(in_loop=in_loop):
+            return self.in_braces() if self.sees("{") else [self.simple()]
 
     def statement(self):
         for word in ("if", "while", "for", "try"):
@@ -120,24 +150,29 @@ class Parser:
         return ("if", arms, otherwise)
 
     def a_while(self):
-        return ("while", self.tested(), self.body())
+        return ("while", self.tested(), self.body(in_loop=True))
 
     def a_for(self):
+        with self.scope():
+            return self.headed_for()
+
+    def headed_for(self):
         self.want("(")
         has_type = self.sees("def") or self.is_kind("name") and self.is_kind("name", by=1)
         name = self.ahead(1 if has_type else 0)
         if name.kind == "name" and (self.sees("in", by=1 + has_type) or has_type and self.sees(":", by=2)):
             self.at += 2 + has_type
+            self.declared(name)
             over = self.expression()
             self.want(")")
-            return ("each", name.value, over, self.body())
+            return ("each", name.value, over, self.body(in_loop=True))
         first = self.simple()
         self.want(";")
         test = self.expression()
         self.want(";")
         following = self.simple()
         self.want(")")
-        return ("steps", first, test, following, self.body())
+        return ("steps", first, test, following, self.body(in_loop=True))
 
     def a_try(self):
         self.newline()
@@ -150,10 +185,11 @@ class Parser:
                     self.at += 1
                     raise self.fault()
                 self.at += 1
-            name = self.take("name").value
-            self.want(")")
-            self.newline()
-            catches.append((kind == "Throwable", name, self.block()))
+            with self.scope():
+                name = self.declared(self.take("name"))
+                self.want(")")
+                self.newline()
+                catches.append((kind == "Throwable", name, self.in_braces()))
         if self.took("finally"):
             self.newline()
             last = self.block()
@@ -165,13 +201,15 @@ class Parser:
         if self.took("def") or self.is_kind("name") and self.is_kind("name", by=1) and self.sees("=", by=2):
             if self.is_kind("name", by=1):
                 self.at += 1
-            name = self.take("name").value
+            name = self.declared(self.take("name"))
             return ("declare", name, self.whole() if self.took("=") else None)
         if self.took("return"):
             is_bare = self.is_kind("newline", "end") or self.sees(";", "}", "else")
             return ("return", None if is_bare else self.whole())
         for word in ("break", "continue"):
             if self.took(word):
+                if not self.in_loop:
+                    self.scope_faults.append(Fault(f"{word} outside a loop", self.tokens[self.at - 1].at))
                 return (word,)
         if self.took("throw"):
             return ("throw", self.expression())
@@ -398,31 +436,41 @@ class Parser:
 
     def closure(self):
         self.want("{")
-        parameters = None
-        if self.took("->"):
-            parameters = []
-        elif self.is_kind("name") and self.sees("->", ",", by=1):
-            parameters = [self.take("name").value]
-            while self.took(","):
-                parameters.append(self.take("name").value)
-            self.want("->")
-        elif (self.sees("def") or self.is_kind("name")) and self.is_kind("name", by=1) and self.sees("->", by=2):
-            parameters = [self.ahead(1).value]
-            self.at += 3
-        body = self.statements()
-        self.want("}")
+        with self.scope(in_loop=False):
+            parameters = self.heads()
+            if parameters is None:
+                self.scopes[-1].add("it")
+            body = self.statements()
+            self.want("}")
         return ("closure", parameters, body)
+
+    def heads(self):
+        """The parameters of a closure; None where it has no heads."""
+        if self.took("->"):
+            return []
+        if self.is_kind("name") and self.sees("->", ",", by=1):
+            parameters = [self.declared(self.take("name"))]
+            while self.took(","):
+                parameters.append(self.declared(self.take("name")))
+            self.want("->")
+            return parameters
+        if (self.sees("def") or self.is_kind("name")) and self.is_kind("name", by=1) and self.sees("->", by=2):
+            self.at += 3
+            return [self.declared(self.tokens[self.at - 2])]
+        return None
 
 
 def parsed(source):
-    """The tree of a script whose scopes are not looked at; else its first fault is raised."""
+    """The tree of a script; else its first fault is raised."""
     tokens, lexical = tokens_of(source)
-    if lexical is None:
-        return Parser(tokens).script()
-    parser = Parser(tokens + [Token("end", None, lexical.at)])
+    parser = Parser(tokens if lexical is None else tokens + [Token("end", None, lexical.at)])
     try:
-        parser.script()
+        tree = parser.script()
     except Fault as fault:
-        if fault.kind == "unexpected token":
+        if lexical is None or fault.kind == "unexpected token":
             raise
-    raise lexical
+    if lexical is not None:
+        raise lexical
+    if parser.scope_faults:
+        raise min(parser.scope_faults, key=lambda fault: fault.at)
+    return tree

@@ -1,17 +1,22 @@
 #!/usr/bin/env python3
 """Runs the script of a folder by this reference, with answers from standard input: `tools/reference/run.py DIR < ANSWERS`.
 
-Standard output and the exit status are those of `./controller run DIR`, for an agents file without agents, or with the one agent
-`m` of docs/FORMATS.md's kind that the reference knows (root `/w`, one executor, job `demo`). It finds no fault of scopes.
+Standard output and the exit status are those of `./controller run DIR`, where the agents file is without a fault and has at most one
+executor, and the script no label that is more than a name. What it does not know has the status 125.
 """
 import json
 import sys
 
-from build import Build, RESULTS
+from build import Build, RESULTS, TooLong
 from parse import parsed
 from tokens import Fault
 
+LONGEST = 1_048_576
 STATUSES = dict(zip(RESULTS, (0, 10, 1, 11, 12)))
+
+
+class Unknown(Exception):
+    """What this reference does not know."""
 
 
 def answer(build, line):
@@ -24,37 +29,61 @@ def answer(build, line):
             return
 
 
-def grant(build, executors):
-    """The grants that are due: the site has one executor or none, and `m` is its only label."""
-    due = True
-    while due:
-        due = [number for number, request in sorted(build.requests.items()) if request["kind"] == "node" and fits(request)]
-        due = due if executors and build.holder is None else []
-        if due:
-            build.take(f"granted {due[0]} 0")
+def grant(build, labels):
+    """The grants that are due where the executor has these labels."""
+    while build.holder is None:
+        due = [number for number, request in sorted(build.requests.items()) if request["kind"] == "node" and fits(request, labels)]
+        if not due:
+            return
+        build.take(f"granted {due[0]} 0")
 
 
-def fits(request):
-    return not (request.get("label") or "").strip() or request["label"].strip() == "m"
+def fits(request, labels):
+    label = (request.get("label") or "").strip()
+    return labels and (not label or label in labels)
+
+
+def site(build, text):
+    """Puts the agents file into the build; gives the labels of its executor, none where it has none."""
+    try:
+        file = json.loads(text)
+        agents = file["agents"]
+        if len(agents) > 1 or agents and agents[0]["executors"] > 1:
+            raise Unknown("more than one executor")
+        for agent in agents:
+            build.agent, build.workspace = agent["name"], f"{agent['root']}/workspace/{file['job']}"
+            return [agent["name"], *agent.get("labels", [])]
+        return []
+    except (ValueError, KeyError, TypeError):
+        raise Unknown("an agents file with a fault") from None
 
 
 def ran(folder, answers):
     """What is printed, and the exit status."""
-    with open(f"{folder}/Jenkinsfile", encoding="utf-8") as script, open(f"{folder}/agents.json", encoding="utf-8") as agents:
-        source, executors = script.read(), bool(json.load(agents)["agents"])
+    with open(f"{folder}/Jenkinsfile", "rb") as script, open(f"{folder}/agents.json", "rb") as agents:
+        source, agents = script.read(), agents.read()
+    if len(source) > LONGEST:
+        return f"Jenkinsfile: longer than {LONGEST} bytes\n", 4
     try:
+        source = source.decode()
         build = Build(parsed(source))
+        labels = site(build, agents)
+        build.start()
+        grant(build, labels)
+        for line in answers:
+            answer(build, line)
+            grant(build, labels)
     except Fault as fault:
         return fault.told(source) + "\n", 4
-    build.start()
-    grant(build, executors)
-    for line in answers:
-        answer(build, line)
-        grant(build, executors)
+    except (TooLong, RecursionError, UnicodeDecodeError):
+        raise Unknown("a script that takes very long, or is not UTF-8") from None
     return build.log, STATUSES[RESULTS[build.result]] if build.is_over else 3
 
 
 if __name__ == "__main__":
-    text, status = ran(sys.argv[1], sys.stdin)
+    try:
+        text, status = ran(sys.argv[1], sys.stdin)
+    except Unknown as what:
+        sys.exit(print(f"not known to this reference: {what}", file=sys.stderr) or 125)
     sys.stdout.write(text)
     sys.exit(status)

@@ -1,7 +1,7 @@
-"""The steps, as docs/STEPS.md says. The site has one executor, of the agent `m` with the root `/w`; the job is `demo`."""
+"""The steps, as docs/STEPS.md says. The site has one executor: where nothing else is said, of the agent `m` with the root `/w`, for
+the job `demo`."""
 from values import Closure, List, Map, Thrown, is_number, text_of, throws
 
-WORKSPACE = "/w/workspace/demo"
 # The parameters of each step, those that may be left out, and whether it has a body.
 STEPS = {
     "println": (["value"], [], False),
@@ -90,6 +90,8 @@ def missing_folder():
 
 class Steps:
     """The part of a build that its steps are."""
+
+    agent, workspace = "m", "/w/workspace/demo"
 
     def step(self, thread, name, arguments):
         if name not in STEPS:
@@ -184,7 +186,7 @@ class Steps:
     def step_node(self, thread, words, given, body):
         number = self.ask(thread, "node", label=words.get("label"))
         yield
-        ended = yield from self.in_folder(thread, body, f"Running on m in {WORKSPACE}", WORKSPACE)
+        ended = yield from self.in_folder(thread, body, f"Running on {self.agent} in {self.workspace}", self.workspace)
         assert self.holder == number
         self.holder = None
         return ended
