@@ -5,6 +5,7 @@ Standard output and the exit status are those of `./controller run DIR`, where t
 executor, and the script no label that is more than a name. What it does not know has the status 125.
 """
 import json
+import re
 import sys
 
 from build import Build, RESULTS, TooLong
@@ -40,6 +41,8 @@ def grant(build, labels):
 
 def fits(request, labels):
     label = (request.get("label") or "").strip()
+    if re.search(r"[^\w.-]", label):
+        raise Unknown("a label that is more than a name")
     return labels and (not label or label in labels)
 
 
