@@ -1,14 +1,14 @@
 #!/usr/bin/env python3
 """Runs the script of a folder by this reference, with answers from standard input: `tools/reference/run.py DIR < ANSWERS`.
 
-Standard output and the exit status are those of `./controller run DIR`, where the agents file is without a fault and has at most one
-executor, and the script no label that is more than a name. What it does not know has the status 125.
+Standard output and the exit status are those of `./controller run DIR`, where the agents file is without a fault, and the script has
+no label that is more than a name. What it does not know has the status 125.
 """
 import json
 import re
 import sys
 
-from build import Build, RESULTS, TooLong
+from build import Build, Executor, RESULTS, TooLong
 from parse import parsed
 from tokens import Fault
 
@@ -30,33 +30,20 @@ def answer(build, line):
             return
 
 
-def grant(build, labels):
-    """The grants that are due where the executor has these labels."""
-    while build.holder is None:
-        due = [number for number, request in sorted(build.requests.items()) if request["kind"] == "node" and fits(request, labels)]
-        if not due:
-            return
-        build.take(f"granted {due[0]} 0")
-
-
-def fits(request, labels):
-    label = (request.get("label") or "").strip()
-    if re.search(r"[^\w.-]", label):
+def grant(build):
+    """The grants that are due."""
+    while (due := build.next_grant()) is not None:
+        build.take("granted %d %d" % due)
+    if any(re.search(r"[^\w.-]", (request.get("label") or "").strip()) for request in build.requests.values()):
         raise Unknown("a label that is more than a name")
-    return labels and (not label or label in labels)
 
 
-def site(build, text):
-    """Puts the agents file into the build; gives the labels of its executor, none where it has none."""
+def site(text):
+    """The job and the executors of an agents file."""
     try:
         file = json.loads(text)
-        agents = file["agents"]
-        if len(agents) > 1 or agents and agents[0]["executors"] > 1:
-            raise Unknown("more than one executor")
-        for agent in agents:
-            build.agent, build.workspace = agent["name"], f"{agent['root']}/workspace/{file['job']}"
-            return [agent["name"], *agent.get("labels", [])]
-        return []
+        agents = [Executor(it["name"], it["root"], [it["name"], *it.get("labels", [])]) for it in file["agents"] for _ in range(it["executors"])]
+        return file["job"], agents
     except (ValueError, KeyError, TypeError):
         raise Unknown("an agents file with a fault") from None
 
@@ -69,13 +56,12 @@ def ran(folder, answers):
         return f"Jenkinsfile: longer than {LONGEST} bytes\n", 4
     try:
         source = source.decode()
-        build = Build(parsed(source))
-        labels = site(build, agents)
+        build = Build(parsed(source), *site(agents))
         build.start()
-        grant(build, labels)
+        grant(build)
         for line in answers:
             answer(build, line)
-            grant(build, labels)
+            grant(build)
     except Fault as fault:
         return fault.told(source) + "\n", 4
     except (TooLong, RecursionError, UnicodeDecodeError):

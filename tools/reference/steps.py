@@ -1,5 +1,4 @@
-"""The steps, as docs/STEPS.md says. The site has one executor: where nothing else is said, of the agent `m` with the root `/w`, for
-the job `demo`."""
+"""The steps, as docs/STEPS.md says."""
 from values import Closure, List, Map, Thrown, is_number, text_of, throws
 
 # The parameters of each step, those that may be left out, and whether it has a body.
@@ -90,8 +89,6 @@ def missing_folder():
 
 class Steps:
     """The part of a build that its steps are."""
-
-    agent, workspace = "m", "/w/workspace/demo"
 
     def step(self, thread, name, arguments):
         if name not in STEPS:
@@ -184,11 +181,11 @@ class Steps:
         return number
 
     def step_node(self, thread, words, given, body):
-        number = self.ask(thread, "node", label=words.get("label"))
-        yield
-        ended = yield from self.in_folder(thread, body, f"Running on {self.agent} in {self.workspace}", self.workspace)
-        assert self.holder == number
-        self.holder = None
+        self.ask(thread, "node", label=words.get("label"))
+        executor = yield
+        workspace = self.held[executor]
+        ended = yield from self.in_folder(thread, body, f"Running on {self.executors[executor].agent} in {workspace}", workspace)
+        del self.held[executor]
         return ended
 
     def step_sh(self, thread, words, given, body):
