@@ -3,6 +3,8 @@
 A script is a list of statements. Statements and expressions are tuples: their form first, and then their parts, as `script.py`
 writes them. Each evaluation is a generator, which yields what its green thread waits for and goes on with the answer.
 """
+from collections import namedtuple
+
 from methods import call_method
 from steps import Steps
 from values import (Closure, LimitReached, List, Map, Throwable, Thrown, ERRORS, bad_argument, is_number, is_true, key_of,
@@ -13,6 +15,11 @@ MOST_CALLS = 1_024
 MOST_THREADS = 256
 # A script that takes more is left out: the nodes of an event are not counted here.
 MOST_TURNS = 60_000
+
+
+# An executor of an agent, whose name is among the labels.
+Executor = namedtuple("Executor", "agent root labels")
+ONE_EXECUTOR = [Executor("m", "/w", ["m"])]
 
 
 class TooLong(Exception):
@@ -57,12 +64,16 @@ def cell_in(names, name):
 
 
 class Build(Steps):
-    def __init__(self, script):
+    """A build of a script, for a job and executors."""
+
+    def __init__(self, script, job="demo", executors=ONE_EXECUTOR):
+        self.job, self.executors = job, executors
         self.functions = {part[1]: part for part in script if part[0] == "function"}
         self.statements = [part for part in script if part[0] != "function"]
         self.binding, self.log, self.result, self.is_over = {}, "", 0, False
         self.threads, self.next_thread = [], 0
-        self.requests, self.next_request, self.holder = {}, 1, None
+        # The open requests, and the workspaces of the executors that are held, by their numbers.
+        self.requests, self.next_request, self.held = {}, 1, {}
         self.turns, self.answers = 0, ""
 
     # --- names
@@ -513,11 +524,31 @@ class Build(Steps):
         self.settle()
 
     def take_granted(self, number, request, executor):
-        """The site has one executor, of the agent `m`, which has no labels."""
-        if request is None or request["kind"] != "node" or self.holder is not None or executor != "0":
+        at = int(executor)
+        if request is None or request["kind"] != "node" or not self.may_have(request, at):
             return "NotOpen"
-        self.holder = number
-        return self.answer(number, None)
+        self.held[at] = self.new_workspace(self.executors[at])
+        return self.answer(number, at)
+
+    def may_have(self, request, at):
+        """Whether the request may be given this executor. A label that is more than a name is not known here."""
+        label = (request["label"] or "").strip()
+        return at < len(self.executors) and at not in self.held and (not label or label in self.executors[at].labels)
+
+    def new_workspace(self, executor):
+        """The first one of the job on the agent that no other of its executors has."""
+        first = f"{executor.root}/workspace/{self.job}"
+        used = [workspace for at, workspace in self.held.items() if self.executors[at].agent == executor.agent]
+        names = [first] + [f"{first}@{place}" for place in range(2, len(used) + 2)]
+        return next(name for name in names if name not in used)
+
+    def next_grant(self):
+        """The lowest-numbered request that a free executor fits, with the first such executor; None where there is none."""
+        for number, request in sorted(self.requests.items()):
+            fit = [at for at in range(len(self.executors)) if request["kind"] == "node" and self.may_have(request, at)]
+            if fit:
+                return number, fit[0]
+        return None
 
     def take_decided(self, number, request, name, proceeds):
         if request is None or request["kind"] != "input":

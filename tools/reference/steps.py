@@ -1,7 +1,6 @@
-"""The steps, as docs/STEPS.md says. The site has one executor, of the agent `m` with the root `/w`; the job is `demo`."""
+"""The steps, as docs/STEPS.md says."""
 from values import Closure, List, Map, Thrown, is_number, text_of, throws
 
-WORKSPACE = "/w/workspace/demo"
 # The parameters of each step, those that may be left out, and whether it has a body.
 STEPS = {
     "println": (["value"], [], False),
@@ -182,11 +181,11 @@ class Steps:
         return number
 
     def step_node(self, thread, words, given, body):
-        number = self.ask(thread, "node")
-        yield
-        ended = yield from self.in_folder(thread, body, f"Running on m in {WORKSPACE}", WORKSPACE)
-        assert self.holder == number
-        self.holder = None
+        self.ask(thread, "node", label=words.get("label"))
+        executor = yield
+        workspace = self.held[executor]
+        ended = yield from self.in_folder(thread, body, f"Running on {self.executors[executor].agent} in {workspace}", workspace)
+        del self.held[executor]
         return ended
 
     def step_sh(self, thread, words, given, body):
@@ -204,7 +203,7 @@ class Steps:
     def step_input(self, thread, words, given, body):
         self.line(words["message"])
         self.line(words.get("ok", "Proceed") + " or Abort")
-        self.ask(thread, "input")
+        self.ask(thread, "input", id=words.get("id"))
         proceeds, name = yield
         if not proceeds:
             raise throws("FlowInterrupted", f"Rejected by {name}")

@@ -1,0 +1,240 @@
+#!/usr/bin/env python3
+"""Runs the examples, and compares what is printed and the exit status with what their pages say: `python3 tools/examples.py [WORD..]`.
+
+With words it runs those alone whose name has one of them. The examples are
+
+- each folder below examples/ with a `log`: what is printed is the log, the status is that of the line `Exit status: N` of its
+  README.md, and `answers`, where it is there, is standard input;
+- each row of the tables in examples/faults/README.md;
+- in docs/USING.md each row of a table whose first column is `in Jenkins` or `met by`, and each script with a log behind it.
+
+Where the program is built it runs them; else the kit runs all of them without a proof, and compiles the sources once. With
+`--reference` the interpreter in tools/reference runs those that it can run. The status is 0 where all are as their pages say.
+"""
+import argparse
+import difflib
+import os
+import re
+import shutil
+import subprocess
+import sys
+import tempfile
+
+from build import PROGRAM, TOP
+
+BUILT = f"{TOP}/crates/{PROGRAM}/out/{PROGRAM}"
+NO_AGENTS = b'{"job": "using", "agents": []}'
+ONE_AGENT = b'{"job": "using", "agents": [{"name": "m", "root": "/w", "executors": 1}]}'
+# The limits that the reference does not count, as patterns.
+UNCOUNTED = ("nodes\\ evaluated", "text\\ length", "collection\\ size")
+START, END = "[Pipeline] Start of Pipeline\n", "[Pipeline] End of Pipeline\nFinished: SUCCESS\n"
+
+
+class Example:
+    """A script with its agents file and answers, what is to be printed, and the statuses that are right."""
+
+    def __init__(self, name, script, wanted, statuses, agents=NO_AGENTS, answers=b""):
+        self.name, self.script, self.agents, self.answers = name, script, agents, answers
+        # A text is all that is printed; a pattern stands for what it matches.
+        self.wanted, self.statuses = wanted, statuses
+
+    def write(self, folder):
+        os.makedirs(folder)
+        for name, content in (("Jenkinsfile", self.script), ("agents.json", self.agents), ("answers", self.answers)):
+            with open(f"{folder}/{name}", "wb") as file:
+                file.write(content)
+
+    def is_right(self, printed, status):
+        fits = self.wanted.search(printed) if isinstance(self.wanted, re.Pattern) else self.wanted == printed
+        return bool(fits) and status in self.statuses
+
+    def complaint(self, printed, status):
+        lines = [f"{self.name}: status {status}, wanted {' or '.join(map(str, self.statuses))}"]
+        if isinstance(self.wanted, re.Pattern):
+            return "\n".join([*lines, f"wanted a line with {self.wanted.pattern!r}, printed:", printed])
+        given = (self.wanted.splitlines(), printed.splitlines(), "wanted", "printed")
+        return "\n".join([*lines, *difflib.unified_diff(*given, lineterm="")])
+
+
+# --- the examples
+
+
+def read(path):
+    with open(f"{TOP}/{path}", "rb") as file:
+        return file.read()
+
+
+def of_folders():
+    for at, _, files in sorted(os.walk(f"{TOP}/examples")):
+        if "log" in files:
+            name = os.path.relpath(at, TOP)
+            status = re.search(r"^Exit status: (\d+)$", read(f"{name}/README.md").decode(), re.M)
+            answers = read(f"{name}/answers") if "answers" in files else b""
+            wanted = read(f"{name}/log").decode()
+            yield Example(name, read(f"{name}/Jenkinsfile"), wanted, [int(status[1])], read(f"{name}/agents.json"), answers)
+
+
+def rows(text, head):
+    """The rows of the tables whose first column has this head, each as the list of its cells."""
+    inside = False
+    for line in text.splitlines():
+        cells = [cell.strip().replace("\\|", "|") for cell in re.split(r"(?<!\\)\|", line)[1:-1]]
+        if not cells:
+            inside = False
+        elif inside and not set(cells[0]) <= set("-"):
+            yield cells
+        inside = inside or cells[:1] == [head]
+
+
+def codes(cell):
+    return [code.replace(" ↵ ", "\n") for code in re.findall(r"`([^`]*)`", cell)]
+
+
+def spelled(cell):
+    """The bytes that a cell tells: as they are, as many times, or as the number of a byte."""
+    code = codes(cell)[0]
+    if cell.startswith("the byte"):
+        return bytes.fromhex(code)
+    times = re.match(r"(\d+) times", cell)
+    return code.encode() * (int(times[1]) if times else 1)
+
+
+def of_faults():
+    page = read("examples/faults/README.md").decode()
+    short = dict(re.findall(r"\b([A-Z]) is `([^`]*)`", page))
+    for head, status in (("Jenkinsfile", 4), ("agents.json", 13)):
+        for cell, printed, _ in rows(page, head):
+            name, content = f"examples/faults: {cell}", spelled(cell)
+            if status == 4:
+                yield Example(name, content, codes(printed)[0] + "\n", [status])
+            else:
+                content = re.sub(r"\b[AB]\b", lambda it: short[it[0]], content.decode()).encode()
+                yield Example(name, b"", codes(printed)[0] + "\n", [status], content)
+
+
+def agents_for(script):
+    return ONE_AGENT if "node" in script else NO_AGENTS
+
+
+def of_tables(page):
+    """What is refused or meets a limit tells so; what is written in its place runs, up to its first shell step or question."""
+    for first, told, *_ in [*rows(page, "in Jenkins"), *rows(page, "met by")]:
+        for script in codes(first):
+            line = re.compile(re.escape(codes(told)[0]))
+            yield Example(f"docs/USING.md: {script!r}", script.encode(), line, [1, 4], agents_for(script))
+    for *_, instead in rows(page, "in Jenkins"):
+        for script in codes(instead):
+            runs = re.compile(r"^Finished: |^\[Pipeline\] sh\n\Z|or Abort\n\Z", re.M)
+            yield Example(f"docs/USING.md: {script!r} in its place", script.encode(), runs, [0, 3, 10, 11], agents_for(script))
+
+
+def of_blocks(page):
+    """Scripts in blocks, each with what is behind it: answers, and its log.
+
+    A block `json` is the agents file of the scripts behind it. A log leaves out the first line of a build, and the last two of
+    one that ends with SUCCESS; `log N` is all but the first line, with the exit status N.
+    """
+    agents, script, answers = NO_AGENTS, None, b""
+    for kind, rest, content in re.findall(r"^```(\w+) ?(\d*)\n(.*?)^```$", page, re.M | re.S):
+        if kind == "json":
+            agents = content.encode()
+        elif kind == "groovy":
+            script, answers = content, b""
+        elif kind == "answers":
+            answers = content.encode()
+        elif kind == "log":
+            wanted = START + content + ("" if rest else END)
+            yield Example(f"docs/USING.md: {script!r}", script.encode(), wanted, [int(rest or 0)], agents, answers)
+
+
+def examples():
+    page = read("docs/USING.md").decode()
+    return [*of_folders(), *of_faults(), *of_tables(page), *of_blocks(page)]
+
+
+# --- ways to run them: each gives what was printed and the status, in order
+
+
+def by_program(given):
+    for example in given:
+        with tempfile.TemporaryDirectory(prefix="controller-example-") as room:
+            example.write(f"{room}/folder")
+            ran = subprocess.run([BUILT, "run", f"{room}/folder"], input=example.answers, stdout=subprocess.PIPE, check=False)
+            yield ran.stdout.decode(), ran.returncode
+
+
+def by_kit(given):
+    """All in one run of the kit without a proof: it compiles the sources once, and says of each case how it ended."""
+    with tempfile.TemporaryDirectory(prefix="controller-examples-") as room:
+        cases, files = f"{room}/cases", []
+        os.mkdir(cases)
+        for at, example in enumerate(given):
+            name = f"example-{at:04}"
+            example.write(f"{room}/{name}")
+            shutil.copy(f"{room}/{name}/answers", f"{cases}/{name}")
+            with open(f"{cases}/{name}.args", "w", encoding="utf-8") as words:
+                words.write(f"run\n{name}\n")
+            for file in ("Jenkinsfile", "agents.json"):
+                files += ["--data", f"{name}/{file}={room}/{name}/{file}"]
+        command = ["rt", "try", "--seconds", "600", "--cases", cases, *files]
+        ran = subprocess.run(command, cwd=f"{TOP}/crates/{PROGRAM}", stdout=subprocess.PIPE, stderr=subprocess.PIPE, check=False)
+    yield from told(ran.stdout.decode(), ran.stderr.decode(), len(given))
+
+
+def told(printed, said, count):
+    """What the kit printed under the name of each example, and the status that it says of each."""
+    parts = dict(part.split("\n", 1) for part in re.split(r"^== (?=example-\d{4}$)", printed, flags=re.M)[1:])
+    for at in range(count):
+        name = f"example-{at:04}"
+        status = re.search(rf"^case={name}\b.*\bstatus=(\d+)", said, re.M)
+        yield parts.get(name, ""), int(status[1]) if status else said[-2000:]
+
+
+def by_reference(given):
+    """Nothing for an example with something that the reference does not know."""
+    for example in given:
+        uncounted = isinstance(example.wanted, re.Pattern) and example.wanted.pattern in UNCOUNTED
+        if uncounted or example.statuses == [13]:
+            yield None
+            continue
+        with tempfile.TemporaryDirectory(prefix="controller-example-") as room:
+            example.write(f"{room}/folder")
+            command = [sys.executable, f"{TOP}/tools/reference/run.py", f"{room}/folder"]
+            ran = subprocess.run(command, input=example.answers, stdout=subprocess.PIPE, stderr=subprocess.DEVNULL, check=False)
+        yield None if ran.returncode == 125 else (ran.stdout.decode(), ran.returncode)
+
+
+def is_built():
+    if not os.access(BUILT, os.X_OK):
+        return False
+    built = os.path.getmtime(BUILT)
+    for at, folders, files in os.walk(f"{TOP}/crates"):
+        folders[:] = [it for it in folders if it != "out"]
+        if any(file.endswith((".rt", ".antt")) and os.path.getmtime(f"{at}/{file}") > built for file in files):
+            return False
+    return True
+
+
+def main():
+    parser = argparse.ArgumentParser(description=__doc__.splitlines()[0])
+    parser.add_argument("--reference", action="store_true", help="run them by the interpreter in tools/reference")
+    parser.add_argument("words", nargs="*", help="run those alone whose name has one of these words")
+    asked = parser.parse_args()
+    given = [it for it in examples() if not asked.words or any(word in it.name for word in asked.words)]
+    way = by_reference if asked.reference else by_program if is_built() else by_kit
+    if way is by_kit:
+        print("examples: unproved and slow; ./controller build proves and builds the program", file=sys.stderr, flush=True)
+    wrong = unknown = 0
+    for example, ended in zip(given, way(given)):
+        if ended is None:
+            unknown += 1
+        elif not example.is_right(*ended):
+            wrong += 1
+            print(example.complaint(*ended), end="\n\n")
+    left_out = f", {unknown} left out" if unknown else ""
+    print(f"{len(given) - wrong - unknown} examples as their pages say, {wrong} others{left_out}")
+    return 1 if wrong else 0
+
+
+if __name__ == "__main__":
+    sys.exit(main())

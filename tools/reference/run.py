@@ -1,0 +1,78 @@
+#!/usr/bin/env python3
+"""Runs the script of a folder by this reference, with answers from standard input: `tools/reference/run.py DIR < ANSWERS`.
+
+Standard output and the exit status are those of `./controller run DIR`, where the agents file is without a fault, and the script has
+no label that is more than a name. What it does not know has the status 125.
+"""
+import json
+import re
+import sys
+
+from build import Build, Executor, RESULTS, TooLong
+from parse import parsed
+from tokens import Fault
+
+LONGEST = 1_048_576
+STATUSES = dict(zip(RESULTS, (0, 10, 1, 11, 12)))
+
+
+class Unknown(Exception):
+    """What this reference does not know."""
+
+
+def answer(build, line):
+    """One answer line: the lowest-numbered open input of its id proceeds or is aborted; any other line is passed over."""
+    word, _, rest = line.strip("\n").partition(" ")
+    number_or_id, by, name = rest.partition(" by ")
+    for number, request in sorted(build.requests.items()):
+        if request["kind"] == "input" and number_or_id == (request["id"] or str(number)) and by and word in ("proceed", "abort"):
+            build.take(f"{word} {number} {name}")
+            return
+
+
+def grant(build):
+    """The grants that are due."""
+    while (due := build.next_grant()) is not None:
+        build.take("granted %d %d" % due)
+    if any(re.search(r"[^\w.-]", (request.get("label") or "").strip()) for request in build.requests.values()):
+        raise Unknown("a label that is more than a name")
+
+
+def site(text):
+    """The job and the executors of an agents file."""
+    try:
+        file = json.loads(text)
+        agents = [Executor(it["name"], it["root"], [it["name"], *it.get("labels", [])]) for it in file["agents"] for _ in range(it["executors"])]
+        return file["job"], agents
+    except (ValueError, KeyError, TypeError):
+        raise Unknown("an agents file with a fault") from None
+
+
+def ran(folder, answers):
+    """What is printed, and the exit status."""
+    with open(f"{folder}/Jenkinsfile", "rb") as script, open(f"{folder}/agents.json", "rb") as agents:
+        source, agents = script.read(), agents.read()
+    if len(source) > LONGEST:
+        return f"Jenkinsfile: longer than {LONGEST} bytes\n", 4
+    try:
+        source = source.decode()
+        build = Build(parsed(source), *site(agents))
+        build.start()
+        grant(build)
+        for line in answers:
+            answer(build, line)
+            grant(build)
+    except Fault as fault:
+        return fault.told(source) + "\n", 4
+    except (TooLong, RecursionError, UnicodeDecodeError):
+        raise Unknown("a script that takes very long, or is not UTF-8") from None
+    return build.log, STATUSES[RESULTS[build.result]] if build.is_over else 3
+
+
+if __name__ == "__main__":
+    try:
+        text, status = ran(sys.argv[1], sys.stdin)
+    except Unknown as what:
+        sys.exit(print(f"not known to this reference: {what}", file=sys.stderr) or 125)
+    sys.stdout.write(text)
+    sys.exit(status)
