@@ -1,4 +1,5 @@
 //! A file that is opened when it is first read.
+ghost use Rattle.std.specs.Prelude.{◌≡◌};
 
 use std::io::{ErrorKind, Read};
 use std::rt::Files;
@@ -25,7 +26,9 @@ enum State<F> {
 
 impl<'a, R: Files> LazyFile<'a, R> {
     /// The file at this path, not opened yet.
-    pub fn new(files: &'a R, path: String) -> Self {
+    pub fn new(files: &'a R, path: String) -> Self
+        ensures path { result.path ≡ path }
+    {
         LazyFile {
             files,
             path,

@@ -2,8 +2,9 @@
 //!
 //! A [`Source`] gives bytes and a [`Sink`] takes them. Each may tell contracts its bytes, and each counts
 //! its faults, so a caller's contract can say "the sink was given exactly this text, or a part from its
-//! beginning where the sink failed". The forms in memory tell their bytes; the adapters of the system's
-//! streams tell only their faults, since no contract can say what a real file or terminal does.
+//! beginning where the sink failed". The forms in memory tell their bytes; the adapters of the system's streams tell
+//! what the reader or writer below them tells: of a real file or terminal nothing, since no contract can say what it
+//! does, and yet they drop, repeat and make up no byte.
 //!
 //! For example, `read_up_to(alloc, &mut source, 65_537)` reads a file of at most 65,536 bytes, or finds
 //! that it is longer.
