@@ -207,25 +207,23 @@ run_fits (broken_off b r calm) run = absurd (eight_unrun run)
 run_fits (no_memory un) run = absurd (eight_unrun run)
 
 -- words that are no command: nothing was read
-pub reads_none : {words : List (List ℕ)} (script agents : Input) (status : ℕ) → IsUnread script → IsUnread agents → ¬ (HasRun status) → Reads words script agents status
+pub reads_none : (script agents : Input) (status : ℕ) → IsUnread script → IsUnread agents → ¬ (HasRun status) → Reads script agents status
 reads_none script agents status us ua unrun = record {
-  none = λ wrong. (us, ua);
   most_script = ([], omega arith, subst (λ r. Consumes script.left r []) (sym us.rest) (Consumes-nil script.left));
   most_agents = ([], omega arith, subst (λ r. Consumes agents.left r []) (sym ua.rest) (Consumes-nil agents.left));
   whole = λ run. absurd (unrun run);
 }
 
 -- a command whose reading failed, or wanted memory, ran no build
-pub reads_unrun : {words : List (List ℕ)} (script agents : Input) (status : ℕ) → IsRun words → TakesAtMost (script_limit + 1) script.left script.rest → TakesAtMost (agents_limit + 1) agents.left agents.rest
-    → ¬ (HasRun status) → Reads words script agents status
-reads_unrun script agents status command most_script most_agents unrun = record { none = λ wrong. absurd (wrong command); most_script = most_script; most_agents = most_agents; whole = λ run. absurd (unrun run) }
+pub reads_unrun : (script agents : Input) (status : ℕ) → TakesAtMost (script_limit + 1) script.left script.rest → TakesAtMost (agents_limit + 1) agents.left agents.rest
+    → ¬ (HasRun status) → Reads script agents status
+reads_unrun script agents status most_script most_agents unrun = record { most_script = most_script; most_agents = most_agents; whole = λ run. absurd (unrun run) }
 
 -- files that were read
-pub reads_files : {words : List (List ℕ)} {script agents answers : Input} {s a : List ℕ} {events : List Event} {status : ℕ} {text : List ℕ} → IsRun words
+pub reads_files : {script agents answers : Input} {s a : List ℕ} {events : List Event} {status : ℕ} {text : List ℕ}
     → TakesAtMost (script_limit + 1) script.left script.rest → TakesAtMost (agents_limit + 1) agents.left agents.rest
-    → ReadWhole script_limit script s → ReadWhole agents_limit agents a → Judges s a answers events status text → Reads words script agents status
-reads_files command most_script most_agents rs ra j = record {
-  none = λ wrong. absurd (wrong command);
+    → ReadWhole script_limit script s → ReadWhole agents_limit agents a → Judges s a answers events status text → Reads script agents status
+reads_files most_script most_agents rs ra j = record {
   most_script = most_script;
   most_agents = most_agents;
   whole = λ run. let fits = run_fits j run in (rs.whole fits.0, ra.whole fits.1);
@@ -237,9 +235,9 @@ told_run (whole appends calm) run = run
 told_run (log_cut part rose log) run = inl log
 told_run (text_cut part rose other) run = run
 
-pub reads_by : {words : List (List ℕ)} {script agents : Input} {old new : Option (List ℕ)} {c d decided status : ℕ} {text : List ℕ} → Reads words script agents decided
-    → Writes old new c d text decided status → Reads words script agents status
-reads_by r w = record { none = r.none; most_script = r.most_script; most_agents = r.most_agents; whole = λ ran. r.whole (told_run w ran) }
+pub reads_by : {script agents : Input} {old new : Option (List ℕ)} {c d decided status : ℕ} {text : List ℕ} → Reads script agents decided
+    → Writes old new c d text decided status → Reads script agents status
+reads_by r w = record { most_script = r.most_script; most_agents = r.most_agents; whole = λ ran. r.whole (told_run w ran) }
 
 -- which endings have a log
 pub with_log : {T : Type 0} (stance : T → Stance) (ending : Ending T) (status : ℕ) → IsRested ending → HasStatus stance ending status → HasLog status

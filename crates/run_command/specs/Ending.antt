@@ -1,4 +1,4 @@
--- The status and the text of an ending.
+-- The status and the text of an ending. This product's own.
 use Rattle.std.specs.Prelude.{◌≡◌, ℕ, List, string_bytes}
 use Rattle.build_core.specs.Builds.{Parts, StandsFor}
 use Rattle.model_run.specs.World as W

@@ -1,4 +1,5 @@
--- How a call of the controller ends: the events of the build, the status and what is written.
+-- How a call of the controller ends: the events of the build, the status and what is written. It is the table of statuses in docs/USING.md, row by
+-- row (this product's own).
 use Rattle.std.specs.Prelude.{◌≡◌, ◌⊎◌, ℕ, ◌+◌, ◌<◌, ◌≤◌, List, [], length, Option, IfSome}
 use Rattle.std.specs.Io.KnownBytes.{Appends, IsAtEnd}
 use Rattle.device_faults.specs.Faults.{Rose}
@@ -88,10 +89,9 @@ pub record Ends (words : List (List ℕ)) (script agents answers : Input) (old n
 abbrev pub HasRun : ℕ → Type 0
 HasRun status = HasLog status ⊎ (status ≡ 7)
 
--- What a call takes from the sources of script and agents file: of words that are no command nothing, else at most one byte more than each may
--- have. A call that ran a build has read both to their ends.
-pub record Reads (words : List (List ℕ)) (script agents : Input) (status : ℕ) : Type 0 where
-  pub none : ¬ (IsRun words) → IsUnread script × IsUnread agents
+-- What a call takes from the sources of script and agents file: at most one byte more than each may have (nothing where the words are no command,
+-- as the table says). A call that ran a build has read both to their ends.
+pub record Reads (script agents : Input) (status : ℕ) : Type 0 where
   pub most_script : TakesAtMost (script_limit + 1) script.left script.rest
   pub most_agents : TakesAtMost (agents_limit + 1) agents.left agents.rest
   pub whole : HasRun status → IsAtEnd script.rest × IsAtEnd agents.rest

@@ -1,4 +1,4 @@
--- A file that was read, up to one byte more than it may have.
+-- A file that was read, up to one byte more than it may have. This product's own: with that byte it is known to be too long.
 use Rattle.std.specs.Prelude.{ℕ, ◌+◌, ◌≤◌, List, length}
 use Rattle.std.specs.Io.KnownBytes.{Consumes, IsAtEnd}
 use Rattle.run_command.specs.Inputs.{Input, IsCalm}

@@ -1,4 +1,4 @@
--- What a call takes from a source of bytes.
+-- What a call takes from a source of bytes. This product's own.
 use Rattle.std.specs.Prelude.{◌≡◌, ℕ, List, Option}
 use Rattle.device_faults.specs.Faults.{Rose}
 

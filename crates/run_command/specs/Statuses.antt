@@ -16,9 +16,15 @@ result_status Aborted = 12
 abbrev pub world_status : Build → ℕ
 world_status b = if b.ended then result_status b.shared.result else 3
 
--- the status is that of a build that has ended, or waits
+-- the status is that of a build that has ended
 abbrev pub IsEnded : ℕ → Type 0
 IsEnded status = (result : BuildResult) × (status ≡ result_status result)
 
+-- or of one that waits, too: its text is a log
 abbrev pub HasLog : ℕ → Type 0
 HasLog status = IsEnded status ⊎ (status ≡ 3)
+
+-- the program has this status: one of a log, or words that are no command (2), a script that is refused (4), a source that failed (6), a sink
+-- that failed (7), want of memory (8), an agents file with a fault (13)
+abbrev pub IsStatus : ℕ → Type 0
+IsStatus status = HasLog status ⊎ (status ≡ 2) ⊎ (status ≡ 4) ⊎ (status ≡ 6) ⊎ (status ≡ 7) ⊎ (status ≡ 8) ⊎ (status ≡ 13)

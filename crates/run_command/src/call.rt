@@ -42,15 +42,15 @@ pub struct Ended<A> {
 /// | status | comes | text |
 /// |---|---|---|
 /// | 2 | exactly where the words are no command | how to use the program |
-/// | 6 | only where a source counted a fault; of the answers only where the build has not ended | `controller: read failed` |
+/// | 6 | only where a source counted a fault; of the answers only where an input is open | `controller: read failed` |
 /// | 13 | exactly where the agents file has a fault | its path and kind |
 /// | 4 | exactly where the script has a fault or is too long | the place of its first fault |
 /// | 7 | only where the sink counted a fault | a part of the log, from its beginning |
 /// | 0, 1, 10, 11, 12 | exactly where the build ended with SUCCESS, FAILURE, UNSTABLE, NOT_BUILT, ABORTED | the log |
-/// | 3 | exactly where it has not ended, and no input is open or the answers were read to their end | the log so far |
+/// | 3 | exactly where it has not ended, no grant is due, and no input is open or the answers were read to their end | the log so far |
 /// | 8 | want of memory | `controller: out of memory` |
 ///
-/// The log, the flow graph and the result are those of the world of the script's tree after the events that the call answers.
+/// The log and the result are those of the world of the script's tree after the events that the call answers.
 /// The first of them is `Start` of the bytes of both files; behind each all grants are made that are due, and then each line of
 /// the answers that decides an open input is a `Decided` (`Runs` of `script_run`).
 ///
@@ -69,7 +69,7 @@ pub fn controller<R: ScriptThread + Drop, W: Wait + AllocGlobal, S: Source, A: S
         (taken_from A.left A.faults answers result.answers) (K.faults out.old) (K.faults out.new) result.events result.status }
     ensures ends { Ends (map string_bytes words.items) (taken_from S.left S.faults script.old script.new) (taken_from S.left S.faults agents.old agents.new)
         (taken_from A.left A.faults answers result.answers) (K.written out.old) (K.written out.new) (K.faults out.old) (K.faults out.new) result.events result.status }
-    ensures reads { Reads (map string_bytes words.items) (taken_from S.left S.faults script.old script.new) (taken_from S.left S.faults agents.old agents.new) result.status }
+    ensures reads { Reads (taken_from S.left S.faults script.old script.new) (taken_from S.left S.faults agents.old agents.new) result.status }
 {
     let mut answers = answers;
     let outcome: Outcome<R> = decide(rt, alloc, &words, script, agents, &mut answers);
@@ -113,7 +113,7 @@ fn decide<R: ScriptThread + Drop, W: Wait + AllocGlobal, S: Source, A: Source>(
         → Decides (map string_bytes words.now) (taken_from S.left S.faults script.old script.new) (taken_from S.left S.faults agents.old agents.new)
         (taken_from A.left A.faults answers.old answers.new) result.events status text }
     ensures reads { (status : ℕ) (text : List ℕ) → HasStatus R.stance result.ending status → HasText R.stance result.ending text
-        → Reads (map string_bytes words.now) (taken_from S.left S.faults script.old script.new) (taken_from S.left S.faults agents.old agents.new) status }
+        → Reads (taken_from S.left S.faults script.old script.new) (taken_from S.left S.faults agents.old agents.new) status }
 {
     let Some(_) = run_folder(words) else {
         return without_build(alloc, Ending::Usage);

@@ -1,12 +1,13 @@
 //! The words of the command line.
-ghost use Rattle.std.specs.Prelude.{◌≡◌, ◌↔◌, codes, map, string_bytes, IsTrue, MatchOption};
-ghost use Rattle.run_command.specs.Command.{IsRun};
+ghost use Rattle.std.specs.Prelude.{◌≡◌, ◌↔◌, codes, map, string_bytes, IsTrue, IfSome, MatchOption};
+ghost use Rattle.run_command.specs.Command.{IsRun, NamesFolder};
 
 /// The folder of the command `run DIR`, and `None` where the words are no command.
 ///
 /// The first word is the program's name. The folder is not empty and does not begin with `-`.
 pub fn run_folder(words: &[String]) -> Option<&str>
-    ensures { MatchOption result (¬ (IsRun (map string_bytes words.now))) (λ _. IsRun (map string_bytes words.now)) }
+    ensures command { MatchOption result (¬ (IsRun (map string_bytes words.now))) (λ _. IsRun (map string_bytes words.now)) }
+    ensures folder { IfSome result (λ folder. NamesFolder (map string_bytes words.now) folder.now) }
 {
     let [_, verb, folder] = words else {
         return None;

@@ -87,7 +87,7 @@ module _ (setting : Setting) (first : Event) (before left : Option (List ℕ)) w
 
 module _ (b : Build) (kept line : List ℕ) (same : kept_line kept ≡ kept_line line) where
   whole_decides : (event : Event) → Decides b kept event → Decides b line event
-  whole_decides event d = record { said = d.said; kept = sym same ∙ d.kept; proceed = d.proceed; id = d.id; name = d.name; form = d.form; request = d.request; open_now = d.open_now; is = d.is }
+  whole_decides event d = record { said = d.said; kept = sym same ∙ d.kept; request = d.request; answer = d.answer; open_now = d.open_now }
 
   whole_passed : IsPassedOver b kept → IsPassedOver b line
   whole_passed (too_long none) = too_long (sym same ∙ none)
@@ -113,7 +113,7 @@ pub goes_on : {setting : Setting} {first : Event} {events : List Event} {more : 
 goes_on {setting} {first} {events} {more} {before} {left} t = subst (λ part. SoFar setting first events more part before left) t.turns t.so_far
 
 pub stops : {setting : Setting} {first : Event} {events : List Event} {more : Bool} {rest : Rest} {before left : Option (List ℕ)} → Turned setting first events more (Some rest) before left → Rested setting first events rest before left
-stops {more = more} t = record { has_answers = more; part = t.part; so_far = t.so_far; rests = t.turns }
+stops {more = more} t = (more, t)
 
 -- a run behind its first event
 pub so_far_first : (setting : Setting) (script agents : List ℕ) (events : List Event) (more : Bool) (left : Option (List ℕ)) → events ≡ StartEvent script agents ∷ [] → more ≡ true

@@ -3,11 +3,12 @@
 use Rattle.std.specs.Prelude.{◌≡◌, ◌<◌, ℕ, Bool, true, false, List, [], ◌∷◌, ◌++◌, Some, None}
 use Rattle.agent_worker.specs.AnswerBytes.{NoNewline, kept_line, read_bytes}
 use Rattle.agent_worker.specs.AnswerLine.{Answers}
+use Rattle.agent_worker.specs.Gate.{Decides as IsAnswer}
 use Rattle.agent_worker.specs.declared.operator.LineEnd.{LineEnd}
 use Rattle.agent_worker.specs.declared.operator.LineEnd.TheVariants as line_end
 use Rattle.build_requests.specs.Waiting.{waiting_inputs, input_of}
 use Rattle.model_run.specs.declared.event.Event.{Event}
-use Rattle.model_run.specs.declared.event.Event.TheVariants.{Granted as GrantedEvent, Decided as DecidedEvent}
+use Rattle.model_run.specs.declared.event.Event.TheVariants.{Granted as GrantedEvent}
 use Rattle.model_run.specs.declared.taken.Taken.TheVariants.{Accepted}
 use Rattle.model_run.specs.State.{Setting}
 use Rattle.model_run.specs.World.{Build, world_in, answer_to, next_grant}
@@ -17,13 +18,9 @@ use Rattle.model_run.specs.World.{Build, world_in, answer_to, next_grant}
 pub record Decides (b : Build) (line : List ℕ) (event : Event) : Type 0 where
   pub said : List ℕ
   pub kept : kept_line line ≡ said ∷ []
-  pub proceed : Bool
-  pub id : List ℕ
-  pub name : List ℕ
-  pub form : Answers said proceed id name
   pub request : ℕ
-  pub open_now : input_of id b.shared.requests ≡ Some request
-  pub is : event ≡ DecidedEvent request proceed name
+  pub answer : IsAnswer said request event
+  pub open_now : input_of answer.id b.shared.requests ≡ Some request
 
 -- This line decides nothing: it is longer, or not of the form, or no open input has its id.
 pub data IsPassedOver (b : Build) (line : List ℕ) : Type 0 where

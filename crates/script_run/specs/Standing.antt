@@ -1,4 +1,5 @@
--- A run, and the build of the definitions that it stands for.
+-- A run, and the build of the definitions that it stands for. This product's own: a run is under the limits of the product, on
+-- executors that have numbers of their own.
 use Rattle.std.specs.Prelude.{◌≡◌, true, map}
 use Rattle.build_core.specs.Builds.{StandsFor, setting_in}
 use Rattle.model_run.specs.declared.site.Site.{Site}

@@ -5,7 +5,7 @@
 //! not, or an input behind the end of the answers. Which events come in which order is a matter of the script, the site and
 //! the answers alone, and `specs/Running` says it whole; log, flow graph and result are those of the world of these events.
 //!
-//! The threads are of any kind that meets `ScriptThread` of `build_core`.
+//! The threads are of any kind that meets `ScriptThread` of `script_thread`.
 //!
 //! ```text
 //! let ran: Ran<Thread> = run_script(&rt, tree, site, script, agents, &mut answers)?;

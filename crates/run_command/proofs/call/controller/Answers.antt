@@ -1,5 +1,5 @@
 use Rattle.std.proofs.Common.{map, string_bytes, subst}
-use Rattle.run_command.specs.Ends.{Decides, Reads}
+use Rattle.run_command.specs.Ends.{Decides}
 use Rattle.run_command.specs.Inputs.{taken_from}
 use Rattle.run_command.proofs.EndsLemmas.{reads_by}
 use Rattle.run_command.proofs.CausesLemmas.{causes_of}
@@ -16,8 +16,5 @@ returns-clause-causes g c =
 
 pub returns-clause-reads : goal.returns-clause-reads
 returns-clause-reads g c =
-    let script = taken_from g.S.Source.left g.S.Source.faults c.args.script.now c.decide-outcome.new.script in
-    let agents = taken_from g.S.Source.left g.S.Source.faults c.args.agents.now c.decide-outcome.new.agents in
     let told = c.tell-status.ensures in
-    let reads = subst (λ words. Reads (map string_bytes words) script agents told.0) c.deref.ensures.value (c.decide-outcome.ensures.reads told.0 told.1 told.2 told.3) in
-    reads_by reads told.4
+    reads_by (c.decide-outcome.ensures.reads told.0 told.1 told.2 told.3) told.4

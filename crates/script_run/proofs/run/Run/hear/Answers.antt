@@ -41,12 +41,14 @@ returns-clause-hears g c =
     (record {
       said = c.in-Some.said.now;
       kept = c.in-Some.ensures;
-      proceed = answer.proceed;
-      id = answer.id.now;
-      name = answer.name.now;
-      form = c.in-Some-answer_of.ensures.reads;
       request = request;
+      answer = record {
+        proceed = answer.proceed;
+        id = answer.id.now;
+        name = answer.name.now;
+        answers = c.in-Some-answer_of.ensures.reads;
+        is = ap (λ (t : List ℕ). DecidedEvent request answer.proceed t) c.in_ok-name.ensures;
+      };
       open_now = open_now;
-      is = ap (λ (t : List ℕ). DecidedEvent request answer.proceed t) c.in_ok-name.ensures;
     })
     (decided setting c.requires.stands.proper c.args.self.now.events c.requires.stands.begun c.requires.going answer.id.now request answer.proceed c.in_ok-name.name open_now))

@@ -8,7 +8,7 @@ use Rattle.model_run.specs.declared.event.Event.{Event}
 use Rattle.model_run.specs.World.{world_in}
 use Rattle.script_run.specs.declared.run.Run.{Run}
 use Rattle.script_run.specs.Running.{Hears}
-use Rattle.script_run.specs.Rests.{SoFar, BrokenOff, behind}
+use Rattle.script_run.specs.Rests.{SoFar, BrokenOff, behind, of_line}
 use Rattle.script_run.proofs.Turns.{so_far_begun, so_far_heard, whole_heard}
 use Rattle.script_run.proofs.run.Run.listen.Goals.{in-Line, in-End}
 use Rattle.script_run.proofs.run.Run.listen.Goals as goal
@@ -19,6 +19,7 @@ returns-in-Memory-clause-turned g c = λ first before so.
     let bytes = c.in-Memory.ensures.bytes in
     let so' = subst (λ (h : Bool). SoFar setting first c.args.self.now.events h [] before (g.A.Source.left c.args.answers.now)) c.requires.has_answers so in
     behind (so_far_begun setting first before (g.A.Source.left c.args.answers.now) (g.A.Source.left c.read_line.new.answers) c.args.self.now.events bytes.0 so' bytes.2) c.requires.going
+    (of_line bytes.0 line_end.Memory c.requires.listens refl bytes.1)
 
 pub returns-in_err-hear-clause-turned : goal.returns-in_err-hear-clause-turned
 returns-in_err-hear-clause-turned g c = λ first before so.
@@ -31,10 +32,12 @@ returns-in_err-hear-clause-turned g c = λ first before so.
     (elim c.match-read_line.branch as (λ _. BrokenOff setting first before now c.hear.new.self.events) [
       | in-Line w ↦
           subst (λ (es : List Event). BrokenOff setting first before now es) (sym (c.in_err-hear.ensures.refused ∙ ap (λ (r : Run g.row.R.Denot). r.events) w.self-is))
-          (behind (so_far_begun setting first before old now c.args.self.now.events (read_bytes line_end.Line w.in-Line.ensures.bytes.0) so' w.in-Line.ensures.bytes.2) c.requires.going)
+          (behind (so_far_begun setting first before old now c.args.self.now.events (read_bytes line_end.Line w.in-Line.ensures.bytes.0) so' w.in-Line.ensures.bytes.2) c.requires.going
+          (of_line w.in-Line.ensures.bytes.0 line_end.Line c.requires.listens refl w.in-Line.ensures.bytes.1))
       | in-End w ↦
           subst (λ (es : List Event). BrokenOff setting first before now es) (sym (c.in_err-hear.ensures.refused ∙ ap (λ (r : Run g.row.R.Denot). r.events) w.self-is))
-          (behind (so_far_begun setting first before old now c.args.self.now.events (read_bytes line_end.End w.in-End.ensures.bytes.0) so' w.in-End.ensures.bytes.2) c.requires.going)
+          (behind (so_far_begun setting first before old now c.args.self.now.events (read_bytes line_end.End w.in-End.ensures.bytes.0) so' w.in-End.ensures.bytes.2) c.requires.going
+          (of_line w.in-End.ensures.bytes.0 line_end.End c.requires.listens refl w.in-End.ensures.bytes.1))
     ])
 
 pub returns-clause-turned : goal.returns-clause-turned

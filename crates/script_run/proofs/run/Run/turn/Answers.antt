@@ -3,7 +3,7 @@ use Rattle.std.proofs.lemmas.Result.{err_from_is_err_and}
 use Rattle.build_core.specs.Builds.{setting_in}
 use Rattle.model_run.specs.declared.event.Event.{Event}
 use Rattle.model_run.specs.World.{world_in, next_grant}
-use Rattle.script_run.specs.Rests.{SoFar, BrokenOff, behind}
+use Rattle.script_run.specs.Rests.{SoFar, BrokenOff, behind, nothing}
 use Rattle.script_run.proofs.Turns.{grant_accepted, stands_behind, so_far_granted}
 use Rattle.script_run.proofs.run.Run.turn.Goals as goal
 
@@ -12,7 +12,7 @@ returns-in_err-request-clause-turned g c = λ first before so.
     let world = world_in (setting_in c.args.self.now.build) c.args.self.now.events in
     let going : world.ended ≡ false = sym (c.has_ended.ensures.world world c.requires.stands.at) ∙ c.if-has_ended.false in
     let p = err_from_is_err_and c.from_residual.result c.from_residual.ensures.1 in
-    rw p.1 (behind so going)
+    rw p.1 (behind so going nothing)
 
 pub take-requires-clause-accepted : goal.take-requires-clause-accepted
 take-requires-clause-accepted g c =
@@ -28,7 +28,7 @@ returns-in_err-take-clause-turned g c = λ first before so.
     let left = g.A.Source.left c.args.answers.now in
     let going : world.ended ≡ false = sym (c.has_ended.ensures.world world c.requires.stands.at) ∙ c.if-has_ended.false in
     let p = err_from_is_err_and c.from_residual-in_err-take.result c.from_residual-in_err-take.ensures.1 in
-    rw p.1 (subst (λ (es : List Event). BrokenOff setting first before left es) (sym c.in_err-take.ensures.refused) (behind so going))
+    rw p.1 (subst (λ (es : List Event). BrokenOff setting first before left es) (sym c.in_err-take.ensures.refused) (behind so going nothing))
 
 pub returns-in-Some-clause-stands : goal.returns-in-Some-clause-stands
 returns-in-Some-clause-stands g c =
