@@ -5,6 +5,7 @@ writes them. Each evaluation is a generator, which yields what its green thread 
 """
 from collections import namedtuple
 
+from labels import fits
 from methods import call_method
 from steps import Steps
 from values import (Closure, LimitReached, List, Map, Throwable, Thrown, ERRORS, bad_argument, is_number, is_true, key_of,
@@ -531,9 +532,8 @@ class Build(Steps):
         return self.answer(number, at)
 
     def may_have(self, request, at):
-        """Whether the request may be given this executor. A label that is more than a name is not known here."""
-        label = (request["label"] or "").strip()
-        return at < len(self.executors) and at not in self.held and (not label or label in self.executors[at].labels)
+        """Whether the request may be given this executor."""
+        return at < len(self.executors) and at not in self.held and fits(request["label"], self.executors[at].labels)
 
     def new_workspace(self, executor):
         """The first one of the job on the agent that no other of its executors has."""

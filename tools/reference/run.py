@@ -1,11 +1,10 @@
 #!/usr/bin/env python3
 """Runs the script of a folder by this reference, with answers from standard input: `tools/reference/run.py DIR < ANSWERS`.
 
-Standard output and the exit status are those of `./controller run DIR`, where the agents file is without a fault, and the script has
-no label that is more than a name. What it does not know has the status 125.
+Standard output and the exit status are those of `./controller run DIR`, where the agents file is without a fault. What it does not
+know has the status 125.
 """
 import json
-import re
 import sys
 
 from build import Build, Executor, RESULTS, TooLong
@@ -34,8 +33,6 @@ def grant(build):
     """The grants that are due."""
     while (due := build.next_grant()) is not None:
         build.take("granted %d %d" % due)
-    if any(re.search(r"[^\w.-]", (request.get("label") or "").strip()) for request in build.requests.values()):
-        raise Unknown("a label that is more than a name")
 
 
 def site(text):

@@ -1,4 +1,5 @@
 """The steps, as docs/STEPS.md says."""
+from labels import fault_of
 from values import Closure, List, Map, Thrown, is_number, text_of, throws
 
 # The parameters of each step, those that may be left out, and whether it has a body.
@@ -76,6 +77,8 @@ def bound(name, arguments):
             raise fault(f"missing {parameter}")
     if has_body != (body is not None):
         raise fault("needs a body" if has_body else "takes no body")
+    if name == "node" and fault_of(text_of(given.get("label", ""))) is not None:
+        raise fault(f"label has a fault at {fault_of(text_of(given['label']))}")
     return given, body
 
 
