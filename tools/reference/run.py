@@ -1,8 +1,8 @@
 #!/usr/bin/env python3
-"""Runs the script of a folder by this reference, with answers from standard input: `tools/reference/run.py DIR < ANSWERS`.
+"""Runs the script of a folder by this reference, with answers from standard input: `tools/reference/run.py [--graph] DIR < ANSWERS`.
 
 Standard output and the exit status are those of `./controller run DIR`, where the agents file is without a fault. What it does not
-know has the status 125.
+know has the status 125. With `--graph` the text of the flow graph is printed in place of the log.
 """
 import json
 import sys
@@ -45,7 +45,7 @@ def site(text):
         raise Unknown("an agents file with a fault") from None
 
 
-def ran(folder, answers):
+def ran(folder, answers, wants_graph=False):
     """What is printed, and the exit status."""
     with open(f"{folder}/Jenkinsfile", "rb") as script, open(f"{folder}/agents.json", "rb") as agents:
         source, agents = script.read(), agents.read()
@@ -63,12 +63,12 @@ def ran(folder, answers):
         return fault.told(source) + "\n", 4
     except (TooLong, RecursionError, UnicodeDecodeError):
         raise Unknown("a script that takes very long, or is not UTF-8") from None
-    return build.log, STATUSES[RESULTS[build.result]] if build.is_over else 3
+    return build.graph() if wants_graph else build.log, STATUSES[RESULTS[build.result]] if build.is_over else 3
 
 
 if __name__ == "__main__":
     try:
-        text, status = ran(sys.argv[1], sys.stdin)
+        text, status = ran(sys.argv[-1], sys.stdin, sys.argv[1] == "--graph")
     except Unknown as what:
         sys.exit(print(f"not known to this reference: {what}", file=sys.stderr) or 125)
     sys.stdout.write(text)

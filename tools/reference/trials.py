@@ -2,7 +2,7 @@
 """Compares this reference with what the program must print for the trials of crates/script_trials, which are sources with events.
 
 A trial is left out that meets a limit which the reference does not count, or asks for what it does not tell: `requests`, `tail`,
-`agents` and `start`. Of `graph` the text is passed over. The status is 0 where no other trial differs.
+`agents` and `start`. The status is 0 where no other trial differs.
 """
 import os
 import re
@@ -31,7 +31,10 @@ def told(source, orders):
         return fault.told(source) + "\n"
     build.start()
     for order in orders:
-        build.take(order)
+        if order == "graph":
+            build.answers += build.graph()
+        else:
+            build.take(order)
     return build.answers + build.log
 
 
@@ -42,11 +45,10 @@ def compared():
         lines = trial.split("\n")
         orders = [line[2:] for line in lines if line.startswith("> ")]
         asks = {order.split(" ")[0] for order in orders}
-        wanted = re.sub(r"^\d+ (start|atom|block|body|end).*\n", "", wanted, flags=re.M) if "graph" in asks else wanted
         try:
             unknown = UNCOUNTED.search(wanted) or asks.intersection(UNTOLD)
             source = "\n".join(line for line in lines if not line.startswith("> "))
-            given = None if unknown else told(source, [order for order in orders if order != "graph"])
+            given = None if unknown else told(source, orders)
         except TooLong:
             given = None
         left_out += given is None
