@@ -8,6 +8,7 @@ import json
 import sys
 
 from build import Build, Executor, RESULTS, TooLong
+from compare import with_deep_calls
 from parse import parsed
 from tokens import Fault
 
@@ -56,7 +57,10 @@ def ran(folder, answers, wants_graph=False):
         build = Build(parsed(source), *site(agents))
         build.start()
         grant(build)
-        for line in answers:
+        while any(request["kind"] == "input" for request in build.requests.values()):
+            line = answers.readline()
+            if not line:
+                break
             answer(build, line)
             grant(build)
     except Fault as fault:
@@ -66,10 +70,17 @@ def ran(folder, answers, wants_graph=False):
     return build.graph() if wants_graph else build.log, STATUSES[RESULTS[build.result]] if build.is_over else 3
 
 
-if __name__ == "__main__":
+def main():
     try:
         text, status = ran(sys.argv[-1], sys.stdin, sys.argv[1] == "--graph")
+    except OSError:
+        text, status = "controller: read failed\n", 6
     except Unknown as what:
-        sys.exit(print(f"not known to this reference: {what}", file=sys.stderr) or 125)
+        print(f"not known to this reference: {what}", file=sys.stderr)
+        return 125
     sys.stdout.write(text)
-    sys.exit(status)
+    return status
+
+
+if __name__ == "__main__":
+    sys.exit(with_deep_calls(main)[0])
