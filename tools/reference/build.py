@@ -5,6 +5,7 @@ writes them. Each evaluation is a generator, which yields what its green thread 
 """
 from collections import namedtuple
 
+from labels import fits
 from methods import call_method
 from steps import Steps
 from values import (Closure, LimitReached, List, Map, Throwable, Thrown, ERRORS, bad_argument, is_number, is_true, key_of,
@@ -52,6 +53,8 @@ class Thread:
         self.number, self.parent, self.name = number, parent, name
         self.folders = list(parent.folders) if parent else []
         self.calls, self.run, self.answer, self.is_ready = 0, None, None, True
+        # Its last flow node.
+        self.head = None
         self.outcome, self.open, self.ended = None, [], []
 
 
@@ -75,6 +78,8 @@ class Build(Steps):
         # The open requests, and the workspaces of the executors that are held, by their numbers.
         self.requests, self.next_request, self.held = {}, 1, {}
         self.turns, self.answers = 0, ""
+        # The flow nodes from 2 on: each its words, and the nodes right before it.
+        self.nodes = []
 
     # --- names
 
@@ -432,26 +437,45 @@ class Build(Steps):
     def note(self, text):
         self.line("[Pipeline] " + text)
 
+    def node(self, words, parents):
+        """A new flow node, and its number."""
+        self.nodes.append((words, list(parents)))
+        return len(self.nodes) + 1
+
+    def go_to(self, thread, words):
+        """A new flow node behind the last one of a thread."""
+        thread.head = self.node(words, [thread.head])
+        return thread.head
+
+    def graph(self):
+        """The text of the flow graph."""
+        lines = []
+        for number, (words, parents) in enumerate(self.nodes, 2):
+            behind = " <- " + " ".join(map(str, parents)) if number > 2 else ""
+            lines.append(f"{number} {words}{behind}\n")
+        return "".join(lines)
+
     def worsen(self, result):
         self.result = max(self.result, RESULTS.index(result))
 
-    def finish(self, cause):
+    def finish(self, cause, heads):
+        self.node("end", heads)
         self.note("End of Pipeline")
         if cause is not None:
             self.line(cause)
         self.line("Finished: " + RESULTS[self.result])
         self.is_over = True
 
-    def finish_script(self, outcome):
+    def finish_script(self, thread, outcome):
         ended, value = outcome
         if ended == "value":
-            self.finish(None)
+            self.finish(None, [thread.head])
         elif value.kind == "FlowInterrupted":
             self.worsen("ABORTED")
-            self.finish(value.message)
+            self.finish(value.message, [thread.head])
         else:
             self.worsen("FAILURE")
-            self.finish(f"ERROR: {value.message or ''}" if value.kind == "Abort" else text_of(value))
+            self.finish(f"ERROR: {value.message or ''}" if value.kind == "Abort" else text_of(value), [thread.head])
 
     # --- green threads
 
@@ -472,6 +496,7 @@ class Build(Steps):
     def start(self):
         self.note("Start of Pipeline")
         thread = self.new_thread(None)
+        thread.head = self.node("start", [])
         thread.run = self.script(thread)
         self.settle()
 
@@ -482,7 +507,7 @@ class Build(Steps):
                 self.go_on(min((thread for thread in self.threads if thread.is_ready), key=lambda thread: thread.number))
         except LimitReached as limit:
             self.worsen("FAILURE")
-            self.finish(f"Limit reached: {limit}")
+            self.finish(f"Limit reached: {limit}", [thread.head for thread in self.threads])
 
     def go_on(self, thread):
         thread.is_ready = False
@@ -501,7 +526,7 @@ class Build(Steps):
         thread.outcome = outcome
         parent = thread.parent
         if parent is None:
-            self.finish_script(outcome)
+            self.finish_script(thread, outcome)
             return
         self.threads.remove(thread)
         parent.open.remove(thread)
@@ -531,9 +556,8 @@ class Build(Steps):
         return self.answer(number, at)
 
     def may_have(self, request, at):
-        """Whether the request may be given this executor. A label that is more than a name is not known here."""
-        label = (request["label"] or "").strip()
-        return at < len(self.executors) and at not in self.held and (not label or label in self.executors[at].labels)
+        """Whether the request may be given this executor."""
+        return at < len(self.executors) and at not in self.held and fits(request["label"], self.executors[at].labels)
 
     def new_workspace(self, executor):
         """The first one of the job on the agent that no other of its executors has."""

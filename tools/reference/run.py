@@ -1,14 +1,14 @@
 #!/usr/bin/env python3
-"""Runs the script of a folder by this reference, with answers from standard input: `tools/reference/run.py DIR < ANSWERS`.
+"""Runs the script of a folder by this reference, with answers from standard input: `tools/reference/run.py [--graph] DIR < ANSWERS`.
 
-Standard output and the exit status are those of `./controller run DIR`, where the agents file is without a fault, and the script has
-no label that is more than a name. What it does not know has the status 125.
+Standard output and the exit status are those of `./controller run DIR`, where the agents file is without a fault. What it does not
+know has the status 125. With `--graph` the text of the flow graph is printed in place of the log.
 """
 import json
-import re
 import sys
 
 from build import Build, Executor, RESULTS, TooLong
+from compare import with_deep_calls
 from parse import parsed
 from tokens import Fault
 
@@ -34,8 +34,6 @@ def grant(build):
     """The grants that are due."""
     while (due := build.next_grant()) is not None:
         build.take("granted %d %d" % due)
-    if any(re.search(r"[^\w.-]", (request.get("label") or "").strip()) for request in build.requests.values()):
-        raise Unknown("a label that is more than a name")
 
 
 def site(text):
@@ -48,7 +46,7 @@ def site(text):
         raise Unknown("an agents file with a fault") from None
 
 
-def ran(folder, answers):
+def ran(folder, answers, wants_graph=False):
     """What is printed, and the exit status."""
     with open(f"{folder}/Jenkinsfile", "rb") as script, open(f"{folder}/agents.json", "rb") as agents:
         source, agents = script.read(), agents.read()
@@ -59,20 +57,30 @@ def ran(folder, answers):
         build = Build(parsed(source), *site(agents))
         build.start()
         grant(build)
-        for line in answers:
+        while any(request["kind"] == "input" for request in build.requests.values()):
+            line = answers.readline()
+            if not line:
+                break
             answer(build, line)
             grant(build)
     except Fault as fault:
         return fault.told(source) + "\n", 4
     except (TooLong, RecursionError, UnicodeDecodeError):
         raise Unknown("a script that takes very long, or is not UTF-8") from None
-    return build.log, STATUSES[RESULTS[build.result]] if build.is_over else 3
+    return build.graph() if wants_graph else build.log, STATUSES[RESULTS[build.result]] if build.is_over else 3
+
+
+def main():
+    try:
+        text, status = ran(sys.argv[-1], sys.stdin, sys.argv[1] == "--graph")
+    except OSError:
+        text, status = "controller: read failed\n", 6
+    except Unknown as what:
+        print(f"not known to this reference: {what}", file=sys.stderr)
+        return 125
+    sys.stdout.write(text)
+    return status
 
 
 if __name__ == "__main__":
-    try:
-        text, status = ran(sys.argv[1], sys.stdin)
-    except Unknown as what:
-        sys.exit(print(f"not known to this reference: {what}", file=sys.stderr) or 125)
-    sys.stdout.write(text)
-    sys.exit(status)
+    sys.exit(with_deep_calls(main)[0])

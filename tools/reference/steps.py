@@ -1,4 +1,5 @@
 """The steps, as docs/STEPS.md says."""
+from labels import fault_of
 from values import Closure, List, Map, Thrown, is_number, text_of, throws
 
 # The parameters of each step, those that may be left out, and whether it has a body.
@@ -76,7 +77,16 @@ def bound(name, arguments):
             raise fault(f"missing {parameter}")
     if has_body != (body is not None):
         raise fault("needs a body" if has_body else "takes no body")
+    if name == "node" and fault_of(text_of(given.get("label", ""))) is not None:
+        raise fault(f"label has a fault at {fault_of(text_of(given['label']))}")
     return given, body
+
+
+def body_words(label):
+    """The words of a body's flow node in the text of the graph."""
+    for character, escape in (("\\", "\\\\"), ("\n", "\\n"), ("\r", "\\r")):
+        label = label.replace(character, escape)
+    return f"body {label}" if label else "body"
 
 
 def failure_line(throwable):
@@ -98,9 +108,11 @@ class Steps:
         if name == "println":
             self.line(words["value"])
             return None
+        begun = self.go_to(thread, ("atom " if body is None and name != "parallel" else "block ") + name)
         self.note(name)
         value = yield from getattr(self, "step_" + name)(thread, words, given, body)
         if body is not None:
+            self.go_to(thread, f"end-block of {begun}")
             self.note("// " + name)
             ended, value = value
             if ended == "thrown":
@@ -124,11 +136,13 @@ class Steps:
 
     def inside(self, thread, body, label=""):
         """The body of a step, between its lines; how it ended."""
+        begun = self.go_to(thread, body_words(label))
         self.note("{ (" + label + ")" if label else "{")
         try:
             ended = "value", (yield from self.call(thread, body, []))
         except Thrown as thrown:
             ended = "thrown", thrown
+        self.go_to(thread, f"end-body of {begun}")
         self.note("}")
         return ended
 
@@ -161,6 +175,7 @@ class Steps:
 
     def step_dir(self, thread, words, given, body):
         if not thread.folders:
+            self.go_to(thread, f"end-block of {thread.head}")
             self.note("// dir")
             raise missing_folder()
         path = words["path"]
@@ -215,16 +230,20 @@ class Steps:
         if not closures:
             self.line("No branches to run")
         names = [text_of(name) for name in closures]
+        heads = []
         for name in names:
+            heads.append(self.node(body_words(f"Branch: {name}"), [thread.head]))
             self.note(f"{{ (Branch: {name})")
         branches = []
-        for name, closure in zip(names, closures.values()):
+        for name, head, closure in zip(names, heads, closures.values()):
             branch = self.new_thread(thread, name)
+            branch.head = head
             branch.run = self.branch(branch, closure)
             branches.append(branch)
         thread.ended = []
         if branches:
             yield branches
+        thread.head = self.node(f"end-block of {thread.head}", [branch.head for branch in branches] or [thread.head])
         self.note("// parallel")
         for branch in thread.ended:
             if branch.outcome[0] == "thrown":
@@ -232,10 +251,12 @@ class Steps:
         return Map({branch.name: branch.outcome[1] for branch in branches})
 
     def branch(self, thread, closure):
+        begun = thread.head
         try:
             outcome = "value", (yield from self.call(thread, closure, []))
         except Thrown as thrown:
             outcome = "thrown", thrown.throwable
+        self.go_to(thread, f"end-body of {begun}")
         self.note("}")
         if outcome[0] == "thrown":
             self.line(f"Failed in branch {thread.name}")
