@@ -9,7 +9,7 @@ ghost use Rattle.model_run.specs.World as W;
 ghost use Rattle.cps_code.specs.Script.{script_of};
 ghost use Rattle.build_requests.specs.Waiting.{waiting_inputs, open_tasks, input_of};
 ghost use Rattle.build_core.specs.declared.phase.Phase.TheVariants.{Stopped};
-ghost use Rattle.build_core.specs.Phases.{has_begun, has_ended};
+ghost use Rattle.build_core.specs.Phases.{SoundIn, has_begun, has_ended};
 ghost use Rattle.build_core.specs.Builds.{StandsFor, setting_in, standing_of, nodes_of};
 
 use crate::events::{accept, answer_to};
@@ -236,5 +236,34 @@ impl<R: ScriptThread + Drop> Build<R> {
         ensures { result ≡ self.now.phase }
     {
         self.phase
+    }
+
+    /// What its threads share, for what makes images of builds. While it goes on, its threads and this fit, and no thread is
+    /// ready.
+    pub fn shared(&self) -> &Shared
+        ensures shared { result.now ≡ self.now.shared }
+        ensures sound { SoundIn R.number R.parent R.branch R.fits self.now.phase self.now.group self.now.shared }
+    {
+        &self.shared
+    }
+
+    /// Its threads, for what makes images of builds.
+    pub fn group(&self) -> &Group<R>
+        ensures { result.now ≡ self.now.group }
+    {
+        &self.group
+    }
+
+    /// The build that has come so far, with these threads and what they share, for what reads images of builds. It is sound
+    /// where its threads fit what they share and none is ready, or where it has ended and has none. It takes no memory.
+    pub fn of_parts(phase: Phase, shared: Shared, group: Group<R>) -> Build<R>
+        requires sound { SoundIn R.number R.parent R.branch R.fits phase group shared }
+        ensures { result ≡ record { phase = phase; group = group; shared = shared } }
+    {
+        Build {
+            shared,
+            group,
+            phase,
+        }
     }
 }

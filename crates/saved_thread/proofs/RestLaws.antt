@@ -1,0 +1,147 @@
+-- Threads that have begun, and of which an image would pass its check, fit; and threads that fit can stand in an image.
+use Rattle.std.proofs.Common.{◌≡◌, ◌≤◌, ◌<◌, ℕ, suc, false, List, [], ◌∷◌, map, Option, Some, None, refl, sym, ap, subst, arith}
+use Rattle.std.specs.List.{AllByRecursion as AllAre}
+use Rattle.model_values.proofs.LaterLaws.{all_weaker}
+use Rattle.model_run.specs.declared.ending.Asked.TheVariants.{ForRequest}
+use Rattle.model_run.specs.declared.frame.Frame.{Frame}
+use Rattle.model_run.specs.declared.request.OpenRequest.{OpenRequest}
+use Rattle.model_run.specs.declared.wait.Join.{Join}
+use Rattle.model_run.specs.declared.wait.JoinEnd.{JoinEnd}
+use Rattle.model_run.specs.declared.wait.Wait.{Wait}
+use Rattle.model_run.specs.declared.wait.Wait.TheVariants.{Ready, Request as RequestWait, Branches as BranchesWait}
+use Rattle.model_run.specs.Fitting.{BranchFits, Distinct, EnvFits, FitsAtRest, ForRequest as IsForRequest, JoinFits, NotReady, Rise, Seat, SeatFits, WaitFits, context_above, known, outermost, seat_of}
+use Rattle.model_run.specs.Nesting.{Any_body, Any_branch, Begun as Begun_at, Body_of, For_branches, For_executor, For_person, For_task, FrameFits, Spot, WaitsFor, innermost}
+use Rattle.model_run.specs.Scoping.{names_for}
+use Rattle.model_run.specs.State.{Common}
+use Rattle.model_run.specs.Terms.{Term}
+use Rattle.run_laws.specs.Worlds.{EndIf, SharedSound}
+use Rattle.green_threads.specs.declared.runner.Seated.{Seated}
+use Rattle.settle_laws.specs.Stances.{Stance}
+use Rattle.cps_code.specs.Script.{IsScript, script_of}
+use Rattle.cps_frames.specs.Places.{FrameStands, MoveFits}
+use Rattle.cps_frames.specs.Standing.{common_of, setting_of}
+use Rattle.cps_frames.specs.declared.shared.Shared.{Shared}
+use Rattle.thread_fits.specs.Seats.{Fits, HasBegun, IsAlone, IsGranted, JoinsFit, SeatStands, StartStands, WaitStands, as_seat, standing_as, waiting_move}
+use Rattle.thread_fits.proofs.SeatLaws.{sound_world}
+use Rattle.thread_fits.proofs.SharedLaws.{sound_of}
+use Rattle.saved_thread.specs.Saving.{Begun, Storable}
+
+-- numbers that rise differ
+above : (low high n : ℕ) (ns : List ℕ) → Rise low high ns → n < low → AllAre (λ m. n ≡ m → ⊥) ns
+above low high n [] h lt = tt
+above low high n (m ∷ ms) h lt = let le : low ≤ m = h.0 in ((λ e. omega (arith, lt, le, e)), above (suc m) high n ms h.2 (omega (arith, lt, le)))
+
+rise_differ : (low high : ℕ) (ns : List ℕ) → Rise low high ns → Distinct ns
+rise_differ low high [] h = tt
+rise_differ low high (n ∷ ns) h = (above (suc n) high n ns h.2 (omega arith), rise_differ (suc n) high ns h.2)
+
+all_stand : (root : Term) (u : Common) (fs : List Frame) → AllAre (FrameFits (known u) root) fs → AllAre (λ f. EnvFits u.cells (names_for root f) f.env) fs → AllAre (FrameStands root u) fs
+all_stand root u [] a b = tt
+all_stand root u (f ∷ fs) a b = (record { fits = a.0; names = b.0 }, all_stand root u fs a.1 b.1)
+
+-- where a request is waited for
+asked_at : (at : Spot) (o : Option OpenRequest) (n r : ℕ) → IsForRequest at o n → WaitsFor at (ForRequest r)
+asked_at For_executor o n r h = tt
+asked_at For_task o n r h = tt
+asked_at For_person o n r h = tt
+asked_at at None n r h = absurd h
+asked_at (Begun_at k) (Some q) n r h = absurd h.1
+asked_at Any_body (Some q) n r h = absurd h.1
+asked_at (Body_of k) (Some q) n r h = absurd h.1
+asked_at Any_branch (Some q) n r h = absurd h.1
+asked_at For_branches (Some q) n r h = absurd h.1
+
+module _ (u : Common) (seats : List Seat) where
+  ends_there : (n : ℕ) (js : List Join) → AllAre (JoinFits u seats n) js → AllAre (λ j. EndIf u j.ended) js
+  ends_there n [] h = tt
+  ends_there n (j ∷ js) h = (one j.ended h.0, ends_there n js h.1)
+    where
+      one : (o : Option JoinEnd) → BranchFits u n o (seat_of seats j.thread) → EndIf u o
+      one None k = tt
+      one (Some e) k = k
+
+  waits_there : (t : Seat) (at : Spot) (w : Wait) → WaitFits u seats t at w → WaitStands u at t.number w
+  waits_there t at (Ready x) h = tt
+  waits_there t at (RequestWait r) h = h
+  waits_there t For_branches (BranchesWait js) h = ends_there t.number js h.0
+  waits_there t at (BranchesWait js) h = absurd h
+
+  joins_fit : (t : Seat) (at : Spot) (w : Wait) → WaitFits u seats t at w → JoinsFit u seats t.number w
+  joins_fit t at (Ready x) h = tt
+  joins_fit t at (RequestWait r) h = tt
+  joins_fit t For_branches (BranchesWait js) h = h
+  joins_fit t at (BranchesWait js) h = absurd h
+
+  -- what it waits for may be asked there
+  wait_moves : (root : Term) (t : Seat) (x : Stance) (at : Spot) (w : Wait) → NotReady w → WaitFits u seats t at w → MoveFits root u at (waiting_move w x)
+  wait_moves root t x at (Ready a) rests h = absurd rests
+  wait_moves root t x at (RequestWait r) rests h = (asked_at at _ t.number r h, tt)
+  wait_moves root t x For_branches (BranchesWait js) rests h = (tt, tt)
+  wait_moves root t x at (BranchesWait js) rests h = absurd h
+
+not_granted : (w : Wait) → NotReady w → IsGranted w → ⊥
+not_granted (Ready x) rests g = rests
+not_granted (RequestWait r) rests g = g
+not_granted (BranchesWait js) rests g = g
+
+has_begun : (w : Wait) (x : Stance) → x.runs ≡ None → HasBegun w x.runs
+has_begun (Ready a) x e = tt
+has_begun (RequestWait r) x e = e
+has_begun (BranchesWait js) x e = e
+
+module _ {T : Type 0} (stance : T → Stance) where
+  same_numbers : (xs : List (Seated T)) → map (λ (t : Seat). t.number) (map (as_seat stance) xs) ≡ map (λ (x : Seated T). x.number) xs
+  same_numbers [] = refl
+  same_numbers (x ∷ xs) = ap (λ ns. x.number ∷ ns) (same_numbers xs)
+
+  module _ (u : Shared) (next : ℕ) (all : List (Seated T)) (script : IsScript (script_of u.code)) (rest : FitsAtRest (setting_of u) false (common_of u) next (map (as_seat stance) all)) where
+    abbrev seats : List Seat
+    seats = map (as_seat stance) all
+
+    sound : SharedSound (setting_of u) false (common_of u)
+    sound = sound_of u rest.fits.shared
+
+    stands : (x : Seated T) → SeatFits (setting_of u) (common_of u) seats (as_seat stance x) → NotReady x.wait → Begun stance x → SeatStands stance u x
+    stands x s rests b = record {
+      above = context_above seats x.parent;
+      poised = record {
+        sound = sound_world (setting_of u) (standing_as u (stance x.thread)).world refl sound s.head;
+        executors = sound.held;
+        opened = record { own = (s.own_held).0; held = (s.own_held).1; many = (s.own_held).2; folders = s.folders };
+        frames = all_stand (script_of u.code) (common_of u) (stance x.thread).frames s.frames s.envs;
+        chain = s.nested;
+        move = wait_moves (common_of u) seats (script_of u.code) (as_seat stance x) (stance x.thread) (innermost (script_of u.code) (outermost x.parent) (stance x.thread).frames) x.wait rests s.waits;
+      };
+      begun = has_begun x.wait (stance x.thread) b.runs;
+      start = subst (λ r. StartStands r x.parent (stance x.thread).frames) (sym b.runs) tt;
+      number = b.number;
+      parent = b.parent;
+      wait = waits_there (common_of u) seats (as_seat stance x) (innermost (script_of u.code) (outermost x.parent) (stance x.thread).frames) x.wait s.waits;
+    }
+
+    -- of each thread in turn
+    each : (Q : Seated T → Type 0) → ((x : Seated T) → SeatFits (setting_of u) (common_of u) seats (as_seat stance x) → NotReady x.wait → Begun stance x → Q x) →
+        (xs : List (Seated T)) → AllAre (SeatFits (setting_of u) (common_of u) seats) (map (as_seat stance) xs) → AllAre (λ t. NotReady t.wait) (map (as_seat stance) xs) → AllAre (Begun stance) xs → AllAre Q xs
+    each Q one [] s n b = tt
+    each Q one (x ∷ xs) s n b = (one x s.0 n.0 b.0, each Q one xs s.1 n.1 b.1)
+
+    fits_at_rest : AllAre (Begun stance) all → Fits stance all u
+    fits_at_rest begun = record {
+      script = script;
+      shared = rest.fits.shared;
+      numbers = subst Distinct (same_numbers all) (rise_differ 0 next (map (λ (t : Seat). t.number) seats) rest.fits.numbers);
+      family = record {
+        main = rest.fits.main refl;
+        parents = each _ (λ x s n b. s.parent) all rest.fits.threads rest.rests begun;
+        joins = each _ (λ x s n b. joins_fit (common_of u) seats (as_seat stance x) _ x.wait s.waits) all rest.fits.threads rest.rests begun;
+      };
+      seats = each (SeatStands stance u) stands all rest.fits.threads rest.rests begun;
+      alone = each (IsAlone all) (λ x s n b granted. absurd (not_granted x.wait n granted)) all rest.fits.threads rest.rests begun;
+      waited_for = rest.fits.waited_for;
+    }
+
+  pub rested_fit : (xs : List (Seated T)) (u : Shared) (next : ℕ) → IsScript (script_of u.code) → AllAre (Begun stance) xs → FitsAtRest (setting_of u) false (common_of u) next (map (as_seat stance) xs) → Fits stance xs u
+  rested_fit xs u next script begun rest = fits_at_rest u next xs script rest begun
+
+  pub all_storable : (xs : List (Seated T)) (u : Shared) → Fits stance xs u → AllAre (λ x. Storable (script_of u.code) x.wait (stance x.thread)) xs
+  all_storable xs u f = all_weaker (SeatStands stance u) (λ (x : Seated T). Storable (script_of u.code) x.wait (stance x.thread)) (λ x s. record { begun = s.begun; nodes = all_weaker _ _ (λ f stands. stands.fits.node) (stance x.thread).frames (s.poised).frames }) xs f.seats
