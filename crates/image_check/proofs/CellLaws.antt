@@ -1,12 +1,12 @@
 -- Where no test of the cells fails, they are those of a sound build, and the other way round.
-use Rattle.std.proofs.Common.{◌≡◌, ◌<◌, ◌≤◌, ℕ, suc, Bool, true, false, not, List, [], ◌∷◌, length, Option, Some, None, refl}
+use Rattle.std.proofs.Common.{◌≡◌, ◌<◌, ◌≤◌, ℕ, suc, true, List, [], ◌∷◌, length, Option, Some, None, refl}
 use Rattle.std.specs.Prelude.{nat_lt, ◌&&◌, slice_get}
 use Rattle.std.specs.List.{AllByRecursion as AllAre}
 use Rattle.model_values.specs.declared.cell.Cell.{Cell}
 use Rattle.model_values.specs.declared.cell.Cell.TheVariants as cell
 use Rattle.model_values.specs.declared.key.Key.{Key}
 use Rattle.model_values.specs.declared.value.Value.{Value}
-use Rattle.model_values.specs.declared.value.Value.TheVariants.{Cell as InCell, Null, Bool as Truth, Int}
+use Rattle.model_values.specs.declared.value.Value.TheVariants.{Cell as InCell}
 use Rattle.model_values.specs.Cells.{cell_size, heap_bytes}
 use Rattle.model_values.specs.Fitting.{CellFits, CellsFit, HasVariable, There}
 use Rattle.model_run.specs.State.{Env}

@@ -1,5 +1,5 @@
 -- The entries of a map one after the other.
-use Rattle.std.proofs.Common.{◌≡◌, ℕ, zero, suc, List, [], ◌∷◌, drop, Some, refl, ap}
+use Rattle.std.proofs.Common.{◌≡◌, ℕ, zero, suc, List, [], ◌∷◌, drop, Some, ap}
 use Rattle.std.specs.Prelude.{◌&&◌, slice_get}
 use Rattle.model_values.specs.declared.cell.Cell.{Cell}
 use Rattle.model_values.specs.declared.key.Key.{Key}

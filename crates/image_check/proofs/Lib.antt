@@ -1,6 +1,11 @@
 pub mod CellLaws
 pub mod EntryLaws
+pub mod HeldLaws
+pub mod ImageLaws
+pub mod Insides
 pub mod Numbers
 pub mod RequestLaws
+pub mod SeatLaws
 pub mod SharedLaws
 pub mod Testing
+pub mod ThreadLaws

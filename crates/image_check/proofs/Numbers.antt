@@ -1,6 +1,6 @@
 -- Numbers that rise, items that are found by their numbers, and numbers that differ.
-use Rattle.std.proofs.Common.{◌≡◌, ◌∙◌, ◌<◌, ◌≤◌, ◌+◌, ℕ, zero, suc, Bool, true, false, not, List, [], ◌∷◌, ◌++◌, length, map, get_or, Option, Some, None, refl, ap, sym, subst, arith, inl, inr}
-use Rattle.std.specs.Prelude.{nat_lt, nat_eq, ◌&&◌, ◌||◌, cond, find, is_some, slice_get}
+use Rattle.std.proofs.Common.{◌≡◌, ◌∙◌, ◌<◌, ◌≤◌, ◌+◌, ℕ, zero, suc, Bool, true, false, not, List, [], ◌∷◌, ◌++◌, length, map, get_or, Option, Some, None, refl, ap, sym, subst, arith}
+use Rattle.std.specs.Prelude.{nat_eq, ◌||◌, cond, find, is_some, slice_get}
 use Rattle.std.specs.Option.{option_or}
 use Rattle.std.specs.List.{AllByRecursion as AllAre, list_any}
 use Rattle.std.proofs.lemmas.Bool.{ltb-true, lt-ltb, ne_eqb, eq-eqb, eqb-true, eqb-false}

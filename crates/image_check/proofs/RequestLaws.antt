@@ -1,6 +1,6 @@
 -- Where no test of requests and held executors fails, they are those of a sound build, and the other way round.
-use Rattle.std.proofs.Common.{◌≡◌, ◌∙◌, ◌<◌, ◌≤◌, ◌+◌, ℕ, suc, Bool, true, false, not, List, [], ◌∷◌, length, map, Option, Some, None, refl, ap, sym, subst, arith}
-use Rattle.std.specs.Prelude.{nat_eq, nat_lt, ◌&&◌, find, cond, is_some}
+use Rattle.std.proofs.Common.{◌≡◌, ◌∙◌, ◌+◌, ℕ, suc, Bool, true, false, not, List, [], ◌∷◌, length, map, Option, Some, None, refl, ap, sym, subst}
+use Rattle.std.specs.Prelude.{nat_eq, nat_lt, ◌&&◌, cond, is_some}
 use Rattle.std.specs.Option.{option_map}
 use Rattle.std.specs.List.{AllByRecursion as AllAre}
 use Rattle.model_run.specs.declared.request.OpenRequest.{OpenRequest}
@@ -19,7 +19,7 @@ use Rattle.image_form.specs.declared.image.ImageThread.{ImageThread}
 use Rattle.image_check.specs.declared.finding.Finding.{Finding}
 use Rattle.image_check.specs.declared.finding.CheckKind.TheVariants as check
 use Rattle.image_check.specs.Findings.{outside}
-use Rattle.image_check.specs.Scans.{need, ◌then◌, each, is_higher}
+use Rattle.image_check.specs.Scans.{need, each, is_higher}
 use Rattle.image_check.specs.Requests.{all_differ, has_waiter, held_fault, held_faults, is_empty, is_sound, is_wait_for, numbered, request_fault, request_tests, runs_there, thread_of}
 use Rattle.image_check.proofs.Testing.{Tests, Passes, left_true, right_true, both_true, both, alike, at_most, flag, same, needed, after, alike_passes, not_true}
 use Rattle.image_check.proofs.Numbers.{RisesFrom, differ_tests, higher_first, higher_on, nothing_rises, rest_rises}

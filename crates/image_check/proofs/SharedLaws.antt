@@ -1,8 +1,7 @@
 -- Where no test of the numbers, the binding and the flow nodes fails, they are those of a sound build, and the other way round.
-use Rattle.std.proofs.Common.{◌≡◌, ◌<◌, ◌≤◌, ◌+◌, ◌-◌, ℕ, suc, Bool, true, not, List, [], ◌∷◌, length, Option, Some, None, refl, sym, subst, arith}
+use Rattle.std.proofs.Common.{◌≡◌, ◌<◌, ◌≤◌, ◌+◌, ◌-◌, ℕ, suc, true, not, List, [], ◌∷◌, length, Option, Some, None, refl, subst, arith}
 use Rattle.std.specs.Prelude.{nat_lt, nat_eq, ◌&&◌, slice_get}
 use Rattle.std.specs.List.{AllByRecursion as AllAre}
-use Rattle.std.proofs.lemmas.Bool.{ltb-true, lt-ltb}
 use Rattle.model_values.specs.declared.cell.Binding.{Binding}
 use Rattle.model_values.specs.declared.cell.Cell.{Cell}
 use Rattle.model_values.specs.Fitting.{HasVariable}
@@ -13,11 +12,11 @@ use Rattle.model_run.specs.Fitting.{IsBefore, NamesRise, NodesFit, StartsAt, mos
 use Rattle.image_form.specs.declared.image.Image.{Image}
 use Rattle.image_check.specs.declared.finding.CheckKind.TheVariants as check
 use Rattle.image_check.specs.Findings.{outside}
-use Rattle.image_check.specs.Scans.{need, ◌then◌, each}
+use Rattle.image_check.specs.Scans.{need, each}
 use Rattle.script_names.specs.Variables.{is_variable}
 use Rattle.script_names.proofs.NameLaws.{variable, variable_so}
 use Rattle.image_check.specs.Shared.{all_before, all_below, binding_fault, count_fits, head_fault, is_above, is_before, is_low, next_request_fits, next_thread_fits, node_fault, node_fits, nodes_fault, number_fault, starts_at}
-use Rattle.image_check.proofs.Testing.{Tests, Passes, left_true, right_true, both_true, both, alike, at_most, less, same, needed, after, alike_passes, then_none, none_then, need_none, none_need}
+use Rattle.image_check.proofs.Testing.{Tests, Passes, both, alike, at_most, less, same, needed, after, alike_passes}
 
 low : (i : Image) (n : ℕ) → Tests (is_low i n) (n ≤ 100000000 + length i.nodes)
 low i n = alike (is_low i n) (at_most (n - 100000000) (length i.nodes)) (λ h. omega (arith, h)) (λ h. omega (arith, h))

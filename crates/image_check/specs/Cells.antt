@@ -1,5 +1,5 @@
 -- The tests of the cells.
-use Rattle.std.specs.Prelude.{ℕ, nat_lt, Bool, true, false, not, ◌&&◌, List, [], ◌∷◌, length, Option, None}
+use Rattle.std.specs.Prelude.{ℕ, nat_lt, Bool, true, not, ◌&&◌, List, [], ◌∷◌, length, Option, None}
 use Rattle.model_values.specs.declared.cell.Cell.{Cell}
 use Rattle.model_values.specs.declared.cell.Cell.TheVariants as cell
 use Rattle.model_values.specs.declared.key.Key.{Key}

@@ -4,3 +4,5 @@ pub mod Images
 pub mod Requests
 pub mod Scans
 pub mod Shared
+pub mod Standings
+pub mod Threads

@@ -1,3 +1,5 @@
+use std::alloc::AllocError;
+
 /// What is wrong in an image. At one place the first of this list is told.
 #[derive(Clone, Copy, Debug, PartialEq, Eq)]
 pub enum CheckKind {
@@ -28,4 +30,24 @@ pub struct Finding {
     pub thread: u32,
     pub frame: u32,
     pub kind: CheckKind,
+}
+
+/// Why an image was refused.
+#[derive(Clone, Copy, Debug, PartialEq, Eq)]
+pub enum ImageRefusal {
+    /// The memory was refused.
+    Memory,
+    /// The image is none of a sound build: its first fault.
+    Fault(Finding),
+}
+
+impl From<AllocError> for ImageRefusal {
+    ghost use Rattle.std.specs.Prelude.{◌≡◌};
+    ghost use Rattle.image_check.specs.declared.finding.ImageRefusal.TheVariants.{Memory};
+
+    ghost from_gives = { λ _ e. e ≡ Memory };
+
+    fn from(_: AllocError) -> ImageRefusal {
+        ImageRefusal::Memory
+    }
 }

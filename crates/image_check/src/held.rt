@@ -63,7 +63,7 @@ impl<'a> Check<HeldAround<'a>, Held> for HeldCheck {
 }
 
 /// The requests that hold executors. `AllocError` where the memory was refused.
-fn held_requests(alloc: Global, held: &[Held]) -> Result<Vec<u32>, AllocError>
+pub(crate) fn held_requests(alloc: Global, held: &[Held]) -> Result<Vec<u32>, AllocError>
     ensures { IfOk result (λ requests. requests.items ≡ map (λ x. x.request) held.now) }
 {
     let mut requests = Vec::with_capacity(alloc, held.len())?;

@@ -1,14 +1,11 @@
-//! Whether an image can be that of a build: the tests of what all its threads share, as far as they are written.
+//! Whether an image is that of a sound build of a script on a site between two events.
 //!
-//! [`shared_fault`] tells the first fault of the next numbers, of the binding, of how many cells there are, of the flow
-//! nodes, of the open requests, of the held executors, and of the numbers of the threads, in the order in which these
-//! stand in an image. What cells and threads hold is not tested yet.
+//! [`check`] tells nothing exactly where it is (`Stands` in `specs/Standings`, which is `FitsAtRest` of `model_run`), and else
+//! the first fault in the order of the image's parts (`first_fault` in `specs/Images`), with its kind and its place.
 //!
 //! ```
 //! let image = read_image(alloc, bytes)?;
-//! if let Some(finding) = shared_fault(alloc, &site, &image)? {
-//!     // what is wrong: `finding.kind`
-//! }
+//! check(alloc, &image, &code, &site)?;
 //! ```
 #![tactic(auto)]
 
@@ -16,6 +13,7 @@ mod cells;
 mod finding;
 mod held;
 mod image;
+mod inside;
 mod lookup;
 mod requests;
 mod scan;
@@ -23,6 +21,7 @@ mod shared;
 mod sizes;
 #[cfg(test)]
 mod tests;
+mod threads;
 
-pub use finding::{CheckKind, Finding};
-pub use image::shared_fault;
+pub use finding::{CheckKind, Finding, ImageRefusal};
+pub use image::check;

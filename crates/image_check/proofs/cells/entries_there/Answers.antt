@@ -1,7 +1,7 @@
 use Rattle.std.proofs.Common.{◌≡◌, ◌∙◌, ◌+◌, suc, drop, ap, sym, arith}
 use Rattle.std.specs.Prelude.{◌&&◌}
 use Rattle.cell_heap.proofs.SizeLemmas.{slice_get-none}
-use Rattle.image_check.specs.Cells.{entries_there, is_there}
+use Rattle.image_check.specs.Cells.{entries_there}
 use Rattle.image_check.proofs.EntryLaws.{entry_behind}
 use Rattle.image_check.proofs.cells.entries_there.Goals as goal
 use Rattle.image_check.proofs.cells.entries_there.Goals.{in-Some+else-not-is_there, in_default}

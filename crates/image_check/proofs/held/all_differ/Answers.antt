@@ -1,4 +1,4 @@
-use Rattle.std.proofs.Common.{◌≡◌, ◌∙◌, ap}
+use Rattle.std.proofs.Common.{◌∙◌, ap}
 use Rattle.image_check.specs.Requests.{numbers_rise}
 use Rattle.image_check.proofs.Numbers.{sorted_differ}
 use Rattle.image_check.proofs.held.all_differ.Goals as goal

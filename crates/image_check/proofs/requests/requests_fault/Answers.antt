@@ -1,4 +1,4 @@
-use Rattle.std.proofs.Common.{◌≡◌, ◌∙◌, ap, sym}
+use Rattle.std.proofs.Common.{◌∙◌, ap, sym}
 use Rattle.image_form.specs.declared.image.ImageThread.{ImageThread}
 use Rattle.image_check.specs.Requests.{numbers_rise}
 use Rattle.image_check.proofs.Numbers.{numbers_rise_so}

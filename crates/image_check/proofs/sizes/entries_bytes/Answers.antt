@@ -1,5 +1,4 @@
-use Rattle.std.proofs.Common.{◌≡◌, ◌≤◌, length, Option, Some, None, slice_get, sym, arith}
-use Rattle.model_values.specs.declared.key.Key.{Key}
+use Rattle.std.proofs.Common.{sym, arith}
 use Rattle.cell_heap.proofs.SizeLemmas.{entry_bytes-take_more, slice_get-none}
 use Rattle.image_check.proofs.sizes.entries_bytes.Goals as goal
 use Rattle.image_check.proofs.sizes.entries_bytes.Goals.{in-Some, in_default}
