@@ -5,3 +5,4 @@ pub mod Fitting
 pub mod Going
 pub mod Answering
 pub mod Granting
+pub mod Stepping

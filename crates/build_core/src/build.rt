@@ -1,16 +1,17 @@
 //! One build.
-ghost use Rattle.std.specs.Prelude.{◌≡◌, IfOk, OnOk, OnErr};
+ghost use Rattle.std.specs.Prelude.{◌≡◌, ◌⊎◌, Ok, IfOk, OnOk, OnErr};
 ghost use Rattle.model_run.specs.declared.event.Event.{Event};
-ghost use Rattle.model_run.specs.declared.taken.Taken.TheVariants.{Accepted};
+ghost use Rattle.model_run.specs.declared.taken.Taken.TheVariants.{Accepted, Finished};
 ghost use Rattle.model_run.specs.Grants.{grant};
 ghost use Rattle.model_run.specs.GraphText.{graph_text};
 ghost use Rattle.model_run.specs.Taking.{taken};
 ghost use Rattle.model_run.specs.World as W;
 ghost use Rattle.cps_code.specs.Script.{script_of};
 ghost use Rattle.build_requests.specs.Waiting.{waiting_inputs, open_tasks, input_of};
-ghost use Rattle.build_core.specs.declared.phase.Phase.TheVariants.{Stopped};
+ghost use Rattle.build_core.specs.declared.phase.Phase.TheVariants.{Running, Ended, Stopped};
 ghost use Rattle.build_core.specs.Phases.{SoundIn, has_begun, has_ended};
 ghost use Rattle.build_core.specs.Builds.{StandsFor, setting_in, standing_of, nodes_of};
+ghost use Rattle.build_core.specs.Taking.{MayWant, StepsOn};
 
 use crate::events::{accept, answer_to};
 use crate::grants::due_grant;
@@ -89,12 +90,16 @@ impl<R: ScriptThread + Drop> Build<R> {
     /// # Errors
     ///
     /// `AllocError` where the memory was refused, in this call or an earlier one: the build takes no event any more, and what
-    /// its other calls give is open.
+    /// its other calls give is open. In this call that is where the event is accepted, or is a grant of an open request of a
+    /// `node` step and of an executor that is free; a build that has ended answers `Finished` without memory.
     pub fn take(&mut self, event: &Event) -> Result<Taken, AllocError>
         ensures taken { IfOk result (λ answer. answer ≡ taken (standing_of self.old) event.now) }
         ensures unchanged { IfOk result (λ answer. (answer ≡ Accepted → ⊥) → self.new ≡ self.old) }
         ensures stands { OnOk result ((w : W.Build) → StandsFor R.stance self.old w → StandsFor R.stance self.new (W.after_one (setting_in self.old) w event.now)) }
+        ensures steps { OnOk result (self.old.phase ≡ Running → taken (standing_of self.old) event.now ≡ Accepted → StepsOn R.stance R.seated R.head R.turns R.room event.now self.old.group self.old.shared self.new.phase self.new.group self.new.shared) }
         ensures setting { OnOk result (setting_in self.new ≡ setting_in self.old) }
+        ensures ended { self.old.phase ≡ Ended → result ≡ Ok Finished }
+        ensures memory { OnErr result (MayWant self.old.phase (standing_of self.old) event.now) }
         ensures stopped { OnErr result (self.new.phase ≡ Stopped) }
         ensures goes_on { OnOk result (self.old.phase ≡ Stopped → ⊥) }
     {
@@ -192,6 +197,7 @@ impl<R: ScriptThread + Drop> Build<R> {
     pub fn next_grant(&self) -> Result<Option<(u32, u32)>, AllocError>
         ensures here { IfOk result (λ due. due ≡ grant self.now.shared.site self.now.shared.held self.now.shared.requests) }
         ensures world { IfOk result (λ due. (w : W.Build) → StandsFor R.stance self.now w → due ≡ W.next_grant (setting_in self.now) w) }
+        ensures memory { OnErr result ((self.now.phase ≡ Running) ⊎ (self.now.phase ≡ Stopped)) }
     {
         match self.phase {
             Phase::Running => due_grant(&self.shared),

@@ -1,14 +1,15 @@
 //! What an event changes.
-ghost use Rattle.std.specs.Prelude.{◌≡◌, ℕ, IfOk, OnOk};
+ghost use Rattle.std.specs.Prelude.{◌≡◌, ℕ, IfOk, OnOk, OnErr, true, false};
 ghost use Rattle.script_thread.specs.Names.{Accepted, GrantedEvent, OutputEvent, ExitedEvent, DecidedEvent, LogStream, OutStream, Answer, Ready};
 ghost use Rattle.model_run.specs.Taking.{taken, answered};
 ghost use Rattle.model_run.specs.World as W;
 ghost use Rattle.green_threads.specs.Threads.{with_seat, waits_as, waits_for_request};
 ghost use Rattle.cps_frames.specs.Standing.{setting_of};
+ghost use Rattle.build_requests.specs.Memory.{NeedsMemory};
 ghost use Rattle.build_requests.specs.Standings.{standing_of};
 ghost use Rattle.build_core.specs.declared.phase.Phase.TheVariants.{Running};
-ghost use Rattle.build_core.specs.Phases.{StandsIn, SoundIn, GoOn, standing_in};
-ghost use Rattle.build_core.specs.Taking.{MayAnswer, GoesOn, answered_group};
+ghost use Rattle.build_core.specs.Phases.{StandsIn, SoundIn, GoOn, has_begun, has_ended, standing_in};
+ghost use Rattle.build_core.specs.Taking.{MayAnswer, GoesOn, GoesOnBy, StepsOn, answered_group};
 
 use crate::ending::end_by_limit;
 use crate::phase::Phase;
@@ -26,9 +27,10 @@ use model_values::LimitKind;
 use script_thread::ScriptThread;
 use std::alloc::AllocError;
 
-/// What a build says to an event. `AllocError` where the memory was refused.
+/// What a build says to an event. `AllocError` where the memory was refused, for a grant to a build that goes on.
 pub(crate) fn answer_to(phase: Phase, shared: &Shared, event: &Event) -> Result<Taken, AllocError>
-    ensures { IfOk result (λ answer. answer ≡ taken (standing_in phase shared.now) event.now) }
+    ensures taken { IfOk result (λ answer. answer ≡ taken (standing_in phase shared.now) event.now) }
+    ensures memory { OnErr result ((has_begun phase ≡ true) × (has_ended phase ≡ false) × NeedsMemory (standing_in phase shared.now) event.now) }
 {
     match phase {
         Phase::Ended => Ok(Taken::Finished),
@@ -52,6 +54,7 @@ pub(crate) fn accept<R: ScriptThread + Drop>(
     requires go { GoOn R.number R.parent R.branch R.fits 0 group.old shared.old }
     requires accepted { answered (standing_of shared.old.site shared.old.requests shared.old.held) event.now ≡ Accepted }
     ensures stands { IfOk result (λ phase. GoesOn R.stance event.now group.old shared.old phase group.new shared.new) }
+    ensures steps { IfOk result (λ phase. StepsOn R.stance R.seated R.head R.turns R.room event.now group.old shared.old phase group.new shared.new) }
     ensures setting { OnOk result (setting_of shared.new ≡ setting_of shared.old) }
     ensures sound { IfOk result (λ phase. SoundIn R.number R.parent R.branch R.fits phase group.new shared.new) }
 {
@@ -97,6 +100,7 @@ fn grant<R: ScriptThread + Drop>(
     requires go { GoOn R.number R.parent R.branch R.fits 0 group.old shared.old }
     requires accepted { answered (standing_of shared.old.site shared.old.requests shared.old.held) (GrantedEvent request executor) ≡ Accepted }
     ensures stands { IfOk result (λ phase. GoesOn R.stance (GrantedEvent request executor) group.old shared.old phase group.new shared.new) }
+    ensures steps { IfOk result (λ phase. StepsOn R.stance R.seated R.head R.turns R.room (GrantedEvent request executor) group.old shared.old phase group.new shared.new) }
     ensures setting { OnOk result (setting_of shared.new ≡ setting_of shared.old) }
     ensures sound { IfOk result (λ phase. SoundIn R.number R.parent R.branch R.fits phase group.new shared.new) }
 {
@@ -117,6 +121,7 @@ fn end_task<R: ScriptThread + Drop>(
     requires go { GoOn R.number R.parent R.branch R.fits 0 group.old shared.old }
     requires accepted { answered (standing_of shared.old.site shared.old.requests shared.old.held) (ExitedEvent task code) ≡ Accepted }
     ensures stands { IfOk result (λ phase. GoesOn R.stance (ExitedEvent task code) group.old shared.old phase group.new shared.new) }
+    ensures steps { IfOk result (λ phase. StepsOn R.stance R.seated R.head R.turns R.room (ExitedEvent task code) group.old shared.old phase group.new shared.new) }
     ensures setting { OnOk result (setting_of shared.new ≡ setting_of shared.old) }
     ensures sound { IfOk result (λ phase. SoundIn R.number R.parent R.branch R.fits phase group.new shared.new) }
 {
@@ -139,6 +144,7 @@ fn decide<R: ScriptThread + Drop>(
     requires go { GoOn R.number R.parent R.branch R.fits 0 group.old shared.old }
     requires accepted { answered (standing_of shared.old.site shared.old.requests shared.old.held) (DecidedEvent request proceed name) ≡ Accepted }
     ensures stands { IfOk result (λ phase. GoesOn R.stance (DecidedEvent request proceed name) group.old shared.old phase group.new shared.new) }
+    ensures steps { IfOk result (λ phase. StepsOn R.stance R.seated R.head R.turns R.room (DecidedEvent request proceed name) group.old shared.old phase group.new shared.new) }
     ensures setting { OnOk result (setting_of shared.new ≡ setting_of shared.old) }
     ensures sound { IfOk result (λ phase. SoundIn R.number R.parent R.branch R.fits phase group.new shared.new) }
 {
@@ -162,6 +168,7 @@ fn answer<R: ScriptThread + Drop>(
 ) -> Result<Phase, AllocError>
     requires may { MayAnswer R.number R.parent R.branch R.fits thread answer group.old shared.old }
     ensures stands { IfOk result (λ phase. (w : W.Build) → StandsIn R.stance Running (answered_group thread answer group.old) shared.old w → StandsIn R.stance phase group.new shared.new (W.settle (W.turn_bound W.run_limits) (setting_of shared.old) w)) }
+    ensures steps { IfOk result (λ phase. GoesOnBy R.stance R.seated R.head R.turns R.room (answered_group thread answer group.old) shared.old phase group.new shared.new) }
     ensures setting { OnOk result (setting_of shared.new ≡ setting_of shared.old) }
     ensures sound { IfOk result (λ phase. SoundIn R.number R.parent R.branch R.fits phase group.new shared.new) }
 {
@@ -182,6 +189,7 @@ fn log_output<R: ScriptThread + Drop>(
     requires go { GoOn R.number R.parent R.branch R.fits 0 group.old shared.old }
     requires accepted { (from : ℕ) × (answered (standing_of shared.old.site shared.old.requests shared.old.held) (OutputEvent task LogStream from bytes.now) ≡ Accepted) }
     ensures stands { IfOk result (λ phase. (from : ℕ) → GoesOn R.stance (OutputEvent task LogStream from bytes.now) group.old shared.old phase group.new shared.new) }
+    ensures steps { IfOk result (λ phase. (from : ℕ) → StepsOn R.stance R.seated R.head R.turns R.room (OutputEvent task LogStream from bytes.now) group.old shared.old phase group.new shared.new) }
     ensures setting { OnOk result (setting_of shared.new ≡ setting_of shared.old) }
     ensures sound { IfOk result (λ phase. SoundIn R.number R.parent R.branch R.fits phase group.new shared.new) }
 {
@@ -207,6 +215,7 @@ fn keep_out<R: ScriptThread + Drop>(
     requires go { GoOn R.number R.parent R.branch R.fits 0 group.old shared.old }
     requires accepted { (from : ℕ) × (answered (standing_of shared.old.site shared.old.requests shared.old.held) (OutputEvent task OutStream from bytes.now) ≡ Accepted) }
     ensures stands { IfOk result (λ phase. (from : ℕ) → GoesOn R.stance (OutputEvent task OutStream from bytes.now) group.old shared.old phase group.new shared.new) }
+    ensures steps { IfOk result (λ phase. (from : ℕ) → StepsOn R.stance R.seated R.head R.turns R.room (OutputEvent task OutStream from bytes.now) group.old shared.old phase group.new shared.new) }
     ensures setting { OnOk result (setting_of shared.new ≡ setting_of shared.old) }
     ensures sound { IfOk result (λ phase. SoundIn R.number R.parent R.branch R.fits phase group.new shared.new) }
 {

@@ -4,3 +4,4 @@ pub mod Output
 pub mod Workspaces
 pub mod Standings
 pub mod Waiting
+pub mod Memory

@@ -1,10 +1,11 @@
 //! What a build says to an event.
-ghost use Rattle.std.specs.Prelude.{◌≡◌, List, IfOk};
+ghost use Rattle.std.specs.Prelude.{◌≡◌, List, IfOk, OnErr};
 ghost use Rattle.model_run.specs.declared.request.OpenRequest.{OpenRequest};
 ghost use Rattle.std.specs.Option.{option_copied};
 ghost use Rattle.model_run.specs.Grants.{executor_of};
 ghost use Rattle.model_run.specs.Taking.{request_of, answered, answered_first, accepted_if, granted, kept, output_at, is_task, is_input, may_get};
 ghost use Rattle.build_requests.specs.Standings.{standing_of};
+ghost use Rattle.build_requests.specs.Memory.{IsFree, AsksFit, NeedsMemory};
 
 use crate::executors::{executor_fits, executor_of, is_held};
 use crate::requests::request_of;
@@ -23,7 +24,8 @@ pub fn answer_first(event: &Event) -> Taken
 }
 
 /// What a build that has begun and not ended says to an event, by its site, its open requests and its held executors.
-/// `AllocError` where the memory was refused.
+/// `AllocError` where the memory was refused, which only a grant takes: of an open request of a `node` step, and of an
+/// executor that is free.
 pub fn answer_running(
     alloc: Global,
     site: &Site,
@@ -31,7 +33,8 @@ pub fn answer_running(
     held: &[Held],
     event: &Event,
 ) -> Result<Taken, AllocError>
-    ensures { IfOk result (λ taken. taken ≡ answered (standing_of site.now requests.now held.now) event.now) }
+    ensures taken { IfOk result (λ taken. taken ≡ answered (standing_of site.now requests.now held.now) event.now) }
+    ensures memory { OnErr result (NeedsMemory (standing_of site.now requests.now held.now) event.now) }
 {
     match event {
         Event::Start { .. } => Ok(Taken::NotOpen),
@@ -84,7 +87,8 @@ fn answer_grant(
     asked: Option<&Request>,
     executor: u32,
 ) -> Result<Taken, AllocError>
-    ensures { IfOk result (λ taken. (requests : List OpenRequest) → taken ≡ granted (standing_of site.now requests held.now) executor (option_copied asked.entry)) }
+    ensures taken { IfOk result (λ taken. (requests : List OpenRequest) → taken ≡ granted (standing_of site.now requests held.now) executor (option_copied asked.entry)) }
+    ensures memory { OnErr result (AsksFit held.now (executor_of site.now executor) (option_copied asked.entry)) }
 {
     match asked {
         Some(Request::Node { label }) => {
@@ -103,7 +107,8 @@ fn may_get(
     label: Option<&Text>,
     executor: u32,
 ) -> Result<bool, AllocError>
-    ensures { IfOk result (λ may. may ≡ may_get (option_copied label.entry) held.now (executor_of site.now executor)) }
+    ensures may { IfOk result (λ may. may ≡ may_get (option_copied label.entry) held.now (executor_of site.now executor)) }
+    ensures memory { OnErr result (IsFree held.now (executor_of site.now executor)) }
 {
     match executor_of(site, executor) {
         Some(executor) if !is_held(held, executor.number) => executor_fits(alloc, label, executor),

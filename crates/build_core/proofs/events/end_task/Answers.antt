@@ -7,6 +7,7 @@ use Rattle.script_thread.specs.Names.{ExitedEvent, Done, OpenRequest}
 use Rattle.script_thread.specs.Events.{shared_after}
 use Rattle.build_core.proofs.Answering.{may_answer, ended, goes_on, map_ok}
 use Rattle.build_core.proofs.Fitting.{task_open, thread_is, request_is}
+use Rattle.build_core.proofs.Stepping.{steps_answered}
 use Rattle.build_core.proofs.events.end_task.Goals as goal
 
 -- the answer that the thread gets
@@ -36,3 +37,14 @@ returns-clause-stands g c =
     (λ p further. goes_on g.R.ScriptThread.stance c.args.group.now u (ExitedEvent c.args.task c.args.code) _ (Done c.args.code (W.kept_output (request_of u.requests c.args.task))) c.close-closed.result.thread (thread_is c.args.task u.requests c.close-closed.result c.close-closed.ensures.closed)
     (Done (to_z w32 (of_z w32 c.args.code)) c.take_output-out.result) (answer_is c.take_output-out.result c.args.code (to_z w32 (of_z w32 c.args.code)) u.requests c.args.task c.close-closed.result code_is c.close-closed.ensures.closed c.take_output-out.ensures) u2 same
     (ended g.R.ScriptThread.stance c.args.group.now u c.args.task c.args.code) p _ _ further)
+
+pub returns-clause-steps : goal.returns-clause-steps
+returns-clause-steps g c =
+    let u : Shared = c.args.shared.now in
+    let u2 : Shared = record u { requests = c.close-closed.new.requests; count = 0 } in
+    let same : u2 ≡ shared_after (ExitedEvent c.args.task c.args.code) u = ap (λ rs. record u { requests = rs; count = 0 }) c.close-closed.ensures.others in
+    let code_is : to_z w32 (of_z w32 c.args.code) ≡ c.args.code = search rules in
+    map_ok c.answer.result c.answer.ensures.steps
+    (λ p k. steps_answered g.R.ScriptThread.stance g.R.Runner.seated g.R.Runner.head g.R.Runner.turns g.R.Runner.room (ExitedEvent c.args.task c.args.code) c.args.group.now u c.args.task (Done c.args.code (W.kept_output (request_of u.requests c.args.task))) refl (λ j passes. passes)
+    c.close-closed.result.thread (thread_is c.args.task u.requests c.close-closed.result c.close-closed.ensures.closed)
+    (Done (to_z w32 (of_z w32 c.args.code)) c.take_output-out.result) (answer_is c.take_output-out.result c.args.code (to_z w32 (of_z w32 c.args.code)) u.requests c.args.task c.close-closed.result code_is c.close-closed.ensures.closed c.take_output-out.ensures) u2 same p _ _ k)

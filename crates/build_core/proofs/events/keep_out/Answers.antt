@@ -14,6 +14,7 @@ use Rattle.script_thread.specs.Events.{shared_after}
 use Rattle.build_core.proofs.Changes.{anew, uncounted_stand, kept_is, text_limit_is}
 use Rattle.build_core.proofs.Answering.{rests_after, rests_on, is_limited, map_ok}
 use Rattle.build_core.proofs.Ended.{counted_fits, over_sound}
+use Rattle.build_core.proofs.Stepping.{steps_rested, steps_limited}
 use Rattle.build_core.proofs.events.keep_out.Goals as goal
 
 pub returns-then-saturating_add-gt-MAX_TEXT-clause-stands : goal.returns-then-saturating_add-gt-MAX_TEXT-clause-stands
@@ -52,3 +53,19 @@ returns-then-saturating_add-gt-MAX_TEXT-clause-sound g c =
     (λ p o. over_sound g.R.Runner.number g.R.Runner.parent g.R.Runner.branch g.R.Runner.fits p c.args.group.now (record u { count = 0 }) (heads g.R.ScriptThread.stance c.args.group.now.seats) (limit_line TextLength ∷ []) (worse u.result Failure) _ _ o
     (counted_fits (setting_of u) (common_of u) 0 (g.met.R.ScriptThread.shared_fits _ _ c.requires.go.fit))
     (heads_are g.R.ScriptThread.stance _ _ (g.met.R.ScriptThread.heads_stand _ _ c.requires.go.fit)) c.requires.go.few_threads)
+
+pub returns-clause-steps : goal.returns-clause-steps
+returns-clause-steps g c = λ from.
+    let u : Shared = c.args.shared.now in
+    let few : length (W.kept_output (request_of u.requests c.args.task)) + length c.args.bytes.now ≤ W.run_limits.values.text = omega (arith, c.if-saturating_add-gt-MAX_TEXT.false, c.saturating_add.ensures, c.kept_len-kept.ensures) in
+    let u2 : Shared = record u { requests = c.keep_output.new.requests; count = 0 } in
+    let same : u2 ≡ shared_after (OutputEvent c.args.task OutStream from c.args.bytes.now) u = ap (λ rs. record u { requests = rs; count = 0 }) c.in_ok-keep_output.ensures in
+    steps_rested g.R.ScriptThread.stance g.R.Runner.seated g.R.Runner.head g.R.Runner.turns g.R.Runner.room (OutputEvent c.args.task OutStream from c.args.bytes.now) c.args.group.now u refl c.requires.go.few (λ j passes. omega (arith, passes.1, few)) u2 same
+
+pub returns-then-saturating_add-gt-MAX_TEXT-clause-steps : goal.returns-then-saturating_add-gt-MAX_TEXT-clause-steps
+returns-then-saturating_add-gt-MAX_TEXT-clause-steps g c =
+    let u : Shared = c.args.shared.now in
+    let u0 : Shared = record u { count = 0 } in
+    let many : W.run_limits.values.text < length (W.kept_output (request_of u.requests c.args.task)) + length c.args.bytes.now = omega (arith, c.if-saturating_add-gt-MAX_TEXT.true, c.saturating_add.ensures, c.kept_len-kept.ensures) in
+    map_ok c.end_by_limit.result c.end_by_limit.ensures.over
+    (λ p o from. steps_limited g.R.ScriptThread.stance g.R.Runner.seated g.R.Runner.head g.R.Runner.turns g.R.Runner.room (OutputEvent c.args.task OutStream from c.args.bytes.now) c.args.group.now u TextLength (λ few. omega (arith, few, many)) (λ j passes. passes.0) u0 refl refl p _ _ o)

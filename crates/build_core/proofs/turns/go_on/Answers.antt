@@ -2,11 +2,13 @@ use Rattle.std.proofs.Common.{◌∙◌, [], ◌∷◌, refl, arith}
 use Rattle.model_values.specs.Limits.{limit_line}
 use Rattle.model_run.specs.declared.result.BuildResult.TheVariants.{Failure}
 use Rattle.model_run.specs.Results.{worse}
+use Rattle.green_threads.specs.declared.settled.Settled.TheVariants as settled
 use Rattle.green_threads.proofs.Order.{rested}
 use Rattle.settle_laws.specs.Standing.{causes, end_result, first_head, heads}
 use Rattle.settle_laws.proofs.Heads.{first_stands, heads_are}
 use Rattle.build_core.proofs.Going.{Soundly, soundly, some_after, setting_after, waits, ends, limits}
 use Rattle.build_core.proofs.Ended.{over_sound}
+use Rattle.build_core.proofs.Stepping.{settled_so}
 use Rattle.build_core.proofs.turns.go_on.Goals as goal
 
 pub settle-requires : goal.settle-requires
@@ -67,3 +69,12 @@ returns-in_ok-end_by_limit-in-Limit-clause-sound g c =
     let rest : Soundly g.R.ScriptThread.stance c.settle.new.self c.settle.new.shared = soundly g.R.ScriptThread.stance g.R.Runner.seated g.R.Runner.head g.R.Runner.turns g.met.R.ScriptThread.head_is g.met.R.ScriptThread.turned _ _ _ _ _ _ c.in_ok-settle.ensures.order g.met.R.ScriptThread.seated_is g.R.Runner.room g.met.R.ScriptThread.room_is (g.met.R.ScriptThread.shared_fits _ _ c.requires.go.fit) (g.met.R.ScriptThread.heads_stand _ _ c.requires.go.fit) c.requires.go.few_threads c.in_ok-settle.ensures.bounded in
     over_sound g.R.Runner.number g.R.Runner.parent g.R.Runner.branch g.R.Runner.fits _ c.settle.new.self c.settle.new.shared (heads g.R.ScriptThread.stance c.settle.new.self.seats)
     (limit_line c.in-Limit.kind ∷ []) (worse c.settle.new.shared.result Failure) _ _ c.in_ok-end_by_limit-in-Limit.ensures.over rest.sound (heads_are g.R.ScriptThread.stance _ _ rest.heads) rest.few_threads
+
+pub returns-in-AllWait-clause-steps : goal.returns-in-AllWait-clause-steps
+returns-in-AllWait-clause-steps g c = settled_so g.R.ScriptThread.stance g.R.Runner.seated g.R.Runner.head g.R.Runner.turns g.R.Runner.room _ _ _ _ _ c.in_ok-settle.ensures.order settled.AllWait c.in-AllWait.is _ _ _ (refl, refl, refl)
+
+pub returns-in_ok-end_script-in-Ended-clause-steps : goal.returns-in_ok-end_script-in-Ended-clause-steps
+returns-in_ok-end_script-in-Ended-clause-steps g c = settled_so g.R.ScriptThread.stance g.R.Runner.seated g.R.Runner.head g.R.Runner.turns g.R.Runner.room _ _ _ _ _ c.in_ok-settle.ensures.order (settled.Ended c.in-Ended.outcome) c.in-Ended.is _ _ _ c.in_ok-end_script-in-Ended.ensures.over
+
+pub returns-in_ok-end_by_limit-in-Limit-clause-steps : goal.returns-in_ok-end_by_limit-in-Limit-clause-steps
+returns-in_ok-end_by_limit-in-Limit-clause-steps g c = settled_so g.R.ScriptThread.stance g.R.Runner.seated g.R.Runner.head g.R.Runner.turns g.R.Runner.room _ _ _ _ _ c.in_ok-settle.ensures.order (settled.Limit c.in-Limit.kind) c.in-Limit.is _ _ _ c.in_ok-end_by_limit-in-Limit.ensures.over
