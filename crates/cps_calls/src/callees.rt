@@ -4,18 +4,18 @@ ghost use Rattle.std.specs.Prelude.{◌≡◌, ◌<◌, IfOk, IfSome, length, sl
 ghost use Rattle.std.specs.List.{AllByRecursion as AllAre};
 ghost use Rattle.model_values.specs.Fitting.{HasVariable};
 ghost use Rattle.model_run.specs.Fitting.{NamesRise};
-ghost use Rattle.model_run.specs.Callables.{function_if, function_named};
+ghost use Rattle.model_run.specs.Callables.{function_named};
 ghost use Rattle.model_run.specs.Calls.{binding_closure, meant_function};
 ghost use Rattle.cps_frames.specs.Standing.{world_of};
 ghost use Rattle.cps_frames.specs.declared.thread.ThreadState.{ThreadState as Thread};
-ghost use Rattle.cps_calls.specs.Meanings.{is_function_of, meant_of};
+ghost use Rattle.cps_calls.specs.Meanings.{meant_of};
 
 use crate::closures::closure_of;
 use crate::step_names::step_named;
 use cps_frames::Shared;
 use cps_variables::{look_binding, variable};
 use model_run::{Callee, Step};
-use model_syntax::NodeForm;
+use model_text::Text;
 use model_values::Env;
 use std::alloc::AllocError;
 
@@ -30,7 +30,7 @@ pub(crate) enum Meant {
 
 /// What a name that is called means, where no variable of this name is declared: a function; a binding variable that holds a
 /// closure; a step.
-pub(crate) fn meaning(shared: &Shared, name: &[u8]) -> Result<Meant, AllocError>
+pub(crate) fn meaning(shared: &Shared, name: &Text) -> Result<Meant, AllocError>
     requires bound { AllAre (λ b. HasVariable (slice_get shared.now.heap.cells b.cell)) shared.now.binding.items }
     requires rising { NamesRise shared.now.binding.items }
     ensures { (t : Thread) → IfOk result (λ meant. meant_of meant ≡ meant_function name.now (world_of shared.now t) (function_named name.now (world_of shared.now t))) }
@@ -38,10 +38,10 @@ pub(crate) fn meaning(shared: &Shared, name: &[u8]) -> Result<Meant, AllocError>
     if let Some(callee) = function_named(shared, name) {
         return Ok(Meant::Body(callee));
     }
-    if let Some(callee) = binding_closure(shared, name)? {
+    if let Some(callee) = binding_closure(shared, name.as_slice())? {
         return Ok(Meant::Body(callee));
     }
-    match step_named(name) {
+    match step_named(name.as_slice()) {
         Some(step) => Ok(Meant::Begins(step)),
         None => Ok(Meant::Nothing),
     }
@@ -59,29 +59,11 @@ fn binding_closure(shared: &Shared, name: &[u8]) -> Result<Option<Callee>, Alloc
     }
 }
 
-/// The function of this name, and `None` exactly where there is none: functions stand at the top of a script. It goes over what
-/// stands there.
-fn function_named(shared: &Shared, name: &[u8]) -> Option<Callee>
+/// The function of this name, and `None` exactly where there is none.
+fn function_named(shared: &Shared, name: &Text) -> Option<Callee>
     ensures { (t : Thread) → result ≡ function_named name.now (world_of shared.now t) }
 {
-    for at in 0..shared.code.parts(0) {
-        let Some(node) = shared.code.part(0, at) else {
-            unreachable!()
-        };
-        if is_function(shared.code.kind(node), name) {
-            let env = Env::new(shared.alloc());
-            return Some(Callee { node, env });
-        }
-    }
-    None
-}
-
-/// Whether this is the function of a name.
-fn is_function(form: &NodeForm, name: &[u8]) -> bool
-    ensures { result ≡ is_function_of name.now form.now }
-{
-    match form {
-        NodeForm::Function(own, _) => own.as_slice() == name,
-        _ => false,
-    }
+    let node = shared.code.function(name)?;
+    let env = Env::new(shared.alloc());
+    Some(Callee { node, env })
 }

@@ -65,7 +65,7 @@ pub fn call_named(
     if look(name.as_slice(), &env).is_some() {
         return call_value(state, shared, node, env, values);
     }
-    let meant = meaning(shared, name.as_slice())?;
+    let meant = meaning(shared, name)?;
     tick(shared)?;
     match meant {
         Meant::Body(callee) => Ok(Move::Enter(Entry::Body(values), callee.node, callee.env)),
