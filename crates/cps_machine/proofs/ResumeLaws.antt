@@ -128,7 +128,7 @@ new_stands u script shared context b d n p e fits =
     record {
       above = b.thread.state.context;
       poised = subst (λ r. Poised (setting_of u) b.thread.state.context Any_branch (standing u (seated b.thread n (Some p)).state) (first_of r Begin)) (sym (runs_branch context b d e)) framed;
-      begun = tt;
+      begun = subst (HasBegun (Ready Begin)) (sym (runs_branch context b d e)) refl;
       start = subst (λ r. StartStands r (Some p) b.thread.state.stack.items) (sym (runs_branch context b d e)) (refl, none);
       number = refl;
       parent = refl;

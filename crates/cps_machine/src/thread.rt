@@ -99,7 +99,7 @@ impl Runner for MachineThread {
     ghost use Rattle.settle_laws.specs.Stances.{Turns};
     ghost use Rattle.cps_frames.specs.Standing.{common_of, setting_of};
     ghost use Rattle.thread_fits.specs.Seats.{Fits, nodes_left};
-    ghost use Rattle.cps_machine.specs.Threads.{is_branch, seated, stance_of};
+    ghost use Rattle.cps_machine.specs.Threads.{IsTurn, is_branch, seated, stance_of};
 
     type Shared = Shared;
 
@@ -117,7 +117,9 @@ impl Runner for MachineThread {
 
     ghost fits = { Fits stance_of };
 
-    ghost turns = { Turns stance_of common_of setting_of };
+    // from what it does first with the answer to where it stops, also where it stands for no thread of the definitions; and
+    // as each thread does that it stands for
+    ghost turns = { λ t u x stopped t' u'. IsTurn t u x stopped t' u' × Turns stance_of common_of setting_of t u x stopped t' u' };
 
     fn head(&self) -> u32 {
         self.state.head
@@ -164,7 +166,7 @@ impl ScriptThread for MachineThread {
 
     ghost seated_is = { λ t n p. refl };
 
-    ghost turned = { λ t u x stopped t' u' turns. turns };
+    ghost turned = { λ t u x stopped t' u' turns. turns.1 };
 
     ghost room_is = { λ u. refl };
 

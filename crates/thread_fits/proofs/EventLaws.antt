@@ -235,7 +235,7 @@ module _ {T : Type 0} (stance : T → Stance) where
             poised = poised_on stance u (changed u rs held log) refl later (sound_of (changed u rs held log) shared) (stance y.thread) h.above (outermost y.parent) (waiting_move y.wait (stance y.thread)) (first_of (stance y.thread).runs x)
                 (subst (MoveFits (script_of u.code) (common_of (changed u rs held log)) (innermost (script_of u.code) (outermost y.parent) (stance y.thread).frames))
                 (sym (begun_answer (stance y.thread).runs y.wait wait h.begun)) (answer (innermost (script_of u.code) (outermost y.parent) (stance y.thread).frames) asks)) h.poised;
-            begun = tt;
+            begun = subst (HasBegun (Ready x)) (sym (subst (λ v. HasBegun v (stance y.thread).runs) wait h.begun)) tt;
             start = h.start;
             number = h.number;
             parent = h.parent;

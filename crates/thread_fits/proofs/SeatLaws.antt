@@ -42,7 +42,7 @@ use Rattle.cps_frames.specs.declared.shared.Shared.{Shared}
 use Rattle.cps_frames.specs.declared.thread.Move.{Move}
 use Rattle.cps_frames.specs.declared.thread.Move.TheVariants as move
 use Rattle.cps_frames.proofs.Poise.{all_later}
-use Rattle.thread_fits.specs.Seats.{Fits, IsGranted, SeatStands, WaitStands, first_of, standing_as, waiting_move}
+use Rattle.thread_fits.specs.Seats.{Fits, HasBegun, IsGranted, SeatStands, WaitStands, first_of, standing_as, waiting_move}
 
 -- what branches ended with is there still
 pub end_then : (u v : Common) → Later u v → (e : JoinEnd) → BranchEnded u e → BranchEnded v e
@@ -201,7 +201,7 @@ module _ {T : Type 0} (stance : T → Stance) (u : Shared) where
     above = h.above;
     poised = with_move (setting_of u) h.above (outermost x.parent) (standing_as u (stance x.thread)) (move.Asks (ForBranches [])) (first_of (stance x.thread).runs (Joined ends))
         (joins_at (script_of u.code) (common_of u) (innermost (script_of u.code) (outermost x.parent) (stance x.thread).frames) (stance x.thread).runs ends h.begun there (h.poised).move) h.poised;
-    begun = tt;
+    begun = subst (HasBegun (Ready (Joined ends))) (sym h.begun) tt;
     start = h.start;
     number = h.number;
     parent = h.parent;

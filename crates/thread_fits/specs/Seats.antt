@@ -9,7 +9,7 @@ use Rattle.model_run.specs.declared.ending.Ending.TheVariants.{Answered}
 use Rattle.model_run.specs.declared.ending.Entry.TheVariants.{Branched, First}
 use Rattle.model_run.specs.declared.frame.Frame.{Frame}
 use Rattle.model_run.specs.declared.wait.Answer.{Answer}
-use Rattle.model_run.specs.declared.wait.Answer.TheVariants.{Granted}
+use Rattle.model_run.specs.declared.wait.Answer.TheVariants.{Begin, Granted}
 use Rattle.model_run.specs.declared.wait.Wait.{Wait}
 use Rattle.model_run.specs.declared.wait.Wait.TheVariants.{Ready, Request as RequestWait, Branches as BranchesWait}
 use Rattle.model_run.specs.Fitting.{Distinct, ForRequest as IsForRequest, IsOpen, IsWaitedFor, JoinFits, ParentFits, Seat, SharedFits, Some_of, outermost, seat_of, started_by}
@@ -47,9 +47,10 @@ waiting_move (Ready x) t = first_of t.runs x
 waiting_move (RequestWait r) t = Asks (ForRequest r)
 waiting_move (BranchesWait js) t = Asks (ForBranches [])
 
--- a thread that waits has begun
+-- a thread that waits has begun; one that has not is ready to begin, and with no other answer
 abbrev pub HasBegun : Wait → Option Runs → Type 0
-HasBegun (Ready x) runs = Unit {0}
+HasBegun (Ready x) None = Unit {0}
+HasBegun (Ready x) (Some r) = x ≡ Begin
 HasBegun w runs = runs ≡ None
 
 -- one that has not begun has no frame, and a parent exactly where it is a branch

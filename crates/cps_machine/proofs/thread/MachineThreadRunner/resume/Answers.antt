@@ -1,3 +1,5 @@
+use Rattle.cps_machine.specs.Threads.{IsTurn}
+use Rattle.cps_machine.specs.declared.thread.MachineThread.{MachineThread}
 use Rattle.cps_machine.proofs.ResumeLaws.{turn_begins, turn_branch, turn_keeps, turn_lowers, turn_made}
 use Rattle.cps_machine.proofs.StanceLaws.{turn_is}
 use Rattle.cps_machine.proofs.thread.MachineThreadRunner.resume.Goals as goal
@@ -9,8 +11,10 @@ returns-clause-keeps c =
 
 pub returns-clause-turned : goal.returns-clause-turned
 returns-clause-turned c =
-    turn_is c.args.self.now _ c.args.shared.now c.run.new.shared c.args.answer c.in_ok-stop.stop c.requires.ready
-    (turn_made c.args.self.now c.first_move-first.new.self c.args.shared.now c.run.new.shared c.args.answer _ c.in_ok-stopped.stopped c.run.new.state c.in_ok-stop.stop c.first_move-first.ensures.begun c.first_move-first.ensures.first c.in_ok-stopped.ensures c.in_ok-stop.ensures)
+    let after : MachineThread = record c.first_move-first.new.self { state = c.run.new.state } in
+    let turn : IsTurn c.args.self.now c.args.shared.now c.args.answer c.in_ok-stop.stop after c.run.new.shared =
+    turn_made c.args.self.now c.first_move-first.new.self c.args.shared.now c.run.new.shared c.args.answer _ c.in_ok-stopped.stopped c.run.new.state c.in_ok-stop.stop c.first_move-first.ensures.begun c.first_move-first.ensures.first c.in_ok-stopped.ensures c.in_ok-stop.ensures in
+    (turn, turn_is c.args.self.now after c.args.shared.now c.run.new.shared c.args.answer c.in_ok-stop.stop c.requires.ready turn)
 
 pub returns-clause-lowers : goal.returns-clause-lowers
 returns-clause-lowers c =
