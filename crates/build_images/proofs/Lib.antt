@@ -1,0 +1,5 @@
+pub mod Parts
+pub mod Seats
+pub mod Worlds
+pub mod SavedBuilds
+pub mod RestoredBuilds
