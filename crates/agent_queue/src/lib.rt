@@ -17,8 +17,6 @@
 mod queue;
 mod refusal;
 mod seat;
-#[cfg(test)]
-mod tests;
 mod waiting;
 
 pub use queue::Queue;

@@ -15,8 +15,6 @@
 
 mod log;
 mod refusal;
-#[cfg(test)]
-mod tests;
 
 pub use log::Log;
 pub use refusal::LogRefusal;

@@ -16,7 +16,5 @@ mod declare;
 mod dispatch;
 mod places;
 mod targets;
-#[cfg(test)]
-mod tests;
 
 pub use dispatch::{go_on, start};

@@ -16,8 +16,6 @@ mod methods;
 mod names;
 mod parameters;
 mod step_names;
-#[cfg(test)]
-mod tests;
 mod variables;
 mod walks;
 

@@ -16,7 +16,5 @@
 
 mod expressions;
 mod gathering;
-#[cfg(test)]
-mod tests;
 
 pub use expressions::{go_on, start, suffix};

@@ -24,8 +24,6 @@ mod moves;
 mod operations;
 mod parts;
 mod suffixes;
-#[cfg(test)]
-mod tests;
 
 pub use chains::{chain, chain_operand};
 pub use choices::{chosen, chosen_test};

@@ -20,7 +20,5 @@ mod finals;
 mod loops;
 mod rows;
 mod steps;
-#[cfg(test)]
-mod tests;
 
 pub use dispatch::{again, go_on, start};

@@ -17,8 +17,6 @@ mod atoms;
 mod built;
 mod entries;
 mod named;
-#[cfg(test)]
-mod tests;
 
 pub use atoms::{closure, literal, variable};
 pub use built::{list, map, text, throwable};

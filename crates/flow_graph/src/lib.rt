@@ -14,8 +14,6 @@
 
 mod graph;
 mod refusal;
-#[cfg(test)]
-mod tests;
 mod text;
 
 pub use graph::Graph;

@@ -17,8 +17,6 @@ mod label;
 mod lexer;
 mod parser;
 mod refusal;
-#[cfg(test)]
-mod tests;
 mod token;
 
 pub use condition::LabelExpr;

@@ -12,6 +12,7 @@ mod requests;
 mod run;
 mod trial;
 
+use cps_machine::MachineThread;
 use run::run_trial;
 use std::alloc::Global;
 use std::io;
@@ -31,7 +32,7 @@ fn run_trials<R: Input + Print>(rt: &R, alloc: Global) -> io::Result<()> {
     let mut out = io::writer(rt);
     for text in trials.split("=== ").skip(1) {
         println!(rt; "=== {}", text.lines().next().unwrap_or(""))?;
-        match run_trial(alloc, text) {
+        match run_trial::<MachineThread>(alloc, text) {
             Ok(written) => out.write_all(&written)?,
             Err(_) => println!(rt; "out of memory")?,
         }

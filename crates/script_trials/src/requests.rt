@@ -1,16 +1,16 @@
 //! What a build waits for, as text.
 
 use build_core::Build;
-use cps_machine::MachineThread;
 use model_run::{OpenRequest, Request};
 use model_text::{Pair, Text};
+use script_thread::ScriptThread;
 use std::alloc::{AllocError, Global};
 
 /// Writes a line for each open request, for each held executor, and for the grant that is due.
 /// `AllocError` where the memory was refused.
-pub fn write_requests(
+pub fn write_requests<R: ScriptThread + Drop>(
     alloc: Global,
-    build: &Build<MachineThread>,
+    build: &Build<R>,
     out: &mut Vec<u8>,
 ) -> Result<(), AllocError> {
     for open in build.requests() {

@@ -1,4 +1,6 @@
 //! A trial, from the text of its script to the last line of its log.
+//!
+//! The functions are generic over the thread that runs a script, so that their proof knows nothing of it.
 
 use crate::orders::{Order, read_order, start};
 use crate::requests::write_requests;
@@ -6,9 +8,9 @@ use crate::trial::{Trial, read_trial};
 use agents_file::read_agents;
 use build_core::Build;
 use cps_code::number;
-use cps_machine::MachineThread;
 use groovy_parse::parse;
 use model_run::{Event, Taken};
+use script_thread::ScriptThread;
 use std::alloc::{AllocError, Global};
 
 /// The agents file of a trial that has none of its own.
@@ -18,7 +20,7 @@ const ONE_EXECUTOR: &str = r#"{"job":"demo","agents":[{"name":"m","root":"/w","e
 const TAIL: usize = 100;
 
 /// What a trial writes: what its orders ask for, and its log behind that. `AllocError` where the memory was refused.
-pub fn run_trial(alloc: Global, text: &str) -> Result<Vec<u8>, AllocError> {
+pub fn run_trial<R: ScriptThread + Drop>(alloc: Global, text: &str) -> Result<Vec<u8>, AllocError> {
     let mut out = Vec::new(alloc);
     let trial = read_trial(alloc, text)?;
     match (
@@ -26,7 +28,7 @@ pub fn run_trial(alloc: Global, text: &str) -> Result<Vec<u8>, AllocError> {
         read_agents(alloc, agents_of(&trial).as_bytes()),
     ) {
         (Ok(tree), Ok(site)) => {
-            let mut build: Build<MachineThread> = Build::new(alloc, number(alloc, tree)?, site)?;
+            let mut build: Build<R> = Build::new(alloc, number(alloc, tree)?, site)?;
             run_orders(alloc, &mut build, &trial.orders, &mut out)?;
             write_log(alloc, trial.orders.contains(&"tail"), build.log(), &mut out)?;
         }
@@ -46,9 +48,9 @@ fn agents_of<'a>(trial: &Trial<'a>) -> &'a str {
 }
 
 /// Begins the build, and does what the orders say.
-fn run_orders(
+fn run_orders<R: ScriptThread + Drop>(
     alloc: Global,
-    build: &mut Build<MachineThread>,
+    build: &mut Build<R>,
     orders: &[&str],
     out: &mut Vec<u8>,
 ) -> Result<(), AllocError> {
@@ -66,9 +68,9 @@ fn run_orders(
 }
 
 /// The build takes an event; an answer other than `Accepted` is written.
-fn take(
+fn take<R: ScriptThread + Drop>(
     alloc: Global,
-    build: &mut Build<MachineThread>,
+    build: &mut Build<R>,
     event: &Event,
     line: &str,
     out: &mut Vec<u8>,

@@ -19,8 +19,6 @@ mod fits;
 mod given;
 mod parameters;
 mod refusal;
-#[cfg(test)]
-mod tests;
 mod uses;
 
 pub use binding::bind;

@@ -27,8 +27,6 @@ mod places;
 mod retry;
 mod settings;
 mod shell;
-#[cfg(test)]
-mod tests;
 
 pub use beginning::begin;
 pub use branches::{branch_frame, end_branch};

@@ -1,6 +1,7 @@
 //! Trials of the crates of values and their heap: tests alone, a module for each crate, by what the crate hands out.
 //!
-//! They stand above those crates, so that a crate is proved once and not once more with its tests.
+//! They stand above those crates, so that a crate is proved once and not once more with its tests. What can be told by rows
+//! of text, as operators and methods, stands in `operation_trials`.
 #![tactic(auto)]
 
 #[cfg(test)]
@@ -8,13 +9,9 @@ mod effects; // value_ops
 #[cfg(test)]
 mod heaps; // cell_heap
 #[cfg(test)]
-mod list_calls; // list_methods
-#[cfg(test)]
 mod methods; // method_names
 #[cfg(test)]
 mod operators; // value_operators
-#[cfg(test)]
-mod text_calls; // text_methods
 #[cfg(test)]
 mod values; // model_values
 #[cfg(test)]
