@@ -85,7 +85,7 @@ not_granted (RequestWait r) rests g = g
 not_granted (BranchesWait js) rests g = g
 
 has_begun : (w : Wait) (x : Stance) → x.runs ≡ None → HasBegun w x.runs
-has_begun (Ready a) x e = tt
+has_begun (Ready a) x e = subst (HasBegun (Ready a)) (sym e) tt
 has_begun (RequestWait r) x e = e
 has_begun (BranchesWait js) x e = e
 
