@@ -25,7 +25,7 @@ pub data Chain : Type 0 where
   by_or : Chain
   by_and : Chain
 
--- `==`, `<` and `..` with their kin: two operands at most
+-- `==`, `<` and `..` with their kin: two operands at most (this product's own: Groovy takes more)
 pub data Pair : Type 0 where
   by_equality : Pair
   by_order : Pair
