@@ -4,6 +4,5 @@ pub mod ThreadLaws
 pub mod EndLaws
 pub mod InnerLaws
 pub mod TurnLaws
-pub mod BranchLaws
 pub mod ResumeLaws
 pub mod StanceLaws

@@ -7,6 +7,7 @@
 mod kinds;
 mod machine;
 mod parts;
+mod saving;
 mod thread;
 
 pub use machine::{Stopped, run};

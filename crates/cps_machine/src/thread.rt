@@ -195,7 +195,7 @@ fn outcome_of(ending: Ending) -> Outcome
 }
 
 /// The same context once more. `AllocError` where the memory was refused.
-fn copied(context: &Context) -> Result<Context, AllocError>
+pub(crate) fn copied(context: &Context) -> Result<Context, AllocError>
     ensures { IfOk result (λ copy. copy ≡ context.now) }
 {
     let copy = context.clone()?;

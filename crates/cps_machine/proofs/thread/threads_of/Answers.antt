@@ -2,7 +2,7 @@ use Rattle.std.proofs.Common.{◌∙◌, ap}
 use Rattle.std.specs.Vec.Iter.{into_iter_items}
 use Rattle.cps_machine.specs.declared.thread.Start.TheVariants as start
 use Rattle.cps_machine.specs.Threads.{beginning, seen, to_begin}
-use Rattle.cps_machine.proofs.BranchLaws.{one_more}
+use Rattle.saved_thread.proofs.ListLaws.{one_more}
 use Rattle.cps_machine.proofs.thread.threads_of.Goals as goal
 
 pub loop-branch-preserved : goal.loop-branch-preserved
