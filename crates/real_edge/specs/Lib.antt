@@ -3,3 +3,5 @@ pub mod Control
 pub mod Process
 pub mod FolderHost
 pub mod FileDisk
+pub mod StoreLock
+pub mod LockedDisk

@@ -2,7 +2,8 @@
 //!
 //! [`FileDisk`] is a disk over one file, and [`FolderHost`] is a host whose tasks are processes of this machine, each
 //! with a control folder. Both meet their traits, and tell contracts nothing but how often they failed: what a real
-//! file, folder or process does no contract can say, so that is tested and not proved.
+//! file, folder or process does no contract can say, so that is tested and not proved. [`LockedDisk`] keeps a second
+//! controller from a disk.
 //!
 //! ```text
 //! let mut host = FolderHost::new(&rt, Life::First);
@@ -19,16 +20,19 @@ mod file_disk;
 mod folder_host;
 mod launch;
 mod life;
+mod locked_disk;
 mod own_folders;
 mod pauses;
 mod piece;
 mod programs;
+mod store_lock;
 mod sync;
 mod tasks;
 
 pub use file_disk::FileDisk;
 pub use folder_host::FolderHost;
 pub use life::Life;
+pub use locked_disk::LockedDisk;
 
 #[cfg(test)]
 mod tests;

@@ -10,7 +10,7 @@ use std::alloc::AllocError;
 use std::fmt::Debug;
 use std::fs::Permissions;
 use std::os::unix::fs::PermissionsExt;
-use std::process::Abort;
+use std::process::{Abort, Command};
 use std::rt::Files;
 use std::test::Fail;
 use std::{env, fs, io};
@@ -482,11 +482,72 @@ fn no_bytes_below_the_end_is_a_fault(rt: HostRuntime) -> Result<(), Fail> {
     Ok(())
 }
 
+type Locked<'a> = LockedDisk<'a, HostRuntime, FileDisk<'a, HostRuntime>>;
+
+// A disk over the file `NAME.dat`, under a lock on `NAME.lock`.
+fn locked<'a>(rt: &'a HostRuntime, name: &str) -> Result<Locked<'a>, AllocError> {
+    let alloc = rt.alloc();
+    let file = format!(in alloc; "{name}.dat")?;
+    let lock = format!(in alloc; "{name}.lock")?;
+    Ok(LockedDisk::locked(rt, lock, disk(rt, file.as_str())?))
+}
+
+#[test]
+fn a_store_whose_lock_is_held_is_not_touched_by_another_disk(rt: HostRuntime) -> Result<(), Fail> {
+    let mut first = locked(&rt, "held")?;
+    let mut second = locked(&rt, "held")?;
+    expect(&rt, first.len(), Ok(0));
+    let refused = [second.write_at(0, b"second"), second.sync()];
+    expect(&rt, refused, [Err(Failed), Err(Failed)]);
+    expect(&rt, fs::exists(&rt, "held.dat")?, false);
+    expect(&rt, first.write_at(0, b"first"), Ok(()));
+    drop(first);
+    // It is not asked for again; a disk that comes later has it.
+    expect(&rt, second.len(), Err(Failed));
+    expect(&rt, locked(&rt, "held")?.len(), Ok(5));
+    Ok(())
+}
+
+#[test]
+fn whoever_only_reads_needs_no_lock(rt: HostRuntime) -> Result<(), Fail> {
+    put(&rt, "read.dat", "hell!!")?;
+    let mut first = locked(&rt, "read")?;
+    let mut reader: Locked = LockedDisk::unlocked(disk(&rt, "read.dat")?);
+    expect(&rt, [first.len(), reader.len()], [Ok(6), Ok(6)]);
+    let mut nowhere: Locked = LockedDisk::unlocked(disk(&rt, "no folder/read.dat")?);
+    expect(&rt, nowhere.len(), Ok(0));
+    expect(&rt, locked(&rt, "no folder/read")?.len(), Err(Failed));
+    Ok(())
+}
+
+// The exit code of a program of util-linux that asks for the lock: 0 where it had it.
+fn asked_by_another_process(rt: &HostRuntime, lock: &str) -> io::Result<Option<i32>> {
+    let status = Command::new(rt.alloc(), "flock")?
+        .args(["--nonblock", lock, "true"])?
+        .status(rt)?;
+    Ok(status.code())
+}
+
+#[test]
+fn a_lock_holds_against_other_processes_and_none_inherits_it(rt: HostRuntime) -> Result<(), Fail> {
+    let mut disk = locked(&rt, "processes")?;
+    expect(&rt, disk.len(), Ok(0));
+    let held = asked_by_another_process(&rt, "processes.lock")?;
+    let mut started = Command::new(rt.alloc(), "sleep")?.arg("60")?.spawn(&rt)?;
+    drop(disk);
+    let free = asked_by_another_process(&rt, "processes.lock")?;
+    started.kill()?;
+    started.wait()?;
+    expect(&rt, [held, free], [Some(1), Some(0)]);
+    Ok(())
+}
+
 fn to_another_thread<T: Send>(_value: &T) {}
 
 #[test]
 fn a_disk_and_a_host_may_cross_threads(rt: HostRuntime) -> Result<(), Fail> {
     to_another_thread(&FolderHost::new(&rt, Life::First));
     to_another_thread(&disk(&rt, "crossing.dat")?);
+    to_another_thread(&locked(&rt, "crossing")?);
     Ok(())
 }
