@@ -1,0 +1,4 @@
+mod StoreLemmas
+mod ShowLemmas
+mod FinishLemmas
+mod ResumeLemmas

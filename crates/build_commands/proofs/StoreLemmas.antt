@@ -1,0 +1,66 @@
+-- What a store tells that was opened.
+use Rattle.std.proofs.Common.{◌≡◌, ◌<◌, ℕ, true, false, List, [], ◌∷◌, length, Option, inl, inr, sym, ap, ◌∙◌, subst, arith}
+use Rattle.journal_core.specs.Records.{Has, Walked}
+use Rattle.field_form.specs.Forms.{Spells}
+use Rattle.record_form.specs.Records.{record_form}
+use Rattle.record_form.specs.declared.record.EventRecord.{EventRecord}
+use Rattle.model_run.specs.State.{Setting}
+use Rattle.model_run.specs.World.{Build, world_in}
+use Rattle.settle_laws.specs.Stances.{Stance}
+use Rattle.build_core.specs.Builds.{Parts, StandsFor, setting_in}
+use Rattle.build_images.specs.Images.{image_in, world_image}
+use Rattle.store_laws.specs.Store.{AllSpell, IsStory, Starts, events_of}
+use Rattle.store_laws.proofs.Tellings.{one_record, one_setting}
+use Rattle.durable_build.specs.declared.faults.StoreFault.TheVariants.{Damaged}
+use Rattle.durable_build.specs.Standing.{IsWhole, IsDamagedAt, Kept, Opening, StandsBy, StandsForStory}
+use Rattle.durable_build.specs.Opening.{OpenFails, Opened}
+use Rattle.build_commands.specs.Showing.{ShowsBuild}
+
+same_payloads : (ps qs : List (List ℕ)) (file : List ℕ) → Has ps file → Has qs file → ps ≡ qs
+same_payloads ps qs file a b = ap (λ (w : Walked). w.payloads) (sym a ∙ b)
+
+nothing : 0 < 0 → ⊥
+nothing lt = omega (arith, lt)
+
+-- a record that starts a build starts it in the setting that its script and agents file mean
+same_setting : (s t : Setting) (script agents p : List ℕ) (r : EventRecord) → Opening s script agents p → Spells record_form r p → Starts t r.event → t ≡ s
+same_setting s t script agents p r o spells starts =
+    let same : o.first ≡ r = one_record o.first r p o.spells spells in
+    one_setting t s script agents (subst (Starts t) (ap (λ (x : EventRecord). x.event) (sym same) ∙ o.starts) starts) o.mean
+
+module _ {T : Type 0} (stance : T → Stance) (b : Parts T) (script agents : List ℕ) where
+  stands_for : (payloads : List (List ℕ)) (s : Setting) (records : List EventRecord) → 0 < length payloads → StandsBy stance b script agents payloads → StandsForStory stance b payloads
+      → AllSpell records payloads → IsStory world_image s records → StandsFor stance b (world_in s (events_of records))
+  stands_for [] s records some stands of_story spelled story = absurd (nothing some)
+  stands_for (p ∷ ps) s [] some stands of_story spelled story = absurd spelled
+  stands_for (p ∷ ps) s (r ∷ rs) some stands of_story spelled story =
+      let same : s ≡ setting_in b = same_setting (setting_in b) s script agents p r stands.1 spelled.0 story.starts in
+      subst (λ (t : Setting). StandsFor stance b (world_in t (events_of (r ∷ rs)))) (sym same) (of_story (r ∷ rs) spelled (subst (λ (t : Setting). IsStory world_image t (r ∷ rs)) same story))
+
+  not_damaged : (payloads : List (List ℕ)) (at : ℕ) → 0 < length payloads → StandsBy stance b script agents payloads → IsWhole (setting_in b) (image_in stance b) → IsDamagedAt payloads at → ⊥
+  not_damaged [] at some stands whole damaged = nothing some
+  not_damaged (p ∷ ps) at some stands whole (inl first) = first.1 (setting_in b) script agents stands.1
+  not_damaged (p ∷ ps) at some stands whole (inr last) =
+      let o = last.4 in
+      let same : last.1 ≡ setting_in b = same_setting (setting_in b) last.1 script agents p o.first stands.1 o.spells (subst (Starts last.1) (sym o.starts) o.mean) in
+      last.5 (image_in stance b) stands.2 (subst (λ (t : Setting). IsWhole t (image_in stance b)) (sym same) whole)
+
+module _ {D T : Type 0} (reads : D → Option (List ℕ)) (may_leave : D → List ℕ → Type 0) (stance : T → Stance) (file : List ℕ) (k : Kept D T) (o : Opened reads may_leave stance file k) where
+  has_some : Has [] file → ⊥
+  has_some none = nothing (subst (λ (ps : List (List ℕ)). 0 < length ps) (same_payloads o.payloads [] file o.has none) o.some)
+
+  sound : IsWhole (setting_in k.build) (image_in stance k.build) → (at : ℕ) → OpenFails file (Damaged at) → ⊥
+  sound whole at (ps, inl cut) = let bad : true ≡ false = ap (λ (w : Walked). w.is_whole) (sym o.has ∙ cut.0) in absurd (cc)
+  sound whole at (ps, inr damaged) =
+      let same = same_payloads ps o.payloads file damaged.0 o.has in
+      not_damaged stance k.build k.script k.agents o.payloads at o.some o.keeps.stands whole (subst (λ (qs : List (List ℕ)). IsDamagedAt qs at) same damaged.1)
+
+  -- what is the text of each build of the definitions that the opened one stands for, is the text of the store's build
+  pub shows_build : (text_of : Build → List ℕ) (text : List ℕ) → IsWhole (setting_in k.build) (image_in stance k.build) → ((w : Build) → StandsFor stance k.build w → text ≡ text_of w) → ShowsBuild text_of file text
+  shows_build text_of text whole is = record {
+    some = has_some;
+    sound = sound whole;
+    is = λ setting records tells story.
+        let spelled = subst (AllSpell records) (same_payloads tells.payloads o.payloads file tells.has o.has) tells.spelled in
+        is (world_in setting (events_of records)) (stands_for stance k.build k.script k.agents o.payloads setting records o.some o.keeps.stands o.keeps.story spelled story);
+  }

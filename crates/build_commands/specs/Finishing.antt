@@ -1,0 +1,69 @@
+-- How a life ends that a command lets go on, with its status and its text (this product's own).
+use Rattle.std.specs.Prelude.{◌≡◌, ◌⊎◌, ◌+◌, ◌<◌, ◌^◌, ℕ, Bool, false, List, [], ◌∷◌, ◌++◌, Option, None, IsSomeAnd, Result, Ok, Err}
+use Rattle.std.specs.Io.KnownBytes.{Consumes, IsAtEnd}
+use Rattle.device_faults.specs.Faults.{Rose}
+use Rattle.jp_disk.specs.Moments.{AtEachMoment}
+use Rattle.agent_worker.specs.declared.fault.TakeFault.{TakeFault}
+use Rattle.model_run.specs.declared.event.Event.{Event}
+use Rattle.model_run.specs.State.{Setting}
+use Rattle.model_run.specs.World.{Build, world_in}
+use Rattle.run_command.specs.Statuses.{world_status}
+use Rattle.run_command.specs.Texts.{read_failed_text}
+use Rattle.script_run.specs.declared.rest.Rest.{Rest}
+use Rattle.script_run.specs.declared.rest.Rest.TheVariants.{Ended, Waits, AnswersFailed}
+use Rattle.script_run.specs.Rests.{RestsFor}
+use Rattle.saved_run.specs.Going.{GoesOn}
+use Rattle.durable_build.specs.Taking.{added}
+use Rattle.saved_run.specs.Lives.{image_after, IsNext}
+use Rattle.saved_run.specs.Saved.{Stores, Survives}
+use Rattle.build_commands.specs.declared.refusal.Refusal.{Refusal}
+use Rattle.build_commands.specs.Refusals.{SaysTake, refusal_status, refusal_text}
+use Rattle.build_commands.specs.Texts.{disk_failed_text, full_text, out_of_memory_text}
+use Rattle.build_commands.specs.Writing as writing
+use Rattle.build_commands.specs.Writing.{Writes}
+
+module _ {D : Type 0} (may_leave : D → List ℕ → Type 0) (clock : D → ℕ) (since : D → ℕ → List ℕ → Type 0) (setting : Setting) (origin : D) (before : List Event) (left now : Option (List ℕ)) (disk : D) where
+  -- What a life has made of the store: these events, by what was read of the answers. A crash since `origin`, over which there were those from
+  -- before, leaves a front of them; one now leaves all of them; or, both, them and the one whose take the disk failed.
+  pub record Made (events : List Event) (risked : Option Event) (more : Bool) (part : List ℕ) : Type 0 where
+    pub read : List ℕ
+    pub goes : GoesOn setting before events read more
+    pub answers : Consumes left now (read ++ part)
+    pub moments : AtEachMoment clock since origin disk (Survives setting before events risked)
+    pub images : (image : List ℕ) → may_leave disk image → Stores setting events image ⊎ IsSomeAnd risked (λ e. Stores setting (events ++ e ∷ []) image)
+
+  -- The build has ended, or nobody goes on with it: its text is its log.
+  pub record Rests (events : List Event) : Type 0 where
+    pub rest : Rest
+    pub more : Bool
+    pub part : List ℕ
+    pub made : Made events None more part
+    pub rests : RestsFor rest setting (world_in setting events) more part
+    pub read_on : ¬ (rest ≡ AnswersFailed)
+    pub at_end : more ≡ false → IsAtEnd now
+
+  -- It has not ended, and cannot go on.
+  pub data Breaks (disk_before disk_after answers_before answers_after : ℕ) : ℕ → List ℕ → Type 0 where
+    answers_failed : {events : List Event} {more : Bool} {part : List ℕ} → Made events None more part → RestsFor AnswersFailed setting (world_in setting events) more part → Rose answers_before answers_after
+        → Breaks disk_before disk_after answers_before answers_after 6 read_failed_text
+    disk_failed : {events : List Event} {risked : Option Event} {more : Bool} {part : List ℕ} → Made events risked more part → (world_in setting events).ended ≡ false → Rose disk_before disk_after
+        → Breaks disk_before disk_after answers_before answers_after 5 disk_failed_text
+    full : {events : List Event} {more : Bool} {part : List ℕ} (len add : ℕ) (e : Event) → Made events None more part → (world_in setting events).ended ≡ false → IsNext setting events e
+        → 2 ^ 30 < len + add → add ≡ added e (image_after setting (events ++ e ∷ []))
+        → Breaks disk_before disk_after answers_before answers_after 14 (full_text len add)
+    no_memory : {events : List Event} {more : Bool} {part : List ℕ} → Made events None more part → (world_in setting events).ended ≡ false
+        → Breaks disk_before disk_after answers_before answers_after 8 out_of_memory_text
+
+  -- What was written of it: the log of a build that rests, whole or its front, then with 7; or the text of what broke it off.
+  pub data Finishes (disk_before disk_after answers_before answers_after : ℕ) (old new : Option (List ℕ)) (sink_before sink_after : ℕ) : ℕ → Type 0 where
+    by_rest : {events : List Event} {status : ℕ} → Rests events → Writes old new sink_before sink_after (world_in setting events).shared.log (world_status (world_in setting events)) status
+        → Finishes disk_before disk_after answers_before answers_after old new sink_before sink_after status
+    by_break : {text : List ℕ} {status : ℕ} → Breaks disk_before disk_after answers_before answers_after status text → writing.Tells old new sink_before sink_after text
+        → Finishes disk_before disk_after answers_before answers_after old new sink_before sink_after status
+
+-- What was written of a build that has gone on, and with which status.
+abbrev pub TellsEnd : (Build → Type 0) → Option (List ℕ) → Option (List ℕ) → ℕ → ℕ → Result Rest TakeFault → ℕ → Type 0
+TellsEnd Stands old new c d (Ok AnswersFailed) status = (status ≡ 6) × writing.Tells old new c d read_failed_text
+TellsEnd Stands old new c d (Ok Ended) status = (w : Build) → Stands w → Writes old new c d w.shared.log (world_status w) status
+TellsEnd Stands old new c d (Ok Waits) status = (w : Build) → Stands w → Writes old new c d w.shared.log (world_status w) status
+TellsEnd Stands old new c d (Err fault) status = (refusal : Refusal) × SaysTake fault refusal × (status ≡ refusal_status refusal) × writing.Tells old new c d (refusal_text refusal)

@@ -1,0 +1,49 @@
+//! The command that goes on with the build of a store.
+ghost use Rattle.std.specs.Prelude.{◌≡◌, ℕ, List, Some};
+ghost use Rattle.model_run.specs.declared.event.Event.{Event as AnEvent};
+ghost use Rattle.model_run.specs.State.{Setting};
+ghost use Rattle.saved_run.specs.Saved.{Stores};
+ghost use Rattle.build_commands.specs.Resuming.{Resumes};
+
+use crate::finishing::finish;
+use crate::refusal::{Refusal, tell};
+use crate::show::Shown;
+use jp_disk::Disk;
+use jp_io::{Sink, Source};
+use saved_run::Life;
+use saved_thread::SavedThread;
+use std::sync::Wait;
+
+/// Goes on with the build of a store until it has ended or nobody can, and writes its log.
+///
+/// | status | comes | text |
+/// |---|---|---|
+/// | 9 | only where the store has no record, or is damaged | `program.dat: no build`, or the place of the damage |
+/// | 14 | only where the record of the next event does not fit into the store | the two sizes |
+/// | 5 | only where the disk counted a fault | `controller: disk failed` |
+/// | 6 | only where an input is open and the answers counted a fault | `controller: read failed` |
+/// | 7 | only where the sink counted a fault | a part of the log, from its beginning |
+/// | 0, 1, 10, 11, 12 | only where the build has ended so | its log |
+/// | 3 | only where no grant is due, and no input is open or the answers were read to their end | the log so far |
+/// | 8 | want of memory | `controller: out of memory` |
+///
+/// It may wait for ever, as the answers may.
+pub fn resume<D: Disk, R: SavedThread + Drop, W: Wait + AllocGlobal, A: Source, K: Sink>(
+    rt: &W,
+    disk: D,
+    answers: &mut A,
+    out: &mut K,
+) -> Shown<D>
+    ensures resumes { (file : List ℕ) → D.reads disk ≡ Some file → (setting : Setting) (events : List AnEvent) → Stores setting events file
+        → Resumes D.may_leave D.clock D.may_have_left_since D.faults setting events (A.left answers.old) (A.left answers.new) disk result.disk
+        (A.faults answers.old) (A.faults answers.new) (K.written out.old) (K.written out.new) (K.faults out.old) (K.faults out.new) result.status }
+{
+    let alloc = rt.alloc();
+    match Life::<D, R>::reopen(alloc, disk) {
+        Ok(life) => finish(rt, life, answers, out),
+        Err((fault, disk)) => {
+            let status = tell(out, &Refusal::of_store(alloc, fault));
+            Shown { status, disk }
+        }
+    }
+}

@@ -1,0 +1,10 @@
+pub mod CountLemmas
+pub mod Begun
+pub mod OrderLemmas
+pub mod LoadLemmas
+pub mod TakeLemmas
+pub mod OpenLemmas
+pub mod Cleared
+pub mod Uncounted
+pub mod Whole
+pub mod Undamaged

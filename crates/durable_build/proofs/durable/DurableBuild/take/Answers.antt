@@ -1,0 +1,54 @@
+use Rattle.std.proofs.Common.{rules, ◌≡◌, ◌∙◌, true, Ok, Err, sym, subst}
+use Rattle.model_run.specs.declared.taken.Taken.{Taken}
+use Rattle.model_run.specs.declared.taken.Taken.TheVariants.{Accepted}
+use Rattle.model_run.specs.Taking.{taken}
+use Rattle.build_core.specs.Builds.{setting_in, standing_of}
+use Rattle.durable_build.specs.Standing.{Kept, Keeps}
+use Rattle.durable_build.specs.Taking.{Adds, IsSized, MayStart, TakeKeeps}
+use Rattle.durable_build.proofs.TakeLemmas.{adds, take_failed, take_sized}
+use Rattle.durable_build.proofs.durable.DurableBuild.take.Goals as goal
+
+pub returns-in-Err-clause-keeps : goal.returns-in-Err-clause-keeps
+returns-in-Err-clause-keeps g c = λ ps keeps.
+    let D = g.D.Disk in
+    let stance = g.R.ScriptThread.stance in
+    let i = c.self.inside in
+    let old : Kept g.row.D.Denot g.row.R.Denot = record { journal = i.journal; build = i.build; script = i.script; agents = i.agents; stopped = i.stopped } in
+    let new : Kept g.row.D.Denot g.row.R.Denot = record { journal = c.add.new.journal; build = c.take_event.new.build; script = i.script; agents = i.agents; stopped = true } in
+    let e = c.args.event.now in
+    let accepted : c.in-Ok.answer ≡ Accepted = search rules in
+    let here : Keeps D.reads D.may_leave stance old ps = subst (λ (k : Kept g.row.D.Denot g.row.R.Denot). Keeps D.reads D.may_leave stance k ps) (sym c.self.view_is) keeps in
+    subst (λ (k : Kept g.row.D.Denot g.row.R.Denot). TakeKeeps D.reads D.may_leave D.clock D.may_have_left_since stance k new e ps (Err c.in-Err.fault)) c.self.view_is
+    (take_failed D.reads D.may_leave D.clock D.may_have_left_since stance old new e (sym c.in-Ok.ensures.taken ∙ accepted) c.in-Ok.ensures.setting c.in-Ok.ensures.stands c.in-Err.fault ps
+    (c.in-Err.ensures.keeps ps here.holds) c.in-Err.ensures.world)
+
+pub returns-clause-keeps : goal.returns-clause-keeps
+returns-clause-keeps g c = λ ps keeps.
+    let D = g.D.Disk in
+    let stance = g.R.ScriptThread.stance in
+    let i = c.self.inside in
+    let old : Kept g.row.D.Denot g.row.R.Denot = record { journal = i.journal; build = i.build; script = i.script; agents = i.agents; stopped = i.stopped } in
+    let new : Kept g.row.D.Denot g.row.R.Denot = record { journal = c.add.new.journal; build = c.take_event.new.build; script = c.keep_sources.new.script; agents = c.keep_sources.new.agents; stopped = i.stopped } in
+    let e = c.args.event.now in
+    let accepted : c.in-Ok.answer ≡ Accepted = search rules in
+    let answered : taken (standing_of i.build) e ≡ Accepted = sym c.in-Ok.ensures.taken ∙ accepted in
+    let here : Keeps D.reads D.may_leave stance old ps = subst (λ (k : Kept g.row.D.Denot g.row.R.Denot). Keeps D.reads D.may_leave stance k ps) (sym c.self.view_is) keeps in
+    let may : MayStart (setting_in i.build) e =
+    subst (λ (k : Kept g.row.D.Denot g.row.R.Denot). taken (standing_of k.build) e ≡ Accepted → MayStart (setting_in k.build) e) (sym c.self.view_is) c.requires.may_start answered in
+    let added = c.in_default-add.ensures.keeps ps here.holds in
+    subst (λ (t : Taken). TakeKeeps D.reads D.may_leave D.clock D.may_have_left_since stance c.args.self.now new e ps (Ok t)) (sym accepted)
+    (subst (λ (k : Kept g.row.D.Denot g.row.R.Denot). Adds D.reads D.may_leave D.clock D.may_have_left_since stance k new e ps) c.self.view_is
+    (adds D.reads D.may_leave D.clock D.may_have_left_since stance old new e answered c.in-Ok.ensures.setting c.in-Ok.ensures.stands (c.in_default-add.ensures.world (λ is. cc)) ps
+    c.in-Ok-sources_of.sources here may c.in-Ok-sources_of.ensures (c.in-Ok.ensures.begun accepted) c.keep_sources.ensures.0 c.keep_sources.ensures.1 added.0 added.1))
+
+pub returns-in-Err-clause-size : goal.returns-in-Err-clause-size
+returns-in-Err-clause-size g c =
+    let D = g.D.Disk in
+    let stance = g.R.ScriptThread.stance in
+    let i = c.self.inside in
+    let old : Kept g.row.D.Denot g.row.R.Denot = record { journal = i.journal; build = i.build; script = i.script; agents = i.agents; stopped = i.stopped } in
+    let new : Kept g.row.D.Denot g.row.R.Denot = record { journal = c.add.new.journal; build = c.take_event.new.build; script = i.script; agents = i.agents; stopped = true } in
+    let e = c.args.event.now in
+    let accepted : c.in-Ok.answer ≡ Accepted = search rules in
+    subst (λ (k : Kept g.row.D.Denot g.row.R.Denot). IsSized stance k new e (Err c.in-Err.fault)) c.self.view_is
+    (take_sized D.reads D.may_leave D.clock D.may_have_left_since stance old new e (sym c.in-Ok.ensures.taken ∙ accepted) c.in-Ok.ensures.setting c.in-Ok.ensures.stands c.in-Err.fault c.in-Err.ensures.world)

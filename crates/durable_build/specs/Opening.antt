@@ -1,0 +1,95 @@
+-- What is found while a store is opened, and when each answer comes (this product's own).
+use Rattle.std.specs.Prelude.{◌≡◌, ◌⊎◌, ◌<◌, ◌≤◌, ℕ, true, List, [], length, Option, Result, Ok, Err}
+use Rattle.journal_core.specs.Records.{framed, Has, HasThenDamaged}
+use Rattle.model_syntax.specs.declared.tree.Tree.{Tree}
+use Rattle.model_syntax.specs.FirstFault.{IsFaultless}
+use Rattle.model_syntax.specs.TreeNodes.{tree_node}
+use Rattle.model_run.specs.AgentsFile.{agents_file, Means}
+use Rattle.model_run.specs.declared.event.Event.{Event}
+use Rattle.model_run.specs.declared.event.Event.TheVariants as event
+use Rattle.model_run.specs.declared.site.Site.{Site}
+use Rattle.model_run.specs.State.{Setting}
+use Rattle.model_run.specs.Terms.{term}
+use Rattle.model_run.specs.World as W
+use Rattle.image_form.specs.declared.image.Image.{Image}
+use Rattle.cps_code.specs.declared.row.Row.{Row}
+use Rattle.cps_code.specs.Script.{script_of}
+use Rattle.settle_laws.specs.Stances.{Stance}
+use Rattle.build_core.specs.Builds.{Parts, StandsFor, setting_in}
+use Rattle.build_core.specs.Phases.{has_begun}
+use Rattle.store_laws.specs.Store.{Mean, script_limit}
+use Rattle.durable_build.specs.declared.faults.StoreFault.{StoreFault}
+use Rattle.durable_build.specs.declared.faults.StoreFault.TheVariants.{Memory, Disk, Empty, Damaged}
+use Rattle.durable_build.specs.declared.opening.Source.{Source}
+use Rattle.durable_build.specs.declared.load.Loaded.{Loaded}
+use Rattle.build_images.specs.Images.{world_image, image_in}
+use Rattle.durable_build.specs.Standing.{IsWhole}
+use Rattle.durable_build.specs.Standing.{Opening, Closing, StandsBy, IsDamagedAt, Kept, Keeps}
+
+-- the setting of a numbered script on a site
+abbrev pub setting_with : List Row → Site → Setting
+setting_with code site = W.setting_of W.run_limits (script_of code) site
+
+-- `Damaged` with this place
+abbrev pub DamagedAt : ℕ → StoreFault → Type 0 → Type 0
+DamagedAt at Memory Why = Unit {0}
+DamagedAt at Disk Why = ⊥
+DamagedAt at Empty Why = ⊥
+DamagedAt at (Damaged n) Why = (n ≡ at) × Why
+
+abbrev pub CodeOf : List ℕ → ℕ → Result (List Row) StoreFault → Type 0
+CodeOf script at (Ok code) = (tree : Tree) × (length script ≤ script_limit) × IsFaultless script tree × (script_of code ≡ term 0 (tree_node tree))
+CodeOf script at (Err e) = DamagedAt at e ((tree : Tree) → length script ≤ script_limit → IsFaultless script tree → ⊥)
+
+abbrev pub SiteOf : List ℕ → ℕ → Result Site StoreFault → Type 0
+SiteOf agents at (Ok site) = agents_file agents ≡ Means site
+SiteOf agents at (Err e) = DamagedAt at e ((site : Site) → agents_file agents ≡ Means site → ⊥)
+
+abbrev pub SourceOf : List ℕ → List ℕ → ℕ → Result Source StoreFault → Type 0
+SourceOf script agents at (Ok o) = (o.script ≡ script) × (o.agents ≡ agents) × Mean script agents (setting_with o.code o.site)
+SourceOf script agents at (Err e) = DamagedAt at e ((setting : Setting) → Mean script agents setting → ⊥)
+
+abbrev pub EventOpens : Event → ℕ → Result Source StoreFault → Type 0
+EventOpens e at (Ok o) = (e ≡ event.Start o.script o.agents) × Mean o.script o.agents (setting_with o.code o.site)
+EventOpens e at (Err f) = DamagedAt at f ((setting : Setting) (script agents : List ℕ) → e ≡ event.Start script agents → Mean script agents setting → ⊥)
+
+abbrev pub OpensBy : List ℕ → ℕ → Result Source StoreFault → Type 0
+OpensBy payload at (Ok o) = Opening (setting_with o.code o.site) o.script o.agents payload
+OpensBy payload at (Err e) = DamagedAt at e ((setting : Setting) (script agents : List ℕ) → ¬ (Opening setting script agents payload))
+
+abbrev pub ClosesBy : {T : Type 0} → (T → Stance) → Setting → List ℕ → ℕ → Result (Parts T) StoreFault → Type 0
+ClosesBy stance setting payload at (Ok b) = (setting_in b ≡ setting) × (has_begun b.phase ≡ true) × Closing (image_in stance b) payload
+ClosesBy stance setting payload at (Err e) = DamagedAt at e ((image : Image) → Closing image payload → IsWhole setting image → ⊥)
+
+abbrev pub GoesOnFrom : {T : Type 0} → (T → Stance) → Setting → Image → ℕ → Result (Parts T) StoreFault → Type 0
+GoesOnFrom stance setting image at (Ok b) = (setting_in b ≡ setting) × (has_begun b.phase ≡ true) × (image_in stance b ≡ image)
+GoesOnFrom stance setting image at (Err e) = DamagedAt at e (IsWhole setting image → ⊥)
+
+-- it stands for each build of the definitions that has begun and has its image
+abbrev pub StandsWhere : {T : Type 0} → (T → Stance) → Parts T → Type 0
+StandsWhere stance b =
+    (events : List Event) → (W.world_in (setting_in b) events).started ≡ true → image_in stance b ≡ world_image (setting_in b) (W.world_in (setting_in b) events)
+    → StandsFor stance b (W.world_in (setting_in b) events)
+
+-- what all records of a store make
+abbrev pub LoadFinds : {T : Type 0} → (T → Stance) → List (List ℕ) → Result (Loaded T) StoreFault → Type 0
+LoadFinds stance payloads (Ok l) = StandsBy stance l.build l.script l.agents payloads
+LoadFinds stance payloads (Err Memory) = Unit {0}
+LoadFinds stance payloads (Err Disk) = Unit {0}
+LoadFinds stance payloads (Err Empty) = ⊥
+LoadFinds stance payloads (Err (Damaged at)) = IsDamagedAt payloads at
+
+-- Empty exactly where the file has no record; Damaged exactly where its framing, its first record or its last one is at fault,
+-- with the place of that record's gate.
+abbrev pub OpenFails : List ℕ → StoreFault → Type 0
+OpenFails file Memory = Unit {0}
+OpenFails file Disk = Unit {0}
+OpenFails file Empty = Has [] file
+OpenFails file (Damaged at) = (payloads : List (List ℕ)) × ((HasThenDamaged payloads file × (at ≡ length (framed payloads))) ⊎ (Has payloads file × IsDamagedAt payloads at))
+
+-- the file has records, and the opened build stands by them
+pub record Opened {D T : Type 0} (reads : D → Option (List ℕ)) (may_leave : D → List ℕ → Type 0) (stance : T → Stance) (file : List ℕ) (k : Kept D T) : Type 0 where
+  pub payloads : List (List ℕ)
+  pub some : 0 < length payloads
+  pub has : Has payloads file
+  pub keeps : Keeps reads may_leave stance k payloads

@@ -1,0 +1,125 @@
+-- When each answer to an event comes, and what it leaves (this product's own).
+use Rattle.std.specs.Prelude.{◌≡◌, ◌<◌, ◌≤◌, ◌+◌, ◌-◌, ◌^◌, ℕ, true, false, List, [], ◌∷◌, ◌++◌, length, min, Option, Some, None, Result, Ok, Err}
+use Rattle.jp_disk.specs.Moments.{AtEachMoment}
+use Rattle.journal_core.specs.Records.{HasWithOrWithout}
+use Rattle.journal_core.specs.State.{State, Holds}
+use Rattle.field_form.specs.Forms.{Spells}
+use Rattle.record_form.specs.Records.{record_form, record_of}
+use Rattle.record_form.specs.declared.record.EventRecord.{EventRecord}
+use Rattle.image_form.specs.declared.image.Image.{Image}
+use Rattle.model_run.specs.declared.event.Event.{Event}
+use Rattle.model_run.specs.declared.event.Event.TheVariants as event
+use Rattle.model_run.specs.declared.taken.Taken.{Taken}
+use Rattle.model_run.specs.declared.taken.Taken.TheVariants.{Accepted, NotOpen, WrongPlace, Finished}
+use Rattle.model_run.specs.State.{Setting}
+use Rattle.model_run.specs.Taking.{taken}
+use Rattle.model_run.specs.World as W
+use Rattle.settle_laws.specs.Stances.{Stance}
+use Rattle.build_core.specs.Builds.{StandsFor, setting_in, standing_of}
+use Rattle.build_core.specs.Phases.{has_begun}
+use Rattle.store_laws.specs.Store.{Mean}
+use Rattle.agent_worker.specs.declared.fault.TakeFault.{TakeFault}
+use Rattle.agent_worker.specs.declared.fault.TakeFault.TheVariants.{Memory, Disk, Full, Stopped}
+use Rattle.durable_build.specs.declared.store.Sources.{Sources}
+use Rattle.build_images.specs.Images.{world_image, image_in}
+use Rattle.durable_build.specs.Standing.{Kept, Keeps}
+
+-- how many bytes a record adds to a journal, or the greatest number of 64 bits where it adds more
+abbrev pub added : Event → Image → ℕ
+added e image = min (5 + length (record_form.spelling (record_of e image))) (2 ^ 64 - 1)
+
+-- a first event is of the build's own script and agents file
+abbrev pub MayStart : Setting → Event → Type 0
+MayStart setting (event.Start script agents) = Mean script agents setting
+MayStart setting e = Unit {0}
+
+-- Stopped exactly where an earlier fault stopped the build. Else the answer of the build; of an accepted event Full exactly
+-- where its record is too much for the journal, with its length and what the record adds.
+abbrev pub TakeAnswers : {D T : Type 0} → (T → Stance) → Kept D T → Kept D T → Event → Result Taken TakeFault → Type 0
+TakeAnswers stance old new e (Ok answer) = (old.stopped ≡ false) × (answer ≡ taken (standing_of old.build) e)
+TakeAnswers stance old new e (Err Memory) = old.stopped ≡ false
+TakeAnswers stance old new e (Err Disk) = (old.stopped ≡ false) × (taken (standing_of old.build) e ≡ Accepted)
+TakeAnswers stance old new e (Err (Full len add)) =
+    (old.stopped ≡ false) × (taken (standing_of old.build) e ≡ Accepted) × (len ≡ old.journal.len) × (2 ^ 30 < len + add) × (add ≡ added e (image_in stance new.build))
+TakeAnswers stance old new e (Err Stopped) = old.stopped ≡ true
+
+-- Each fault stops the build. Memory, Full and Stopped leave the journal, and what is not accepted leaves all.
+abbrev pub TakeLeaves : {D T : Type 0} → (T → Stance) → Kept D T → Kept D T → Event → Result Taken TakeFault → Type 0
+TakeLeaves stance old new e (Ok Accepted) = (new.stopped ≡ false) × (has_begun new.build.phase ≡ true) × (new.journal.len ≡ old.journal.len + added e (image_in stance new.build)) × (new.journal.len ≤ 2 ^ 30)
+TakeLeaves stance old new e (Ok NotOpen) = new ≡ old
+TakeLeaves stance old new e (Ok (WrongPlace kept)) = new ≡ old
+TakeLeaves stance old new e (Ok Finished) = new ≡ old
+TakeLeaves stance old new e (Err Memory) = (new.stopped ≡ true) × (new.journal ≡ old.journal)
+TakeLeaves stance old new e (Err Disk) = (new.stopped ≡ true) × (new.journal.len ≡ old.journal.len)
+TakeLeaves stance old new e (Err (Full len add)) = (new.stopped ≡ true) × (new.journal ≡ old.journal)
+TakeLeaves stance old new e (Err Stopped) = new ≡ old
+
+-- where the build stood for one of the definitions, it has the image of that one after the event
+abbrev pub IsAfter : {D T : Type 0} → (T → Stance) → Kept D T → Kept D T → Event → Type 0
+IsAfter stance old new e = (w : W.Build) → StandsFor stance old.build w → image_in stance new.build ≡ world_image (setting_in old.build) (W.after_one (setting_in old.build) w e)
+
+-- The size that `Full` tells is that of the event's own record.
+abbrev pub IsSized : {D T : Type 0} → (T → Stance) → Kept D T → Kept D T → Event → Result Taken TakeFault → Type 0
+IsSized stance old new e (Ok answer) = Unit {0}
+IsSized stance old new e (Err Memory) = Unit {0}
+IsSized stance old new e (Err Disk) = Unit {0}
+IsSized stance old new e (Err (Full len add)) = IsAfter stance old new e
+IsSized stance old new e (Err Stopped) = Unit {0}
+
+-- a record was to be added: a crash meanwhile leaves the records from before, or these and the new one
+pub record Puts {D : Type 0} (clock : D → ℕ) (since : D → ℕ → List ℕ → Type 0) (old new : State D) (item : EventRecord) (payloads : List (List ℕ)) : Type 0 where
+  pub payload : List ℕ
+  pub spells : Spells record_form item payload
+  pub room : old.len + (5 + length payload) ≤ 2 ^ 30
+  pub moments : AtEachMoment clock since old.disk new.disk (HasWithOrWithout payloads payload)
+
+-- The accepted event has its record behind those from before, and the build stands by them all. Where it stood for a build of
+-- the definitions, the record has the image of that one after the event.
+pub record Adds {D T : Type 0} (reads : D → Option (List ℕ)) (may_leave : D → List ℕ → Type 0) (clock : D → ℕ) (since : D → ℕ → List ℕ → Type 0) (stance : T → Stance) (old new : Kept D T) (e : Event) (payloads : List (List ℕ)) : Type 0 where
+  pub puts : Puts clock since old.journal new.journal (record_of e (image_in stance new.build)) payloads
+  pub keeps : Keeps reads may_leave stance new (payloads ++ puts.payload ∷ [])
+  pub image : IsAfter stance old new e
+
+-- The disk failed: the record of the accepted event is there or not, now and after a crash.
+pub record Risks {D T : Type 0} (clock : D → ℕ) (since : D → ℕ → List ℕ → Type 0) (stance : T → Stance) (old new : Kept D T) (e : Event) (payloads : List (List ℕ)) : Type 0 where
+  pub puts : Puts clock since old.journal new.journal (record_of e (image_in stance new.build)) payloads
+  pub image : IsAfter stance old new e
+
+-- the store after a take; with another answer nothing was written
+abbrev pub TakeKeeps : {D T : Type 0} → (D → Option (List ℕ)) → (D → List ℕ → Type 0) → (D → ℕ) → (D → ℕ → List ℕ → Type 0) → (T → Stance) → Kept D T → Kept D T → Event → List (List ℕ) → Result Taken TakeFault → Type 0
+TakeKeeps reads may_leave clock since stance old new e payloads (Ok Accepted) = Adds reads may_leave clock since stance old new e payloads
+TakeKeeps reads may_leave clock since stance old new e payloads (Err Disk) = Risks clock since stance old new e payloads
+TakeKeeps reads may_leave clock since stance old new e payloads r = Unit {0}
+
+-- the sources that an event brings
+abbrev pub IsSource : Event → Option Sources → Type 0
+IsSource (event.Start script agents) o = o ≡ Some (record { script = script; agents = agents })
+IsSource e o = o ≡ None
+
+abbrev pub kept_script : Option Sources → List ℕ → List ℕ
+kept_script None old = old
+kept_script (Some s) old = s.script
+
+abbrev pub kept_agents : Option Sources → List ℕ → List ℕ
+kept_agents None old = old
+kept_agents (Some s) old = s.agents
+
+-- Adding a record, of so many bytes with its frame, to a journal of this length.
+abbrev pub AddAnswers : ℕ → ℕ → Result (Unit {0}) TakeFault → Type 0
+AddAnswers len add (Ok _) = len + add ≤ 2 ^ 30
+AddAnswers len add (Err Memory) = Unit {0}
+AddAnswers len add (Err Disk) = len + add ≤ 2 ^ 30
+AddAnswers len add (Err (Full l a)) = (l ≡ len) × (2 ^ 30 < l + a) × (a ≡ add)
+AddAnswers len add (Err Stopped) = ⊥
+
+abbrev pub AddLeaves : {D : Type 0} → State D → State D → ℕ → Result (Unit {0}) TakeFault → Type 0
+AddLeaves old new add (Ok _) = (new.len ≡ old.len + add) × (new.stopped ≡ false)
+AddLeaves old new add (Err Memory) = new ≡ old
+AddLeaves old new add (Err Disk) = new.len ≡ old.len
+AddLeaves old new add (Err (Full l a)) = new ≡ old
+AddLeaves old new add (Err Stopped) = new ≡ old
+
+abbrev pub AddKeeps : {D : Type 0} → (D → Option (List ℕ)) → (D → List ℕ → Type 0) → (D → ℕ) → (D → ℕ → List ℕ → Type 0) → State D → State D → EventRecord → List (List ℕ) → Result (Unit {0}) TakeFault → Type 0
+AddKeeps reads may_leave clock since old new item payloads (Ok _) = (puts : Puts clock since old new item payloads) × Holds reads may_leave new (payloads ++ puts.payload ∷ [])
+AddKeeps reads may_leave clock since old new item payloads (Err Disk) = Puts clock since old new item payloads
+AddKeeps reads may_leave clock since old new item payloads r = Unit {0}

@@ -1,0 +1,20 @@
+//! Why a store was not opened.
+
+use thiserror::Error;
+
+/// Why a store was not opened.
+#[derive(Clone, Copy, Debug, PartialEq, Eq, Error)]
+pub enum StoreFault {
+    /// The memory was refused.
+    #[error("out of memory")]
+    Memory,
+    /// The disk failed.
+    #[error("the disk failed")]
+    Disk,
+    /// It has no record.
+    #[error("the store has no record")]
+    Empty,
+    /// The record whose gate stands at this place is cut short, or is not in the form of the first record or of the last.
+    #[error("the record at byte {at} is damaged")]
+    Damaged { at: u64 },
+}

@@ -1,0 +1,25 @@
+//! A build over a disk: each event that it accepts is durable, with the build's image after it, when it is answered.
+//!
+//! The disk holds a journal, a record for each event (`record_form`). [`DurableBuild::open`] goes on from the image of the
+//! last record alone; of the others it reads the framing, and the whole of the first one, which has the script and the
+//! agents file.
+//!
+//! ```text
+//! let mut build: DurableBuild<FileDisk, Thread> = DurableBuild::create(alloc, disk, Build::new(alloc, code, site)?)?;
+//! build.take(alloc, &Event::Start { script, agents })?; // on the disk
+//! let disk = build.close();
+//! // in another process
+//! let mut build: DurableBuild<FileDisk, Thread> = DurableBuild::open(alloc, disk)?;
+//! build.take(alloc, &Event::Decided { request: 1, proceed: true, name })?;
+//! ```
+#![tactic(auto)]
+
+mod durable;
+mod faults;
+mod load;
+mod opening;
+mod store;
+
+pub use agent_worker::TakeFault;
+pub use durable::DurableBuild;
+pub use faults::StoreFault;

@@ -1,0 +1,211 @@
+-- How a life begins.
+use Rattle.std.proofs.Common.{◌≡◌, ◌⊎◌, ◌<◌, ℕ, Bool, true, false, List, [], ◌∷◌, Option, Some, None, Ok, Err, inl, inr, refl, sym, ap, ◌∙◌, subst, length, arith}
+use Rattle.std.specs.Prelude.{nat_lt, if◌then◌else◌, codes}
+use Rattle.std.specs.Str.{is_utf8}
+use Rattle.serde_json.specs.Data.{Data}
+use Rattle.serde_json.specs.Read.{read}
+use Rattle.jp_disk.specs.Moments.{AtEachMoment}
+use Rattle.jp_disk.proofs.MomentLemmas.{runs_on, at_each_weaker, starts}
+use Rattle.journal_core.specs.Answers.{IsStarted}
+use Rattle.journal_core.specs.Moments.{SinceSync}
+use Rattle.journal_core.specs.Records.{Has, HasWithOrWithout, records, Walked}
+use Rattle.journal_core.specs.State.{State}
+use Rattle.journal_core.specs.declared.faults.CreateFault.{CreateFault}
+use Rattle.journal_core.specs.declared.faults.CreateFault.TheVariants.{Disk as CreateDisk, HasRecord}
+use Rattle.field_form.specs.Forms.{Spells}
+use Rattle.record_form.specs.Records.{record_form, record_of}
+use Rattle.record_form.specs.declared.record.EventRecord.{EventRecord}
+use Rattle.agent_worker.specs.declared.fault.TakeFault.{TakeFault}
+use Rattle.agent_worker.specs.declared.fault.TakeFault.TheVariants.{Memory, Disk, Full, Stopped}
+use Rattle.model_run.specs.declared.agents.AgentsKind.TheVariants as kind
+use Rattle.model_run.specs.declared.event.Event.{Event}
+use Rattle.model_run.specs.declared.event.Event.TheVariants as event
+use Rattle.model_run.specs.declared.site.Site.{Site}
+use Rattle.model_run.specs.declared.taken.Taken.{Taken}
+use Rattle.model_run.specs.declared.taken.Taken.TheVariants.{Accepted, NotOpen, WrongPlace, Finished}
+use Rattle.model_run.specs.AgentsFaults.{Fault, fault, file_faults}
+use Rattle.model_run.specs.AgentsFile.{agents_file, Means, Refused as BadFile, of_json, site_of, judged as judged_file}
+use Rattle.model_run.proofs.DueLaws.{site_numbers}
+use Rattle.model_run.specs.State.{Setting}
+use Rattle.model_run.specs.Taking.{taken, Standing}
+use Rattle.model_run.specs.World.{Build, unbegun, after_one, world_in}
+use Rattle.settle_laws.specs.Stances.{Stance}
+use Rattle.build_core.specs.Builds.{StandsFor, setting_in, standing_of}
+use Rattle.build_images.specs.Images.{image_in, world_image}
+use Rattle.script_run.proofs.Begun.{starts_begun}
+use Rattle.script_run.specs.Standing.{AreNumbered, IsProper}
+use Rattle.store_laws.specs.Store.{AllDue, AllSpell, IsStory, Mean, Starts, events_of}
+use Rattle.store_laws.proofs.Tellings.{one_record, one_setting}
+use Rattle.durable_build.specs.Standing.{Kept, Keeps, Opening}
+use Rattle.durable_build.specs.Opening.{Opened}
+use Rattle.durable_build.proofs.Begun.{starts_first}
+use Rattle.durable_build.proofs.OpenLemmas.{begun_all, is_start}
+use Rattle.durable_build.specs.Taking.{IsSized, Puts, TakeAnswers, TakeLeaves, TakeKeeps, added}
+use Rattle.saved_run.specs.declared.life.Life.{Life}
+use Rattle.saved_run.specs.Saved.{IsTold, Stores, Survives}
+use Rattle.saved_run.specs.declared.life.BeginFault.TheVariants.{Take}
+use Rattle.saved_run.specs.Lives.{image_after, StartFaults, MayRisk, Stands, Begins, BeginRefuses, StartFails}
+use Rattle.saved_run.proofs.SavedLemmas.{same_standing, told_none, told_start, survives_all, survives_risked}
+
+-- the executors of an agents file have numbers of their own
+site_numbered : (a : List ℕ) (site : Site) → agents_file a ≡ Means site → AreNumbered site
+site_numbered a site means = file (nat_lt 65536 (length a)) (is_utf8 a) means
+  where
+    faults : (fs : List Fault) (d : Data) → judged_file fs (site_of d) ≡ Means site → AreNumbered site
+    faults [] d e = let is : site_of d ≡ site = cc in subst AreNumbered is (site_numbers d)
+    faults (fault path k ∷ fs) d e = absurd (cc)
+
+    json : (o : Option Data) → of_json o ≡ Means site → AreNumbered site
+    json None e = absurd (cc)
+    json (Some d) e = faults (file_faults d) d e
+
+    file : (long text : Bool) → (if long then BadFile (codes ".") kind.TooLong else (if text then of_json (read a) else BadFile (codes ".") kind.NotJson)) ≡ Means site → AreNumbered site
+    file true text e = absurd (cc)
+    file false true e = json (read a) e
+    file false false e = absurd (cc)
+
+-- the setting of a script and an agents file without a fault
+pub mean_proper : (script agents : List ℕ) (setting : Setting) → Mean script agents setting → IsProper setting
+mean_proper script agents setting mean = record { tree = mean.tree; is = mean.is; numbered = site_numbered agents setting.site mean.means }
+
+module _ {D T : Type 0} (reads : D → Option (List ℕ)) (may_leave : D → List ℕ → Type 0) (clock : D → ℕ) (since : D → ℕ → List ℕ → Type 0) (stance : T → Stance) (setting : Setting) (script agents file : List ℕ) (disk : D) (fresh new : Kept D T)
+    (mean : Mean script agents setting) (same : setting_in fresh.build ≡ setting) (stands : StandsFor stance fresh.build unbegun) (unstarted : IsStarted file → ⊥) (none : Has [] file) (keeps_none : Keeps reads may_leave stance fresh [])
+    (quiet : SinceSync clock since may_leave file disk fresh.journal.disk (λ image. records image ≡ records file)) where
+  abbrev start : Event
+  start = event.Start script agents
+
+  starts_accepted : taken (standing_of fresh.build) start ≡ Accepted
+  starts_accepted = ap (λ (b : Standing). taken b start) (same_standing stance fresh.build unbegun stands)
+
+  told_here : (puts : Puts clock since fresh.journal new.journal (record_of start (image_in stance new.build)) [])
+      → ((w : Build) → StandsFor stance fresh.build w → image_in stance new.build ≡ world_image (setting_in fresh.build) (after_one (setting_in fresh.build) w start)) → IsTold setting (start ∷ []) (puts.payload ∷ [])
+  told_here puts image =
+      told_start setting script agents puts.payload (record_of start (image_in stance new.build)) mean puts.spells refl
+      (subst (λ (s : Setting). image_in stance new.build ≡ world_image s (after_one s unbegun start)) same (image unbegun stands))
+
+  stores_none : (image : List ℕ) → Has [] image → Stores setting [] image
+  stores_none image has = record { payloads = []; has = has; told = told_none setting }
+
+  module _ (taken : List Event) (risked : Option Event) (some : (image : List ℕ) → Stores setting [] image → Survives setting [] taken risked image) where
+    before_start : AtEachMoment clock since quiet.synced fresh.journal.disk (Survives setting [] taken risked)
+    before_start = at_each_weaker clock since quiet.synced fresh.journal.disk (λ image. records image ≡ records file) (Survives setting [] taken risked) (λ image is. some image (stores_none image (is ∙ none))) quiet.from_then
+
+    with_start : ((image : List ℕ) → Stores setting (start ∷ []) image → Survives setting [] taken risked image) → (now : D) (p : List ℕ) → IsTold setting (start ∷ []) (p ∷ []) → AtEachMoment clock since fresh.journal.disk now (HasWithOrWithout [] p) → SinceSync clock since may_leave file disk now (Survives setting [] taken risked)
+    with_start all now p told moments = record {
+      synced = quiet.synced;
+      up_to = quiet.up_to;
+      durable = quiet.durable;
+      from_then = runs_on clock since quiet.synced fresh.journal.disk now (Survives setting [] taken risked) before_start
+          (at_each_weaker clock since fresh.journal.disk now (HasWithOrWithout [] p) (Survives setting [] taken risked) (λ image has. either image has) moments);
+    }
+      where
+        either : (image : List ℕ) → HasWithOrWithout [] p image → Survives setting [] taken risked image
+        either image (inl has) = some image (stores_none image has)
+        either image (inr has) = all image (record { payloads = p ∷ []; has = has; told = told })
+
+    without_start : (now : State D) → now ≡ fresh.journal → SinceSync clock since may_leave file disk now.disk (Survives setting [] taken risked)
+    without_start now is = subst (λ (j : State D). SinceSync clock since may_leave file disk j.disk (Survives setting [] taken risked)) (sym is) (record { synced = quiet.synced; up_to = quiet.up_to; durable = quiet.durable; from_then = before_start })
+
+  pub begins_taken : (answer : Taken) (life : Life D T) → life.durable ≡ new → answer ≡ taken (standing_of fresh.build) start → setting_in new.build ≡ setting_in fresh.build → TakeLeaves stance fresh new start (Ok answer)
+      → TakeKeeps reads may_leave clock since stance fresh new start [] (Ok answer) → Begins reads may_leave clock since stance setting start file disk life
+  begins_taken Accepted life at is here leaves a =
+      let told = told_here a.puts a.image in
+      let now : setting_in new.build ≡ setting = here ∙ same in
+      record {
+        fresh = unstarted;
+        stands = subst (λ (k : Kept D T). Stands reads may_leave clock since stance setting (start ∷ []) k) (sym at) (record {
+          same = now;
+          proper = mean_proper script agents setting mean;
+          begun = starts_begun setting script agents;
+          running = leaves.0;
+          saves = record { payloads = a.puts.payload ∷ []; keeps = a.keeps; told = subst (λ (s : Setting). IsTold s (start ∷ []) (a.puts.payload ∷ [])) (sym now) told };
+        });
+        moments = subst (λ (k : Kept D T). SinceSync clock since may_leave file disk k.journal.disk (Survives setting [] (start ∷ []) None)) (sym at)
+            (with_start (start ∷ []) None (λ image stores. record { kept = []; front = record { begins = ([], refl); within = inl (start ∷ [], refl) }; stores = stores })
+            (λ image stores. survives_all setting [] (start ∷ []) None image (start ∷ [], refl) stores) new.journal.disk a.puts.payload told a.puts.moments);
+      }
+  begins_taken NotOpen life at is here leaves keeps = let bad : NotOpen ≡ Accepted = is ∙ starts_accepted in absurd (cc)
+  begins_taken (WrongPlace kept) life at is here leaves keeps = let bad : WrongPlace kept ≡ Accepted = is ∙ starts_accepted in absurd (cc)
+  begins_taken Finished life at is here leaves keeps = let bad : Finished ≡ Accepted = is ∙ starts_accepted in absurd (cc)
+
+  unrisked : (f : TakeFault) → new.journal ≡ fresh.journal → MayRisk f (Some start) None → StartFails reads may_leave clock since stance setting start file disk new.journal.disk f
+  unrisked f is may = record {
+    fresh = unstarted;
+    risked = None;
+    may_risk = may;
+    moments = without_start [] None (λ image stores. survives_all setting [] [] None image ([], refl) stores) new.journal is;
+  }
+
+  pub start_fails : (f : TakeFault) → fresh.stopped ≡ false → TakeAnswers stance fresh new start (Err f) → TakeLeaves stance fresh new start (Err f)
+      → TakeKeeps reads may_leave clock since stance fresh new start [] (Err f) → StartFails reads may_leave clock since stance setting start file disk new.journal.disk f
+  start_fails Memory running answers leaves keeps = unrisked Memory leaves.1 refl
+  start_fails (Full len add) running answers leaves keeps = unrisked (Full len add) leaves.1 refl
+  start_fails Stopped running answers leaves keeps = let bad : false ≡ true = sym running ∙ answers in absurd (cc)
+  start_fails Disk running answers leaves r = record {
+    fresh = unstarted;
+    risked = Some start;
+    may_risk = refl;
+    moments = with_start [] (Some start) (λ image stores. survives_all setting [] [] (Some start) image ([], refl) stores) (λ image stores. survives_risked setting [] [] start image ([], refl) stores) new.journal.disk r.puts.payload
+        (told_here r.puts r.image) r.puts.moments;
+  }
+
+-- the fault of a `Start`, in a journal without a record
+pub start_faults : {D T : Type 0} (stance : T → Stance) (setting : Setting) (old new : Kept D T) (e : Event) (f : TakeFault) → setting_in old.build ≡ setting → StandsFor stance old.build unbegun → old.stopped ≡ false → old.journal.len ≡ 1
+    → TakeAnswers stance old new e (Err f) → IsSized stance old new e (Err f) → StartFaults setting e f
+start_faults stance setting old new e Memory same stands running len answers size = tt
+start_faults stance setting old new e Disk same stands running len answers size = tt
+start_faults stance setting old new e (Full at add) same stands running len answers size =
+    let image : image_in stance new.build ≡ image_after setting (e ∷ []) =
+    subst (λ (s : Setting). image_in stance new.build ≡ world_image s (after_one s unbegun e)) same (size unbegun stands) in
+    (answers.2 ∙ len, answers.3, answers.4 ∙ ap (added e) image)
+start_faults stance setting old new e Stopped same stands running len answers size = let bad : false ≡ true = sym running ∙ answers in absurd (cc)
+
+-- the take of a `Start` failed
+pub start_refused : {D : Type 0} (reads : D → Option (List ℕ)) (may_leave : D → List ℕ → Type 0) (clock : D → ℕ) (since : D → ℕ → List ℕ → Type 0) {T : Type 0} (stance : T → Stance) (setting : Setting) (start : Event) (file : List ℕ) (disk now : D) (f : TakeFault)
+    → StartFaults setting start f → StartFails reads may_leave clock since stance setting start file disk now f → BeginRefuses reads may_leave clock since stance setting start file disk (Take f) now
+start_refused reads may_leave clock since stance setting start file disk now Memory faults fails = (faults, inr (inr fails))
+start_refused reads may_leave clock since stance setting start file disk now Disk faults fails = (faults, inr (inr fails))
+start_refused reads may_leave clock since stance setting start file disk now (Full at add) faults fails = (faults, fails)
+start_refused reads may_leave clock since stance setting start file disk now Stopped faults fails = (faults, inr (inr fails))
+
+-- what a crash leaves where a journal was not made
+pub since_started : {A B : Type 0} (f : CreateFault) → f ≡ HasRecord → A ⊎ ((f ≡ CreateDisk) × B) → A
+since_started f is (inl since) = since
+since_started f is (inr failed) = let bad : HasRecord ≡ CreateDisk = sym is ∙ failed.0 in absurd (cc)
+
+pub since_either : {A B C E : Type 0} → A ⊎ (E × B) → B ⊎ (A ⊎ C)
+since_either (inl since) = inr (inl since)
+since_either (inr failed) = inl failed.1
+
+-- a record that starts a build starts it in the setting that its script and agents file mean
+same_setting : (s t : Setting) (script agents p : List ℕ) (r : EventRecord) → Opening s script agents p → Spells record_form r p → Starts t r.event → t ≡ s
+same_setting s t script agents p r o spells starts =
+    let same : o.first ≡ r = one_record o.first r p o.spells spells in
+    one_setting t s script agents (subst (Starts t) (ap (λ (x : EventRecord). x.event) (sym same) ∙ o.starts) starts) o.mean
+
+same_payloads : (ps qs : List (List ℕ)) (file : List ℕ) → Has ps file → Has qs file → ps ≡ qs
+same_payloads ps qs file a b = ap (λ (w : Walked). w.payloads) (sym a ∙ b)
+
+nothing : 0 < 0 → ⊥
+nothing lt = omega (arith, lt)
+
+-- a store that was opened, and is that of these events
+pub reopened : {D T : Type 0} (reads : D → Option (List ℕ)) (may_leave : D → List ℕ → Type 0) (clock : D → ℕ) (since : D → ℕ → List ℕ → Type 0) (stance : T → Stance) (setting : Setting) (events : List Event) (file : List ℕ) (k : Kept D T)
+    → Opened reads may_leave stance file k → k.stopped ≡ false → Stores setting events file → Stands reads may_leave clock since stance setting events k
+reopened {D} {T} reads may_leave clock since stance setting events file k o running stores =
+    one o.payloads stores.told.records o.some o.keeps (subst (AllSpell stores.told.records) (same_payloads stores.payloads o.payloads file stores.has o.has) stores.told.spelled) stores.told.story stores.told.due stores.told.are
+  where
+    one : (ps : List (List ℕ)) (rs : List EventRecord) → 0 < length ps → Keeps reads may_leave stance k ps → AllSpell rs ps → IsStory world_image setting rs → AllDue setting unbegun rs → events_of rs ≡ events
+        → Stands reads may_leave clock since stance setting events k
+    one [] rs some keeps spelled story due are = absurd (nothing some)
+    one (p ∷ ps) [] some keeps spelled story due are = absurd spelled
+    one (p ∷ ps) (r ∷ rs) some keeps spelled story due are =
+        let o = keeps.stands.1 in
+        let same : setting ≡ setting_in k.build = same_setting (setting_in k.build) setting k.script k.agents p r o spelled.0 story.starts in
+        record {
+          same = sym same;
+          proper = subst IsProper (sym same) (mean_proper k.script k.agents (setting_in k.build) o.mean);
+          begun = subst (λ (es : List Event). (world_in setting es).started ≡ true) are (begun_all setting (r.event ∷ []) (events_of rs) (starts_first setting r.event (is_start setting r.event story.starts)));
+          running = running;
+          saves = record { payloads = p ∷ ps; keeps = keeps; told = subst (λ (s : Setting). IsTold s events (p ∷ ps)) same (record { records = r ∷ rs; spelled = spelled; story = story; due = due; are = are }) };
+        }

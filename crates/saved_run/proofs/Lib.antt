@@ -1,0 +1,4 @@
+pub mod SavedLemmas
+pub mod LifeLemmas
+pub mod TurnLemmas
+pub mod BeginLemmas

@@ -1,0 +1,154 @@
+-- What a take makes of a life.
+use Rattle.std.proofs.Common.{◌≡◌, ◌⊎◌, ◌≤◌, ℕ, true, false, List, [], ◌∷◌, ◌++◌, Option, Some, None, Ok, Err, inl, inr, refl, sym, ap, ◌∙◌, subst, append-nil, append_assoc}
+use Rattle.jp_disk.specs.Moments.{AtEachMoment}
+use Rattle.jp_disk.proofs.MomentLemmas.{runs_on, at_each_weaker, starts}
+use Rattle.journal_core.specs.Records.{HasWithOrWithout}
+use Rattle.journal_core.specs.State.{State}
+use Rattle.journal_core.proofs.StepLemmas.{stores_has}
+use Rattle.record_form.specs.Records.{record_of}
+use Rattle.agent_worker.specs.declared.fault.TakeFault.{TakeFault}
+use Rattle.agent_worker.specs.declared.fault.TakeFault.TheVariants.{Memory, Disk, Full, Stopped}
+use Rattle.model_run.specs.declared.event.Event.{Event}
+use Rattle.model_run.specs.declared.taken.Taken.{Taken}
+use Rattle.model_run.specs.declared.taken.Taken.TheVariants.{Accepted, NotOpen, WrongPlace, Finished}
+use Rattle.model_run.specs.State.{Setting}
+use Rattle.model_run.specs.Taking.{taken, Standing}
+use Rattle.model_run.specs.World.{Build, answer_to, after_one, next_grant, unbegun, world_in}
+use Rattle.settle_laws.specs.Stances.{Stance}
+use Rattle.build_core.specs.Builds.{StandsFor, setting_in, standing_of}
+use Rattle.build_images.specs.Images.{image_in, world_image}
+use Rattle.script_run.proofs.Begun.{stays_begun}
+use Rattle.store_laws.specs.Store.{events_of, grant_of}
+use Rattle.durable_build.specs.Standing.{Kept, Keeps}
+use Rattle.store_laws.proofs.Stories.{world-more}
+use Rattle.durable_build.specs.Taking.{IsAfter, IsSized, Puts, TakeAnswers, TakeLeaves, TakeKeeps, added}
+use Rattle.saved_run.specs.Saved.{IsTold, Stores, Survives}
+use Rattle.saved_run.specs.Lives.{image_after, IsFull, IsOf, MayRisk, Stands, Lasts, Fails}
+use Rattle.saved_run.proofs.SavedLemmas.{same_standing, told_more, survives_all, survives_risked, survives_more, survives_risk}
+
+module _ {D T : Type 0} (reads : D → Option (List ℕ)) (may_leave : D → List ℕ → Type 0) (clock : D → ℕ) (since : D → ℕ → List ℕ → Type 0) (stance : T → Stance) where
+  -- the build stands for that of its events
+  pub stands_world : (setting : Setting) (events : List Event) (kept : Kept D T) → Stands reads may_leave clock since stance setting events kept → StandsFor stance kept.build (world_in setting events)
+  stands_world setting events kept s =
+      let t = s.saves.told in
+      subst (λ (es : List Event). StandsFor stance kept.build (world_in setting es)) t.are
+      (subst (λ (x : Setting). StandsFor stance kept.build (world_in x (events_of t.records))) s.same (s.saves.keeps.story t.records t.spelled t.story))
+
+  -- what a crash leaves of a life, and what stands on its disk now
+  pub saved_image : (setting : Setting) (events : List Event) (kept : Kept D T) (image : List ℕ) → Stands reads may_leave clock since stance setting events kept → may_leave kept.journal.disk image → Stores setting events image
+  saved_image setting events kept image s left = record {
+    payloads = s.saves.payloads;
+    has = stores_has reads may_leave kept.journal.disk kept.journal.len s.saves.payloads image s.saves.keeps.holds left;
+    told = subst (λ (x : Setting). IsTold x events s.saves.payloads) s.same s.saves.told;
+  }
+
+  -- a life from its own disk on
+  pub lasts_here : ((d : D) (image : List ℕ) → since d (clock d) image → may_leave d image) → (setting : Setting) (events : List Event) (kept : Kept D T) → Stands reads may_leave clock since stance setting events kept
+      → Lasts reads may_leave clock since stance setting kept.journal.disk events events kept
+  lasts_here only_now setting events kept s = record {
+    stands = s;
+    goes_on = ([], sym (append-nil events));
+    moments = starts clock since kept.journal.disk (Survives setting events events None)
+        (λ image left. survives_all setting events events None image ([], sym (append-nil events)) (saved_image setting events kept image s (only_now kept.journal.disk image left)));
+  }
+
+  module _ (setting : Setting) (origin : D) (before events : List Event) (old new : Kept D T) (e : Event) (lasts : Lasts reads may_leave clock since stance setting origin before events old)
+      (accepted : answer_to setting (world_in setting events) e ≡ Accepted) (due : next_grant setting (world_in setting events) ≡ grant_of e) where
+    -- the build accepts what its world accepts
+    pub is_accepted : taken (standing_of old.build) e ≡ Accepted
+    is_accepted =
+        ap (λ (b : Standing). taken b e) (same_standing stance old.build (world_in setting events) (stands_world setting events old lasts.stands))
+        ∙ ap (λ (s : Setting). answer_to s (world_in setting events) e) lasts.stands.same ∙ accepted
+
+    told_next : (puts : Puts clock since old.journal new.journal (record_of e (image_in stance new.build)) lasts.stands.saves.payloads)
+        → ((w : Build) → StandsFor stance old.build w → image_in stance new.build ≡ world_image (setting_in old.build) (after_one (setting_in old.build) w e))
+        → IsTold setting (events ++ e ∷ []) (lasts.stands.saves.payloads ++ puts.payload ∷ [])
+    told_next puts image =
+        let s = lasts.stands in
+        told_more setting events s.saves.payloads puts.payload (record_of e (image_in stance new.build)) (subst (λ (x : Setting). IsTold x events s.saves.payloads) s.same s.saves.told) s.begun puts.spells accepted due
+        (subst (λ (x : Setting). image_in stance new.build ≡ world_image x (after_one x (world_in setting events) e)) s.same (image (world_in setting events) (stands_world setting events old s)))
+
+    with_or_without : (p image : List ℕ) → IsTold setting (events ++ e ∷ []) (lasts.stands.saves.payloads ++ p ∷ []) → HasWithOrWithout lasts.stands.saves.payloads p image
+        → Stores setting events image ⊎ Stores setting (events ++ e ∷ []) image
+    with_or_without p image told (inl has) = inl (record { payloads = lasts.stands.saves.payloads; has = has; told = subst (λ (x : Setting). IsTold x events lasts.stands.saves.payloads) lasts.stands.same lasts.stands.saves.told })
+    with_or_without p image told (inr has) = inr (record { payloads = lasts.stands.saves.payloads ++ p ∷ []; has = has; told = told })
+
+    longer : (more : List Event) × (events ++ e ∷ [] ≡ before ++ more)
+    longer = (lasts.goes_on.0 ++ e ∷ [], ap (λ (es : List Event). es ++ e ∷ []) lasts.goes_on.1 ∙ append_assoc before lasts.goes_on.0 (e ∷ []))
+
+    kept_all : (image : List ℕ) → Stores setting events image ⊎ Stores setting (events ++ e ∷ []) image → Survives setting before (events ++ e ∷ []) None image
+    kept_all image (inl stores) = survives_more setting before events e image (survives_all setting before events None image lasts.goes_on stores)
+    kept_all image (inr stores) = survives_all setting before (events ++ e ∷ []) None image longer stores
+
+    kept_risked : (image : List ℕ) → Stores setting events image ⊎ Stores setting (events ++ e ∷ []) image → Survives setting before events (Some e) image
+    kept_risked image (inl stores) = survives_all setting before events (Some e) image lasts.goes_on stores
+    kept_risked image (inr stores) = survives_risked setting before events e image lasts.goes_on stores
+
+    -- It was taken.
+    pub lasts_taken : (answer : Taken) → answer ≡ taken (standing_of old.build) e → setting_in new.build ≡ setting_in old.build → TakeLeaves stance old new e (Ok answer)
+        → ((ps : List (List ℕ)) → Keeps reads may_leave stance old ps → TakeKeeps reads may_leave clock since stance old new e ps (Ok answer)) → Lasts reads may_leave clock since stance setting origin before (events ++ e ∷ []) new
+    lasts_taken Accepted is same leaves keeps =
+        let s = lasts.stands in
+        let a = keeps s.saves.payloads s.saves.keeps in
+        let told = told_next a.puts a.image in
+        let here : setting_in new.build ≡ setting = same ∙ s.same in
+        record {
+          stands = record {
+            same = here;
+            proper = s.proper;
+            begun = stays_begun setting events e s.begun;
+            running = leaves.0;
+            saves = record { payloads = s.saves.payloads ++ a.puts.payload ∷ []; keeps = a.keeps; told = subst (λ (x : Setting). IsTold x (events ++ e ∷ []) (s.saves.payloads ++ a.puts.payload ∷ [])) (sym here) told };
+          };
+          goes_on = longer;
+          moments = runs_on clock since origin old.journal.disk new.journal.disk (Survives setting before (events ++ e ∷ []) None)
+              (at_each_weaker clock since origin old.journal.disk (Survives setting before events None) (Survives setting before (events ++ e ∷ []) None) (survives_more setting before events e) lasts.moments)
+              (at_each_weaker clock since old.journal.disk new.journal.disk (HasWithOrWithout s.saves.payloads a.puts.payload) (Survives setting before (events ++ e ∷ []) None)
+              (λ image has. kept_all image (with_or_without a.puts.payload image told has)) a.puts.moments);
+        }
+    lasts_taken NotOpen is same leaves keeps = let bad : NotOpen ≡ Accepted = is ∙ is_accepted in absurd (cc)
+    lasts_taken (WrongPlace kept) is same leaves keeps = let bad : WrongPlace kept ≡ Accepted = is ∙ is_accepted in absurd (cc)
+    lasts_taken Finished is same leaves keeps = let bad : Finished ≡ Accepted = is ∙ is_accepted in absurd (cc)
+
+    -- the image that a record of the event was to have is that of the world behind it
+    image_is : IsAfter stance old new e → image_in stance new.build ≡ image_after setting (events ++ e ∷ [])
+    image_is after =
+        let s = lasts.stands in
+        subst (λ (x : Setting). image_in stance new.build ≡ world_image x (after_one x (world_in setting events) e)) s.same (after (world_in setting events) (stands_world setting events old s))
+        ∙ ap (world_image setting) (sym (world-more setting unbegun events e))
+
+    calm : (fault : TakeFault) → new.journal ≡ old.journal → IsOf setting events fault (Some e) → IsFull e (image_after setting (events ++ e ∷ [])) old.journal.len fault → MayRisk fault (Some e) None
+        → Fails reads may_leave clock since stance setting origin before events fault new
+    calm fault same of full may = record {
+      refused = Some e;
+      is_next = of;
+      full = subst (λ (j : State D). IsFull e (image_after setting (events ++ e ∷ [])) j.len fault) (sym same) full;
+      risked = None;
+      may_risk = may;
+      moments = subst (λ (j : State D). AtEachMoment clock since origin j.disk (Survives setting before events None)) (sym same) lasts.moments;
+      images = λ image left. inl (saved_image setting events old image lasts.stands (subst (λ (j : State D). may_leave j.disk image) same left));
+    }
+
+    -- It was not taken.
+    pub fails_taken : ((d : D) (t : ℕ) (image : List ℕ) → t ≤ clock d → may_leave d image → since d t image) → (fault : TakeFault) → TakeAnswers stance old new e (Err fault) → IsSized stance old new e (Err fault) → TakeLeaves stance old new e (Err fault)
+        → ((ps : List (List ℕ)) → Keeps reads may_leave stance old ps → TakeKeeps reads may_leave clock since stance old new e ps (Err fault)) → Fails reads may_leave clock since stance setting origin before events fault new
+    fails_taken counts_now Memory answers size leaves keeps = calm Memory leaves.1 tt tt refl
+    fails_taken counts_now (Full len add) answers size leaves keeps =
+        calm (Full len add) leaves.1 (record { accepted = accepted; due = due }) (answers.2, answers.3, answers.4 ∙ ap (added e) (image_is size)) refl
+    fails_taken counts_now Stopped answers size leaves keeps = let bad : false ≡ true = sym lasts.stands.running ∙ answers in absurd (cc)
+    fails_taken counts_now Disk answers size leaves keeps =
+        let s = lasts.stands in
+        let r = keeps s.saves.payloads s.saves.keeps in
+        let told = told_next r.puts r.image in
+        record {
+          refused = Some e;
+          is_next = record { accepted = accepted; due = due };
+          full = tt;
+          risked = Some e;
+          may_risk = refl;
+          moments = runs_on clock since origin old.journal.disk new.journal.disk (Survives setting before events (Some e))
+              (at_each_weaker clock since origin old.journal.disk (Survives setting before events None) (Survives setting before events (Some e)) (survives_risk setting before events (Some e)) lasts.moments)
+              (at_each_weaker clock since old.journal.disk new.journal.disk (HasWithOrWithout s.saves.payloads r.puts.payload) (Survives setting before events (Some e))
+              (λ image has. kept_risked image (with_or_without r.puts.payload image told has)) r.puts.moments);
+          images = λ image left. with_or_without r.puts.payload image told (r.puts.moments.each image (counts_now new.journal.disk (clock old.journal.disk) image r.puts.moments.later left));
+        }

@@ -1,0 +1,117 @@
+-- What one event more makes of a store, and what a crash leaves of it.
+use Rattle.std.proofs.Common.{◌≡◌, ◌⊎◌, ℕ, true, false, List, [], ◌∷◌, ◌++◌, Option, Some, None, inl, inr, refl, sym, ap, ◌∙◌, subst, append-nil, append_assoc}
+use Rattle.std.specs.Prelude.{IsSomeAnd}
+use Rattle.field_form.specs.Forms.{Spells}
+use Rattle.record_form.specs.Records.{record_form}
+use Rattle.record_form.specs.declared.record.EventRecord.{EventRecord}
+use Rattle.model_run.specs.declared.event.Event.{Event}
+use Rattle.model_run.specs.declared.event.Event.TheVariants as event
+use Rattle.model_run.specs.declared.taken.Taken.TheVariants.{Accepted}
+use Rattle.model_run.specs.State.{Common, Setting}
+use Rattle.model_run.specs.World.{Build, unbegun, answer_to, after_one, next_grant, standing, world_in}
+use Rattle.settle_laws.specs.Stances.{Stance}
+use Rattle.build_core.specs.Builds.{Parts, StandsFor, setting_in, standing_of}
+use Rattle.build_core.specs.Phases.{has_begun, has_ended, shown}
+use Rattle.build_core.specs.declared.phase.Phase.{Phase}
+use Rattle.build_core.specs.declared.phase.Phase.TheVariants.{Unbegun, Running, Ended, Stopped}
+use Rattle.cps_frames.specs.Standing.{common_of}
+use Rattle.build_images.specs.Images.{world_image}
+use Rattle.store_laws.specs.Store.{FirstStarts, Mean, events_of, grant_of}
+use Rattle.store_laws.proofs.Stories.{spell_more, events-more, due_more, follows_more}
+use Rattle.saved_run.specs.Saved.{IsTold, Stores, Survives}
+
+shown_requests : (p : Phase) (u : Common) → (shown p u).requests ≡ u.requests
+shown_requests Unbegun u = refl
+shown_requests Running u = refl
+shown_requests Ended u = refl
+shown_requests Stopped u = refl
+
+shown_held : (p : Phase) (u : Common) → (shown p u).held ≡ u.held
+shown_held Unbegun u = refl
+shown_held Running u = refl
+shown_held Ended u = refl
+shown_held Stopped u = refl
+
+-- the answer of a build is that of each build of the definitions that it stands for
+pub same_standing : {T : Type 0} (stance : T → Stance) (b : Parts T) (w : Build) → StandsFor stance b w → standing_of b ≡ standing (setting_in b) w
+same_standing stance b w st =
+    let started : w.started ≡ has_begun b.phase = st.started in
+    let ended : w.ended ≡ has_ended b.phase = st.ended in
+    let requests : w.shared.requests ≡ b.shared.requests = ap (λ (u : Common). u.requests) st.stand.shared ∙ shown_requests b.phase (common_of b.shared) in
+    let held : w.shared.held ≡ b.shared.held = ap (λ (u : Common). u.held) st.stand.shared ∙ shown_held b.phase (common_of b.shared) in
+    rw (started, ended, requests, held) refl
+
+module _ (setting : Setting) where
+  -- no event, and no record
+  pub told_none : IsTold setting [] []
+  told_none = record { records = []; spelled = tt; story = record { starts = tt; follows = tt }; due = tt; are = refl }
+
+  -- a `Start`, and its record
+  pub told_start : (script agents p : List ℕ) (r : EventRecord) → Mean script agents setting → Spells record_form r p → r.event ≡ event.Start script agents
+      → r.image ≡ world_image setting (after_one setting unbegun r.event) → IsTold setting (event.Start script agents ∷ []) (p ∷ [])
+  told_start script agents p r mean spells is image = record {
+    records = r ∷ [];
+    spelled = (spells, tt);
+    story = record {
+      starts = subst (λ (e : Event). FirstStarts setting (record r { event = e } ∷ [])) (sym is) mean;
+      follows = (subst (λ (e : Event). answer_to setting unbegun e ≡ Accepted) (sym is) refl, image, tt);
+    };
+    due = (subst (λ (e : Event). next_grant setting unbegun ≡ grant_of e) (sym is) refl, tt);
+    are = ap (λ (e : Event). e ∷ []) is;
+  }
+
+  starts_more : (records : List EventRecord) (r : EventRecord) → FirstStarts setting records → (world_in setting (events_of records)).started ≡ true → FirstStarts setting (records ++ r ∷ [])
+  starts_more [] r starts begun = let bad : false ≡ true = begun in absurd (cc)
+  starts_more (q ∷ qs) r starts begun = starts
+
+  -- one event more, and its record
+  pub told_more : (events : List Event) (ps : List (List ℕ)) (p : List ℕ) (r : EventRecord) → IsTold setting events ps → (world_in setting events).started ≡ true → Spells record_form r p
+      → answer_to setting (world_in setting events) r.event ≡ Accepted → next_grant setting (world_in setting events) ≡ grant_of r.event
+      → r.image ≡ world_image setting (after_one setting (world_in setting events) r.event) → IsTold setting (events ++ r.event ∷ []) (ps ++ p ∷ [])
+  told_more events ps p r t begun spells accepted due image =
+      let at = sym t.are in
+      record {
+        records = t.records ++ r ∷ [];
+        spelled = spell_more t.records ps r p t.spelled spells;
+        story = record {
+          starts = starts_more t.records r t.story.starts (subst (λ (es : List Event). (world_in setting es).started ≡ true) at begun);
+          follows = follows_more world_image setting unbegun t.records r t.story.follows (subst (λ (es : List Event). answer_to setting (world_in setting es) r.event ≡ Accepted) at accepted)
+              (subst (λ (es : List Event). r.image ≡ world_image setting (after_one setting (world_in setting es) r.event)) at image);
+        };
+        due = due_more setting unbegun t.records r t.due (subst (λ (es : List Event). next_grant setting (world_in setting es) ≡ grant_of r.event) at due);
+        are = events-more t.records r ∙ ap (λ (es : List Event). es ++ r.event ∷ []) t.are;
+      }
+
+  module _ (before : List Event) where
+    -- all that was taken survives, and what survives of some events survives of more
+    pub survives_all : (events : List Event) (risked : Option Event) (image : List ℕ) → (more : List Event) × (events ≡ before ++ more) → Stores setting events image → Survives setting before events risked image
+    survives_all events risked image goes stores = record {
+      kept = events;
+      front = record { begins = goes; within = inl ([], sym (append-nil events)) };
+      stores = stores;
+    }
+
+    pub survives_risked : (events : List Event) (e : Event) (image : List ℕ) → (more : List Event) × (events ≡ before ++ more) → Stores setting (events ++ e ∷ []) image → Survives setting before events (Some e) image
+    survives_risked events e image goes stores = record {
+      kept = events ++ e ∷ [];
+      front = record { begins = (goes.0 ++ e ∷ [], ap (λ (es : List Event). es ++ e ∷ []) goes.1 ∙ append_assoc before goes.0 (e ∷ [])); within = inr refl };
+      stores = stores;
+    }
+
+    pub survives_more : (events : List Event) (e : Event) (image : List ℕ) → Survives setting before events None image → Survives setting before (events ++ e ∷ []) None image
+    survives_more events e image s = record {
+      kept = s.kept;
+      front = record { begins = s.front.begins; within = longer s.front.within };
+      stores = s.stores;
+    }
+      where
+        longer : ((rest : List Event) × (events ≡ s.kept ++ rest)) ⊎ IsSomeAnd {T = Event} None (λ x. s.kept ≡ events ++ x ∷ []) → ((rest : List Event) × (events ++ e ∷ [] ≡ s.kept ++ rest)) ⊎ IsSomeAnd {T = Event} None (λ x. s.kept ≡ (events ++ e ∷ []) ++ x ∷ [])
+        longer (inl rest) = inl (rest.0 ++ e ∷ [], ap (λ (es : List Event). es ++ e ∷ []) rest.1 ∙ append_assoc s.kept rest.0 (e ∷ []))
+        longer (inr none) = absurd none
+
+    pub survives_risk : (events : List Event) (risked : Option Event) (image : List ℕ) → Survives setting before events None image → Survives setting before events risked image
+    survives_risk events risked image s = record { kept = s.kept; front = record { begins = s.front.begins; within = inl (only s.front.within) }; stores = s.stores }
+      where
+        only : ((rest : List Event) × (events ≡ s.kept ++ rest)) ⊎ IsSomeAnd {T = Event} None (λ x. s.kept ≡ events ++ x ∷ []) → (rest : List Event) × (events ≡ s.kept ++ rest)
+        only (inl rest) = rest
+        only (inr none) = absurd none

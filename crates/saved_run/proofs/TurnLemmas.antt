@@ -1,0 +1,161 @@
+-- What a turn makes of a life.
+use Rattle.std.proofs.Common.{◌≡◌, ◌⊎◌, ◌∙◌, refl, sym, subst, append-nil, ℕ, zero, suc, ◌<◌, arith, Bool, true, false, List, [], ◌∷◌, ◌++◌, Option, Some, None, Result, Ok, Err, inl}
+use Rattle.std.specs.Prelude.{MatchResult}
+use Rattle.std.proofs.KnownBytes.{Consumes-nil, Consumes-trans}
+use Rattle.std.specs.Io.KnownBytes.{Consumes, IsAtEnd}
+use Rattle.agent_worker.specs.AnswerBytes.{NoNewline, read_bytes}
+use Rattle.agent_worker.specs.declared.fault.TakeFault.{TakeFault}
+use Rattle.agent_worker.specs.declared.fault.TakeFault.TheVariants.{Memory}
+use Rattle.agent_worker.specs.declared.operator.LineEnd.{LineEnd}
+use Rattle.build_requests.specs.Waiting.{waiting_inputs}
+use Rattle.model_run.specs.declared.event.Event.{Event}
+use Rattle.model_run.specs.declared.event.Event.TheVariants.{Granted as GrantedEvent}
+use Rattle.model_run.specs.declared.taken.Taken.TheVariants.{Accepted}
+use Rattle.model_run.specs.State.{Setting}
+use Rattle.model_run.specs.World.{answer_to, next_grant, world_in}
+use Rattle.settle_laws.specs.Stances.{Stance}
+use Rattle.durable_build.specs.Standing.{Kept}
+use Rattle.script_run.specs.declared.rest.Rest.TheVariants.{Ended, Waits, AnswersFailed}
+use Rattle.script_run.specs.Rests.{nothing, of_line}
+use Rattle.script_run.specs.Running.{Decides, EndsLine, Hears, IsPassedOver, Listens, decides, passes_over}
+use Rattle.script_run.proofs.Turns.{grant_accepted}
+use Rattle.saved_run.specs.declared.life.Life.{Life}
+use Rattle.saved_run.specs.Going.{GoesOn, begins, grants, hears}
+use Rattle.saved_run.specs.Lives.{Lasts, Fails, SoFar, Turned, Broken}
+use Rattle.saved_run.proofs.LifeLemmas.{saved_image}
+
+pub positive : (n : ℕ) → (n ≡ 0 → ⊥) → 0 < n
+positive zero some = absurd (some refl)
+positive (suc n) some = omega arith
+
+module _ {D T : Type 0} (reads : D → Option (List ℕ)) (may_leave : D → List ℕ → Type 0) (clock : D → ℕ) (since : D → ℕ → List ℕ → Type 0) (stance : T → Stance) (setting : Setting) (origin : D) (before : List Event) where
+  -- memory was refused, and nothing was written
+  pub wanting : (events : List Event) (kept : Kept D T) → Lasts reads may_leave clock since stance setting origin before events kept → Fails reads may_leave clock since stance setting origin before events Memory kept
+  wanting events kept lasts = record {
+    refused = None;
+    is_next = tt;
+    full = tt;
+    risked = None;
+    may_risk = refl;
+    moments = lasts.moments;
+    images = λ image left. inl (saved_image reads may_leave clock since stance setting events kept image lasts.stands left);
+  }
+
+  -- a line that decides nothing, and one whose decision was to be taken
+  pub hears_passed : (events : List Event) (line : List ℕ) (kept : Kept D T) → Lasts reads may_leave clock since stance setting origin before events kept → IsPassedOver (world_in setting events) line
+      → (now : List Event) × Lasts reads may_leave clock since stance setting origin before now kept × Hears setting (world_in setting events) line events now
+  hears_passed events line kept lasts passed = (events, lasts, passes_over passed)
+
+  pub hears_taken : (events : List Event) (line : List ℕ) (e : Event) (new : Kept D T) (r : Result (Unit {0}) TakeFault) → Decides (world_in setting events) line e → answer_to setting (world_in setting events) e ≡ Accepted
+      → MatchResult r (λ _. Lasts reads may_leave clock since stance setting origin before (events ++ e ∷ []) new) (λ f. Fails reads may_leave clock since stance setting origin before events f new)
+      → MatchResult r (λ _. (now : List Event) × Lasts reads may_leave clock since stance setting origin before now new × Hears setting (world_in setting events) line events now)
+      (λ f. Fails reads may_leave clock since stance setting origin before events f new)
+  hears_taken events line e new (Ok u) decided accepted lasts = (events ++ e ∷ [], lasts, decides e decided accepted)
+  hears_taken events line e new (Err f) decided accepted fails = fails
+
+  module _ (old left : Option (List ℕ)) (events : List Event) (life : Life D T) where
+    pub rests_ended : SoFar reads may_leave clock since stance setting origin before old left [] events life → (world_in setting events).ended ≡ true
+        → Turned reads may_leave clock since stance setting origin before old left (Some Ended) life
+    rests_ended so ended = record { events = events; part = []; so_far = so; turns = (ended, refl) }
+
+    pub rests_waiting : SoFar reads may_leave clock since stance setting origin before old left [] events life → (world_in setting events).ended ≡ false → next_grant setting (world_in setting events) ≡ None
+        → (waiting_inputs (world_in setting events).shared.requests ≡ 0) ⊎ (life.has_answers ≡ false) → Turned reads may_leave clock since stance setting origin before old left (Some Waits) life
+    rests_waiting so going none idle = record { events = events; part = []; so_far = so; turns = (going, none, idle, refl) }
+
+    pub breaks : (fault : TakeFault) (new : Life D T) → SoFar reads may_leave clock since stance setting origin before old left [] events life → (world_in setting events).ended ≡ false
+        → Fails reads may_leave clock since stance setting origin before events fault new.durable → Broken reads may_leave clock since stance setting origin before old left fault new
+    breaks fault new so going fails = record {
+      events = events;
+      has_answers = life.has_answers;
+      read = so.read;
+      part = [];
+      goes = so.goes;
+      answers = so.answers;
+      going = going;
+      left_over = nothing;
+      fails = fails;
+    }
+
+    pub turns_granted : (request executor : ℕ) (new : Life D T) → SoFar reads may_leave clock since stance setting origin before old left [] events life → (world_in setting events).ended ≡ false
+        → next_grant setting (world_in setting events) ≡ Some (request, executor) → new.has_answers ≡ life.has_answers
+        → Lasts reads may_leave clock since stance setting origin before (events ++ GrantedEvent request executor ∷ []) new.durable → Turned reads may_leave clock since stance setting origin before old left None new
+    turns_granted request executor new so going due same lasts = record {
+      events = events ++ GrantedEvent request executor ∷ [];
+      part = [];
+      so_far = record {
+        lasts = lasts;
+        read = so.read;
+        goes = subst (λ (h : Bool). GoesOn setting before (events ++ GrantedEvent request executor ∷ []) so.read h) (sym same)
+            (grants request executor so.goes due (grant_accepted setting so.lasts.stands.proper events so.lasts.stands.begun going request executor due));
+        answers = so.answers;
+        at_end = λ e. so.at_end (sym same ∙ e);
+      };
+      turns = refl;
+    }
+
+    module _ (next : Option (List ℕ)) where
+      -- more was read behind
+      consumed : (part : List ℕ) (so : SoFar reads may_leave clock since stance setting origin before old left [] events life) → Consumes left next part → Consumes old next (so.read ++ part)
+      consumed part so more = Consumes-trans old left next so.read part (subst (Consumes old left) (append-nil so.read) so.answers) more
+
+      pub rests_failed : (part : List ℕ) → SoFar reads may_leave clock since stance setting origin before old left [] events life → (world_in setting events).ended ≡ false → Listens setting (world_in setting events)
+          → life.has_answers ≡ true → NoNewline part → Consumes left next part → Turned reads may_leave clock since stance setting origin before old next (Some AnswersFailed) life
+      rests_failed part so going listens has plain more = record {
+        events = events;
+        part = part;
+        so_far = record {
+          lasts = so.lasts;
+          read = so.read;
+          goes = so.goes;
+          answers = consumed part so more;
+          at_end = λ e. let bad : true ≡ false = sym has ∙ e in absurd (cc);
+        };
+        turns = (going, listens, has, plain);
+      }
+
+      pub breaks_line : (fault : TakeFault) (line : List ℕ) (end : LineEnd) (new : Life D T) → SoFar reads may_leave clock since stance setting origin before old left [] events life → (world_in setting events).ended ≡ false
+          → Listens setting (world_in setting events) → life.has_answers ≡ true → NoNewline line → Consumes left next (read_bytes end line)
+          → Fails reads may_leave clock since stance setting origin before events fault new.durable → Broken reads may_leave clock since stance setting origin before old next fault new
+      breaks_line fault line end new so going listens has plain more fails = record {
+        events = events;
+        has_answers = life.has_answers;
+        read = so.read;
+        part = read_bytes end line;
+        goes = so.goes;
+        answers = consumed (read_bytes end line) so more;
+        going = going;
+        left_over = of_line line end listens has plain;
+        fails = fails;
+      }
+
+      pub turns_heard : (now : List Event) (line : List ℕ) (end : LineEnd) (new : Life D T) → SoFar reads may_leave clock since stance setting origin before old left [] events life → Listens setting (world_in setting events)
+          → life.has_answers ≡ true → NoNewline line → EndsLine end new.has_answers → Hears setting (world_in setting events) line events now → Consumes left next (read_bytes end line)
+          → (new.has_answers ≡ false → IsAtEnd next) → Lasts reads may_leave clock since stance setting origin before now new.durable → Turned reads may_leave clock since stance setting origin before old next None new
+      turns_heard now line end new so listens has plain ends heard more at_end lasts = record {
+        events = now;
+        part = [];
+        so_far = record {
+          lasts = lasts;
+          read = so.read ++ read_bytes end line;
+          goes = hears line end (subst (λ (h : Bool). GoesOn setting before events so.read h) has so.goes) listens plain ends heard;
+          answers = subst (Consumes old next) (sym (append-nil (so.read ++ read_bytes end line))) (consumed (read_bytes end line) so more);
+          at_end = at_end;
+        };
+        turns = refl;
+      }
+
+    -- a turn behind which the life goes on
+    pub goes_further : (new : Life D T) (next : Option (List ℕ)) (t : Turned reads may_leave clock since stance setting origin before old next None new)
+        → SoFar reads may_leave clock since stance setting origin before old next [] t.events new
+    goes_further new next t = subst (λ part. SoFar reads may_leave clock since stance setting origin before old next part t.events new) t.turns t.so_far
+
+-- a life that stands is one so far
+pub so_far_here : {D T : Type 0} (reads : D → Option (List ℕ)) (may_leave : D → List ℕ → Type 0) (clock : D → ℕ) (since : D → ℕ → List ℕ → Type 0) (stance : T → Stance) (setting : Setting) (origin : D) (before : List Event) (left : Option (List ℕ))
+    (life : Life D T) → Lasts reads may_leave clock since stance setting origin before before life.durable → life.has_answers ≡ true → SoFar reads may_leave clock since stance setting origin before left left [] before life
+so_far_here reads may_leave clock since stance setting origin before left life lasts has = record {
+  lasts = lasts;
+  read = [];
+  goes = subst (λ (h : Bool). GoesOn setting before before [] h) (sym has) begins;
+  answers = Consumes-nil left;
+  at_end = λ e. let bad : true ≡ false = sym has ∙ e in absurd (cc);
+}

@@ -1,0 +1,58 @@
+use Rattle.std.proofs.Common.{ℕ, List, sym, ap, subst}
+use Rattle.build_core.specs.Builds.{Parts, StandsFor}
+use Rattle.model_run.specs.declared.event.Event.TheVariants.{Decided as DecidedEvent}
+use Rattle.model_run.specs.World.{world_in}
+use Rattle.script_run.specs.Running.{too_long, no_answer, nothing_open}
+use Rattle.script_run.proofs.Turns.{decided}
+use Rattle.saved_run.proofs.LifeLemmas.{stands_world}
+use Rattle.saved_run.proofs.TurnLemmas.{wanting, hears_passed, hears_taken}
+use Rattle.saved_run.proofs.life.Life.hear.Goals as goal
+
+pub returns-in_default-clause-hears : goal.returns-in_default-clause-hears
+returns-in_default-clause-hears g c = λ setting origin before events lasts listens going.
+    let D = g.D.Disk in
+    hears_passed D.reads D.may_leave D.clock D.may_have_left_since g.R.ScriptThread.stance setting origin before events c.args.line.now c.args.self.now.durable lasts (too_long c.in_default.ensures)
+
+pub returns-in_default-answer_of-clause-hears : goal.returns-in_default-answer_of-clause-hears
+returns-in_default-answer_of-clause-hears g c = λ setting origin before events lasts listens going.
+    let D = g.D.Disk in
+    hears_passed D.reads D.may_leave D.clock D.may_have_left_since g.R.ScriptThread.stance setting origin before events c.args.line.now c.args.self.now.durable lasts (no_answer c.in-Some.said.now c.in-Some.ensures c.in_default-answer_of.ensures.reads)
+
+pub returns-in_default-input_of-clause-hears : goal.returns-in_default-input_of-clause-hears
+returns-in_default-input_of-clause-hears g c = λ setting origin before events lasts listens going.
+    let D = g.D.Disk in
+    let w = world_in setting events in
+    let at = subst (λ (b : Parts g.row.R.Denot). StandsFor g.R.ScriptThread.stance b w) (sym c.build.ensures) (stands_world D.reads D.may_leave D.clock D.may_have_left_since g.R.ScriptThread.stance setting events c.args.self.now.durable lasts.stands) in
+    let answer = c.in-Some-answer_of.answer in
+    hears_passed D.reads D.may_leave D.clock D.may_have_left_since g.R.ScriptThread.stance setting origin before events c.args.line.now c.args.self.now.durable lasts
+    (nothing_open c.in-Some.said.now c.in-Some.ensures answer.proceed answer.id.now answer.name.now c.in-Some-answer_of.ensures.reads (sym (c.in_default-input_of.ensures.world w at)))
+
+pub returns-in_default-from_slice-clause-hears : goal.returns-in_default-from_slice-clause-hears
+returns-in_default-from_slice-clause-hears g c = λ setting origin before events lasts listens going.
+    let D = g.D.Disk in
+    wanting D.reads D.may_leave D.clock D.may_have_left_since g.R.ScriptThread.stance setting origin before events c.args.self.now.durable lasts
+
+pub returns-clause-hears : goal.returns-clause-hears
+returns-clause-hears g c = λ setting origin before events lasts listens going.
+    let D = g.D.Disk in
+    let w = world_in setting events in
+    let at = subst (λ (b : Parts g.row.R.Denot). StandsFor g.R.ScriptThread.stance b w) (sym c.build.ensures) (stands_world D.reads D.may_leave D.clock D.may_have_left_since g.R.ScriptThread.stance setting events c.args.self.now.durable lasts.stands) in
+    let answer = c.in-Some-answer_of.answer in
+    let request = c.in-Some-input_of.request in
+    let open_now = sym (c.in-Some-input_of.ensures.world w at) in
+    let accepted = decided setting lasts.stands.proper events lasts.stands.begun going answer.id.now request answer.proceed c.in-Ok.name open_now in
+    hears_taken D.reads D.may_leave D.clock D.may_have_left_since g.R.ScriptThread.stance setting origin before events c.args.line.now (DecidedEvent request answer.proceed c.in-Ok.name) c.take.new.self.durable c.take.result
+    (record {
+      said = c.in-Some.said.now;
+      kept = c.in-Some.ensures;
+      request = request;
+      answer = record {
+        proceed = answer.proceed;
+        id = answer.id.now;
+        name = answer.name.now;
+        answers = c.in-Some-answer_of.ensures.reads;
+        is = ap (λ (t : List ℕ). DecidedEvent request answer.proceed t) c.in-Ok.ensures;
+      };
+      open_now = open_now;
+    })
+    accepted (c.take.ensures.takes setting origin before events lasts accepted listens.granted)

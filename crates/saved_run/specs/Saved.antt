@@ -1,0 +1,44 @@
+-- What the store of a build holds at each moment of a life, and what a crash leaves (this product's own).
+use Rattle.std.specs.Prelude.{◌≡◌, ◌⊎◌, ℕ, List, [], ◌∷◌, ◌++◌, Option, IsSomeAnd}
+use Rattle.record_form.specs.declared.record.EventRecord.{EventRecord}
+use Rattle.model_run.specs.declared.event.Event.{Event}
+use Rattle.model_run.specs.State.{Setting}
+use Rattle.model_run.specs.World.{unbegun}
+use Rattle.settle_laws.specs.Stances.{Stance}
+use Rattle.build_core.specs.Builds.{setting_in}
+use Rattle.build_images.specs.Images.{world_image}
+use Rattle.store_laws.specs.Store.{AllDue, AllSpell, IsStory, events_of}
+use Rattle.journal_core.specs.Records.{Has}
+use Rattle.durable_build.specs.Standing.{Kept, Keeps}
+
+-- These payloads are the records of one build, with just these events: each was accepted, has the image of the build behind it, and makes a
+-- grant where one is due.
+pub record IsTold (setting : Setting) (events : List Event) (payloads : List (List ℕ)) : Type 0 where
+  pub records : List EventRecord
+  pub spelled : AllSpell records payloads
+  pub story : IsStory world_image setting records
+  pub due : AllDue setting unbegun records
+  pub are : events_of records ≡ events
+
+-- A consistent store of these events.
+pub record Stores (setting : Setting) (events : List Event) (file : List ℕ) : Type 0 where
+  pub payloads : List (List ℕ)
+  pub has : Has payloads file
+  pub told : IsTold setting events payloads
+
+-- These events begin with those from before, and are a front of the taken ones, or all of them and the one whose take the disk failed.
+pub record IsFront (before taken : List Event) (risked : Option Event) (kept : List Event) : Type 0 where
+  pub begins : (more : List Event) × (kept ≡ before ++ more)
+  pub within : ((rest : List Event) × (taken ≡ kept ++ rest)) ⊎ IsSomeAnd risked (λ event. kept ≡ taken ++ event ∷ [])
+
+-- what a crash leaves
+pub record Survives (setting : Setting) (before taken : List Event) (risked : Option Event) (file : List ℕ) : Type 0 where
+  pub kept : List Event
+  pub front : IsFront before taken risked kept
+  pub stores : Stores setting kept file
+
+-- The disk holds the records of these events, all of them durable, and the build goes on from them.
+pub record Saves {D T : Type 0} (reads : D → Option (List ℕ)) (may_leave : D → List ℕ → Type 0) (stance : T → Stance) (kept : Kept D T) (events : List Event) : Type 0 where
+  pub payloads : List (List ℕ)
+  pub keeps : Keeps reads may_leave stance kept payloads
+  pub told : IsTold (setting_in kept.build) events payloads

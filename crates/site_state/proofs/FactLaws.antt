@@ -1,0 +1,335 @@
+-- What is known of the store goes on through one take.
+use Rattle.std.proofs.Common.{◌≡◌, ◌⊎◌, ◌≤◌, ◌∙◌, ℕ, zero, suc, inl, inr, true, false, List, [], ◌∷◌, ◌++◌, take, Option, Some, None, Result, Ok, Err, refl, sym, ap, subst, append_assoc, append-nil, arith}
+use Rattle.std.specs.Prelude.{IsErrOf, OnOk, fold}
+use Rattle.device_faults.specs.Faults.{Rose}
+use Rattle.jp_disk.specs.Moments.{AtEachMoment}
+use Rattle.jp_disk.proofs.MomentLemmas.{starts, runs_on, at_each_weaker, rose_later}
+use Rattle.journal_core.specs.Records.{Has, HasWithOrWithout}
+use Rattle.journal_core.proofs.StepLemmas.{stores_has}
+use Rattle.record_form.specs.Records.{record_of}
+use Rattle.record_form.specs.declared.record.EventRecord.{EventRecord}
+use Rattle.model_run.specs.declared.event.Event.{Event}
+use Rattle.model_run.specs.declared.taken.Taken.{Taken}
+use Rattle.model_run.specs.declared.taken.Taken.TheVariants.{Accepted, NotOpen, WrongPlace, Finished}
+use Rattle.model_run.specs.State.{Setting}
+use Rattle.model_run.specs.World as W
+use Rattle.settle_laws.specs.Stances.{Stance}
+use Rattle.build_core.specs.Builds.{Parts, StandsFor, setting_in}
+use Rattle.build_core.specs.Phases.{has_begun}
+use Rattle.build_images.specs.Images.{world_image, image_in}
+use Rattle.store_laws.specs.Store.{AllSpell, events_of, grant_of}
+use Rattle.store_laws.proofs.Stories.{spell_more, events-more, world-more, due_more, follows_more}
+use Rattle.agent_worker.specs.declared.fault.TakeFault.{TakeFault}
+use Rattle.agent_worker.specs.declared.fault.TakeFault.TheVariants.{Memory, Disk, Full, Stopped}
+use Rattle.durable_build.specs.Standing.{Kept, Keeps}
+use Rattle.durable_build.specs.Taking.{Adds, Risks, TakeAnswers, TakeKeeps, TakeLeaves}
+use Rattle.site_state.specs.declared.ask.Entry.{Entry}
+use Rattle.site_state.specs.declared.ask.Entry.TheVariants.{Took, Failed}
+use Rattle.site_state.specs.Histories.{tooks, kept_fault, at_risk, Quiet}
+use Rattle.site_state.specs.Showing.{answer_of, IsNext, IsShown}
+use Rattle.site_state.specs.Facts.{IsMeant, GoOn, HasFront, Grown, IsFull, Facts}
+use Rattle.site_state.specs.Grants.{noted}
+use Rattle.site_state.proofs.HistoryLaws.{tooks-append, kept_fault-append, fault_not_none, pending-append, none_pending, none_full, full-append}
+use Rattle.site_state.proofs.WorldLaws.{IsInOrder, next_in_order, same_answer}
+
+fold-append : (s : Setting) (w : W.Build) (es fs : List Event) → fold (W.after_one s) w (es ++ fs) ≡ fold (W.after_one s) (fold (W.after_one s) w es) fs
+fold-append s w [] fs = refl
+fold-append s w (e ∷ es) fs = fold-append s (W.after_one s w e) es fs
+
+no_last : (es : List Event) (e : Event) → es ++ e ∷ [] ≡ [] → ⊥
+no_last [] e is = cc
+no_last (x ∷ xs) e is = cc
+
+no_records : (rs : List EventRecord) → events_of rs ≡ [] → rs ≡ []
+no_records [] is = refl
+no_records (r ∷ rs) is = absurd (cc)
+
+no_payloads : (rs : List EventRecord) (ps : List (List ℕ)) → rs ≡ [] → AllSpell rs ps → ps ≡ []
+no_payloads [] [] none all = refl
+no_payloads [] (p ∷ ps) none all = absurd all
+no_payloads (r ∷ rs) ps none all = absurd (cc)
+
+-- fronts of a list
+front_within : (xs ys : List (List ℕ)) (k : ℕ) → (n : ℕ) × (take k xs ≡ take n (xs ++ ys))
+front_within [] ys zero = (0, refl)
+front_within [] ys (suc k) = (0, refl)
+front_within (x ∷ xs) ys zero = (0, refl)
+front_within (x ∷ xs) ys (suc k) = let w = front_within xs ys k in (suc w.0, ap (λ (zs : List (List ℕ)). x ∷ zs) w.1)
+
+front_all : (xs ys : List (List ℕ)) → (n : ℕ) × (xs ≡ take n (xs ++ ys))
+front_all [] ys = (0, refl)
+front_all (x ∷ xs) ys = let w = front_all xs ys in (suc w.0, ap (λ (zs : List (List ℕ)). x ∷ zs) w.1)
+
+-- the same records, with one that may be behind them
+front_more : (ps added : List (List ℕ)) (p : List ℕ) (image : List ℕ) → HasFront ps added image → HasFront ps (added ++ p ∷ []) image
+front_more ps added p image is = let w = front_within added (p ∷ []) is.0 in (w.0, subst (λ (xs : List (List ℕ)). Has (ps ++ xs) image) w.1 is.1)
+
+either_front : (ps added : List (List ℕ)) (p : List ℕ) (image : List ℕ) → HasWithOrWithout (ps ++ added) p image → HasFront ps (added ++ p ∷ []) image
+either_front ps added p image (inl is) = let w = front_all added (p ∷ []) in (w.0, subst (λ (xs : List (List ℕ)). Has (ps ++ xs) image) w.1 is)
+either_front ps added p image (inr is) =
+    let w = front_all (added ++ p ∷ []) [] in
+    (w.0, subst (λ (xs : List (List ℕ)). Has (ps ++ xs) image) (w.1 ∙ ap (λ (xs : List (List ℕ)). take w.0 xs) (append-nil (added ++ p ∷ []))) (subst (λ (xs : List (List ℕ)). Has xs image) (append_assoc ps added (p ∷ [])) is))
+
+module _ {T : Type 0} (stance : T → Stance) where
+  -- the build after one event more
+  pub shown_more : (opening b after : Parts T) (events : List Event) (e : Event) → has_begun after.phase ≡ true → IsShown stance opening events b → IsNext stance b e after → IsShown stance opening (events ++ e ∷ []) after
+  shown_more opening b after events e begun shown next = record {
+    begun = begun;
+    setting = next.setting ∙ shown.setting;
+    unchanged = λ none. absurd (no_last events e none);
+    stands = λ w at.
+        let s = setting_in opening in
+        let before : StandsFor stance b (fold (W.after_one s) w events) = shown.stands w at in
+        subst (StandsFor stance after) (sym (world-more s w events e))
+        (subst (λ (x : Setting). StandsFor stance after (W.after_one x (fold (W.after_one s) w events) e)) shown.setting (next.stands (fold (W.after_one s) w events) before));
+  }
+
+  -- and its record
+  pub go_on_more : (opening b : Parts T) (records : List EventRecord) (events : List Event) (r : EventRecord) → GoOn stance opening records → events_of records ≡ events → IsShown stance opening events b
+      → answer_of b r.event ≡ Accepted → IsInOrder b r.event → ((w : W.Build) → StandsFor stance b w → r.image ≡ world_image (setting_in b) (W.after_one (setting_in b) w r.event))
+      → GoOn stance opening (records ++ r ∷ [])
+  go_on_more opening b records events r on are shown accepted order image before meant started at =
+      let s = setting_in opening in
+      let w = W.world_in s before in
+      let so_far = on before meant started at in
+      let here : W.Build = fold (W.after_one s) w (events_of records) in
+      let at_here : StandsFor stance b here = subst (λ (es : List Event). StandsFor stance b (fold (W.after_one s) w es)) (sym are) (shown.stands w at) in
+      let is_world : here ≡ W.world_in s (before ++ events_of records) = sym (fold-append s W.unbegun before (events_of records)) in
+      let begun_here : here.started ≡ true = at_here.started ∙ shown.begun in
+      let answered : W.answer_to s here r.event ≡ Accepted = subst (λ (x : Setting). W.answer_to x here r.event ≡ Accepted) shown.setting (same_answer stance b here shown.begun at_here r.event ∙ accepted) in
+      let pictured : r.image ≡ world_image s (W.after_one s here r.event) = subst (λ (x : Setting). r.image ≡ world_image x (W.after_one x here r.event)) shown.setting (image here at_here) in
+      let due_here : W.next_grant s here ≡ grant_of r.event =
+      subst (λ (x : W.Build). W.next_grant s x ≡ grant_of r.event) (sym is_world)
+      (subst (λ (x : Setting). IsMeant x → (W.world_in x (before ++ events_of records)).started ≡ true → StandsFor stance b (W.world_in x (before ++ events_of records)) → W.next_grant x (W.world_in x (before ++ events_of records)) ≡ grant_of r.event) shown.setting
+      (λ m st stands. next_in_order stance b shown.begun r.event accepted order m (before ++ events_of records) st stands)
+      meant (subst (λ (x : W.Build). x.started ≡ true) is_world begun_here) (subst (StandsFor stance b) is_world at_here)) in
+      (follows_more world_image s w records r so_far.0 answered pictured, due_more s w records r so_far.1 due_here)
+
+module _ {D T : Type 0} (reads : D → Option (List ℕ)) (may_leave : D → List ℕ → Type 0) (clock : D → ℕ) (since : D → ℕ → List ℕ → Type 0) (stance : T → Stance) (opening old : Kept D T) (h : List Entry) (none : kept_fault h ≡ None) (ps : List (List ℕ))
+    (g : Grown reads may_leave clock since stance opening old h ps) where
+  -- while no fault is kept no record is pending
+  no_last_records : g.last_records ≡ []
+  no_last_records = no_records g.last_records (g.last_events ∙ none_pending h none)
+
+  none_last : g.last ≡ []
+  none_last = no_payloads g.last_records g.last no_last_records g.last_spelled
+
+  only_added : g.added ++ g.last ≡ g.added
+  only_added = ap (λ (xs : List (List ℕ)). g.added ++ xs) none_last ∙ append-nil g.added
+
+  only_records : g.records ++ g.last_records ≡ g.records
+  only_records = ap (λ (rs : List EventRecord). g.records ++ rs) no_last_records ∙ append-nil g.records
+
+  pub on_so_far : GoOn stance opening.build g.records
+  on_so_far = subst (GoOn stance opening.build) only_records g.go_on
+
+  front_so_far : AtEachMoment clock since opening.journal.disk old.journal.disk (HasFront ps g.added)
+  front_so_far = subst (λ (xs : List (List ℕ)). AtEachMoment clock since opening.journal.disk old.journal.disk (HasFront ps xs)) only_added g.moments
+
+  module _ (new : Kept D T) where
+    moments_more : (p : List ℕ) → AtEachMoment clock since old.journal.disk new.journal.disk (HasWithOrWithout (ps ++ g.added) p) → AtEachMoment clock since opening.journal.disk new.journal.disk (HasFront ps (g.added ++ p ∷ []))
+    moments_more p run =
+        runs_on clock since opening.journal.disk old.journal.disk new.journal.disk (HasFront ps (g.added ++ p ∷ []))
+        (at_each_weaker clock since opening.journal.disk old.journal.disk (HasFront ps g.added) (HasFront ps (g.added ++ p ∷ [])) (front_more ps g.added p) front_so_far)
+        (at_each_weaker clock since old.journal.disk new.journal.disk (HasWithOrWithout (ps ++ g.added) p) (HasFront ps (g.added ++ p ∷ [])) (either_front ps g.added p) run)
+
+    -- a record more
+    pub grown_more : (e : Event) → Adds reads may_leave clock since stance old new e (ps ++ g.added) → GoOn stance opening.build (g.records ++ record_of e (image_in stance new.build) ∷ [])
+        → Grown reads may_leave clock since stance opening new (h ++ Took e ∷ []) ps
+    grown_more e a on =
+        let p = a.puts.payload in
+        let all = g.added ++ p ∷ [] in
+        let r = record_of e (image_in stance new.build) in
+        let here : Keeps reads may_leave stance new (ps ++ all) = subst (Keeps reads may_leave stance new) (append_assoc ps g.added (p ∷ [])) a.keeps in
+        record {
+          records = g.records ++ r ∷ [];
+          events = events-more g.records r ∙ ap (λ (es : List Event). es ++ e ∷ []) g.events ∙ sym (tooks-append h (Took e ∷ []));
+          added = all;
+          spelled = spell_more g.records g.added r p g.spelled a.puts.spells;
+          last_records = [];
+          last_events = sym (pending-append h (Took e ∷ []) none);
+          last = [];
+          last_spelled = tt;
+          go_on = subst (GoOn stance opening.build) (sym (append-nil (g.records ++ r ∷ []))) on;
+          keeps = λ _. here;
+          moments = subst (λ (xs : List (List ℕ)). AtEachMoment clock since opening.journal.disk new.journal.disk (HasFront ps xs)) (sym (append-nil all)) (moments_more p a.puts.moments);
+          images = λ image left. inl (stores_has reads may_leave new.journal.disk new.journal.len (ps ++ all) image here.holds left);
+        }
+
+    -- a take that failed, and left the disk
+    pub grown_still : (f : TakeFault) (event : Option Event) → at_risk f event ≡ [] → new.journal ≡ old.journal → Grown reads may_leave clock since stance opening new (h ++ Failed f event ∷ []) ps
+    grown_still f event safe same = record {
+      records = g.records;
+      events = g.events ∙ sym (append-nil (tooks h)) ∙ sym (tooks-append h (Failed f event ∷ []));
+      added = g.added;
+      spelled = g.spelled;
+      last_records = g.last_records;
+      last_events = g.last_events ∙ none_pending h none ∙ sym safe ∙ sym (pending-append h (Failed f event ∷ []) none);
+      last = g.last;
+      last_spelled = g.last_spelled;
+      go_on = g.go_on;
+      keeps = λ is. absurd (fault_not_none h f event none is);
+      moments = subst (λ j. AtEachMoment clock since opening.journal.disk j.disk (HasFront ps (g.added ++ g.last))) (sym same) g.moments;
+      images = subst (λ j. (image : List ℕ) → may_leave j.disk image → Has (ps ++ g.added) image ⊎ Has (ps ++ g.added ++ g.last) image) (sym same) g.images;
+    }
+
+    -- a take that the disk failed
+    pub grown_torn : ((d : D) (t : ℕ) (image : List ℕ) → t ≤ clock d → may_leave d image → since d t image) → (e : Event) → Risks clock since stance old new e (ps ++ g.added)
+        → GoOn stance opening.build (g.records ++ record_of e (image_in stance new.build) ∷ []) → Grown reads may_leave clock since stance opening new (h ++ Failed Disk (Some e) ∷ []) ps
+    grown_torn counts_now e a on =
+        let p = a.puts.payload in
+        record {
+          records = g.records;
+          events = g.events ∙ sym (append-nil (tooks h)) ∙ sym (tooks-append h (Failed Disk (Some e) ∷ []));
+          added = g.added;
+          spelled = g.spelled;
+          last_records = record_of e (image_in stance new.build) ∷ [];
+          last_events = sym (pending-append h (Failed Disk (Some e) ∷ []) none);
+          last = p ∷ [];
+          last_spelled = (a.puts.spells, tt);
+          go_on = on;
+          keeps = λ is. absurd (fault_not_none h Disk (Some e) none is);
+          moments = moments_more p a.puts.moments;
+          images = λ image left. a.puts.moments.each image (counts_now new.journal.disk (clock old.journal.disk) image a.puts.moments.later left);
+        }
+
+  -- entries that tell of no event and no fault
+  pub grown_quiet : (es : List Entry) → Quiet es → Grown reads may_leave clock since stance opening old (h ++ es) ps
+  grown_quiet es quiet = record {
+    records = g.records;
+    events = g.events ∙ sym (append-nil (tooks h)) ∙ sym (ap (λ (xs : List Event). tooks h ++ xs) quiet.0) ∙ sym (tooks-append h es);
+    added = g.added;
+    spelled = g.spelled;
+    last_records = g.last_records;
+    last_events = g.last_events ∙ none_pending h none ∙ sym (pending-append h es none ∙ none_pending es quiet.1);
+    last = g.last;
+    last_spelled = g.last_spelled;
+    go_on = g.go_on;
+    keeps = λ _. g.keeps none;
+    moments = g.moments;
+    images = g.images;
+  }
+
+memory_disk : Memory ≡ Disk → ⊥
+memory_disk e = cc
+
+full_disk : (len add : ℕ) → Full len add ≡ Disk → ⊥
+full_disk len add e = cc
+
+same_fault : (f g : TakeFault) → Some f ≡ Some g → f ≡ g
+same_fault f g e = cc
+
+pub true_false : true ≡ false → ⊥
+true_false e = cc
+
+none_disk : None ≡ Some Disk → ⊥
+none_disk e = cc
+
+module _ {D T : Type 0} (reads : D → Option (List ℕ)) (may_leave : D → List ℕ → Type 0) (clock : D → ℕ) (since : D → ℕ → List ℕ → Type 0) (faults : D → ℕ) (stance : T → Stance) where
+  abbrev Known : Kept D T → Kept D T → List Entry → Type 0
+  Known opening now h = Facts reads may_leave clock since faults stance opening now h
+
+  -- at the opening
+  pub facts_start : ((d : D) (image : List ℕ) → since d (clock d) image → may_leave d image) → (k : Kept D T) → k.stopped ≡ false → has_begun k.build.phase ≡ true → Known k k []
+  facts_start only_now k running begun = record {
+    count = omega arith;
+    rose = λ bad. absurd (none_disk bad);
+    full = tt;
+    running = λ _. running;
+    shown = λ _. record { begun = begun; setting = refl; unchanged = λ _. refl; stands = λ w at. at };
+    grown = λ ps held.
+        let has : (image : List ℕ) → may_leave k.journal.disk image → Has (ps ++ []) image = λ image left. subst (λ (xs : List (List ℕ)). Has xs image) (sym (append-nil ps)) (stores_has reads may_leave k.journal.disk k.journal.len ps image held.holds left) in
+        record {
+          records = [];
+          events = refl;
+          added = [];
+          spelled = tt;
+          last_records = [];
+          last_events = refl;
+          last = [];
+          last_spelled = tt;
+          go_on = λ before meant started at. (tt, tt);
+          keeps = λ _. subst (Keeps reads may_leave stance k) (sym (append-nil ps)) held;
+          moments = starts clock since k.journal.disk (HasFront ps []) (λ image left. (0, has image (only_now k.journal.disk image left)));
+          images = λ image left. inl (has image left);
+        };
+  }
+
+  module _ (opening old : Kept D T) (h : List Entry) (none : kept_fault h ≡ None) (k : Known opening old h) where
+    -- entries that tell of no event and no fault
+    pub facts_quiet : (es : List Entry) → Quiet es → Known opening old (h ++ es)
+    facts_quiet es quiet = record {
+      count = k.count;
+      rose = λ bad. absurd (none_disk (sym (kept_fault-append h es none ∙ quiet.1) ∙ bad));
+      full = none_full stance old (h ++ es) (kept_fault-append h es none ∙ quiet.1);
+      running = λ _. k.running none;
+      shown = λ _. subst (λ (xs : List Event). IsShown stance opening.build xs old.build) (sym (append-nil (tooks h)) ∙ sym (ap (λ (xs : List Event). tooks h ++ xs) quiet.0) ∙ sym (tooks-append h es)) (k.shown none);
+      grown = λ ps held. grown_quiet reads may_leave clock since stance opening old h none ps (k.grown ps held) es quiet;
+    }
+
+    module _ (new : Kept D T) (count : faults old.journal.disk ≤ faults new.journal.disk) where
+      facts_fault : (f : TakeFault) (event : Option Event) → (f ≡ Disk → Rose (faults old.journal.disk) (faults new.journal.disk)) → IsFull stance new f event
+          → ((ps : List (List ℕ)) → Keeps reads may_leave stance opening ps → Grown reads may_leave clock since stance opening new (h ++ Failed f event ∷ []) ps)
+          → Known opening new (h ++ Failed f event ∷ [])
+      facts_fault f event rose full grown = record {
+        count = omega (arith, k.count, count);
+        rose = λ is. rose_later (faults opening.journal.disk) (faults old.journal.disk) (faults new.journal.disk) k.count (rose (same_fault f Disk (sym (kept_fault-append h (Failed f event ∷ []) none) ∙ is)));
+        full = full-append stance new h f event none full;
+        running = λ is. absurd (fault_not_none h f event none is);
+        shown = λ is. absurd (fault_not_none h f event none is);
+        grown = grown;
+      }
+
+      facts_more : (e : Event) → new.stopped ≡ false → has_begun new.build.phase ≡ true → IsInOrder old.build e → IsNext stance old.build e new.build
+          → ((payloads : List (List ℕ)) → Keeps reads may_leave stance old payloads → Adds reads may_leave clock since stance old new e payloads)
+          → Known opening new (h ++ Took e ∷ [])
+      facts_more e running begun order next adds = record {
+        count = omega (arith, k.count, count);
+        rose = λ bad. absurd (none_disk (sym (kept_fault-append h (Took e ∷ []) none) ∙ bad));
+        full = none_full stance new (h ++ Took e ∷ []) (kept_fault-append h (Took e ∷ []) none);
+        running = λ _. running;
+        shown = λ _. subst (λ (xs : List Event). IsShown stance opening.build xs new.build) (sym (tooks-append h (Took e ∷ []))) (shown_more stance opening.build old.build new.build (tooks h) e begun (k.shown none) next);
+        grown = λ ps held.
+            let g = k.grown ps held in
+            let a = adds (ps ++ g.added) (g.keeps none) in
+            grown_more reads may_leave clock since stance opening old h none ps g new e a
+            (go_on_more stance opening.build old.build g.records (tooks h) (record_of e (image_in stance new.build)) (on_so_far reads may_leave clock since stance opening old h none ps g) g.events (k.shown none) next.accepted order a.image);
+      }
+
+      facts_torn : ((d : D) (t : ℕ) (image : List ℕ) → t ≤ clock d → may_leave d image → since d t image) → (e : Event) → Rose (faults old.journal.disk) (faults new.journal.disk) → IsInOrder old.build e → answer_of old.build e ≡ Accepted
+          → ((payloads : List (List ℕ)) → Keeps reads may_leave stance old payloads → Risks clock since stance old new e payloads) → Known opening new (h ++ Failed Disk (Some e) ∷ [])
+      facts_torn counts_now e rose order accepted risks =
+          facts_fault Disk (Some e) (λ _. rose) tt
+          (λ ps held.
+          let g = k.grown ps held in
+          let a = risks (ps ++ g.added) (g.keeps none) in
+          grown_torn reads may_leave clock since stance opening old h none ps g new counts_now e a
+          (go_on_more stance opening.build old.build g.records (tooks h) (record_of e (image_in stance new.build)) (on_so_far reads may_leave clock since stance opening old h none ps g) g.events (k.shown none) accepted order a.image))
+
+      facts_still : (f : TakeFault) (event : Option Event) → at_risk f event ≡ [] → (f ≡ Disk → ⊥) → IsFull stance new f event → new.journal ≡ old.journal → Known opening new (h ++ Failed f event ∷ [])
+      facts_still f event safe calm full same =
+          facts_fault f event (λ bad. absurd (calm bad)) full (λ ps held. grown_still reads may_leave clock since stance opening old h none ps (k.grown ps held) new f event safe same)
+
+      facts_same : new ≡ old → Known opening new (h ++ [])
+      facts_same same = subst (λ (es : List Entry). Known opening new es) (sym (append-nil h)) (subst (λ (n : Kept D T). Known opening n h) (sym same) k)
+
+      pub facts_one : ((d : D) (t : ℕ) (image : List ℕ) → t ≤ clock d → may_leave d image → since d t image) → (e : Event) (r : Result Taken TakeFault) → old.stopped ≡ false → IsInOrder old.build e
+          → TakeAnswers stance old new e r → TakeLeaves stance old new e r → OnOk r (setting_in new.build ≡ setting_in old.build)
+          → OnOk r ((w : W.Build) → StandsFor stance old.build w → StandsFor stance new.build (W.after_one (setting_in old.build) w e))
+          → ((payloads : List (List ℕ)) → Keeps reads may_leave stance old payloads → TakeKeeps reads may_leave clock since stance old new e payloads r)
+          → (IsErrOf r Disk → Rose (faults old.journal.disk) (faults new.journal.disk))
+          → Known opening new (h ++ noted e r)
+      facts_one counts_now e (Ok Accepted) run order answers leaves setting stands keeps cause =
+          facts_more e leaves.0 leaves.1 order (record { accepted = sym answers.1; setting = setting; stands = stands }) keeps
+      facts_one counts_now e (Ok NotOpen) run order answers leaves setting stands keeps cause = facts_same leaves
+      facts_one counts_now e (Ok (WrongPlace kept)) run order answers leaves setting stands keeps cause = facts_same leaves
+      facts_one counts_now e (Ok Finished) run order answers leaves setting stands keeps cause = facts_same leaves
+      facts_one counts_now e (Err Memory) run order answers leaves setting stands keeps cause = facts_still Memory None refl memory_disk tt leaves.1
+      facts_one counts_now e (Err Disk) run order answers leaves setting stands keeps cause = facts_torn counts_now e (cause refl) order answers.1 keeps
+      facts_one counts_now e (Err (Full len add)) run order answers leaves setting stands keeps cause =
+          facts_still (Full len add) (Some e) refl (full_disk len add) (answers.2 ∙ ap (λ j. j.len) (sym leaves.1), answers.3, answers.4) leaves.1
+      facts_one counts_now e (Err Stopped) run order answers leaves setting stands keeps cause = absurd (true_false (sym answers ∙ run))
+
+    -- want of memory is noted
+    pub facts_wanting : Known opening old (h ++ Failed Memory None ∷ [])
+    facts_wanting = facts_still old (omega arith) Memory None refl memory_disk tt refl

@@ -1,0 +1,23 @@
+use Rattle.std.proofs.Common.{◌≡◌, ◌<◌, ◌++◌, ◌+◌, ◌-◌, ◌^◌, List, length, vec_capacity, None, true, false}
+use Rattle.build_core.specs.Phases.{has_begun}
+use Rattle.durable_build.specs.Standing.{Kept}
+use Rattle.site_state.specs.declared.ask.Entry.{Entry}
+use Rattle.site_state.specs.Histories.{kept_fault}
+use Rattle.site_state.specs.Facts.{Facts}
+use Rattle.site_state.specs.Grants.{Grants}
+use Rattle.site_state.proofs.taking.grant_all.Given as goal
+
+abbrev pub invariant-loop : goal.invariant-loop
+invariant-loop g l = record {
+  running : l.durable.stopped ≡ false;
+  begun : has_begun l.durable.build.phase ≡ true;
+  none : kept_fault l.history.items ≡ None;
+  room : length l.history.items < vec_capacity l.history;
+  onward : (es : List Entry) × (l.history.items ≡ l.fn.history.items ++ es)
+      × ((more : List Entry) → Grants g.R.ScriptThread.stance l.durable.build more → Grants g.R.ScriptThread.stance l.fn.durable.build (es ++ more));
+  facts : (opening : Kept g.row.D.Denot g.row.R.Denot) → Facts g.D.Disk.reads g.D.Disk.may_leave g.D.Disk.clock g.D.Disk.may_have_left_since g.D.Disk.faults g.R.ScriptThread.stance opening l.fn.durable l.fn.history.items
+      → Facts g.D.Disk.reads g.D.Disk.may_leave g.D.Disk.clock g.D.Disk.may_have_left_since g.D.Disk.faults g.R.ScriptThread.stance opening l.durable l.history.items;
+}
+
+abbrev pub decreases-loop : goal.decreases-loop
+decreases-loop g l = 2 ^ 30 + 1 - l.durable.journal.len

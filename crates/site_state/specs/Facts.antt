@@ -1,0 +1,89 @@
+-- What is known of a store behind the lock, by the build at the opening and the history since (this product's own).
+use Rattle.std.specs.Prelude.{◌≡◌, ◌≤◌, ◌<◌, ◌+◌, ◌^◌, ◌⊎◌, ℕ, true, false, List, [], ◌∷◌, ◌++◌, length, take, Option, Some, None}
+use Rattle.device_faults.specs.Faults.{Rose}
+use Rattle.jp_disk.specs.Moments.{AtEachMoment}
+use Rattle.journal_core.specs.Records.{Has}
+use Rattle.record_form.specs.declared.record.EventRecord.{EventRecord}
+use Rattle.model_run.specs.declared.event.Event.{Event}
+use Rattle.model_run.specs.State.{Setting}
+use Rattle.model_run.specs.World as W
+use Rattle.settle_laws.specs.Stances.{Stance}
+use Rattle.build_core.specs.Builds.{Parts, StandsFor, setting_in}
+use Rattle.build_images.specs.Images.{world_image, image_in}
+use Rattle.store_laws.specs.Store.{AllDue, AllSpell, Follows, Mean, events_of}
+use Rattle.agent_worker.specs.declared.fault.TakeFault.{TakeFault}
+use Rattle.agent_worker.specs.declared.fault.TakeFault.TheVariants.{Memory, Disk, Full, Stopped}
+use Rattle.durable_build.specs.Standing.{Kept, Keeps}
+use Rattle.durable_build.specs.Taking.{added}
+use Rattle.site_state.specs.declared.ask.Entry.{Entry}
+use Rattle.site_state.specs.declared.ask.Entry.TheVariants.{Took, Claimed, Line, Failed}
+use Rattle.site_state.specs.Histories.{tooks, kept_fault, pending}
+use Rattle.site_state.specs.Showing.{IsSettled, IsShown}
+
+-- the setting is that of some script and some agents file
+abbrev pub IsMeant : Setting → Type 0
+IsMeant s = (script : List ℕ) × (agents : List ℕ) × Mean script agents s
+
+-- Behind the events of each build that this one stands for these records go on: each event is accepted, each record has the image of
+-- the build after it, and each grant stands where it is due.
+abbrev pub GoOn : {T : Type 0} → (T → Stance) → Parts T → List EventRecord → Type 0
+GoOn stance b records =
+    (before : List Event) → IsMeant (setting_in b) → (W.world_in (setting_in b) before).started ≡ true → StandsFor stance b (W.world_in (setting_in b) before)
+    → Follows world_image (setting_in b) (W.world_in (setting_in b) before) records × AllDue (setting_in b) (W.world_in (setting_in b) before) records
+
+-- the file has these records and then the first ones of the others
+abbrev pub HasFront : List (List ℕ) → List (List ℕ) → List ℕ → Type 0
+HasFront payloads others file = (k : ℕ) × Has (payloads ++ take k others) file
+
+-- The store, where the opening kept these records: it has one more for each event that was taken, and behind them at most that of the
+-- event that the disk failed.
+pub record Grown {D T : Type 0} (reads : D → Option (List ℕ)) (may_leave : D → List ℕ → Type 0) (clock : D → ℕ) (since : D → ℕ → List ℕ → Type 0) (stance : T → Stance) (opening now : Kept D T) (history : List Entry) (payloads : List (List ℕ)) : Type 0 where
+  -- of the events that were taken
+  pub records : List EventRecord
+  pub events : events_of records ≡ tooks history
+  pub added : List (List ℕ)
+  pub spelled : AllSpell records added
+  -- of the event that the disk failed
+  pub last_records : List EventRecord
+  pub last_events : events_of last_records ≡ pending history
+  pub last : List (List ℕ)
+  pub last_spelled : AllSpell last_records last
+  pub go_on : GoOn stance opening.build (records ++ last_records)
+  -- where no fault is kept the build stands by all of them
+  pub keeps : kept_fault history ≡ None → Keeps reads may_leave stance now (payloads ++ added)
+  -- each image that a crash may have left since the opening has a front of them, and each that it may leave now all that were taken
+  pub moments : AtEachMoment clock since opening.journal.disk now.journal.disk (HasFront payloads (added ++ last))
+  pub images : (image : List ℕ) → may_leave now.journal.disk image → Has (payloads ++ added) image ⊎ Has (payloads ++ added ++ last) image
+
+-- `Full` tells the length of the journal, and what the record of its event adds, which is too much
+abbrev pub IsFull : {D T : Type 0} → (T → Stance) → Kept D T → TakeFault → Option Event → Type 0
+IsFull stance now (Full len add) (Some e) = (len ≡ now.journal.len) × (2 ^ 30 < len + add) × (add ≡ added e (image_in stance now.build))
+IsFull stance now (Full len add) None = ⊥
+IsFull stance now Memory event = Unit {0}
+IsFull stance now Disk event = Unit {0}
+IsFull stance now Stopped event = ⊥
+
+-- where the kept fault is `Full` it tells that
+abbrev pub IsFullAt : {D T : Type 0} → (T → Stance) → Kept D T → List Entry → Type 0
+IsFullAt stance now [] = Unit {0}
+IsFullAt stance now (Took e ∷ es) = IsFullAt stance now es
+IsFullAt stance now (Claimed executor task kept_log kept_out ∷ es) = IsFullAt stance now es
+IsFullAt stance now (Line line ∷ es) = IsFullAt stance now es
+IsFullAt stance now (Failed fault event ∷ es) = IsFull stance now fault event
+
+-- What is known by the opening and the history.
+pub record Facts {D T : Type 0} (reads : D → Option (List ℕ)) (may_leave : D → List ℕ → Type 0) (clock : D → ℕ) (since : D → ℕ → List ℕ → Type 0) (faults : D → ℕ) (stance : T → Stance) (opening now : Kept D T) (history : List Entry) : Type 0 where
+  -- the disk's count of faults: it rose where the disk failed
+  pub count : faults opening.journal.disk ≤ faults now.journal.disk
+  pub rose : kept_fault history ≡ Some Disk → Rose (faults opening.journal.disk) (faults now.journal.disk)
+  pub full : IsFullAt stance now history
+  pub running : kept_fault history ≡ None → now.stopped ≡ false
+  -- the build is that of the opening after the events that were taken
+  pub shown : kept_fault history ≡ None → IsShown stance opening.build (tooks history) now.build
+  pub grown : (payloads : List (List ℕ)) → Keeps reads may_leave stance opening payloads → Grown reads may_leave clock since stance opening now history payloads
+
+-- What holds of a site state between two asks; its history has room for one entry more, so that a fault is noted without memory.
+pub record IsSite {D T : Type 0} (reads : D → Option (List ℕ)) (may_leave : D → List ℕ → Type 0) (clock : D → ℕ) (since : D → ℕ → List ℕ → Type 0) (faults : D → ℕ) (stance : T → Stance) (opening now : Kept D T) (history : List Entry) (capacity : ℕ) : Type 0 where
+  pub facts : Facts reads may_leave clock since faults stance opening now history
+  pub room : kept_fault history ≡ None → length history < capacity
+  pub settled : kept_fault history ≡ None → IsSettled now.build

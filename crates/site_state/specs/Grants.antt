@@ -1,0 +1,57 @@
+-- A take and the grants behind it (this product's own): after each event all grants that are due are made, one by one.
+use Rattle.std.specs.Prelude.{◌≡◌, ◌⊎◌, ◌<◌, ◌+◌, ◌^◌, ℕ, List, [], ◌∷◌, Some, None, Result, Ok, Err}
+use Rattle.model_run.specs.declared.event.Event.{Event}
+use Rattle.model_run.specs.declared.event.Event.TheVariants.{Granted}
+use Rattle.model_run.specs.declared.taken.Taken.{Taken}
+use Rattle.model_run.specs.declared.taken.Taken.TheVariants.{Accepted, NotOpen, WrongPlace, Finished}
+use Rattle.settle_laws.specs.Stances.{Stance}
+use Rattle.build_core.specs.Builds.{Parts}
+use Rattle.agent_worker.specs.declared.fault.TakeFault.{TakeFault}
+use Rattle.agent_worker.specs.declared.fault.TakeFault.TheVariants.{Memory, Disk, Full, Stopped}
+use Rattle.site_state.specs.declared.ask.Entry.{Entry}
+use Rattle.site_state.specs.declared.ask.Entry.TheVariants.{Took, Failed}
+use Rattle.durable_build.specs.Standing.{Kept}
+use Rattle.site_state.specs.Histories.{kept_fault}
+use Rattle.site_state.specs.Showing.{answer_of, due, IsNext, IsSettled}
+
+-- what is noted of an event and its answer
+abbrev pub noted : Event → Result Taken TakeFault → List Entry
+noted e (Ok Accepted) = Took e ∷ []
+noted e (Ok NotOpen) = []
+noted e (Ok (WrongPlace kept)) = []
+noted e (Ok Finished) = []
+noted e (Err Memory) = Failed Memory None ∷ []
+noted e (Err Disk) = Failed Disk (Some e) ∷ []
+noted e (Err (Full len add)) = Failed (Full len add) (Some e) ∷ []
+noted e (Err Stopped) = []
+
+-- An event that was not taken with this fault: it is accepted, but for want of memory; `Full` says what was too much.
+abbrev pub MayFail : {T : Type 0} → Parts T → Event → TakeFault → Type 0
+MayFail b e Memory = Unit {0}
+MayFail b e Disk = answer_of b e ≡ Accepted
+MayFail b e (Full len add) = (answer_of b e ≡ Accepted) × (2 ^ 30 < len + add)
+MayFail b e Stopped = ⊥
+
+-- The entries of the grants that are due, one after the other, until none is or one is refused with a fault. Memory may be wanted
+-- where it is looked for one.
+pub data Grants {T : Type 0} (stance : T → Stance) : Parts T → List Entry → Type 0 where
+  none_due : {b : Parts T} → IsSettled b → Grants stance b []
+  granted : {b after : Parts T} {entries : List Entry} (request executor : ℕ) → due b ≡ Some (request, executor) → IsNext stance b (Granted request executor) after
+      → Grants stance after entries → Grants stance b (Took (Granted request executor) ∷ entries)
+  refused : {b : Parts T} (request executor : ℕ) (fault : TakeFault) → due b ≡ Some (request, executor) → MayFail b (Granted request executor) fault
+      → Grants stance b (noted (Granted request executor) (Err fault))
+  not_found : {b : Parts T} → Grants stance b (Failed Memory None ∷ [])
+
+-- The reply to an event, and its entries: where it is accepted, it and the grants behind it.
+abbrev pub TakeSays : {T : Type 0} → (T → Stance) → Parts T → Event → Result Taken TakeFault → List Entry → Type 0
+TakeSays {T} stance b e (Ok Accepted) new = (after : Parts T) × (entries : List Entry) × IsNext stance b e after × Grants stance after entries × (new ≡ Took e ∷ entries)
+TakeSays stance b e (Ok NotOpen) new = (answer_of b e ≡ NotOpen) × (new ≡ [])
+TakeSays stance b e (Ok (WrongPlace kept)) new = (answer_of b e ≡ WrongPlace kept) × (new ≡ [])
+TakeSays stance b e (Ok Finished) new = (answer_of b e ≡ Finished) × (new ≡ [])
+TakeSays stance b e (Err fault) new = MayFail b e fault × (new ≡ noted e (Err fault))
+
+-- A life that was not opened: one of the grants that a stop had left out was refused with this fault; or memory was wanted before
+-- any of them, and nothing was done.
+abbrev pub OpenRefuses : {D T : Type 0} → (T → Stance) → Kept D T → Kept D T → List Entry → TakeFault → Type 0
+OpenRefuses stance durable now made fault =
+    (Grants stance durable.build made × (kept_fault made ≡ Some fault)) ⊎ ((made ≡ []) × (now ≡ durable) × (fault ≡ Memory))

@@ -1,0 +1,209 @@
+//! The state of one life of a saved build.
+ghost use Rattle.std.specs.Prelude.{◌≡◌, ◌++◌, [], ◌∷◌, List, ℕ, length, vec_capacity, true, false, is_some, None, Some, IfOk, IfErr};
+ghost use Rattle.build_core.specs.Phases.{has_begun};
+ghost use Rattle.durable_build.specs.Standing.{Kept};
+ghost use Rattle.site_state.specs.Facts.{Facts, IsSite};
+ghost use Rattle.site_state.specs.Grants.{Grants, OpenRefuses};
+ghost use Rattle.site_state.specs.Histories.{kept_fault};
+ghost use Rattle.site_state.specs.Says.{stopped_reply};
+
+use crate::ask::{Ask, Entry, History, Progress, Reply};
+use crate::claims::{claim, inputs, progress};
+use crate::hearing::hear;
+use crate::taking::{grant_all, note_want, take_all};
+use agent_worker::{Claim, Inputs, TakeFault};
+use build_core::Build;
+use durable_build::DurableBuild;
+use jp_disk::Disk;
+use program_lock::Stepped;
+use saved_thread::SavedThread;
+use std::alloc::Global;
+use std::snapshot::Snapshot;
+
+/// One life of a saved build: the build over its disk, and the history of what was asked of it.
+///
+/// For contracts its base is the build over the disk as [`SiteState::open`] left it, of which no byte is kept.
+#[derive(Drop)]
+pub struct SiteState<D: Disk, R: SavedThread + Drop> {
+    alloc: Global,
+    durable: DurableBuild<D, R>,
+    base: Snapshot<DurableBuild<D, R>>,
+    history: History,
+    ghost stands: { ∥ IsSite D.reads D.may_leave D.clock D.may_have_left_since D.faults R.stance base.value durable history.items (vec_capacity history) ∥₁ },
+}
+
+impl<D: Disk, R: SavedThread + Drop> SiteState<D, R> {
+    /// The state of a build that has begun, behind the grants that a stop may have left out. Its history is empty: these grants
+    /// are not part of it.
+    ///
+    /// # Errors
+    ///
+    /// Each hands the disk back. `Disk` and `Full` come exactly as `DurableBuild::take` answers them for one of these grants;
+    /// `Memory` where the memory was refused: before anything was written, or for one of these grants, of which nothing was
+    /// written then. `Stopped` never comes.
+    pub fn open(
+        alloc: Global,
+        durable: DurableBuild<D, R>,
+    ) -> Result<SiteState<D, R>, (TakeFault, D)>
+        requires running { durable.stopped ≡ false }
+        requires begun { has_begun durable.build.phase ≡ true }
+        ensures fresh { IfOk result (λ s. (s.history.items ≡ []) × (s.base.value ≡ s.durable)) }
+        ensures grants { IfOk result (λ s. (made : List Entry) × Grants R.stance durable.build made × (kept_fault made ≡ None)
+            × Facts D.reads D.may_leave D.clock D.may_have_left_since D.faults R.stance durable s.durable made) }
+        ensures refused { IfErr result (λ e. (made : List Entry) × (now : Kept D R) × OpenRefuses R.stance durable now made e.0
+            × Facts D.reads D.may_leave D.clock D.may_have_left_since D.faults R.stance durable now made × (e.1 ≡ now.journal.disk)) }
+    {
+        let mut durable = durable;
+        let mut made: History = Vec::new(alloc);
+        if made.reserve(1).is_err() {
+            return Err((TakeFault::Memory, durable.close()));
+        }
+        let mut history: History = Vec::new(alloc);
+        if history.reserve(1).is_err() {
+            return Err((TakeFault::Memory, durable.close()));
+        }
+        grant_all(alloc, &mut durable, &mut made);
+        if let Some(fault) = first_fault(&made) {
+            return Err((fault, durable.close()));
+        }
+        let base = Snapshot::of(&durable);
+        Ok(SiteState {
+            alloc,
+            durable,
+            base,
+            history,
+        })
+    }
+
+    /// The build. Where a fault is kept it is open what it gives.
+    pub fn build(&self) -> &Build<R>
+        ensures build { result.now ≡ self.now.durable.build }
+        ensures known { ∥ IsSite D.reads D.may_leave D.clock D.may_have_left_since D.faults R.stance self.now.base.value self.now.durable self.now.history.items (vec_capacity self.now.history) ∥₁ }
+    {
+        self.durable.build()
+    }
+
+    /// What happened since the opening.
+    pub fn history(&self) -> &[Entry]
+        ensures { result.now ≡ self.now.history.items }
+    {
+        self.history.as_slice()
+    }
+
+    /// The fault that stopped it.
+    pub fn fault(&self) -> Option<TakeFault>
+        ensures { result ≡ kept_fault self.now.history.items }
+    {
+        first_fault(&self.history)
+    }
+
+    /// The disk, and what happened since the opening. What was known of the state is known of them.
+    pub fn close(self) -> (D, History)
+        ensures disk { result.0 ≡ self.durable.journal.disk }
+        ensures history { result.1.items ≡ self.history.items }
+        ensures known { ∥ IsSite D.reads D.may_leave D.clock D.may_have_left_since D.faults R.stance self.base.value self.durable self.history.items (vec_capacity self.history) ∥₁ }
+    {
+        let SiteState {
+            alloc: _,
+            durable,
+            base: _,
+            history,
+        } = self;
+        (durable.close(), history)
+    }
+}
+
+/// The fault that is kept.
+fn first_fault(history: &[Entry]) -> Option<TakeFault>
+    ensures { result ≡ kept_fault history.now }
+{
+    for entry in history {
+        if let Entry::Failed { fault, .. } = entry {
+            return Some(*fault);
+        }
+    }
+    None
+}
+
+/// Whether a fault is kept.
+fn has_fault(history: &[Entry]) -> bool
+    ensures { result ≡ is_some (kept_fault history.now) }
+{
+    first_fault(history).is_some()
+}
+
+/// What is said to an ask where a fault is kept.
+fn stopped(ask: Ask) -> Reply
+    ensures { result ≡ stopped_reply ask }
+{
+    match ask {
+        Ask::Take(_) => Reply::Taken(Err(TakeFault::Stopped)),
+        Ask::Claim(_) => Reply::Claimed(Claim::Stopped),
+        Ask::Inputs => Reply::Inputs(Inputs {
+            waiting: 0,
+            busy: 0,
+        }),
+        Ask::Answer(_) => Reply::Heard(Err(TakeFault::Stopped)),
+        Ask::Look => Reply::Progress(Progress {
+            ended: false,
+            stopped: true,
+            tasks: 0,
+            waiting: 0,
+        }),
+        Ask::Halt => Reply::Halted,
+    }
+}
+
+impl<D: Disk, R: SavedThread + Drop> Stepped for SiteState<D, R> {
+    type Ask = Ask;
+
+    type Entry = Entry;
+
+    type Reply = Reply;
+
+    type Base = Snapshot<DurableBuild<D, R>>;
+
+    ghost use Rattle.site_state.specs.Says.{Says};
+
+    ghost base = { λ s. s.base };
+
+    ghost history = { λ s. s.history.items };
+
+    ghost answers = { λ base history ask reply new. Says R.stance base.value.build history ask reply new };
+
+    fn step(&mut self, ask: Ask) -> Reply {
+        if has_fault(&self.history) {
+            return stopped(ask);
+        }
+        match ask {
+            Ask::Take(event) => Reply::Taken(take_all(
+                self.alloc,
+                &mut self.durable,
+                &mut self.history,
+                event,
+            )),
+            Ask::Claim(executor) => Reply::Claimed(claim(
+                self.alloc,
+                self.durable.build().requests(),
+                &mut self.history,
+                executor,
+            )),
+            Ask::Inputs => Reply::Inputs(inputs(self.durable.build(), &self.history)),
+            Ask::Answer(line) => Reply::Heard(hear(
+                self.alloc,
+                &mut self.durable,
+                &mut self.history,
+                line,
+            )),
+            Ask::Look => Reply::Progress(progress(self.durable.build())),
+            Ask::Halt => {
+                note_want(&mut self.history);
+                Reply::Halted
+            }
+        }
+    }
+
+    fn len(&self) -> u64 {
+        self.history.len() as u64
+    }
+}
