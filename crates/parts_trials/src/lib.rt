@@ -8,6 +8,8 @@ mod arguments; // step_arguments
 #[cfg(test)]
 mod graphs; // flow_graph
 #[cfg(test)]
+mod heaps; // cell_heap
+#[cfg(test)]
 mod labels; // label_expr
 #[cfg(test)]
 mod logs; // build_log

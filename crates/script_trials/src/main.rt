@@ -7,9 +7,11 @@
 //! were worked out by hand from the rules that `docs/` states.
 #![tactic(auto)]
 
+mod images;
 mod orders;
 mod requests;
 mod run;
+mod shown;
 mod trial;
 
 use cps_machine::MachineThread;

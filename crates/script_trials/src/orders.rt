@@ -1,5 +1,6 @@
 //! What happens to a build, as words.
 
+use crate::shown::Shown;
 use model_run::{Event, Stream, Why};
 use model_text::{Bytes, Text};
 use std::alloc::{AllocError, Global};
@@ -17,6 +18,8 @@ pub enum Order {
     Requests,
     /// The text of the flow graph is written.
     Graph,
+    /// Something of the image of the build is written.
+    Image(Shown),
     /// None of these.
     Unknown,
 }
@@ -29,11 +32,44 @@ pub fn read_order(alloc: Global, line: &str) -> Result<Order, AllocError> {
         "tail" => Ok(Order::Tail),
         "requests" => Ok(Order::Requests),
         "graph" => Ok(Order::Graph),
+        "image" => read_shown(alloc, rest),
         _ => match read_event(alloc, word, rest)? {
             Some(event) => Ok(Order::Take(event)),
             None => Ok(Order::Unknown),
         },
     }
+}
+
+/// Reads what is to be shown of an image. `AllocError` where the memory was refused.
+fn read_shown(alloc: Global, line: &str) -> Result<Order, AllocError> {
+    let (word, rest) = line.split_once(" ").unwrap_or((line, ""));
+    Ok(match word {
+        "bytes" => Order::Image(Shown::Bytes),
+        "longer" => Order::Image(Shown::Longer),
+        "number" => {
+            let (place, number) = rest.split_once(" ").unwrap_or((rest, ""));
+            Order::Image(Shown::Number {
+                place: number_of(place) as usize,
+                number: number_of(number),
+            })
+        }
+        "each" => each_of(read_line(alloc, rest)?),
+        _ => Order::Unknown,
+    })
+}
+
+/// Each byte of an image is raised, where there is an event for the builds in them.
+fn each_of(event: Option<Event>) -> Order {
+    match event {
+        Some(event) => Order::Image(Shown::Each(event)),
+        None => Order::Unknown,
+    }
+}
+
+/// Reads the line of an event. `None` where its word is none of an event. `AllocError` where the memory was refused.
+fn read_line(alloc: Global, line: &str) -> Result<Option<Event>, AllocError> {
+    let (word, rest) = line.split_once(" ").unwrap_or((line, ""));
+    read_event(alloc, word, rest)
 }
 
 /// Reads an event: its word, the number of a request or a task, and what is known besides. `None` where the word is none of an
