@@ -4,7 +4,6 @@ pub mod Firsts
 pub mod Brackets
 pub mod Ranks
 pub mod Readers
-pub mod Parsing
 pub mod Targets
 pub mod Updates
 pub mod Statements

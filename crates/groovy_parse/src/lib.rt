@@ -15,12 +15,6 @@
 mod function;
 mod join;
 mod script;
-#[cfg(test)]
-mod script_table;
-#[cfg(test)]
-mod sketch;
-#[cfg(test)]
-mod tests;
 
 pub use join::{SCRIPT_LIMIT, parse};
 pub use script::parse_tokens;

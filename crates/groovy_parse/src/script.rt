@@ -18,7 +18,7 @@ use std::alloc::Global;
 /// number of tokens where they end too early.
 ///
 /// Each open bracket takes a part of the stack while it is read, and nothing else does: so the brackets of the tokens must
-/// nest at most 128 deep (`groovy_expr::is_shallow`), as those of a script do that the lexer has read.
+/// nest at most 128 deep (`expr_parser::is_shallow`), as those of a script do that the lexer has read.
 ///
 /// # Errors
 ///

@@ -1,8 +1,8 @@
 use Rattle.std.proofs.Common.{◌∙◌, sym}
 use Rattle.std.proofs.lemmas.Result.{err_from_is_err_and}
 use Rattle.groovy_expr.proofs.Calculus.{passed}
-use Rattle.groovy_expr.proofs.OneAnswer.{stopped}
-use Rattle.groovy_expr.proofs.parser.read_ended.Goals as goal
+use Rattle.expr_parser.proofs.OneAnswer.{stopped}
+use Rattle.expr_parser.proofs.parser.read_ended.Goals as goal
 
 pub returns-in_err-tree-clause-reads : goal.returns-in_err-tree-clause-reads
 returns-in_err-tree-clause-reads c =

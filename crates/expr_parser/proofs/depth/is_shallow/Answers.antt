@@ -1,7 +1,7 @@
 use Rattle.std.proofs.Common.{◌<◌, ◌≤◌, subst, arith}
 use Rattle.std.proofs.lemmas.Bool.Decides.{nat_tests}
-use Rattle.groovy_expr.proofs.DepthLaws.{counted_next, counted_deep, counted_all}
-use Rattle.groovy_expr.proofs.depth.is_shallow.Goals as goal
+use Rattle.expr_parser.proofs.DepthLaws.{counted_next, counted_deep, counted_all}
+use Rattle.expr_parser.proofs.depth.is_shallow.Goals as goal
 
 pub returns-then-depth-gt-DEPTH_LIMIT : goal.returns-then-depth-gt-DEPTH_LIMIT
 returns-then-depth-gt-DEPTH_LIMIT c =

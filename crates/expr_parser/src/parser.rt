@@ -1,15 +1,15 @@
 ghost use Rattle.std.specs.Prelude.{◌≡◌, ◌<◌, ◌≤◌, length, None, IfOk, IfSome, Err, true};
-ghost use Rattle.groovy_expr.specs.declared.refusal.ExprRefusal.TheVariants.{Fault};
+ghost use Rattle.expr_parser.specs.declared.refusal.ExprRefusal.TheVariants.{Fault};
 ghost use Rattle.groovy_expr.specs.Answers.{kinds};
-ghost use Rattle.groovy_expr.specs.Parsing.{ReadsNext, fault_in};
+ghost use Rattle.expr_parser.specs.Parsing.{ReadsNext, fault_in};
+ghost use Rattle.expr_parser.specs.Shallow.{shallow_once};
 ghost use Rattle.groovy_expr.specs.Readers.{ReadsExpr};
 ghost use Rattle.groovy_expr.specs.Stops.{stops_expr};
 ghost use Rattle.model_syntax.specs.BracketDepth.{IsShallow};
 ghost use Rattle.model_syntax.specs.Operators.{rank_whole};
 
-use crate::ranks::read_expr;
-use crate::reading::ends_expr;
-use crate::refusal::{ExprRefusal, Refusal};
+use crate::refusal::ExprRefusal;
+use groovy_expr::{Refusal, ends_expr, read_expr};
 use model_syntax::{Expr, Token};
 use std::alloc::Global;
 
@@ -23,6 +23,7 @@ pub struct Parser<'t> {
     /// The fault that was met, which is told from then on.
     fault: Option<u32>,
     ghost few: { length tokens.now < 4294967296 },
+    ghost shallow: { IsShallow tokens.now } by { shallow_once tokens.now },
     ghost within: { at ≤ length tokens.now },
 }
 
@@ -77,6 +78,7 @@ impl<'t> Parser<'t> {
 
 /// The expression that stands at this place, if what stands behind it may follow an expression; else the fault is there.
 fn read_ended(alloc: Global, tokens: &[Token], at: usize) -> Result<(Expr, usize), Refusal>
+    requires shallow { IsShallow tokens.now }
     ensures reads { ReadsExpr rank_whole tokens.now at result }
     ensures ended { IfOk result (λ found. stops_expr (kinds tokens.now found.1) ≡ true) }
 {

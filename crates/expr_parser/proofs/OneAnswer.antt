@@ -5,10 +5,10 @@ use Rattle.model_syntax.specs.declared.token.Token.{Token}
 use Rattle.model_syntax.specs.declared.token.TokenKind.{TokenKind}
 use Rattle.model_syntax.specs.declared.tree.Expr.{Expr}
 use Rattle.model_syntax.specs.Stream.{Stream}
-use Rattle.groovy_expr.specs.declared.refusal.ExprRefusal.{ExprRefusal}
-use Rattle.groovy_expr.specs.declared.refusal.ExprRefusal.TheVariants as refusal
+use Rattle.expr_parser.specs.declared.refusal.ExprRefusal.{ExprRefusal}
+use Rattle.expr_parser.specs.declared.refusal.ExprRefusal.TheVariants as refusal
 use Rattle.groovy_expr.specs.Answers.{Rule, Stops, Stands, Exact, Refused}
-use Rattle.groovy_expr.specs.Parsing.{ReadsNext}
+use Rattle.expr_parser.specs.Parsing.{ReadsNext}
 use Rattle.groovy_expr.proofs.StatementFors.{goes_past}
 
 module _ {A : Type 0} {R : Rule A} {stops : Stops} {K : Stream} {at : ℕ} where

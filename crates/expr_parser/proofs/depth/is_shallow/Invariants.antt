@@ -1,5 +1,5 @@
-use Rattle.groovy_expr.proofs.DepthLaws.{Counted}
-use Rattle.groovy_expr.proofs.depth.is_shallow.Given as goal
+use Rattle.expr_parser.proofs.DepthLaws.{Counted}
+use Rattle.expr_parser.proofs.depth.is_shallow.Given as goal
 
 abbrev pub invariant-loop-token : goal.invariant-loop-token
 invariant-loop-token l = Counted l.tokens l.token-index l.depth

@@ -3,8 +3,8 @@ use Rattle.std.specs.Prelude.{◌≡◌, ℕ, true, Option, Some, None, List, Re
 use Rattle.model_syntax.specs.declared.token.Token.{Token}
 use Rattle.model_syntax.specs.declared.tree.Expr.{Expr}
 use Rattle.model_syntax.specs.Operators.{rank_whole}
-use Rattle.groovy_expr.specs.declared.refusal.ExprRefusal.{ExprRefusal}
-use Rattle.groovy_expr.specs.declared.refusal.ExprRefusal.TheVariants as refusal
+use Rattle.expr_parser.specs.declared.refusal.ExprRefusal.{ExprRefusal}
+use Rattle.expr_parser.specs.declared.refusal.ExprRefusal.TheVariants as refusal
 use Rattle.groovy_expr.specs.declared.refusal.Refusal.TheVariants.{Fault}
 use Rattle.groovy_expr.specs.Answers.{kinds}
 use Rattle.groovy_expr.specs.Readers.{ReadsExpr}

@@ -24,8 +24,8 @@ fn depth_behind(depth: usize, kind: &TokenKind) -> usize
 
 /// Whether the brackets of these tokens nest at most 128 deep: `(`, `[`, `{` and `${` count, texts do not.
 ///
-/// This is what [`Parser::new`](crate::Parser::new), [`read_stmt`](crate::read_stmt) and
-/// [`read_block`](crate::read_block) ask of tokens. Those of the lexer are so.
+/// This is what [`Parser::new`](crate::Parser::new), and `read_expr`, `read_stmt` and `read_block` of `groovy_expr`, ask of
+/// tokens. Those of the lexer are so.
 pub fn is_shallow(tokens: &[Token]) -> bool
     ensures { MatchBool result (IsShallow tokens.now) (IsShallow tokens.now → ⊥) }
 {
