@@ -20,8 +20,6 @@ mod path;
 mod read;
 mod refusal;
 mod site;
-#[cfg(test)]
-mod tests;
 
 pub use read::{FILE_LIMIT, read_agents};
 pub use refusal::AgentsRefusal;

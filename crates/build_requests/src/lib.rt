@@ -17,8 +17,6 @@ mod answers;
 mod executors;
 mod output;
 mod requests;
-#[cfg(test)]
-mod tests;
 mod waiting;
 
 pub use answers::{answer_first, answer_running};

@@ -17,8 +17,6 @@ mod code;
 mod functions;
 mod row;
 mod table;
-#[cfg(test)]
-mod tests;
 mod walk;
 
 pub use code::{Code, number};

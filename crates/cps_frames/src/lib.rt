@@ -23,8 +23,6 @@ mod halt;
 mod notes;
 mod parts;
 mod shared;
-#[cfg(test)]
-mod tests;
 mod thread;
 mod waits;
 

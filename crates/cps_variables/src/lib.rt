@@ -13,8 +13,6 @@
 
 mod names;
 mod nodes;
-#[cfg(test)]
-mod tests;
 mod variables;
 
 pub use names::{look, look_binding};

@@ -22,8 +22,6 @@ mod one_of;
 mod option;
 mod refusal;
 mod requests;
-#[cfg(test)]
-mod tests;
 mod text;
 mod values;
 mod waits;

@@ -24,8 +24,6 @@ mod places;
 mod row;
 mod steps;
 mod table;
-#[cfg(test)]
-mod tests;
 mod values;
 
 pub use kinds::{frame_kind, kind_number};

@@ -22,11 +22,7 @@ mod group;
 mod joins;
 mod refusal;
 mod runner;
-#[cfg(test)]
-mod scripted;
 mod settled;
-#[cfg(test)]
-mod tests;
 
 pub use group::Group;
 pub use refusal::{NotWaiting, SpawnRefusal};

@@ -28,8 +28,6 @@ mod raw;
 mod signs;
 mod source;
 mod step;
-#[cfg(test)]
-mod tests;
 mod words;
 
 pub use lexer::{LexRefusal, lex};

@@ -19,8 +19,6 @@ mod requests;
 mod scan;
 mod shared;
 mod sizes;
-#[cfg(test)]
-mod tests;
 mod threads;
 
 pub use finding::{CheckKind, Finding, ImageRefusal};

@@ -12,8 +12,6 @@
 #![tactic(auto)]
 
 mod image;
-#[cfg(test)]
-mod tests;
 mod threads;
 mod wholes;
 

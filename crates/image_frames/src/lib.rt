@@ -12,8 +12,6 @@
 mod fault;
 mod frames;
 mod spots;
-#[cfg(test)]
-mod tests;
 
 pub use fault::FrameFault;
 pub use frames::{Table, frame_fault};

@@ -18,8 +18,6 @@ mod lists;
 mod measured;
 mod record;
 mod requests;
-#[cfg(test)]
-mod tests;
 mod values;
 mod waits;
 

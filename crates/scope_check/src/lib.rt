@@ -18,8 +18,6 @@ mod first_fault;
 mod names;
 mod scopes;
 mod stack;
-#[cfg(test)]
-mod tests;
 mod walk;
 
 pub use first_fault::check;

@@ -1,11 +1,11 @@
 #!/usr/bin/env python3
 """The images that the trials `images: ..` write, as docs/FORMATS.md spells them, by the independent writer of
-image_form. Nodes, cells, frames and logs were worked out by hand from docs/LANGUAGE.md, STEPS.md and WORLD.md."""
+form_trials. Nodes, cells, frames and logs were worked out by hand from docs/LANGUAGE.md, STEPS.md and WORLD.md."""
 import os
 import sys
 
 sys.dont_write_bytecode = True
-sys.path.append(f"{os.path.dirname(os.path.realpath(__file__))}/../../image_form/data")
+sys.path.append(f"{os.path.dirname(os.path.realpath(__file__))}/../../form_trials/data")
 from images import NONE, NULL, context, frame, image, in_cell, name, rows, text, thread, u8, u32, whole  # noqa: E402
 
 BEGUN = b"[Pipeline] Start of Pipeline\n"

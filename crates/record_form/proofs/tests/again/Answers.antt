@@ -1,4 +1,0 @@
-use Rattle.record_form.proofs.tests.again.Goals as goal
-
-pub write_whole-requires : goal.write_whole-requires
-write_whole-requires c = (tt, c.in-Ok.ensures.writable)
