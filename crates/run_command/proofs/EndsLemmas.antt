@@ -132,14 +132,14 @@ pub not_past : (n m : ℕ) → (n < m → ⊥) → m ≤ n
 not_past n m within = elim (cases_lt n m) [ inl past ↦ absurd (within past) | inr le ↦ le ]
 
 -- a file past its limit is refused for that
-long_file : (a : List ℕ) → agents_limit < length a → agents_file a ≡ BadFile (codes ".") kind.TooLong
+pub long_file : (a : List ℕ) → agents_limit < length a → agents_file a ≡ BadFile (codes ".") kind.TooLong
 long_file a long = one (nat_lt agents_limit (length a)) refl
   where
     one : (b : Bool) → nat_lt agents_limit (length a) ≡ b → agents_file a ≡ BadFile (codes ".") kind.TooLong
     one true e = ap (λ (b : Bool). if b then BadFile (codes ".") kind.TooLong else (if is_utf8 a then of_json (read a) else BadFile (codes ".") kind.NotJson)) e
     one false e = absurd (grind (arith, nat_tests))
 
-site_fits : (a : List ℕ) (site : Site) → agents_file a ≡ Means site → length a ≤ agents_limit
+pub site_fits : (a : List ℕ) (site : Site) → agents_file a ≡ Means site → length a ≤ agents_limit
 site_fits a site means = not_past agents_limit (length a) (λ long. let bad : Means site ≡ BadFile (codes ".") kind.TooLong = sym means ∙ long_file a long in cc)
 
 -- a longer script is too long as well, and a longer agents file is refused as well; what comes before stays
@@ -162,12 +162,12 @@ agents_longer {a = a} long longer (broken_off {site = site} b r calm) = absurd (
 agents_longer long longer (no_memory un) = no_memory un
 
 -- A source that was read up to one byte more than its limit was read to its end, or what it had left is too long.
-record Left (limit : ℕ) (left : Option (List ℕ)) (bytes : List ℕ) : Type 0 where
-  all : List ℕ
-  told : IfSome left (λ told. told ≡ all)
-  same : (all ≡ bytes) ⊎ ((limit < length bytes) × (limit < length all))
+pub record Left (limit : ℕ) (left : Option (List ℕ)) (bytes : List ℕ) : Type 0 where
+  pub all : List ℕ
+  pub told : IfSome left (λ told. told ≡ all)
+  pub same : (all ≡ bytes) ⊎ ((limit < length bytes) × (limit < length all))
 
-left_of : (limit : ℕ) (input : Input) (bytes : List ℕ) → ReadWhole limit input bytes → Left limit input.left bytes
+pub left_of : (limit : ℕ) (input : Input) (bytes : List ℕ) → ReadWhole limit input bytes → Left limit input.left bytes
 left_of limit input bytes r = one input.left input.rest r.read r.whole
   where
     one : (left rest : Option (List ℕ)) → Consumes left rest bytes → (length bytes ≤ limit → IsAtEnd rest) → Left limit left bytes

@@ -1,4 +1,4 @@
 mod CommandLemmas
-mod StatusLemmas
-mod EndsLemmas
+pub mod StatusLemmas
+pub mod EndsLemmas
 mod CausesLemmas

@@ -216,7 +216,11 @@ fn faulty_agents<R: ScriptThread + Drop>(alloc: Global, path: Text, kind: Agents
 }
 
 /// The line that tells a fault of the agents file.
-fn agents_text(alloc: Global, path: &Text, kind: AgentsKind) -> Result<Text, AllocError>
+///
+/// # Errors
+///
+/// `AllocError` where the memory was refused.
+pub fn agents_text(alloc: Global, path: &Text, kind: AgentsKind) -> Result<Text, AllocError>
     ensures { IfOk result (λ text. text ≡ agents_line path.now kind) }
 {
     let kind = format!(in alloc; "{kind}\n")?;

@@ -71,7 +71,7 @@ impl<R: ScriptThread + Drop> Ending<R> {
 }
 
 /// The exit status of a build that has ended, or waits.
-fn build_status<R: ScriptThread + Drop>(build: &Build<R>) -> u8
+pub fn build_status<R: ScriptThread + Drop>(build: &Build<R>) -> u8
     ensures { HasStatus R.stance (Ending.Rested build.now) result }
 {
     if build.has_ended() {

@@ -13,6 +13,7 @@ mod command;
 mod ending;
 mod files;
 
-pub use call::{Ended, controller};
+pub use call::{Ended, agents_text, controller};
 pub use command::run_folder;
-pub use ending::{Ending, tell};
+pub use ending::{Ending, build_status, tell};
+pub use files::{Files, read_files};
