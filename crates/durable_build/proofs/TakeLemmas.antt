@@ -1,5 +1,5 @@
 -- What an accepted event adds to a store and its build.
-use Rattle.std.proofs.Common.{◌≡◌, ◌+◌, ◌^◌, ◌≤◌, ℕ, true, List, [], ◌∷◌, ◌++◌, length, Option, None, Result, Ok, Err, refl, sym, ap, ◌∙◌, subst}
+use Rattle.std.proofs.Common.{◌≡◌, ◌+◌, ◌^◌, ◌≤◌, ℕ, true, false, List, [], ◌∷◌, ◌++◌, length, Option, None, Result, Ok, Err, refl, sym, ap, ◌∙◌, subst}
 use Rattle.std.specs.Prelude.{IsErrOf, OnOk}
 use Rattle.jp_disk.specs.Moments.{AtEachMoment}
 use Rattle.journal_core.specs.Records.{HasWithOrWithout}
@@ -26,7 +26,7 @@ use Rattle.agent_worker.specs.declared.fault.TakeFault.TheVariants.{Memory, Disk
 use Rattle.durable_build.specs.declared.store.Sources.{Sources}
 use Rattle.build_images.specs.Images.{world_image, image_in}
 use Rattle.durable_build.specs.Standing.{last_of, Opening, Closing, StandsBy, StandsForStory, Kept, Keeps}
-use Rattle.durable_build.specs.Taking.{AddKeeps, MayStart, Puts, Adds, Risks, IsSized, IsSource, TakeKeeps, kept_script, kept_agents}
+use Rattle.durable_build.specs.Taking.{AddAnswers, AddKeeps, MayStart, Puts, Adds, Risks, IsSized, IsSource, TakeAnswers, TakeKeeps, added, agents_after, kept_script, kept_agents, script_after}
 
 -- no record tells of the build that has taken no event
 pub empty_story : {T : Type 0} (stance : T → Stance) (b : Parts T) → StandsFor stance b W.unbegun → StandsForStory stance b []
@@ -67,6 +67,23 @@ no_source (event.Output task stream from bytes) o never source = source
 no_source (event.Exited task code) o never source = source
 no_source (event.Lost task why) o never source = source
 no_source (event.Decided request proceed name) o never source = source
+
+-- what an event brings is what is kept behind it
+pub kept_after : (e : Event) (o : Option Sources) (script agents : List ℕ) → IsSource e o → (kept_script o script ≡ script_after e script) × (kept_agents o agents ≡ agents_after e agents)
+kept_after (event.Start new_script new_agents) o script agents is = (ap (λ (x : Option Sources). kept_script x script) is, ap (λ (x : Option Sources). kept_agents x agents) is)
+kept_after (event.Granted request executor) o script agents is = (ap (λ (x : Option Sources). kept_script x script) is, ap (λ (x : Option Sources). kept_agents x agents) is)
+kept_after (event.Output task stream from bytes) o script agents is = (ap (λ (x : Option Sources). kept_script x script) is, ap (λ (x : Option Sources). kept_agents x agents) is)
+kept_after (event.Exited task code) o script agents is = (ap (λ (x : Option Sources). kept_script x script) is, ap (λ (x : Option Sources). kept_agents x agents) is)
+kept_after (event.Lost task why) o script agents is = (ap (λ (x : Option Sources). kept_script x script) is, ap (λ (x : Option Sources). kept_agents x agents) is)
+kept_after (event.Decided request proceed name) o script agents is = (ap (λ (x : Option Sources). kept_script x script) is, ap (λ (x : Option Sources). kept_agents x agents) is)
+
+-- the fault of an accepted event, by what the journal answered to its record
+pub take_answered : {D T : Type 0} (stance : T → Stance) (old new : Kept D T) (e : Event) → old.stopped ≡ false → taken (standing_of old.build) e ≡ Accepted
+    → (f : TakeFault) → AddAnswers old.journal.len (added e (image_in stance new.build)) (Err f) → TakeAnswers stance old new e (Err f)
+take_answered stance old new e running accepted Memory answers = running
+take_answered stance old new e running accepted Disk answers = (running, accepted, answers)
+take_answered stance old new e running accepted (Full len add) answers = (running, accepted, answers.0, answers.1, answers.2)
+take_answered stance old new e running accepted Stopped answers = absurd answers
 
 module _ {T : Type 0} (stance : T → Stance) (b b' : Parts T) (e : Event) (accepted : taken (standing_of b) e ≡ Accepted) (same : setting_in b' ≡ setting_in b) where
   -- it stands by its records and the new one

@@ -37,30 +37,37 @@ DamagedAt at Disk Why = ⊥
 DamagedAt at Empty Why = ⊥
 DamagedAt at (Damaged n) Why = (n ≡ at) × Why
 
+-- the code of a script, or that it has a fault
 abbrev pub CodeOf : List ℕ → ℕ → Result (List Row) StoreFault → Type 0
 CodeOf script at (Ok code) = (tree : Tree) × (length script ≤ script_limit) × IsFaultless script tree × (script_of code ≡ term 0 (tree_node tree))
 CodeOf script at (Err e) = DamagedAt at e ((tree : Tree) → length script ≤ script_limit → IsFaultless script tree → ⊥)
 
+-- the site of an agents file, or that it has a fault
 abbrev pub SiteOf : List ℕ → ℕ → Result Site StoreFault → Type 0
 SiteOf agents at (Ok site) = agents_file agents ≡ Means site
 SiteOf agents at (Err e) = DamagedAt at e ((site : Site) → agents_file agents ≡ Means site → ⊥)
 
+-- what both mean, or that one has a fault
 abbrev pub SourceOf : List ℕ → List ℕ → ℕ → Result Source StoreFault → Type 0
 SourceOf script agents at (Ok o) = (o.script ≡ script) × (o.agents ≡ agents) × Mean script agents (setting_with o.code o.site)
 SourceOf script agents at (Err e) = DamagedAt at e ((setting : Setting) → Mean script agents setting → ⊥)
 
+-- what a first event means, or that it is none
 abbrev pub EventOpens : Event → ℕ → Result Source StoreFault → Type 0
 EventOpens e at (Ok o) = (e ≡ event.Start o.script o.agents) × Mean o.script o.agents (setting_with o.code o.site)
 EventOpens e at (Err f) = DamagedAt at f ((setting : Setting) (script agents : List ℕ) → e ≡ event.Start script agents → Mean script agents setting → ⊥)
 
+-- what a first record means, or that it is none
 abbrev pub OpensBy : List ℕ → ℕ → Result Source StoreFault → Type 0
 OpensBy payload at (Ok o) = Opening (setting_with o.code o.site) o.script o.agents payload
 OpensBy payload at (Err e) = DamagedAt at e ((setting : Setting) (script agents : List ℕ) → ¬ (Opening setting script agents payload))
 
+-- the build that goes on from a last record, or that it is none
 abbrev pub ClosesBy : {T : Type 0} → (T → Stance) → Setting → List ℕ → ℕ → Result (Parts T) StoreFault → Type 0
 ClosesBy stance setting payload at (Ok b) = (setting_in b ≡ setting) × (has_begun b.phase ≡ true) × Closing (image_in stance b) payload
 ClosesBy stance setting payload at (Err e) = DamagedAt at e ((image : Image) → Closing image payload → IsWhole setting image → ⊥)
 
+-- the build that goes on from an image, or that the image is not whole
 abbrev pub GoesOnFrom : {T : Type 0} → (T → Stance) → Setting → Image → ℕ → Result (Parts T) StoreFault → Type 0
 GoesOnFrom stance setting image at (Ok b) = (setting_in b ≡ setting) × (has_begun b.phase ≡ true) × (image_in stance b ≡ image)
 GoesOnFrom stance setting image at (Err e) = DamagedAt at e (IsWhole setting image → ⊥)

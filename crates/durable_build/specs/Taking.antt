@@ -34,11 +34,11 @@ MayStart setting (event.Start script agents) = Mean script agents setting
 MayStart setting e = Unit {0}
 
 -- Stopped exactly where an earlier fault stopped the build. Else the answer of the build; of an accepted event Full exactly
--- where its record is too much for the journal, with its length and what the record adds.
+-- where its record is too much for the journal, with its length and what the record adds, and Disk only where it is not.
 abbrev pub TakeAnswers : {D T : Type 0} → (T → Stance) → Kept D T → Kept D T → Event → Result Taken TakeFault → Type 0
 TakeAnswers stance old new e (Ok answer) = (old.stopped ≡ false) × (answer ≡ taken (standing_of old.build) e)
 TakeAnswers stance old new e (Err Memory) = old.stopped ≡ false
-TakeAnswers stance old new e (Err Disk) = (old.stopped ≡ false) × (taken (standing_of old.build) e ≡ Accepted)
+TakeAnswers stance old new e (Err Disk) = (old.stopped ≡ false) × (taken (standing_of old.build) e ≡ Accepted) × (old.journal.len + added e (image_in stance new.build) ≤ 2 ^ 30)
 TakeAnswers stance old new e (Err (Full len add)) =
     (old.stopped ≡ false) × (taken (standing_of old.build) e ≡ Accepted) × (len ≡ old.journal.len) × (2 ^ 30 < len + add) × (add ≡ added e (image_in stance new.build))
 TakeAnswers stance old new e (Err Stopped) = old.stopped ≡ true
@@ -53,6 +53,20 @@ TakeLeaves stance old new e (Err Memory) = (new.stopped ≡ true) × (new.journa
 TakeLeaves stance old new e (Err Disk) = (new.stopped ≡ true) × (new.journal.len ≡ old.journal.len)
 TakeLeaves stance old new e (Err (Full len add)) = (new.stopped ≡ true) × (new.journal ≡ old.journal)
 TakeLeaves stance old new e (Err Stopped) = new ≡ old
+
+-- the script and the agents file behind an accepted event: those of a `Start`, or those from before
+abbrev pub script_after : Event → List ℕ → List ℕ
+script_after (event.Start script agents) old = script
+script_after e old = old
+
+abbrev pub agents_after : Event → List ℕ → List ℕ
+agents_after (event.Start script agents) old = agents
+agents_after e old = old
+
+-- An accepted `Start` brings its script and its agents file. No other event and no other answer, a fault too, changes the kept ones.
+abbrev pub TakeSources : {D T : Type 0} → Kept D T → Kept D T → Event → Result Taken TakeFault → Type 0
+TakeSources old new e (Ok Accepted) = (new.script ≡ script_after e old.script) × (new.agents ≡ agents_after e old.agents)
+TakeSources old new e r = (new.script ≡ old.script) × (new.agents ≡ old.agents)
 
 -- where the build stood for one of the definitions, it has the image of that one after the event
 abbrev pub IsAfter : {D T : Type 0} → (T → Stance) → Kept D T → Kept D T → Event → Type 0
@@ -91,7 +105,7 @@ TakeKeeps reads may_leave clock since stance old new e payloads (Ok Accepted) = 
 TakeKeeps reads may_leave clock since stance old new e payloads (Err Disk) = Risks clock since stance old new e payloads
 TakeKeeps reads may_leave clock since stance old new e payloads r = Unit {0}
 
--- the sources that an event brings
+-- Of private functions alone: the sources that an event brings, and those that are kept then.
 abbrev pub IsSource : Event → Option Sources → Type 0
 IsSource (event.Start script agents) o = o ≡ Some (record { script = script; agents = agents })
 IsSource e o = o ≡ None
@@ -104,7 +118,7 @@ abbrev pub kept_agents : Option Sources → List ℕ → List ℕ
 kept_agents None old = old
 kept_agents (Some s) old = s.agents
 
--- Adding a record, of so many bytes with its frame, to a journal of this length.
+-- Of private functions alone: adding a record, of so many bytes with its frame, to a journal of this length.
 abbrev pub AddAnswers : ℕ → ℕ → Result (Unit {0}) TakeFault → Type 0
 AddAnswers len add (Ok _) = len + add ≤ 2 ^ 30
 AddAnswers len add (Err Memory) = Unit {0}

@@ -1,6 +1,7 @@
 //! A build over a disk.
-ghost use Rattle.std.specs.Prelude.{◌≡◌, ◌⊎◌, ◌≤◌, ◌<◌, ◌+◌, List, [], ℕ, true, false, length, IfOk, IfErr, OnOk, Some, MatchResult, IsErrOf};
+ghost use Rattle.std.specs.Prelude.{◌≡◌, ◌≢◌, ◌⊎◌, ◌≤◌, ◌<◌, ◌+◌, ◌∷◌, List, [], ℕ, true, false, length, slice_index, IfOk, IfErr, OnOk, Some, MatchResult, IsErrOf};
 ghost use Rattle.device_faults.specs.Faults.{CountsFault};
+ghost use Rattle.jp_disk.specs.Images.{after_write};
 ghost use Rattle.jp_disk.specs.Moments.{AtEachMoment};
 ghost use Rattle.journal_core.specs.Records.{records, Has};
 ghost use Rattle.journal_core.specs.Moments.{SinceSync};
@@ -14,7 +15,7 @@ ghost use Rattle.build_images.specs.Images.{image_in, world_image};
 ghost use Rattle.store_laws.specs.Store.{IsConsistent};
 ghost use Rattle.durable_build.specs.Standing.{IsWhole};
 ghost use Rattle.durable_build.specs.Standing.{Keeps};
-ghost use Rattle.durable_build.specs.Taking.{IsSized, MayStart, TakeAnswers, TakeKeeps, TakeLeaves};
+ghost use Rattle.durable_build.specs.Taking.{IsSized, MayStart, TakeAnswers, TakeKeeps, TakeLeaves, TakeSources};
 ghost use Rattle.durable_build.specs.Opening.{OpenFails, Opened, StandsWhere};
 
 use crate::faults::StoreFault;
@@ -53,7 +54,9 @@ impl<D: Disk, R: SavedThread> Model for DurableBuild<D, R> {
 }
 
 impl<D: Disk, R: SavedThread + Drop> DurableBuild<D, R> {
-    /// A build that has taken no event, over a disk that has no record.
+    /// A build that has taken no event, over a disk that has no record. It writes byte 0 as 0 where the file is empty, or
+    /// under six bytes with byte 0 equal to 1; any other file without a record stays as it is. It has no script and no agents
+    /// file yet.
     ///
     /// # Errors
     ///
@@ -69,7 +72,12 @@ impl<D: Disk, R: SavedThread + Drop> DurableBuild<D, R> {
         ensures created { (file : List ℕ) → D.reads disk ≡ Some file → MatchResult result
             (λ d. ¬ IsStarted file × Has [] file × Keeps D.reads D.may_leave R.stance d [])
             (λ e. CreateRefuses D.reads D.may_leave file e.1 e.0) }
+        ensures same { (file : List ℕ) → D.reads disk ≡ Some file → 0 < length file → slice_index file 0 ≢ 1
+            → IfOk result (λ d. D.reads d.journal.disk ≡ Some file) }
+        ensures closed { (file : List ℕ) → D.reads disk ≡ Some file → (file ≡ []) ⊎ (slice_index file 0 ≡ 1)
+            → IfOk result (λ d. D.reads d.journal.disk ≡ Some (after_write file 0 (0 ∷ []))) }
         ensures fresh { IfOk result (λ d. (d.build ≡ build) × (d.stopped ≡ false) × (d.journal.len ≡ 1)) }
+        ensures sources { IfOk result (λ d. (d.script ≡ []) × (d.agents ≡ [])) }
         ensures any_moment { (file : List ℕ) → D.reads disk ≡ Some file → MatchResult result
             (λ d. SinceSync D.clock D.may_have_left_since D.may_leave file disk d.journal.disk (λ image. records image ≡ records file))
             (λ e. SinceSync D.clock D.may_have_left_since D.may_leave file disk e.1 (λ image. records image ≡ records file)
@@ -91,8 +99,8 @@ impl<D: Disk, R: SavedThread + Drop> DurableBuild<D, R> {
     }
 
     /// The build of a store. It goes on from the image of the last record alone, whatever the other records say; of these it
-    /// reads the framing, and the whole of the first, which has the script and the agents file. Where the records are those of one build from its
-    /// `Start` on, it is that build. It writes nothing.
+    /// reads the framing, and the whole of the first, which has the script and the agents file. Where the records are those of
+    /// one build from its `Start` on, it is that build. It writes nothing.
     ///
     /// # Errors
     ///
@@ -147,18 +155,21 @@ impl<D: Disk, R: SavedThread + Drop> DurableBuild<D, R> {
 
     /// Takes an event, and answers as the build does. At `Accepted` the event is durable, with the image of the build after it:
     /// each crash from then on leaves both. A crash during the call leaves the events from before, or these and the new one.
+    /// The script and the agents file are those of the accepted `Start`; nothing else changes them.
     ///
     /// # Errors
     ///
-    /// After each of them every later call answers `Stopped`, and what the build is then is open. `Stopped` comes nowhere else.
-    /// `Full` exactly where an accepted event's record does not fit into the journal, with the journal's length and what the
-    /// record adds, 5 and its bytes (`u64::MAX` where it adds more); nothing was spelled for it. `Disk` only where the disk's
-    /// count of faults rose, which it does at no other answer. `Memory` where the memory was refused. Only `Disk` leaves it open
-    /// whether the event is on the disk; at the others nothing was written.
+    /// After each of them every later call answers `Stopped`, and what the build is then is open. `Stopped` comes nowhere else,
+    /// but behind [`DurableBuild::stop`]. `Full` exactly where an accepted event's record does not fit into the journal, with the
+    /// journal's length and what the record adds, 5 and its bytes (`u64::MAX` where it adds more); nothing was spelled for it.
+    /// `Disk` only of an accepted event whose record fits, and only where the disk's count of faults rose, which it does at no
+    /// other answer. `Memory` where the memory was refused. Only `Disk` leaves it open whether the event is on the disk; at the
+    /// others nothing was written.
     pub fn take(&mut self, alloc: Global, event: &Event) -> Result<Taken, TakeFault>
         requires may_start { taken (standing_of self.old.build) event.now ≡ Accepted → MayStart (setting_in self.old.build) event.now }
         ensures answers { TakeAnswers R.stance self.old self.new event.now result }
         ensures leaves { TakeLeaves R.stance self.old self.new event.now result }
+        ensures sources { TakeSources self.old self.new event.now result }
         ensures size { IsSized R.stance self.old self.new event.now result }
         ensures setting { OnOk result (setting_in self.new.build ≡ setting_in self.old.build) }
         ensures stands { OnOk result ((w : W.Build) → StandsFor R.stance self.old.build w → StandsFor R.stance self.new.build (W.after_one (setting_in self.old.build) w event.now)) }
@@ -207,6 +218,20 @@ impl<D: Disk, R: SavedThread + Drop> DurableBuild<D, R> {
         ensures { result.now ≡ self.now.agents }
     {
         &self.agents
+    }
+
+    /// Whether a fault has stopped it, or [`DurableBuild::stop`].
+    pub fn is_stopped(&self) -> bool
+        ensures { result ≡ self.now.stopped }
+    {
+        self.stopped
+    }
+
+    /// Stops it, as a fault of [`DurableBuild::take`] does: each later `take` answers `Stopped`. It changes nothing else.
+    pub fn stop(&mut self)
+        ensures { self.new ≡ record self.old { stopped = true } }
+    {
+        self.stopped = true;
     }
 
     /// The disk. It needs no memory.

@@ -14,7 +14,8 @@ pub enum StoreFault {
     /// It has no record.
     #[error("the store has no record")]
     Empty,
-    /// The record whose gate stands at this place is cut short, or is not in the form of the first record or of the last.
+    /// The record whose gate stands at this place is cut short; or it is not in the form of the first record or of the last, or its
+    /// image does not pass the check, or has something left of a build that has ended.
     #[error("the record at byte {at} is damaged")]
     Damaged { at: u64 },
 }

@@ -40,11 +40,11 @@ use Rattle.durable_build.specs.Standing.{Kept, Keeps, Opening}
 use Rattle.durable_build.specs.Opening.{Opened}
 use Rattle.durable_build.proofs.Begun.{starts_first}
 use Rattle.durable_build.proofs.OpenLemmas.{begun_all, is_start}
-use Rattle.durable_build.specs.Taking.{IsSized, Puts, TakeAnswers, TakeLeaves, TakeKeeps, added}
+use Rattle.durable_build.specs.Taking.{IsSized, Puts, TakeAnswers, TakeLeaves, TakeKeeps, TakeSources, added}
 use Rattle.saved_run.specs.declared.life.Life.{Life}
 use Rattle.saved_run.specs.Saved.{IsTold, Stores, Survives}
 use Rattle.saved_run.specs.declared.life.BeginFault.TheVariants.{Take}
-use Rattle.saved_run.specs.Lives.{image_after, StartFaults, MayRisk, Stands, Begins, BeginRefuses, StartFails}
+use Rattle.saved_run.specs.Lives.{image_after, IsBegun, StartFaults, MayRisk, Stands, Begins, BeginRefuses, StartFails}
 use Rattle.saved_run.proofs.SavedLemmas.{same_standing, told_none, told_start, survives_all, survives_risked}
 
 -- the executors of an agents file have numbers of their own
@@ -148,6 +148,25 @@ module _ {D T : Type 0} (reads : D → Option (List ℕ)) (may_leave : D → Lis
     moments = with_start [] (Some start) (λ image stores. survives_all setting [] [] (Some start) image ([], refl) stores) (λ image stores. survives_risked setting [] [] start image ([], refl) stores) new.journal.disk r.puts.payload
         (told_here r.puts r.image) r.puts.moments;
   }
+
+-- a build that has taken its `Start` alone
+pub is_begun : {D T : Type 0} (stance : T → Stance) (setting : Setting) (script agents : List ℕ) (fresh new : Kept D T) → setting_in fresh.build ≡ setting → StandsFor stance fresh.build unbegun
+    → (answer : Taken) → answer ≡ taken (standing_of fresh.build) (event.Start script agents) → setting_in new.build ≡ setting_in fresh.build → TakeLeaves stance fresh new (event.Start script agents) (Ok answer)
+    → TakeSources fresh new (event.Start script agents) (Ok answer) → ((w : Build) → StandsFor stance fresh.build w → StandsFor stance new.build (after_one (setting_in fresh.build) w (event.Start script agents)))
+    → IsBegun stance setting script agents new
+is_begun stance setting script agents fresh new same stands answer is here leaves sources goes = by_answer answer (is ∙ ap (λ (b : Standing). taken b (event.Start script agents)) (same_standing stance fresh.build unbegun stands)) leaves sources
+  where
+    by_answer : (a : Taken) → a ≡ Accepted → TakeLeaves stance fresh new (event.Start script agents) (Ok a) → TakeSources fresh new (event.Start script agents) (Ok a) → IsBegun stance setting script agents new
+    by_answer Accepted at left kept = record {
+      running = left.0;
+      same = here ∙ same;
+      stands = subst (λ (s : Setting). StandsFor stance new.build (after_one s unbegun (event.Start script agents))) same (goes unbegun stands);
+      has_script = kept.0;
+      has_agents = kept.1;
+    }
+    by_answer NotOpen at left kept = absurd (cc)
+    by_answer (WrongPlace place) at left kept = absurd (cc)
+    by_answer Finished at left kept = absurd (cc)
 
 -- the fault of a `Start`, in a journal without a record
 pub start_faults : {D T : Type 0} (stance : T → Stance) (setting : Setting) (old new : Kept D T) (e : Event) (f : TakeFault) → setting_in old.build ≡ setting → StandsFor stance old.build unbegun → old.stopped ≡ false → old.journal.len ≡ 1

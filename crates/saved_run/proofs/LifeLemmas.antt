@@ -1,4 +1,5 @@
 -- What a take makes of a life.
+use Rattle.std.specs.Prelude.{IfSome}
 use Rattle.std.proofs.Common.{◌≡◌, ◌⊎◌, ◌≤◌, ℕ, true, false, List, [], ◌∷◌, ◌++◌, Option, Some, None, Ok, Err, inl, inr, refl, sym, ap, ◌∙◌, subst, append-nil, append_assoc}
 use Rattle.jp_disk.specs.Moments.{AtEachMoment}
 use Rattle.jp_disk.proofs.MomentLemmas.{runs_on, at_each_weaker, starts}
@@ -23,8 +24,37 @@ use Rattle.durable_build.specs.Standing.{Kept, Keeps}
 use Rattle.store_laws.proofs.Stories.{world-more}
 use Rattle.durable_build.specs.Taking.{IsAfter, IsSized, Puts, TakeAnswers, TakeLeaves, TakeKeeps, added}
 use Rattle.saved_run.specs.Saved.{IsTold, Stores, Survives}
-use Rattle.saved_run.specs.Lives.{image_after, IsFull, IsOf, MayRisk, Stands, Lasts, Fails}
+use Rattle.saved_run.specs.Lives.{image_after, IsFull, IsOf, MayRisk, Stands, Lasts, FailsBy, TellsFault}
 use Rattle.saved_run.proofs.SavedLemmas.{same_standing, told_more, survives_all, survives_risked, survives_more, survives_risk}
+
+if_some : (o : Option Event) (P Q : Event → Type 0) → ((e : Event) → P e → Q e) → IfSome o P → IfSome o Q
+if_some None P Q goes is = tt
+if_some (Some e) P Q goes is = goes e is
+
+module _ {D T : Type 0} (stance : T → Stance) (old new : Kept D T) (e : Event) where
+  -- a take that is answered leaves a build that no fault stopped
+  pub still_runs : (answer : Taken) → TakeAnswers stance old new e (Ok answer) → TakeLeaves stance old new e (Ok answer) → new.stopped ≡ false
+  still_runs Accepted answers leaves = leaves.0
+  still_runs NotOpen answers leaves = ap (λ (k : Kept D T). k.stopped) leaves ∙ answers.0
+  still_runs (WrongPlace kept) answers leaves = ap (λ (k : Kept D T). k.stopped) leaves ∙ answers.0
+  still_runs Finished answers leaves = ap (λ (k : Kept D T). k.stopped) leaves ∙ answers.0
+
+  -- and a fault tells what it is
+  pub tells_fault : (fault : TakeFault) → TakeAnswers stance old new e (Err fault) → TakeLeaves stance old new e (Err fault) → old.stopped ≡ false → TellsFault stance new fault
+  tells_fault Memory answers leaves running = tt
+  tells_fault Disk answers leaves running = tt
+  tells_fault (Full len add) answers leaves running = (e, (answers.2 ∙ ap (λ (j : State D). j.len) (sym leaves.1), answers.3, answers.4))
+  tells_fault Stopped answers leaves running = let bad : false ≡ true = sym running ∙ answers in absurd (cc)
+
+-- it is told of a build that was stopped then, too
+pub tells_stopped : {D T : Type 0} (stance : T → Stance) (kept new : Kept D T) (fault : TakeFault) → new ≡ record kept { stopped = true } → TellsFault stance kept fault → TellsFault stance new fault
+tells_stopped {D} {T} stance kept new fault is tells = subst (λ (k : Kept D T). TellsFault stance k fault) (sym is) (same fault tells)
+  where
+    same : (f : TakeFault) → TellsFault stance kept f → TellsFault stance (record kept { stopped = true }) f
+    same Memory t = t
+    same Disk t = t
+    same (Full at add) t = t
+    same Stopped t = t
 
 module _ {D T : Type 0} (reads : D → Option (List ℕ)) (may_leave : D → List ℕ → Type 0) (clock : D → ℕ) (since : D → ℕ → List ℕ → Type 0) (stance : T → Stance) where
   -- the build stands for that of its events
@@ -41,6 +71,27 @@ module _ {D T : Type 0} (reads : D → Option (List ℕ)) (may_leave : D → Lis
     has = stores_has reads may_leave kept.journal.disk kept.journal.len s.saves.payloads image s.saves.keeps.holds left;
     told = subst (λ (x : Setting). IsTold x events s.saves.payloads) s.same s.saves.told;
   }
+
+  -- a take that failed by one of these events failed by one of those
+  pub fails_by : (setting : Setting) (origin : D) (before events : List Event) (Cause Other : Event → Type 0) (fault : TakeFault) (kept : Kept D T) → ((e : Event) → Cause e → Other e)
+      → FailsBy reads may_leave clock since stance setting origin before events Cause fault kept → FailsBy reads may_leave clock since stance setting origin before events Other fault kept
+  fails_by setting origin before events Cause Other fault kept goes f = (f.0, if_some f.0.refused Cause Other goes f.1)
+
+  -- what is said of a take that failed hangs on its journal alone
+  pub fails_same : (setting : Setting) (origin : D) (before events : List Event) (Cause : Event → Type 0) (fault : TakeFault) (kept new : Kept D T) → new.journal ≡ kept.journal
+      → FailsBy reads may_leave clock since stance setting origin before events Cause fault kept → FailsBy reads may_leave clock since stance setting origin before events Cause fault new
+  fails_same setting origin before events Cause fault kept new same f = (
+    record {
+      refused = f.0.refused;
+      is_next = f.0.is_next;
+      full = subst (λ (j : State D). IfSome f.0.refused (λ (e : Event). IsFull e (image_after setting (events ++ e ∷ [])) j.len fault)) (sym same) f.0.full;
+      risked = f.0.risked;
+      may_risk = f.0.may_risk;
+      moments = subst (λ (j : State D). AtEachMoment clock since origin j.disk (Survives setting before events f.0.risked)) (sym same) f.0.moments;
+      images = λ image left. f.0.images image (subst (λ (j : State D). may_leave j.disk image) same left);
+    },
+    f.1,
+  )
 
   -- a life from its own disk on
   pub lasts_here : ((d : D) (image : List ℕ) → since d (clock d) image → may_leave d image) → (setting : Setting) (events : List Event) (kept : Kept D T) → Stands reads may_leave clock since stance setting events kept
@@ -118,20 +169,23 @@ module _ {D T : Type 0} (reads : D → Option (List ℕ)) (may_leave : D → Lis
         ∙ ap (world_image setting) (sym (world-more setting unbegun events e))
 
     calm : (fault : TakeFault) → new.journal ≡ old.journal → IsOf setting events fault (Some e) → IsFull e (image_after setting (events ++ e ∷ [])) old.journal.len fault → MayRisk fault (Some e) None
-        → Fails reads may_leave clock since stance setting origin before events fault new
-    calm fault same of full may = record {
-      refused = Some e;
-      is_next = of;
-      full = subst (λ (j : State D). IsFull e (image_after setting (events ++ e ∷ [])) j.len fault) (sym same) full;
-      risked = None;
-      may_risk = may;
-      moments = subst (λ (j : State D). AtEachMoment clock since origin j.disk (Survives setting before events None)) (sym same) lasts.moments;
-      images = λ image left. inl (saved_image setting events old image lasts.stands (subst (λ (j : State D). may_leave j.disk image) same left));
-    }
+        → FailsBy reads may_leave clock since stance setting origin before events (λ (x : Event). x ≡ e) fault new
+    calm fault same of full may = (
+      record {
+        refused = Some e;
+        is_next = of;
+        full = subst (λ (j : State D). IsFull e (image_after setting (events ++ e ∷ [])) j.len fault) (sym same) full;
+        risked = None;
+        may_risk = may;
+        moments = subst (λ (j : State D). AtEachMoment clock since origin j.disk (Survives setting before events None)) (sym same) lasts.moments;
+        images = λ image left. inl (saved_image setting events old image lasts.stands (subst (λ (j : State D). may_leave j.disk image) same left));
+      },
+      refl,
+    )
 
     -- It was not taken.
     pub fails_taken : ((d : D) (t : ℕ) (image : List ℕ) → t ≤ clock d → may_leave d image → since d t image) → (fault : TakeFault) → TakeAnswers stance old new e (Err fault) → IsSized stance old new e (Err fault) → TakeLeaves stance old new e (Err fault)
-        → ((ps : List (List ℕ)) → Keeps reads may_leave stance old ps → TakeKeeps reads may_leave clock since stance old new e ps (Err fault)) → Fails reads may_leave clock since stance setting origin before events fault new
+        → ((ps : List (List ℕ)) → Keeps reads may_leave stance old ps → TakeKeeps reads may_leave clock since stance old new e ps (Err fault)) → FailsBy reads may_leave clock since stance setting origin before events (λ (x : Event). x ≡ e) fault new
     fails_taken counts_now Memory answers size leaves keeps = calm Memory leaves.1 tt tt refl
     fails_taken counts_now (Full len add) answers size leaves keeps =
         calm (Full len add) leaves.1 (record { accepted = accepted; due = due }) (answers.2, answers.3, answers.4 ∙ ap (added e) (image_is size)) refl
@@ -139,16 +193,18 @@ module _ {D T : Type 0} (reads : D → Option (List ℕ)) (may_leave : D → Lis
     fails_taken counts_now Disk answers size leaves keeps =
         let s = lasts.stands in
         let r = keeps s.saves.payloads s.saves.keeps in
-        let told = told_next r.puts r.image in
-        record {
-          refused = Some e;
-          is_next = record { accepted = accepted; due = due };
-          full = tt;
-          risked = Some e;
-          may_risk = refl;
-          moments = runs_on clock since origin old.journal.disk new.journal.disk (Survives setting before events (Some e))
-              (at_each_weaker clock since origin old.journal.disk (Survives setting before events None) (Survives setting before events (Some e)) (survives_risk setting before events (Some e)) lasts.moments)
-              (at_each_weaker clock since old.journal.disk new.journal.disk (HasWithOrWithout s.saves.payloads r.puts.payload) (Survives setting before events (Some e))
-              (λ image has. kept_risked image (with_or_without r.puts.payload image told has)) r.puts.moments);
-          images = λ image left. with_or_without r.puts.payload image told (r.puts.moments.each image (counts_now new.journal.disk (clock old.journal.disk) image r.puts.moments.later left));
-        }
+        let told = told_next r.puts r.image in (
+          record {
+            refused = Some e;
+            is_next = record { accepted = accepted; due = due };
+            full = tt;
+            risked = Some e;
+            may_risk = refl;
+            moments = runs_on clock since origin old.journal.disk new.journal.disk (Survives setting before events (Some e))
+                (at_each_weaker clock since origin old.journal.disk (Survives setting before events None) (Survives setting before events (Some e)) (survives_risk setting before events (Some e)) lasts.moments)
+                (at_each_weaker clock since old.journal.disk new.journal.disk (HasWithOrWithout s.saves.payloads r.puts.payload) (Survives setting before events (Some e))
+                (λ image has. kept_risked image (with_or_without r.puts.payload image told has)) r.puts.moments);
+            images = λ image left. with_or_without r.puts.payload image told (r.puts.moments.each image (counts_now new.journal.disk (clock old.journal.disk) image r.puts.moments.later left));
+          },
+          refl,
+        )

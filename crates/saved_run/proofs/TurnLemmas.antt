@@ -3,7 +3,7 @@ use Rattle.std.proofs.Common.{◌≡◌, ◌⊎◌, ◌∙◌, refl, sym, subst,
 use Rattle.std.specs.Prelude.{MatchResult}
 use Rattle.std.proofs.KnownBytes.{Consumes-nil, Consumes-trans}
 use Rattle.std.specs.Io.KnownBytes.{Consumes, IsAtEnd}
-use Rattle.agent_worker.specs.AnswerBytes.{NoNewline, read_bytes}
+use Rattle.agent_worker.specs.AnswerBytes.{NoNewline, kept_line, read_bytes}
 use Rattle.agent_worker.specs.declared.fault.TakeFault.{TakeFault}
 use Rattle.agent_worker.specs.declared.fault.TakeFault.TheVariants.{Memory}
 use Rattle.agent_worker.specs.declared.operator.LineEnd.{LineEnd}
@@ -12,7 +12,7 @@ use Rattle.model_run.specs.declared.event.Event.{Event}
 use Rattle.model_run.specs.declared.event.Event.TheVariants.{Granted as GrantedEvent}
 use Rattle.model_run.specs.declared.taken.Taken.TheVariants.{Accepted}
 use Rattle.model_run.specs.State.{Setting}
-use Rattle.model_run.specs.World.{answer_to, next_grant, world_in}
+use Rattle.model_run.specs.World.{Build, answer_to, next_grant, world_in}
 use Rattle.settle_laws.specs.Stances.{Stance}
 use Rattle.durable_build.specs.Standing.{Kept}
 use Rattle.script_run.specs.declared.rest.Rest.TheVariants.{Ended, Waits, AnswersFailed}
@@ -21,25 +21,33 @@ use Rattle.script_run.specs.Running.{Decides, EndsLine, Hears, IsPassedOver, Lis
 use Rattle.script_run.proofs.Turns.{grant_accepted}
 use Rattle.saved_run.specs.declared.life.Life.{Life}
 use Rattle.saved_run.specs.Going.{GoesOn, begins, grants, hears}
-use Rattle.saved_run.specs.Lives.{Lasts, Fails, SoFar, Turned, Broken}
-use Rattle.saved_run.proofs.LifeLemmas.{saved_image}
+use Rattle.saved_run.specs.Lives.{Lasts, FailsBy, IsCaused, by_grant, by_line, SoFar, Turned, Broken}
+use Rattle.saved_run.proofs.LifeLemmas.{fails_by, fails_same, saved_image}
 
 pub positive : (n : ℕ) → (n ≡ 0 → ⊥) → 0 < n
 positive zero some = absurd (some refl)
 positive (suc n) some = omega arith
 
+-- a line decides what that which was kept of it decides
+decides_whole : (b : Build) (kept line : List ℕ) → kept_line kept ≡ kept_line line → (e : Event) → Decides b kept e → Decides b line e
+decides_whole b kept line same e d = record { said = d.said; kept = sym same ∙ d.kept; request = d.request; answer = d.answer; open_now = d.open_now }
+
 module _ {D T : Type 0} (reads : D → Option (List ℕ)) (may_leave : D → List ℕ → Type 0) (clock : D → ℕ) (since : D → ℕ → List ℕ → Type 0) (stance : T → Stance) (setting : Setting) (origin : D) (before : List Event) where
   -- memory was refused, and nothing was written
-  pub wanting : (events : List Event) (kept : Kept D T) → Lasts reads may_leave clock since stance setting origin before events kept → Fails reads may_leave clock since stance setting origin before events Memory kept
-  wanting events kept lasts = record {
-    refused = None;
-    is_next = tt;
-    full = tt;
-    risked = None;
-    may_risk = refl;
-    moments = lasts.moments;
-    images = λ image left. inl (saved_image reads may_leave clock since stance setting events kept image lasts.stands left);
-  }
+  pub wanting : (Cause : Event → Type 0) (events : List Event) (kept : Kept D T) → Lasts reads may_leave clock since stance setting origin before events kept
+      → FailsBy reads may_leave clock since stance setting origin before events Cause Memory kept
+  wanting Cause events kept lasts = (
+    record {
+      refused = None;
+      is_next = tt;
+      full = tt;
+      risked = None;
+      may_risk = refl;
+      moments = lasts.moments;
+      images = λ image left. inl (saved_image reads may_leave clock since stance setting events kept image lasts.stands left);
+    },
+    tt,
+  )
 
   -- a line that decides nothing, and one whose decision was to be taken
   pub hears_passed : (events : List Event) (line : List ℕ) (kept : Kept D T) → Lasts reads may_leave clock since stance setting origin before events kept → IsPassedOver (world_in setting events) line
@@ -47,11 +55,38 @@ module _ {D T : Type 0} (reads : D → Option (List ℕ)) (may_leave : D → Lis
   hears_passed events line kept lasts passed = (events, lasts, passes_over passed)
 
   pub hears_taken : (events : List Event) (line : List ℕ) (e : Event) (new : Kept D T) (r : Result (Unit {0}) TakeFault) → Decides (world_in setting events) line e → answer_to setting (world_in setting events) e ≡ Accepted
-      → MatchResult r (λ _. Lasts reads may_leave clock since stance setting origin before (events ++ e ∷ []) new) (λ f. Fails reads may_leave clock since stance setting origin before events f new)
+      → MatchResult r (λ _. Lasts reads may_leave clock since stance setting origin before (events ++ e ∷ []) new) (λ f. FailsBy reads may_leave clock since stance setting origin before events (λ (x : Event). x ≡ e) f new)
       → MatchResult r (λ _. (now : List Event) × Lasts reads may_leave clock since stance setting origin before now new × Hears setting (world_in setting events) line events now)
-      (λ f. Fails reads may_leave clock since stance setting origin before events f new)
+      (λ f. FailsBy reads may_leave clock since stance setting origin before events (Decides (world_in setting events) line) f new)
   hears_taken events line e new (Ok u) decided accepted lasts = (events ++ e ∷ [], lasts, decides e decided accepted)
-  hears_taken events line e new (Err f) decided accepted fails = fails
+  hears_taken events line e new (Err f) decided accepted fails =
+      fails_by reads may_leave clock since stance setting origin before events (λ (x : Event). x ≡ e) (Decides (world_in setting events) line) f new (λ x is. subst (Decides (world_in setting events) line) (sym is) decided) fails
+
+  -- the grant that is due is why it was to be taken
+  pub granted_by : (events : List Event) (request executor : ℕ) (fault : TakeFault) (new : Kept D T) → next_grant setting (world_in setting events) ≡ Some (request, executor)
+      → FailsBy reads may_leave clock since stance setting origin before events (λ (x : Event). x ≡ GrantedEvent request executor) fault new
+      → FailsBy reads may_leave clock since stance setting origin before events (IsCaused setting events []) fault new
+  granted_by events request executor fault new due fails =
+      fails_by reads may_leave clock since stance setting origin before events (λ (x : Event). x ≡ GrantedEvent request executor) (IsCaused setting events []) fault new
+      (λ x is. subst (IsCaused setting events []) (sym is) (by_grant request executor due)) fails
+
+  -- a life that broke off is stopped: its journal stays
+  pub broken_stopped : (old left : Option (List ℕ)) (fault : TakeFault) (life new : Life D T) → new.durable.journal ≡ life.durable.journal
+      → Broken reads may_leave clock since stance setting origin before old left fault life → Broken reads may_leave clock since stance setting origin before old left fault new
+  broken_stopped old left fault life new same b =
+      let f = fails_same reads may_leave clock since stance setting origin before b.events (IsCaused setting b.events b.part) fault life.durable new.durable same (b.fails, b.caused) in
+      record {
+        events = b.events;
+        has_answers = b.has_answers;
+        read = b.read;
+        part = b.part;
+        goes = b.goes;
+        answers = b.answers;
+        going = b.going;
+        left_over = b.left_over;
+        fails = f.0;
+        caused = f.1;
+      }
 
   module _ (old left : Option (List ℕ)) (events : List Event) (life : Life D T) where
     pub rests_ended : SoFar reads may_leave clock since stance setting origin before old left [] events life → (world_in setting events).ended ≡ true
@@ -63,7 +98,7 @@ module _ {D T : Type 0} (reads : D → Option (List ℕ)) (may_leave : D → Lis
     rests_waiting so going none idle = record { events = events; part = []; so_far = so; turns = (going, none, idle, refl) }
 
     pub breaks : (fault : TakeFault) (new : Life D T) → SoFar reads may_leave clock since stance setting origin before old left [] events life → (world_in setting events).ended ≡ false
-        → Fails reads may_leave clock since stance setting origin before events fault new.durable → Broken reads may_leave clock since stance setting origin before old left fault new
+        → FailsBy reads may_leave clock since stance setting origin before events (IsCaused setting events []) fault new.durable → Broken reads may_leave clock since stance setting origin before old left fault new
     breaks fault new so going fails = record {
       events = events;
       has_answers = life.has_answers;
@@ -73,7 +108,8 @@ module _ {D T : Type 0} (reads : D → Option (List ℕ)) (may_leave : D → Lis
       answers = so.answers;
       going = going;
       left_over = nothing;
-      fails = fails;
+      fails = fails.0;
+      caused = fails.1;
     }
 
     pub turns_granted : (request executor : ℕ) (new : Life D T) → SoFar reads may_leave clock since stance setting origin before old left [] events life → (world_in setting events).ended ≡ false
@@ -113,20 +149,25 @@ module _ {D T : Type 0} (reads : D → Option (List ℕ)) (may_leave : D → Lis
         turns = (going, listens, has, plain);
       }
 
-      pub breaks_line : (fault : TakeFault) (line : List ℕ) (end : LineEnd) (new : Life D T) → SoFar reads may_leave clock since stance setting origin before old left [] events life → (world_in setting events).ended ≡ false
+      pub breaks_line : (fault : TakeFault) (kept line : List ℕ) (end : LineEnd) (new : Life D T) → SoFar reads may_leave clock since stance setting origin before old left [] events life → (world_in setting events).ended ≡ false
           → Listens setting (world_in setting events) → life.has_answers ≡ true → NoNewline line → Consumes left next (read_bytes end line)
-          → Fails reads may_leave clock since stance setting origin before events fault new.durable → Broken reads may_leave clock since stance setting origin before old next fault new
-      breaks_line fault line end new so going listens has plain more fails = record {
-        events = events;
-        has_answers = life.has_answers;
-        read = so.read;
-        part = read_bytes end line;
-        goes = so.goes;
-        answers = consumed (read_bytes end line) so more;
-        going = going;
-        left_over = of_line line end listens has plain;
-        fails = fails;
-      }
+          → kept_line kept ≡ kept_line line → FailsBy reads may_leave clock since stance setting origin before events (Decides (world_in setting events) kept) fault new.durable
+          → Broken reads may_leave clock since stance setting origin before old next fault new
+      breaks_line fault kept line end new so going listens has plain more same fails =
+          let f = fails_by reads may_leave clock since stance setting origin before events (Decides (world_in setting events) kept) (IsCaused setting events (read_bytes end line)) fault new.durable
+          (λ e d. by_line line end (decides_whole (world_in setting events) kept line same e d)) fails in
+          record {
+            events = events;
+            has_answers = life.has_answers;
+            read = so.read;
+            part = read_bytes end line;
+            goes = so.goes;
+            answers = consumed (read_bytes end line) so more;
+            going = going;
+            left_over = of_line line end listens has plain;
+            fails = f.0;
+            caused = f.1;
+          }
 
       pub turns_heard : (now : List Event) (line : List ℕ) (end : LineEnd) (new : Life D T) → SoFar reads may_leave clock since stance setting origin before old left [] events life → Listens setting (world_in setting events)
           → life.has_answers ≡ true → NoNewline line → EndsLine end new.has_answers → Hears setting (world_in setting events) line events now → Consumes left next (read_bytes end line)

@@ -1,26 +1,29 @@
 -- What holds of a life, and how it comes to rest or breaks off (this product's own).
-use Rattle.std.specs.Prelude.{◌≡◌, ◌⊎◌, ◌+◌, ◌<◌, ◌^◌, ℕ, Bool, true, false, List, [], ◌∷◌, ◌++◌, Option, Some, None, IfSome, IsSomeAnd}
+use Rattle.std.specs.Prelude.{◌≡◌, ◌⊎◌, ◌+◌, ◌<◌, ◌^◌, ℕ, Bool, true, false, List, [], ◌∷◌, ◌++◌, Option, Some, None, Result, IfSome, IsSomeAnd, MatchResult}
 use Rattle.std.specs.Io.KnownBytes.{Consumes, IsAtEnd}
 use Rattle.jp_disk.specs.Moments.{AtEachMoment}
 use Rattle.journal_core.specs.Answers.{IsStarted}
 use Rattle.journal_core.specs.Moments.{SinceSync}
 use Rattle.journal_core.specs.Records.{records}
+use Rattle.agent_worker.specs.AnswerBytes.{read_bytes}
 use Rattle.agent_worker.specs.declared.fault.TakeFault.{TakeFault}
 use Rattle.agent_worker.specs.declared.fault.TakeFault.TheVariants.{Memory, Disk, Full, Stopped}
+use Rattle.agent_worker.specs.declared.operator.LineEnd.{LineEnd}
 use Rattle.model_run.specs.declared.event.Event.{Event}
 use Rattle.model_run.specs.declared.event.Event.TheVariants as event
 use Rattle.model_run.specs.State.{Setting}
 use Rattle.model_run.specs.declared.taken.Taken.TheVariants.{Accepted}
 use Rattle.model_run.specs.World.{answer_to, next_grant, world_in}
 use Rattle.image_form.specs.declared.image.Image.{Image}
-use Rattle.build_images.specs.Images.{world_image}
+use Rattle.build_images.specs.Images.{image_in, world_image}
 use Rattle.store_laws.specs.Store.{grant_of}
 use Rattle.durable_build.specs.Taking.{added}
 use Rattle.settle_laws.specs.Stances.{Stance}
-use Rattle.build_core.specs.Builds.{setting_in}
+use Rattle.build_core.specs.Builds.{StandsFor, setting_in}
 use Rattle.durable_build.specs.Standing.{Kept}
 use Rattle.script_run.specs.declared.rest.Rest.{Rest}
 use Rattle.script_run.specs.Rests.{LeftOver, TurnsTo}
+use Rattle.script_run.specs.Running.{Decides}
 use Rattle.script_run.specs.Standing.{IsProper}
 use Rattle.saved_run.specs.declared.life.BeginFault.{BeginFault}
 use Rattle.saved_run.specs.declared.life.BeginFault.TheVariants.{HasBuild, Take}
@@ -48,6 +51,37 @@ image_after setting events = world_image setting (world_in setting events)
 -- What a fault of the take of a `Start` tells: the journal has one byte.
 abbrev pub StartFaults : Setting → Event → TakeFault → Type 0
 StartFaults setting start fault = IsFull start (image_after setting (start ∷ [])) 1 fault
+
+-- What the refusal of a build tells, on each disk: the fault of a `Start` that was not taken.
+abbrev pub TellsStart : Setting → Event → BeginFault → Type 0
+TellsStart setting start HasBuild = Unit {0}
+TellsStart setting start (Take fault) = StartFaults setting start fault
+
+-- A build that was begun, on each disk: it has taken its `Start` alone, whose bytes are kept, and no fault stopped it.
+pub record IsBegun {D T : Type 0} (stance : T → Stance) (setting : Setting) (script agents : List ℕ) (kept : Kept D T) : Type 0 where
+  pub running : kept.stopped ≡ false
+  pub same : setting_in kept.build ≡ setting
+  pub stands : StandsFor stance kept.build (world_in setting (event.Start script agents ∷ []))
+  pub has_script : kept.script ≡ script
+  pub has_agents : kept.agents ≡ agents
+
+-- What the fault of a life tells, on each disk: `Full` is that of the record of some event, with the image that the build has behind it.
+-- `Stopped` is none.
+abbrev pub TellsFault : {D T : Type 0} → (T → Stance) → Kept D T → TakeFault → Type 0
+TellsFault stance kept Memory = Unit {0}
+TellsFault stance kept Disk = Unit {0}
+TellsFault stance kept (Full at add) = (e : Event) × IsFull e (image_in stance kept.build) kept.journal.len (Full at add)
+TellsFault stance kept Stopped = ⊥
+
+-- A life that no fault stopped goes on so, or tells its fault, on each disk.
+abbrev pub StaysRunning : {D T A : Type 0} → (T → Stance) → Kept D T → Kept D T → Result A TakeFault → Type 0
+StaysRunning stance old new r = old.stopped ≡ false → MatchResult r (λ a. new.stopped ≡ false) (TellsFault stance new)
+
+-- Why a life takes an event: it makes the grant that is due, before anything more is read; or it is the decision of the line that was just
+-- read.
+pub data IsCaused (setting : Setting) (events : List Event) : List ℕ → Event → Type 0 where
+  by_grant : (request executor : ℕ) → next_grant setting (world_in setting events) ≡ Some (request, executor) → IsCaused setting events [] (event.Granted request executor)
+  by_line : {e : Event} (line : List ℕ) (end : LineEnd) → Decides (world_in setting events) line e → IsCaused setting events (read_bytes end line) e
 
 -- The event that a life would have taken next: it is accepted, and makes a grant where one is due.
 pub record IsNext (setting : Setting) (events : List Event) (e : Event) : Type 0 where
@@ -90,6 +124,10 @@ module _ {D T : Type 0} (reads : D → Option (List ℕ)) (may_leave : D → Lis
     pub moments : AtEachMoment clock since origin kept.journal.disk (Survives setting before events risked)
     pub images : (image : List ℕ) → may_leave kept.journal.disk image → Stores setting events image ⊎ IsSomeAnd risked (λ e. Stores setting (events ++ e ∷ []) image)
 
+  -- And the event was one of these.
+  abbrev pub FailsBy : Setting → D → List Event → List Event → (Event → Type 0) → TakeFault → Kept D T → Type 0
+  FailsBy setting origin before events Cause fault kept = (fails : Fails setting origin before events fault kept) × IfSome fails.refused Cause
+
   -- A life so far, with what was read of the answers: for its events, and a part behind that.
   pub record SoFar (setting : Setting) (origin : D) (before : List Event) (old left : Option (List ℕ)) (part : List ℕ) (events : List Event) (life : Life D T) : Type 0 where
     pub lasts : Lasts setting origin before events life.durable
@@ -105,7 +143,7 @@ module _ {D T : Type 0} (reads : D → Option (List ℕ)) (may_leave : D → Lis
     pub so_far : SoFar setting origin before old left part events life
     pub turns : TurnsTo setting (world_in setting events) life.has_answers part rest
 
-  -- It broke off behind these events, and the build has not ended.
+  -- It broke off behind these events, and the build has not ended. The event that was not taken is the one that came next.
   pub record Broken (setting : Setting) (origin : D) (before : List Event) (old left : Option (List ℕ)) (fault : TakeFault) (life : Life D T) : Type 0 where
     pub events : List Event
     pub has_answers : Bool
@@ -116,6 +154,7 @@ module _ {D T : Type 0} (reads : D → Option (List ℕ)) (may_leave : D → Lis
     pub going : (world_in setting events).ended ≡ false
     pub left_over : LeftOver setting (world_in setting events) has_answers part
     pub fails : Fails setting origin before events fault life.durable
+    pub caused : IfSome fails.refused (IsCaused setting events part)
 
   -- A build was begun, over a file without a record.
   pub record Begins (setting : Setting) (start : Event) (file : List ℕ) (disk : D) (life : Life D T) : Type 0 where

@@ -3,7 +3,7 @@ ghost use Rattle.std.specs.Prelude.{◌≡◌, ◌∷◌, ◌++◌, [], ℕ, Lis
 ghost use Rattle.device_faults.specs.Faults.{CountsFault};
 ghost use Rattle.jp_disk.specs.Moments.{AtEachMoment};
 ghost use Rattle.build_core.specs.Builds.{StandsFor, setting_in};
-ghost use Rattle.build_core.specs.Phases.{has_begun};
+ghost use Rattle.build_core.specs.Phases.{has_begun, has_ended};
 ghost use Rattle.build_images.specs.Images.{image_in, world_image};
 ghost use Rattle.durable_build.specs.Opening.{OpenFails, Opened};
 ghost use Rattle.durable_build.specs.Standing.{IsWhole};
@@ -11,10 +11,10 @@ ghost use Rattle.model_run.specs.declared.event.Event.{Event as AnEvent};
 ghost use Rattle.model_run.specs.declared.taken.Taken.TheVariants.{Accepted};
 ghost use Rattle.model_run.specs.State.{Setting};
 ghost use Rattle.model_run.specs.World.{answer_to, next_grant, unbegun, world_in};
-ghost use Rattle.script_run.specs.Running.{Hears, Listens};
+ghost use Rattle.script_run.specs.Running.{Decides, Hears, Listens};
 ghost use Rattle.script_run.specs.Standing.{script_setting};
 ghost use Rattle.store_laws.specs.Store.{IsConsistent, Mean, grant_of};
-ghost use Rattle.saved_run.specs.Lives.{Begins, BeginRefuses, Broken, Fails, IsLater, Lasts, SoFar, Stands, Turned};
+ghost use Rattle.saved_run.specs.Lives.{Begins, BeginRefuses, Broken, FailsBy, IsBegun, IsLater, Lasts, SoFar, Stands, StaysRunning, TellsFault, TellsStart, Turned};
 ghost use Rattle.saved_run.specs.Saved.{Stores};
 
 use agent_worker::{LineEnd, answer_in, answer_of, read_line};
@@ -54,7 +54,7 @@ impl<D: Disk, R: SavedThread + Drop> Life<D, R> {
     /// # Errors
     ///
     /// Each hands the disk back. `HasBuild` exactly where the disk has a record, or the beginning of one; then nothing is changed.
-    /// `Take` as [`DurableBuild::take`] answers; `Stopped` does not come. Its `Disk` comes only where the disk's count of faults
+    /// `Take` as [`DurableBuild::take`] answers, `Full` with the numbers of the record of this `Start`; `Stopped` does not come. Its `Disk` comes only where the disk's count of faults
     /// rose, which it does at no other answer.
     pub fn begin(
         alloc: Global,
@@ -68,6 +68,8 @@ impl<D: Disk, R: SavedThread + Drop> Life<D, R> {
         ensures begun { (file : List ℕ) → D.reads disk ≡ Some file → MatchResult result
             (λ life. Begins D.reads D.may_leave D.clock D.may_have_left_since R.stance (script_setting tree site) (Event.Start script agents) file disk life)
             (λ e. BeginRefuses D.reads D.may_leave D.clock D.may_have_left_since R.stance (script_setting tree site) (Event.Start script agents) file disk e.0 e.1) }
+        ensures made { IfOk result (λ life. IsBegun R.stance (script_setting tree site) script agents life.durable) }
+        ensures faults { IfErr result (λ e. TellsStart (script_setting tree site) (Event.Start script agents) e.0) }
         ensures fresh { IfOk result (λ life. life.has_answers ≡ true) }
         ensures cause { MatchResult result
             (λ life. CountsFault (D.faults disk) (D.faults life.durable.journal.disk) ⊥)
@@ -127,9 +129,12 @@ impl<D: Disk, R: SavedThread + Drop> Life<D, R> {
     /// Goes on until the build has ended or nobody can: makes the grants that are due, and reads answer lines while an input is
     /// open. It may wait for ever, as the answers may.
     ///
+    /// Where it has answered `AnswersFailed`, a part of a line may be lost, which the answers gave and nobody heard.
+    ///
     /// # Errors
     ///
-    /// As [`DurableBuild::take`] answers; `Stopped` does not come of a life that stands. What the build is then is open.
+    /// As [`DurableBuild::take`] answers. A life is over behind each of them: from then on it answers `Stopped`, and reads nothing
+    /// more. `Stopped` comes exactly of a life that is over. What the build is behind an error is open.
     pub fn go_on<W: Wait + AllocGlobal, A: Source>(
         &mut self,
         rt: &W,
@@ -140,6 +145,39 @@ impl<D: Disk, R: SavedThread + Drop> Life<D, R> {
             → MatchResult result
             (λ rest. Turned D.reads D.may_leave D.clock D.may_have_left_since R.stance setting origin before first (A.left answers.new) (Some rest) self.new)
             (λ fault. Broken D.reads D.may_leave D.clock D.may_have_left_since R.stance setting origin before first (A.left answers.new) fault self.new) }
+        ensures over { self.old.durable.stopped ≡ true → (result ≡ Err TakeFault.Stopped) × (self.new ≡ self.old) × (answers.new ≡ answers.old) }
+        ensures faults { self.old.durable.stopped ≡ false → IfErr result (TellsFault R.stance self.new.durable) }
+        ensures running { MatchResult result (λ rest. self.new.durable.stopped ≡ false) (λ fault. self.new.durable.stopped ≡ true) }
+        ensures ended { result ≡ Ok Rest.Ended → has_ended self.new.durable.build.phase ≡ true }
+        ensures answers { CountsFault (A.faults answers.old) (A.faults answers.new) (result ≡ Ok Rest.AnswersFailed) }
+        ensures disk { CountsFault (D.faults self.old.durable.journal.disk) (D.faults self.new.durable.journal.disk) (IsErrOf result TakeFault.Disk) }
+    {
+        if self.durable.is_stopped() {
+            return Err(TakeFault::Stopped);
+        }
+        match self.run(rt, answers) {
+            Ok(rest) => Ok(rest),
+            Err(fault) => {
+                self.durable.stop();
+                Err(fault)
+            }
+        }
+    }
+
+    /// Takes turns until the build has ended or nobody can go on.
+    fn run<W: Wait + AllocGlobal, A: Source>(
+        &mut self,
+        rt: &W,
+        answers: &mut A,
+    ) -> Result<Rest, TakeFault>
+        requires running { self.old.durable.stopped ≡ false }
+        ensures rested { (setting : Setting) (origin : D) (before : List AnEvent) (first : Option (List ℕ)) (events : List AnEvent)
+            → SoFar D.reads D.may_leave D.clock D.may_have_left_since R.stance setting origin before first (A.left answers.old) [] events self.old
+            → MatchResult result
+            (λ rest. Turned D.reads D.may_leave D.clock D.may_have_left_since R.stance setting origin before first (A.left answers.new) (Some rest) self.new)
+            (λ fault. Broken D.reads D.may_leave D.clock D.may_have_left_since R.stance setting origin before first (A.left answers.new) fault self.new) }
+        ensures runs { MatchResult result (λ rest. self.new.durable.stopped ≡ false) (TellsFault R.stance self.new.durable) }
+        ensures ended { result ≡ Ok Rest.Ended → has_ended self.new.durable.build.phase ≡ true }
         ensures answers { CountsFault (A.faults answers.old) (A.faults answers.new) (result ≡ Ok Rest.AnswersFailed) }
         ensures disk { CountsFault (D.faults self.old.durable.journal.disk) (D.faults self.new.durable.journal.disk) (IsErrOf result TakeFault.Disk) }
     {
@@ -164,6 +202,8 @@ impl<D: Disk, R: SavedThread + Drop> Life<D, R> {
             → MatchResult result
             (λ rest. Turned D.reads D.may_leave D.clock D.may_have_left_since R.stance setting origin before first (A.left answers.new) rest self.new)
             (λ fault. Broken D.reads D.may_leave D.clock D.may_have_left_since R.stance setting origin before first (A.left answers.new) fault self.new) }
+        ensures runs { StaysRunning R.stance self.old.durable self.new.durable result }
+        ensures ended { result ≡ Ok (Some Rest.Ended) → has_ended self.new.durable.build.phase ≡ true }
         ensures answers { CountsFault (A.faults answers.old) (A.faults answers.new) (result ≡ Ok (Some Rest.AnswersFailed)) }
         ensures disk { CountsFault (D.faults self.old.durable.journal.disk) (D.faults self.new.durable.journal.disk) (IsErrOf result TakeFault.Disk) }
     {
@@ -199,6 +239,8 @@ impl<D: Disk, R: SavedThread + Drop> Life<D, R> {
             → MatchResult result
             (λ rest. Turned D.reads D.may_leave D.clock D.may_have_left_since R.stance setting origin before first (A.left answers.new) rest self.new)
             (λ fault. Broken D.reads D.may_leave D.clock D.may_have_left_since R.stance setting origin before first (A.left answers.new) fault self.new) }
+        ensures runs { StaysRunning R.stance self.old.durable self.new.durable result }
+        ensures not_ended { result ≡ Ok (Some Rest.Ended) → ⊥ }
         ensures answers { CountsFault (A.faults answers.old) (A.faults answers.new) (result ≡ Ok (Some Rest.AnswersFailed)) }
         ensures disk { CountsFault (D.faults self.old.durable.journal.disk) (D.faults self.new.durable.journal.disk) (IsErrOf result TakeFault.Disk) }
     {
@@ -223,7 +265,8 @@ impl<D: Disk, R: SavedThread + Drop> Life<D, R> {
             → Listens setting (world_in setting events) → (world_in setting events).ended ≡ false
             → MatchResult result
             (λ _. (now : List AnEvent) × Lasts D.reads D.may_leave D.clock D.may_have_left_since R.stance setting origin before now self.new.durable × Hears setting (world_in setting events) line.now events now)
-            (λ fault. Fails D.reads D.may_leave D.clock D.may_have_left_since R.stance setting origin before events fault self.new.durable) }
+            (λ fault. FailsBy D.reads D.may_leave D.clock D.may_have_left_since R.stance setting origin before events (Decides (world_in setting events) line.now) fault self.new.durable) }
+        ensures runs { StaysRunning R.stance self.old.durable self.new.durable result }
         ensures has_answers { self.new.has_answers ≡ self.old.has_answers }
         ensures disk { CountsFault (D.faults self.old.durable.journal.disk) (D.faults self.new.durable.journal.disk) (IsErrOf result TakeFault.Disk) }
     {
@@ -256,7 +299,8 @@ impl<D: Disk, R: SavedThread + Drop> Life<D, R> {
             → next_grant setting (world_in setting events) ≡ grant_of event.now
             → MatchResult result
             (λ _. Lasts D.reads D.may_leave D.clock D.may_have_left_since R.stance setting origin before (events ++ event.now ∷ []) self.new.durable)
-            (λ fault. Fails D.reads D.may_leave D.clock D.may_have_left_since R.stance setting origin before events fault self.new.durable) }
+            (λ fault. FailsBy D.reads D.may_leave D.clock D.may_have_left_since R.stance setting origin before events (λ e. e ≡ event.now) fault self.new.durable) }
+        ensures runs { StaysRunning R.stance self.old.durable self.new.durable result }
         ensures has_answers { self.new.has_answers ≡ self.old.has_answers }
         ensures disk { CountsFault (D.faults self.old.durable.journal.disk) (D.faults self.new.durable.journal.disk) (IsErrOf result TakeFault.Disk) }
     {

@@ -1,11 +1,11 @@
-use Rattle.std.proofs.Common.{rules, ◌≡◌, ◌∙◌, true, Ok, Err, sym, subst}
+use Rattle.std.proofs.Common.{rules, ◌≡◌, ◌∙◌, true, false, Ok, Err, sym, subst}
 use Rattle.model_run.specs.declared.taken.Taken.{Taken}
 use Rattle.model_run.specs.declared.taken.Taken.TheVariants.{Accepted}
 use Rattle.model_run.specs.Taking.{taken}
 use Rattle.build_core.specs.Builds.{setting_in, standing_of}
 use Rattle.durable_build.specs.Standing.{Kept, Keeps}
-use Rattle.durable_build.specs.Taking.{Adds, IsSized, MayStart, TakeKeeps}
-use Rattle.durable_build.proofs.TakeLemmas.{adds, take_failed, take_sized}
+use Rattle.durable_build.specs.Taking.{Adds, IsSized, MayStart, TakeAnswers, TakeKeeps, TakeSources}
+use Rattle.durable_build.proofs.TakeLemmas.{adds, kept_after, take_answered, take_failed, take_sized}
 use Rattle.durable_build.proofs.durable.DurableBuild.take.Goals as goal
 
 pub returns-in-Err-clause-keeps : goal.returns-in-Err-clause-keeps
@@ -52,3 +52,25 @@ returns-in-Err-clause-size g c =
     let accepted : c.in-Ok.answer ≡ Accepted = search rules in
     subst (λ (k : Kept g.row.D.Denot g.row.R.Denot). IsSized stance k new e (Err c.in-Err.fault)) c.self.view_is
     (take_sized D.reads D.may_leave D.clock D.may_have_left_since stance old new e (sym c.in-Ok.ensures.taken ∙ accepted) c.in-Ok.ensures.setting c.in-Ok.ensures.stands c.in-Err.fault c.in-Err.ensures.world)
+
+pub returns-in-Err-clause-answers : goal.returns-in-Err-clause-answers
+returns-in-Err-clause-answers g c =
+    let stance = g.R.ScriptThread.stance in
+    let i = c.self.inside in
+    let old : Kept g.row.D.Denot g.row.R.Denot = record { journal = i.journal; build = i.build; script = i.script; agents = i.agents; stopped = i.stopped } in
+    let new : Kept g.row.D.Denot g.row.R.Denot = record { journal = c.add.new.journal; build = c.take_event.new.build; script = i.script; agents = i.agents; stopped = true } in
+    let e = c.args.event.now in
+    let accepted : c.in-Ok.answer ≡ Accepted = search rules in
+    let running : i.stopped ≡ false = search rules in
+    subst (λ (k : Kept g.row.D.Denot g.row.R.Denot). TakeAnswers stance k new e (Err c.in-Err.fault)) c.self.view_is
+    (take_answered stance old new e running (sym c.in-Ok.ensures.taken ∙ accepted) c.in-Err.fault c.in-Err.ensures.answers)
+
+pub returns-clause-sources : goal.returns-clause-sources
+returns-clause-sources g c =
+    let i = c.self.inside in
+    let new : Kept g.row.D.Denot g.row.R.Denot = record { journal = c.add.new.journal; build = c.take_event.new.build; script = c.keep_sources.new.script; agents = c.keep_sources.new.agents; stopped = i.stopped } in
+    let e = c.args.event.now in
+    let accepted : c.in-Ok.answer ≡ Accepted = search rules in
+    let after = kept_after e c.in-Ok-sources_of.sources i.script i.agents c.in-Ok-sources_of.ensures in
+    subst (λ (t : Taken). TakeSources c.args.self.now new e (Ok t)) (sym accepted)
+    (subst (λ (k : Kept g.row.D.Denot g.row.R.Denot). TakeSources k new e (Ok Accepted)) c.self.view_is (c.keep_sources.ensures.0 ∙ after.0, c.keep_sources.ensures.1 ∙ after.1))

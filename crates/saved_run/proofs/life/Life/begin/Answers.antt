@@ -1,4 +1,4 @@
-use Rattle.std.proofs.Common.{◌≡◌, ◌∙◌, [], true, inl, inr, refl, sym, ap, subst}
+use Rattle.std.proofs.Common.{◌≡◌, ◌∙◌, [], true, inl, refl, sym, ap, subst}
 use Rattle.jp_disk.proofs.MomentLemmas.{starts}
 use Rattle.journal_core.specs.Answers.{CreateRefuses}
 use Rattle.journal_core.specs.declared.faults.CreateFault.{CreateFault}
@@ -7,7 +7,7 @@ use Rattle.model_run.specs.declared.event.Event.TheVariants.{Start as StartEvent
 use Rattle.model_run.specs.World.{unbegun}
 use Rattle.script_run.specs.Standing.{script_setting}
 use Rattle.saved_run.specs.Lives.{StartFails}
-use Rattle.saved_run.proofs.BeginLemmas.{begins_taken, start_fails, start_faults, start_refused, since_started, since_either}
+use Rattle.saved_run.proofs.BeginLemmas.{begins_taken, is_begun, start_fails, start_faults, start_refused, since_started, since_either}
 use Rattle.saved_run.proofs.life.Life.begin.Goals as goal
 
 pub returns-in_default-clause-begun : goal.returns-in_default-clause-begun
@@ -52,3 +52,22 @@ returns-clause-begun g c = λ file told.
     (subst (λ (d : g.row.D.Denot). StartFails D.reads D.may_leave D.clock D.may_have_left_since g.R.ScriptThread.stance setting first file c.args.disk d c.in-Err.fault) (sym c.close.ensures)
     (start_fails D.reads D.may_leave D.clock D.may_have_left_since g.R.ScriptThread.stance setting c.args.script c.args.agents file c.args.disk fresh c.take.new.self c.requires.mean same stands made.0 made.1 made.2 (c.in-Ok-create.ensures.any_moment file told)
     c.in-Err.fault is.1 c.in-Err.ensures.answers c.in-Err.ensures.leaves (c.in-Err.ensures.keeps [] made.2)))
+
+pub returns-in-Ok-take-clause-made : goal.returns-in-Ok-take-clause-made
+returns-in-Ok-take-clause-made g c =
+    let stance = g.R.ScriptThread.stance in
+    let fresh = c.in-Ok-create.durable in
+    let is = c.in-Ok-create.ensures.fresh in
+    let same : setting_in fresh.build ≡ script_setting c.args.tree c.args.site = ap (λ (b : Parts g.row.R.Denot). setting_in b) is.0 ∙ c.in-Ok.ensures.setting in
+    let stands = subst (λ (b : Parts g.row.R.Denot). StandsFor stance b unbegun) (sym is.0) c.in-Ok.ensures.stands in
+    is_begun stance (script_setting c.args.tree c.args.site) c.args.script c.args.agents fresh c.take.new.self same stands c.in-Ok-take.field-0 c.in-Ok-take.ensures.answers.1 c.in-Ok-take.ensures.setting
+    c.in-Ok-take.ensures.leaves c.in-Ok-take.ensures.sources c.in-Ok-take.ensures.stands
+
+pub returns-clause-faults : goal.returns-clause-faults
+returns-clause-faults g c =
+    let stance = g.R.ScriptThread.stance in
+    let fresh = c.in-Ok-create.durable in
+    let is = c.in-Ok-create.ensures.fresh in
+    let same : setting_in fresh.build ≡ script_setting c.args.tree c.args.site = ap (λ (b : Parts g.row.R.Denot). setting_in b) is.0 ∙ c.in-Ok.ensures.setting in
+    let stands = subst (λ (b : Parts g.row.R.Denot). StandsFor stance b unbegun) (sym is.0) c.in-Ok.ensures.stands in
+    start_faults stance (script_setting c.args.tree c.args.site) fresh c.take.new.self (StartEvent c.args.script c.args.agents) c.in-Err.fault same stands is.1 is.2 c.in-Err.ensures.answers c.in-Err.ensures.size

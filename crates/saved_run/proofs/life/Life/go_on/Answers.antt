@@ -1,32 +1,30 @@
-use Rattle.std.proofs.Common.{◌≡◌, ◌∙◌, Option, Ok, Err, subst}
+use Rattle.std.proofs.Common.{◌≡◌, ◌∙◌, true, false, Err, sym, ap, subst}
+use Rattle.std.specs.Prelude.{IsErrOf}
+use Rattle.device_faults.specs.Faults.{CountsFault}
 use Rattle.agent_worker.specs.declared.fault.TakeFault.TheVariants.{Disk}
+use Rattle.durable_build.specs.Standing.{Kept}
 use Rattle.script_run.specs.declared.rest.Rest.{Rest}
-use Rattle.saved_run.specs.Lives.{Turned}
-use Rattle.saved_run.proofs.TurnLemmas.{goes_further}
+use Rattle.saved_run.proofs.LifeLemmas.{tells_stopped}
+use Rattle.saved_run.proofs.TurnLemmas.{broken_stopped}
 use Rattle.saved_run.proofs.life.Life.go_on.Goals as goal
 
-pub returns-in-Ok-Some-clause-rested : goal.returns-in-Ok-Some-clause-rested
-returns-in-Ok-Some-clause-rested g c = λ setting origin before first events so.
-    let D = g.D.Disk in
-    let here = c.loop.invariant.so_far setting origin before first events so in
-    subst (λ (o : Option Rest). Turned D.reads D.may_leave D.clock D.may_have_left_since g.R.ScriptThread.stance setting origin before first (g.A.Source.left c.turn.new.answers) o c.turn.new.self) c.in-Ok-Some.field-0-is (c.in-Ok-Some.ensures.turned setting origin before first here.0 here.1)
+pub returns-then-is_stopped-clause-rested : goal.returns-then-is_stopped-clause-rested
+returns-then-is_stopped-clause-rested g c = λ setting origin before first events so.
+    let bad : true ≡ false = sym c.if-is_stopped.true ∙ c.is_stopped.ensures ∙ so.lasts.stands.running in absurd (cc)
+
+pub returns-in-Ok-clause-rested : goal.returns-in-Ok-clause-rested
+returns-in-Ok-clause-rested g c = c.in-Ok.ensures.rested
 
 pub returns-in-Err-clause-rested : goal.returns-in-Err-clause-rested
 returns-in-Err-clause-rested g c = λ setting origin before first events so.
-    let here = c.loop.invariant.so_far setting origin before first events so in
-    c.in-Err.ensures.turned setting origin before first here.0 here.1
-
-pub loop-preserved : goal.loop-preserved
-loop-preserved g c =
     let D = g.D.Disk in
-    let none = c.in-Ok-None.field-0-is in
-    record {
-      next = tt;
-      finite = tt;
-      answers = c.in-Ok-None.ensures.answers.calm (λ e. absurd (cc)) ∙ c.loop.invariant.answers;
-      disk = c.in-Ok-None.ensures.disk.calm (λ e. let bad : Ok c.in-Ok-None.field-0 ≡ Err Disk = e in absurd (cc)) ∙ c.loop.invariant.disk;
-      so_far = λ setting origin before first events so.
-          let here = c.loop.invariant.so_far setting origin before first events so in
-          let turned = subst (λ (o : Option Rest). Turned D.reads D.may_leave D.clock D.may_have_left_since g.R.ScriptThread.stance setting origin before first (g.A.Source.left c.turn.new.answers) o c.turn.new.self) none (c.in-Ok-None.ensures.turned setting origin before first here.0 here.1) in
-          (turned.events, goes_further D.reads D.may_leave D.clock D.may_have_left_since g.R.ScriptThread.stance setting origin before first (g.A.Source.left c.loop.answers) here.0 c.loop.self c.turn.new.self (g.A.Source.left c.turn.new.answers) turned);
-    }
+    broken_stopped D.reads D.may_leave D.clock D.may_have_left_since g.R.ScriptThread.stance setting origin before first (g.A.Source.left c.run.new.answers) c.in-Err.fault c.run.new.self _
+    (ap (λ (k : Kept g.row.D.Denot g.row.R.Denot). k.journal) c.stop.ensures) (c.in-Err.ensures.rested setting origin before first events so)
+
+pub returns-in-Err-clause-faults : goal.returns-in-Err-clause-faults
+returns-in-Err-clause-faults g c = λ running. tells_stopped g.R.ScriptThread.stance c.run.new.self.durable c.stop.new.self c.in-Err.fault c.stop.ensures c.in-Err.ensures.runs
+
+pub returns-in-Err-clause-disk : goal.returns-in-Err-clause-disk
+returns-in-Err-clause-disk g c =
+    let faults = g.D.Disk.faults in
+    subst (λ (k : Kept g.row.D.Denot g.row.R.Denot). CountsFault (faults c.args.self.now.durable.journal.disk) (faults k.journal.disk) (IsErrOf {T = Rest} (Err c.in-Err.fault) Disk)) (sym c.stop.ensures) c.in-Err.ensures.disk

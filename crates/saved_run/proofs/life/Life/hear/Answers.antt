@@ -2,7 +2,7 @@ use Rattle.std.proofs.Common.{ℕ, List, sym, ap, subst}
 use Rattle.build_core.specs.Builds.{Parts, StandsFor}
 use Rattle.model_run.specs.declared.event.Event.TheVariants.{Decided as DecidedEvent}
 use Rattle.model_run.specs.World.{world_in}
-use Rattle.script_run.specs.Running.{too_long, no_answer, nothing_open}
+use Rattle.script_run.specs.Running.{Decides, too_long, no_answer, nothing_open}
 use Rattle.script_run.proofs.Turns.{decided}
 use Rattle.saved_run.proofs.LifeLemmas.{stands_world}
 use Rattle.saved_run.proofs.TurnLemmas.{wanting, hears_passed, hears_taken}
@@ -30,7 +30,7 @@ returns-in_default-input_of-clause-hears g c = λ setting origin before events l
 pub returns-in_default-from_slice-clause-hears : goal.returns-in_default-from_slice-clause-hears
 returns-in_default-from_slice-clause-hears g c = λ setting origin before events lasts listens going.
     let D = g.D.Disk in
-    wanting D.reads D.may_leave D.clock D.may_have_left_since g.R.ScriptThread.stance setting origin before events c.args.self.now.durable lasts
+    wanting D.reads D.may_leave D.clock D.may_have_left_since g.R.ScriptThread.stance setting origin before (Decides (world_in setting events) c.args.line.now) events c.args.self.now.durable lasts
 
 pub returns-clause-hears : goal.returns-clause-hears
 returns-clause-hears g c = λ setting origin before events lasts listens going.

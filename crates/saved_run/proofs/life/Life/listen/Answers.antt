@@ -1,10 +1,10 @@
 use Rattle.std.proofs.Common.{◌≡◌, [], ℕ, List, true, false, None, refl, sym, ap, subst, ◌∙◌}
-use Rattle.agent_worker.specs.AnswerBytes.{short}
+use Rattle.agent_worker.specs.AnswerBytes.{kept_line, short}
 use Rattle.agent_worker.specs.declared.fault.TakeFault.TheVariants.{Memory}
 use Rattle.agent_worker.specs.declared.operator.LineEnd.TheVariants as line_end
 use Rattle.agent_worker.proofs.AnswerLemmas.{kept-short}
 use Rattle.model_run.specs.World.{world_in}
-use Rattle.script_run.specs.Running.{Hears}
+use Rattle.script_run.specs.Running.{Decides, Hears}
 use Rattle.script_run.proofs.Turns.{whole_heard}
 use Rattle.saved_run.specs.declared.life.Life.{Life}
 use Rattle.saved_run.specs.Lives.{Lasts, Turned, Broken}
@@ -16,8 +16,8 @@ pub returns-in-Memory-clause-turned : goal.returns-in-Memory-clause-turned
 returns-in-Memory-clause-turned g c = λ setting origin before first events so listens going.
     let D = g.D.Disk in
     let bytes = c.in-Memory.ensures.bytes in
-    breaks_line D.reads D.may_leave D.clock D.may_have_left_since g.R.ScriptThread.stance setting origin before first (g.A.Source.left c.args.answers.now) events c.args.self.now (g.A.Source.left c.read_line.new.answers) Memory bytes.0 line_end.Memory c.args.self.now so going listens
-    c.requires.has_answers bytes.1 bytes.2 (wanting D.reads D.may_leave D.clock D.may_have_left_since g.R.ScriptThread.stance setting origin before events c.args.self.now.durable so.lasts)
+    breaks_line D.reads D.may_leave D.clock D.may_have_left_since g.R.ScriptThread.stance setting origin before first (g.A.Source.left c.args.answers.now) events c.args.self.now (g.A.Source.left c.read_line.new.answers) Memory bytes.0 bytes.0 line_end.Memory c.args.self.now so going listens
+    c.requires.has_answers bytes.1 bytes.2 refl (wanting D.reads D.may_leave D.clock D.may_have_left_since g.R.ScriptThread.stance setting origin before (Decides (world_in setting events) bytes.0) events c.args.self.now.durable so.lasts)
 
 pub returns-clause-turned : goal.returns-clause-turned
 returns-clause-turned g c = λ setting origin before first events so listens going.
@@ -28,12 +28,16 @@ returns-clause-turned g c = λ setting origin before first events so listens goi
       | in-Line w ↦
           let bytes = w.in-Line.ensures.bytes in
           let lasts = subst (λ (r : Life g.row.D.Denot g.row.R.Denot). Lasts D.reads D.may_leave D.clock D.may_have_left_since g.R.ScriptThread.stance setting origin before events r.durable) (sym w.self-is) so.lasts in
-          breaks_line D.reads D.may_leave D.clock D.may_have_left_since g.R.ScriptThread.stance setting origin before first old events c.args.self.now now c.in-Err.fault bytes.0 line_end.Line c.hear.new.self so going listens c.requires.has_answers bytes.1 bytes.2
+          let line_is : c.as_slice.result.now ≡ short bytes.0 = c.as_slice.ensures ∙ bytes.3 [] c.new-line.ensures (λ e. cc) in
+          breaks_line D.reads D.may_leave D.clock D.may_have_left_since g.R.ScriptThread.stance setting origin before first old events c.args.self.now now c.in-Err.fault c.as_slice.result.now bytes.0 line_end.Line c.hear.new.self so going listens
+          c.requires.has_answers bytes.1 bytes.2 (ap kept_line line_is ∙ kept-short bytes.0)
           (c.in-Err.ensures.hears setting origin before events lasts listens going)
       | in-End w ↦
           let bytes = w.in-End.ensures.bytes in
           let lasts = subst (λ (r : Life g.row.D.Denot g.row.R.Denot). Lasts D.reads D.may_leave D.clock D.may_have_left_since g.R.ScriptThread.stance setting origin before events r.durable) (sym w.self-is) so.lasts in
-          breaks_line D.reads D.may_leave D.clock D.may_have_left_since g.R.ScriptThread.stance setting origin before first old events c.args.self.now now c.in-Err.fault bytes.0 line_end.End c.hear.new.self so going listens c.requires.has_answers bytes.1 bytes.2
+          let line_is : c.as_slice.result.now ≡ short bytes.0 = c.as_slice.ensures ∙ bytes.3 [] c.new-line.ensures (λ e. cc) in
+          breaks_line D.reads D.may_leave D.clock D.may_have_left_since g.R.ScriptThread.stance setting origin before first old events c.args.self.now now c.in-Err.fault c.as_slice.result.now bytes.0 line_end.End c.hear.new.self so going listens
+          c.requires.has_answers bytes.1 bytes.2 (ap kept_line line_is ∙ kept-short bytes.0)
           (c.in-Err.ensures.hears setting origin before events lasts listens going)
     ]
 

@@ -1,4 +1,4 @@
-use Rattle.std.proofs.Common.{◌≡◌, ◌<◌, ℕ, Some, None, false, sym, ap, subst, ◌∙◌}
+use Rattle.std.proofs.Common.{◌≡◌, ◌<◌, ℕ, [], Some, None, false, sym, ap, subst, ◌∙◌}
 use Rattle.agent_worker.specs.declared.fault.TakeFault.TheVariants.{Memory}
 use Rattle.build_core.specs.Builds.{Parts, StandsFor, setting_in}
 use Rattle.build_requests.specs.Waiting.{waiting_inputs}
@@ -6,7 +6,8 @@ use Rattle.model_run.specs.State.{Setting}
 use Rattle.model_run.specs.World.{world_in, next_grant}
 use Rattle.script_run.proofs.Turns.{grant_accepted}
 use Rattle.saved_run.proofs.LifeLemmas.{stands_world}
-use Rattle.saved_run.proofs.TurnLemmas.{wanting, breaks, turns_granted, positive}
+use Rattle.saved_run.specs.Lives.{IsCaused}
+use Rattle.saved_run.proofs.TurnLemmas.{wanting, breaks, granted_by, turns_granted, positive}
 use Rattle.saved_run.proofs.life.Life.turn.Goals as goal
 
 pub returns-in_default-clause-turned : goal.returns-in_default-clause-turned
@@ -15,7 +16,7 @@ returns-in_default-clause-turned g c = λ setting origin before first events so.
     let w = world_in setting events in
     let at = subst (λ (b : Parts g.row.R.Denot). StandsFor g.R.ScriptThread.stance b w) (sym c.build-build.ensures) (stands_world D.reads D.may_leave D.clock D.may_have_left_since g.R.ScriptThread.stance setting events c.args.self.now.durable so.lasts.stands) in
     let going : w.ended ≡ false = sym (c.has_ended.ensures.world w at) ∙ c.if-has_ended.false in
-    breaks D.reads D.may_leave D.clock D.may_have_left_since g.R.ScriptThread.stance setting origin before first (g.A.Source.left c.args.answers.now) events c.args.self.now Memory c.args.self.now so going (wanting D.reads D.may_leave D.clock D.may_have_left_since g.R.ScriptThread.stance setting origin before events c.args.self.now.durable so.lasts)
+    breaks D.reads D.may_leave D.clock D.may_have_left_since g.R.ScriptThread.stance setting origin before first (g.A.Source.left c.args.answers.now) events c.args.self.now Memory c.args.self.now so going (wanting D.reads D.may_leave D.clock D.may_have_left_since g.R.ScriptThread.stance setting origin before (IsCaused setting events []) events c.args.self.now.durable so.lasts)
 
 pub returns-in_default-due-clause-turned : goal.returns-in_default-due-clause-turned
 returns-in_default-due-clause-turned g c = λ setting origin before first events so.
@@ -49,4 +50,5 @@ returns-clause-turned g c = λ setting origin before first events so.
     let same : setting_in c.build-build.result.now ≡ setting = ap (λ (b : Parts g.row.R.Denot). setting_in b) c.build-build.ensures ∙ so.lasts.stands.same in
     let due : next_grant setting w ≡ Some (c.in-Some.request, c.in-Some.executor) = subst (λ (s : Setting). next_grant s w ≡ Some (c.in-Some.request, c.in-Some.executor)) same (sym (c.in-Ok.ensures.world w at) ∙ c.in-Some.is) in
     let accepted = grant_accepted setting so.lasts.stands.proper events so.lasts.stands.begun going c.in-Some.request c.in-Some.executor due in
-    breaks D.reads D.may_leave D.clock D.may_have_left_since g.R.ScriptThread.stance setting origin before first (g.A.Source.left c.args.answers.now) events c.args.self.now c.in-Err.fault c.take.new.self so going (c.in-Err.ensures.takes setting origin before events so.lasts accepted due)
+    breaks D.reads D.may_leave D.clock D.may_have_left_since g.R.ScriptThread.stance setting origin before first (g.A.Source.left c.args.answers.now) events c.args.self.now c.in-Err.fault c.take.new.self so going
+    (granted_by D.reads D.may_leave D.clock D.may_have_left_since g.R.ScriptThread.stance setting origin before events c.in-Some.request c.in-Some.executor c.in-Err.fault c.take.new.self.durable due (c.in-Err.ensures.takes setting origin before events so.lasts accepted due))

@@ -1,8 +1,8 @@
-use Rattle.std.proofs.Common.{◌≡◌, [], ℕ, List, Option}
+use Rattle.std.proofs.Common.{◌≡◌, [], ℕ, false, List, Option}
 use Rattle.model_run.specs.declared.event.Event.{Event}
 use Rattle.model_run.specs.State.{Setting}
 use Rattle.saved_run.specs.Lives.{SoFar}
-use Rattle.saved_run.proofs.life.Life.go_on.Given as goal
+use Rattle.saved_run.proofs.life.Life.run.Given as goal
 
 abbrev pub invariant-loop : goal.invariant-loop
 invariant-loop g l = record {
@@ -10,6 +10,7 @@ invariant-loop g l = record {
   finite : (goal.iterator-loop g).is_finite l.iterator';
   answers : g.A.Source.faults l.answers ≡ g.A.Source.faults l.fn.answers;
   disk : g.D.Disk.faults l.self.durable.journal.disk ≡ g.D.Disk.faults l.fn.self.durable.journal.disk;
+  running : l.self.durable.stopped ≡ false;
   so_far : (setting : Setting) (origin : g.row.D.Denot) (before : List Event) (first : Option (List ℕ)) (events : List Event)
       → SoFar g.D.Disk.reads g.D.Disk.may_leave g.D.Disk.clock g.D.Disk.may_have_left_since g.R.ScriptThread.stance setting origin before first (g.A.Source.left l.fn.answers) [] events l.fn.self
       → (now : List Event) × SoFar g.D.Disk.reads g.D.Disk.may_leave g.D.Disk.clock g.D.Disk.may_have_left_since g.R.ScriptThread.stance setting origin before first (g.A.Source.left l.answers) [] now l.self;

@@ -1,0 +1,39 @@
+use Rattle.std.proofs.Common.{◌≡◌, ◌∙◌, Option, Ok, Err, subst}
+use Rattle.agent_worker.specs.declared.fault.TakeFault.TheVariants.{Disk}
+use Rattle.script_run.specs.declared.rest.Rest.{Rest}
+use Rattle.saved_run.specs.Lives.{Turned}
+use Rattle.saved_run.proofs.TurnLemmas.{goes_further}
+use Rattle.saved_run.proofs.life.Life.run.Goals as goal
+
+pub returns-in-Ok-Some-clause-rested : goal.returns-in-Ok-Some-clause-rested
+returns-in-Ok-Some-clause-rested g c = λ setting origin before first events so.
+    let D = g.D.Disk in
+    let here = c.loop.invariant.so_far setting origin before first events so in
+    subst (λ (o : Option Rest). Turned D.reads D.may_leave D.clock D.may_have_left_since g.R.ScriptThread.stance setting origin before first (g.A.Source.left c.turn.new.answers) o c.turn.new.self) c.in-Ok-Some.field-0-is (c.in-Ok-Some.ensures.turned setting origin before first here.0 here.1)
+
+pub returns-in-Err-clause-rested : goal.returns-in-Err-clause-rested
+returns-in-Err-clause-rested g c = λ setting origin before first events so.
+    let here = c.loop.invariant.so_far setting origin before first events so in
+    c.in-Err.ensures.turned setting origin before first here.0 here.1
+
+pub returns-in-Ok-Some-clause-runs : goal.returns-in-Ok-Some-clause-runs
+returns-in-Ok-Some-clause-runs g c = c.in-Ok-Some.ensures.runs c.loop.invariant.running
+
+pub returns-in-Err-clause-runs : goal.returns-in-Err-clause-runs
+returns-in-Err-clause-runs g c = c.in-Err.ensures.runs c.loop.invariant.running
+
+pub loop-preserved : goal.loop-preserved
+loop-preserved g c =
+    let D = g.D.Disk in
+    let none = c.in-Ok-None.field-0-is in
+    record {
+      next = tt;
+      finite = tt;
+      answers = c.in-Ok-None.ensures.answers.calm (λ e. absurd (cc)) ∙ c.loop.invariant.answers;
+      disk = c.in-Ok-None.ensures.disk.calm (λ e. let bad : Ok c.in-Ok-None.field-0 ≡ Err Disk = e in absurd (cc)) ∙ c.loop.invariant.disk;
+      running = c.in-Ok-None.ensures.runs c.loop.invariant.running;
+      so_far = λ setting origin before first events so.
+          let here = c.loop.invariant.so_far setting origin before first events so in
+          let turned = subst (λ (o : Option Rest). Turned D.reads D.may_leave D.clock D.may_have_left_since g.R.ScriptThread.stance setting origin before first (g.A.Source.left c.turn.new.answers) o c.turn.new.self) none (c.in-Ok-None.ensures.turned setting origin before first here.0 here.1) in
+          (turned.events, goes_further D.reads D.may_leave D.clock D.may_have_left_since g.R.ScriptThread.stance setting origin before first (g.A.Source.left c.loop.answers) here.0 c.loop.self c.turn.new.self (g.A.Source.left c.turn.new.answers) turned);
+    }
