@@ -1,10 +1,10 @@
 -- What is known of the store goes on through one take.
-use Rattle.std.proofs.Common.{◌≡◌, ◌⊎◌, ◌≤◌, ◌∙◌, ℕ, zero, suc, inl, inr, true, false, List, [], ◌∷◌, ◌++◌, take, Option, Some, None, Result, Ok, Err, refl, sym, ap, subst, append_assoc, append-nil, arith}
+use Rattle.std.proofs.Common.{◌≡◌, ◌⊎◌, ◌≤◌, ◌∙◌, ℕ, ◌+◌, zero, suc, inl, inr, true, false, List, [], ◌∷◌, ◌++◌, length, take, Option, Some, None, Result, Ok, Err, refl, sym, ap, subst, append_assoc, append-nil, arith}
 use Rattle.std.specs.Prelude.{IsErrOf, OnOk, fold}
 use Rattle.device_faults.specs.Faults.{Rose}
 use Rattle.jp_disk.specs.Moments.{AtEachMoment}
 use Rattle.jp_disk.proofs.MomentLemmas.{starts, runs_on, at_each_weaker, rose_later}
-use Rattle.journal_core.specs.Records.{Has, HasWithOrWithout}
+use Rattle.journal_core.specs.Records.{Has, HasWithOrWithout, framed}
 use Rattle.journal_core.proofs.StepLemmas.{stores_has}
 use Rattle.record_form.specs.Records.{record_of}
 use Rattle.record_form.specs.declared.record.EventRecord.{EventRecord}
@@ -22,14 +22,14 @@ use Rattle.store_laws.proofs.Stories.{spell_more, events-more, world-more, due_m
 use Rattle.agent_worker.specs.declared.fault.TakeFault.{TakeFault}
 use Rattle.agent_worker.specs.declared.fault.TakeFault.TheVariants.{Memory, Disk, Full, Stopped}
 use Rattle.durable_build.specs.Standing.{Kept, Keeps}
-use Rattle.durable_build.specs.Taking.{Adds, Risks, TakeAnswers, TakeKeeps, TakeLeaves}
+use Rattle.durable_build.specs.Taking.{Adds, Risks, IsSized as TellsSize, TakeAnswers, TakeKeeps, TakeLeaves, added}
 use Rattle.site_state.specs.declared.ask.Entry.{Entry}
 use Rattle.site_state.specs.declared.ask.Entry.TheVariants.{Took, Failed}
 use Rattle.site_state.specs.Histories.{tooks, kept_fault, at_risk, Quiet}
 use Rattle.site_state.specs.Showing.{answer_of, IsNext, IsShown}
-use Rattle.site_state.specs.Facts.{IsMeant, GoOn, HasFront, Grown, IsFull, Facts}
+use Rattle.site_state.specs.Facts.{IsMeant, GoOn, HasFront, Grown, IsFull, IsSized, Facts}
 use Rattle.site_state.specs.Grants.{noted}
-use Rattle.site_state.proofs.HistoryLaws.{tooks-append, kept_fault-append, fault_not_none, pending-append, none_pending, none_full, full-append}
+use Rattle.site_state.proofs.HistoryLaws.{tooks-append, kept_fault-append, fault_not_none, pending-append, none_pending, none_full, full-append, none_sized, sized-append}
 use Rattle.site_state.proofs.WorldLaws.{IsInOrder, next_in_order, same_answer}
 
 fold-append : (s : Setting) (w : W.Build) (es fs : List Event) → fold (W.after_one s) w (es ++ fs) ≡ fold (W.after_one s) (fold (W.after_one s) w es) fs
@@ -151,6 +151,7 @@ module _ {D T : Type 0} (reads : D → Option (List ℕ)) (may_leave : D → Lis
           last = [];
           last_spelled = tt;
           go_on = subst (GoOn stance opening.build) (sym (append-nil (g.records ++ r ∷ []))) on;
+          ends = here.holds.ends;
           keeps = λ _. here;
           moments = subst (λ (xs : List (List ℕ)). AtEachMoment clock since opening.journal.disk new.journal.disk (HasFront ps xs)) (sym (append-nil all)) (moments_more p a.puts.moments);
           images = λ image left. inl (stores_has reads may_leave new.journal.disk new.journal.len (ps ++ all) image here.holds left);
@@ -168,15 +169,16 @@ module _ {D T : Type 0} (reads : D → Option (List ℕ)) (may_leave : D → Lis
       last = g.last;
       last_spelled = g.last_spelled;
       go_on = g.go_on;
+      ends = ap (λ j. j.len) same ∙ g.ends;
       keeps = λ is. absurd (fault_not_none h f event none is);
       moments = subst (λ j. AtEachMoment clock since opening.journal.disk j.disk (HasFront ps (g.added ++ g.last))) (sym same) g.moments;
       images = subst (λ j. (image : List ℕ) → may_leave j.disk image → Has (ps ++ g.added) image ⊎ Has (ps ++ g.added ++ g.last) image) (sym same) g.images;
     }
 
     -- a take that the disk failed
-    pub grown_torn : ((d : D) (t : ℕ) (image : List ℕ) → t ≤ clock d → may_leave d image → since d t image) → (e : Event) → Risks clock since stance old new e (ps ++ g.added)
+    pub grown_torn : ((d : D) (t : ℕ) (image : List ℕ) → t ≤ clock d → may_leave d image → since d t image) → (e : Event) → new.journal.len ≡ old.journal.len → Risks clock since stance old new e (ps ++ g.added)
         → GoOn stance opening.build (g.records ++ record_of e (image_in stance new.build) ∷ []) → Grown reads may_leave clock since stance opening new (h ++ Failed Disk (Some e) ∷ []) ps
-    grown_torn counts_now e a on =
+    grown_torn counts_now e len a on =
         let p = a.puts.payload in
         record {
           records = g.records;
@@ -188,6 +190,7 @@ module _ {D T : Type 0} (reads : D → Option (List ℕ)) (may_leave : D → Lis
           last = p ∷ [];
           last_spelled = (a.puts.spells, tt);
           go_on = on;
+          ends = len ∙ g.ends;
           keeps = λ is. absurd (fault_not_none h Disk (Some e) none is);
           moments = moments_more p a.puts.moments;
           images = λ image left. a.puts.moments.each image (counts_now new.journal.disk (clock old.journal.disk) image a.puts.moments.later left);
@@ -205,6 +208,7 @@ module _ {D T : Type 0} (reads : D → Option (List ℕ)) (may_leave : D → Lis
     last = g.last;
     last_spelled = g.last_spelled;
     go_on = g.go_on;
+    ends = g.ends;
     keeps = λ _. g.keeps none;
     moments = g.moments;
     images = g.images;
@@ -234,7 +238,10 @@ module _ {D T : Type 0} (reads : D → Option (List ℕ)) (may_leave : D → Lis
   facts_start only_now k running begun = record {
     count = omega arith;
     rose = λ bad. absurd (none_disk bad);
+    calm = λ _. refl;
+    longer = omega arith;
     full = tt;
+    size = λ w at. tt;
     running = λ _. running;
     shown = λ _. record { begun = begun; setting = refl; unchanged = λ _. refl; stands = λ w at. at };
     grown = λ ps held.
@@ -249,6 +256,7 @@ module _ {D T : Type 0} (reads : D → Option (List ℕ)) (may_leave : D → Lis
           last = [];
           last_spelled = tt;
           go_on = λ before meant started at. (tt, tt);
+          ends = subst (λ (xs : List (List ℕ)). k.journal.len ≡ length (framed xs) + 1) (sym (append-nil ps)) held.holds.ends;
           keeps = λ _. subst (Keeps reads may_leave stance k) (sym (append-nil ps)) held;
           moments = starts clock since k.journal.disk (HasFront ps []) (λ image left. (0, has image (only_now k.journal.disk image left)));
           images = λ image left. inl (has image left);
@@ -261,18 +269,32 @@ module _ {D T : Type 0} (reads : D → Option (List ℕ)) (may_leave : D → Lis
     facts_quiet es quiet = record {
       count = k.count;
       rose = λ bad. absurd (none_disk (sym (kept_fault-append h es none ∙ quiet.1) ∙ bad));
+      calm = λ _. k.calm (λ bad. none_disk (sym none ∙ bad));
+      longer = k.longer;
       full = none_full stance old (h ++ es) (kept_fault-append h es none ∙ quiet.1);
+      size = λ w at. none_sized (setting_in opening.build) w (h ++ es) (kept_fault-append h es none ∙ quiet.1);
       running = λ _. k.running none;
       shown = λ _. subst (λ (xs : List Event). IsShown stance opening.build xs old.build) (sym (append-nil (tooks h)) ∙ sym (ap (λ (xs : List Event). tooks h ++ xs) quiet.0) ∙ sym (tooks-append h es)) (k.shown none);
       grown = λ ps held. grown_quiet reads may_leave clock since stance opening old h none ps (k.grown ps held) es quiet;
     }
 
     module _ (new : Kept D T) (count : faults old.journal.disk ≤ faults new.journal.disk) where
-      facts_fault : (f : TakeFault) (event : Option Event) → (f ≡ Disk → Rose (faults old.journal.disk) (faults new.journal.disk)) → IsFull stance new f event
+      -- the count of faults stands, where this take did not fail by the disk
+      still : faults new.journal.disk ≡ faults old.journal.disk → faults new.journal.disk ≡ faults opening.journal.disk
+      still same = same ∙ k.calm (λ bad. none_disk (sym none ∙ bad))
+
+      facts_fault : (f : TakeFault) (event : Option Event) → (f ≡ Disk → Rose (faults old.journal.disk) (faults new.journal.disk)) → ((f ≡ Disk → ⊥) → faults new.journal.disk ≡ faults old.journal.disk)
+          → old.journal.len ≤ new.journal.len → IsFull stance new f event → ((w : W.Build) → StandsFor stance old.build w → IsSized (setting_in old.build) w f event)
           → ((ps : List (List ℕ)) → Keeps reads may_leave stance opening ps → Grown reads may_leave clock since stance opening new (h ++ Failed f event ∷ []) ps)
           → Known opening new (h ++ Failed f event ∷ [])
-      facts_fault f event rose full grown = record {
+      facts_fault f event rose calm longer full size grown = record {
         count = omega (arith, k.count, count);
+        calm = λ other. still (calm (λ is. other (kept_fault-append h (Failed f event ∷ []) none ∙ ap Some is)));
+        longer = omega (arith, k.longer, longer);
+        size = λ w at.
+            let shown = k.shown none in
+            let here : W.Build = fold (W.after_one (setting_in opening.build)) w (tooks h) in
+            sized-append (setting_in opening.build) w h f event none (subst (λ (s : Setting). IsSized s here f event) shown.setting (size here (shown.stands w at)));
         rose = λ is. rose_later (faults opening.journal.disk) (faults old.journal.disk) (faults new.journal.disk) k.count (rose (same_fault f Disk (sym (kept_fault-append h (Failed f event ∷ []) none) ∙ is)));
         full = full-append stance new h f event none full;
         running = λ is. absurd (fault_not_none h f event none is);
@@ -280,11 +302,14 @@ module _ {D T : Type 0} (reads : D → Option (List ℕ)) (may_leave : D → Lis
         grown = grown;
       }
 
-      facts_more : (e : Event) → new.stopped ≡ false → has_begun new.build.phase ≡ true → IsInOrder old.build e → IsNext stance old.build e new.build
+      facts_more : (e : Event) → faults new.journal.disk ≡ faults old.journal.disk → old.journal.len ≤ new.journal.len → new.stopped ≡ false → has_begun new.build.phase ≡ true → IsInOrder old.build e → IsNext stance old.build e new.build
           → ((payloads : List (List ℕ)) → Keeps reads may_leave stance old payloads → Adds reads may_leave clock since stance old new e payloads)
           → Known opening new (h ++ Took e ∷ [])
-      facts_more e running begun order next adds = record {
+      facts_more e calm longer running begun order next adds = record {
         count = omega (arith, k.count, count);
+        calm = λ _. still calm;
+        longer = omega (arith, k.longer, longer);
+        size = λ w at. none_sized (setting_in opening.build) w (h ++ Took e ∷ []) (kept_fault-append h (Took e ∷ []) none);
         rose = λ bad. absurd (none_disk (sym (kept_fault-append h (Took e ∷ []) none) ∙ bad));
         full = none_full stance new (h ++ Took e ∷ []) (kept_fault-append h (Took e ∷ []) none);
         running = λ _. running;
@@ -296,40 +321,41 @@ module _ {D T : Type 0} (reads : D → Option (List ℕ)) (may_leave : D → Lis
             (go_on_more stance opening.build old.build g.records (tooks h) (record_of e (image_in stance new.build)) (on_so_far reads may_leave clock since stance opening old h none ps g) g.events (k.shown none) next.accepted order a.image);
       }
 
-      facts_torn : ((d : D) (t : ℕ) (image : List ℕ) → t ≤ clock d → may_leave d image → since d t image) → (e : Event) → Rose (faults old.journal.disk) (faults new.journal.disk) → IsInOrder old.build e → answer_of old.build e ≡ Accepted
+      facts_torn : ((d : D) (t : ℕ) (image : List ℕ) → t ≤ clock d → may_leave d image → since d t image) → (e : Event) → new.journal.len ≡ old.journal.len → Rose (faults old.journal.disk) (faults new.journal.disk) → IsInOrder old.build e → answer_of old.build e ≡ Accepted
           → ((payloads : List (List ℕ)) → Keeps reads may_leave stance old payloads → Risks clock since stance old new e payloads) → Known opening new (h ++ Failed Disk (Some e) ∷ [])
-      facts_torn counts_now e rose order accepted risks =
-          facts_fault Disk (Some e) (λ _. rose) tt
+      facts_torn counts_now e len rose order accepted risks =
+          facts_fault Disk (Some e) (λ _. rose) (λ other. absurd (other refl)) (omega (arith, len)) tt (λ w at. tt)
           (λ ps held.
           let g = k.grown ps held in
           let a = risks (ps ++ g.added) (g.keeps none) in
-          grown_torn reads may_leave clock since stance opening old h none ps g new counts_now e a
+          grown_torn reads may_leave clock since stance opening old h none ps g new counts_now e len a
           (go_on_more stance opening.build old.build g.records (tooks h) (record_of e (image_in stance new.build)) (on_so_far reads may_leave clock since stance opening old h none ps g) g.events (k.shown none) accepted order a.image))
 
-      facts_still : (f : TakeFault) (event : Option Event) → at_risk f event ≡ [] → (f ≡ Disk → ⊥) → IsFull stance new f event → new.journal ≡ old.journal → Known opening new (h ++ Failed f event ∷ [])
-      facts_still f event safe calm full same =
-          facts_fault f event (λ bad. absurd (calm bad)) full (λ ps held. grown_still reads may_leave clock since stance opening old h none ps (k.grown ps held) new f event safe same)
+      facts_still : (f : TakeFault) (event : Option Event) → at_risk f event ≡ [] → (f ≡ Disk → ⊥) → IsFull stance new f event → ((w : W.Build) → StandsFor stance old.build w → IsSized (setting_in old.build) w f event)
+          → new.journal ≡ old.journal → Known opening new (h ++ Failed f event ∷ [])
+      facts_still f event safe calm full size same =
+          facts_fault f event (λ bad. absurd (calm bad)) (λ _. ap (λ j. faults j.disk) same) (omega (arith, ap (λ j. j.len) same)) full size (λ ps held. grown_still reads may_leave clock since stance opening old h none ps (k.grown ps held) new f event safe same)
 
       facts_same : new ≡ old → Known opening new (h ++ [])
       facts_same same = subst (λ (es : List Entry). Known opening new es) (sym (append-nil h)) (subst (λ (n : Kept D T). Known opening n h) (sym same) k)
 
       pub facts_one : ((d : D) (t : ℕ) (image : List ℕ) → t ≤ clock d → may_leave d image → since d t image) → (e : Event) (r : Result Taken TakeFault) → old.stopped ≡ false → IsInOrder old.build e
-          → TakeAnswers stance old new e r → TakeLeaves stance old new e r → OnOk r (setting_in new.build ≡ setting_in old.build)
+          → TakeAnswers stance old new e r → TakeLeaves stance old new e r → TellsSize stance old new e r → OnOk r (setting_in new.build ≡ setting_in old.build)
           → OnOk r ((w : W.Build) → StandsFor stance old.build w → StandsFor stance new.build (W.after_one (setting_in old.build) w e))
           → ((payloads : List (List ℕ)) → Keeps reads may_leave stance old payloads → TakeKeeps reads may_leave clock since stance old new e payloads r)
-          → (IsErrOf r Disk → Rose (faults old.journal.disk) (faults new.journal.disk))
+          → (IsErrOf r Disk → Rose (faults old.journal.disk) (faults new.journal.disk)) → (¬ (IsErrOf r Disk) → faults new.journal.disk ≡ faults old.journal.disk)
           → Known opening new (h ++ noted e r)
-      facts_one counts_now e (Ok Accepted) run order answers leaves setting stands keeps cause =
-          facts_more e leaves.0 leaves.1 order (record { accepted = sym answers.1; setting = setting; stands = stands }) keeps
-      facts_one counts_now e (Ok NotOpen) run order answers leaves setting stands keeps cause = facts_same leaves
-      facts_one counts_now e (Ok (WrongPlace kept)) run order answers leaves setting stands keeps cause = facts_same leaves
-      facts_one counts_now e (Ok Finished) run order answers leaves setting stands keeps cause = facts_same leaves
-      facts_one counts_now e (Err Memory) run order answers leaves setting stands keeps cause = facts_still Memory None refl memory_disk tt leaves.1
-      facts_one counts_now e (Err Disk) run order answers leaves setting stands keeps cause = facts_torn counts_now e (cause refl) order answers.1 keeps
-      facts_one counts_now e (Err (Full len add)) run order answers leaves setting stands keeps cause =
-          facts_still (Full len add) (Some e) refl (full_disk len add) (answers.2 ∙ ap (λ j. j.len) (sym leaves.1), answers.3, answers.4) leaves.1
-      facts_one counts_now e (Err Stopped) run order answers leaves setting stands keeps cause = absurd (true_false (sym answers ∙ run))
+      facts_one counts_now e (Ok Accepted) run order answers leaves size setting stands keeps cause calm =
+          facts_more e (calm (λ is. cc)) (omega (arith, leaves.2)) leaves.0 leaves.1 order (record { accepted = sym answers.1; setting = setting; stands = stands }) keeps
+      facts_one counts_now e (Ok NotOpen) run order answers leaves size setting stands keeps cause calm = facts_same leaves
+      facts_one counts_now e (Ok (WrongPlace kept)) run order answers leaves size setting stands keeps cause calm = facts_same leaves
+      facts_one counts_now e (Ok Finished) run order answers leaves size setting stands keeps cause calm = facts_same leaves
+      facts_one counts_now e (Err Memory) run order answers leaves size setting stands keeps cause calm = facts_still Memory None refl memory_disk tt (λ w at. tt) leaves.1
+      facts_one counts_now e (Err Disk) run order answers leaves size setting stands keeps cause calm = facts_torn counts_now e leaves.1 (cause refl) order answers.1 keeps
+      facts_one counts_now e (Err (Full len add)) run order answers leaves size setting stands keeps cause calm =
+          facts_still (Full len add) (Some e) refl (full_disk len add) (answers.2 ∙ ap (λ j. j.len) (sym leaves.1), answers.3, answers.4) (λ w at. answers.4 ∙ ap (added e) (size w at)) leaves.1
+      facts_one counts_now e (Err Stopped) run order answers leaves size setting stands keeps cause calm = absurd (true_false (sym answers ∙ run))
 
     -- want of memory is noted
     pub facts_wanting : Known opening old (h ++ Failed Memory None ∷ [])
-    facts_wanting = facts_still old (omega arith) Memory None refl memory_disk tt refl
+    facts_wanting = facts_still old (omega arith) Memory None refl memory_disk tt (λ w at. tt) refl

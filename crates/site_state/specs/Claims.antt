@@ -24,7 +24,7 @@ is_task_of x (TaskRequest executor workspace folder env script status keep_out t
 is_task_of x (NodeRequest label) = false
 is_task_of x (InputRequest id) = false
 
--- the first open task of an executor that no entry claimed
+-- the first open task of an executor that no entry claimed; open requests stand by rising numbers
 abbrev pub is_free : List Entry → ℕ → OpenRequest → Bool
 is_free history executor r = is_task_of executor r.request && not (is_claimed r.number history)
 
@@ -51,7 +51,7 @@ busy_of history requests = within_u32 (count_of (is_busy history) requests)
 -- The reply to a claim, and its entries, while no fault is kept.
 abbrev pub ClaimSays : List OpenRequest → List Entry → ℕ → Claim → List Entry → Type 0
 ClaimSays requests history executor (claim.Order order) new =
-    (r : OpenRequest) × (first_free history executor requests ≡ Some r) × (order_as r.number r.request ≡ Some order) × (new ≡ Claimed executor r.number order.kept_log order.kept_out ∷ [])
+    (r : OpenRequest) × (first_free history executor requests ≡ Some r) × (order_as r.number r.request ≡ Some order) × (new ≡ Claimed executor r.number order.keep_out order.kept_log order.kept_out ∷ [])
 ClaimSays requests history executor (claim.Idle busy) new = (first_free history executor requests ≡ None) × (busy ≡ busy_of history requests) × (0 < busy) × (new ≡ [])
 ClaimSays requests history executor claim.Rest new = (first_free history executor requests ≡ None) × (busy_of history requests ≡ 0) × (new ≡ [])
 ClaimSays requests history executor claim.Memory new = new ≡ []

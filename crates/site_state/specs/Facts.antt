@@ -2,7 +2,7 @@
 use Rattle.std.specs.Prelude.{◌≡◌, ◌≤◌, ◌<◌, ◌+◌, ◌^◌, ◌⊎◌, ℕ, true, false, List, [], ◌∷◌, ◌++◌, length, take, Option, Some, None}
 use Rattle.device_faults.specs.Faults.{Rose}
 use Rattle.jp_disk.specs.Moments.{AtEachMoment}
-use Rattle.journal_core.specs.Records.{Has}
+use Rattle.journal_core.specs.Records.{Has, framed}
 use Rattle.record_form.specs.declared.record.EventRecord.{EventRecord}
 use Rattle.model_run.specs.declared.event.Event.{Event}
 use Rattle.model_run.specs.State.{Setting}
@@ -49,6 +49,8 @@ pub record Grown {D T : Type 0} (reads : D → Option (List ℕ)) (may_leave : D
   pub last : List (List ℕ)
   pub last_spelled : AllSpell last_records last
   pub go_on : GoOn stance opening.build (records ++ last_records)
+  -- the journal ends behind those of the events that were taken
+  pub ends : now.journal.len ≡ length (framed (payloads ++ added)) + 1
   -- where no fault is kept the build stands by all of them
   pub keeps : kept_fault history ≡ None → Keeps reads may_leave stance now (payloads ++ added)
   -- each image that a crash may have left since the opening has a front of them, and each that it may leave now all that were taken
@@ -67,16 +69,37 @@ IsFull stance now Stopped event = ⊥
 abbrev pub IsFullAt : {D T : Type 0} → (T → Stance) → Kept D T → List Entry → Type 0
 IsFullAt stance now [] = Unit {0}
 IsFullAt stance now (Took e ∷ es) = IsFullAt stance now es
-IsFullAt stance now (Claimed executor task kept_log kept_out ∷ es) = IsFullAt stance now es
+IsFullAt stance now (Claimed executor task keep_out kept_log kept_out ∷ es) = IsFullAt stance now es
 IsFullAt stance now (Line line ∷ es) = IsFullAt stance now es
 IsFullAt stance now (Failed fault event ∷ es) = IsFull stance now fault event
 
+-- of a kept `Full`, in a history of which this build of the definitions stood before: what it says the record of its event adds is so by
+-- the image of the build after it
+abbrev pub IsSized : Setting → W.Build → TakeFault → Option Event → Type 0
+IsSized s w (Full len add) (Some e) = add ≡ added e (world_image s (W.after_one s w e))
+IsSized s w (Full len add) None = Unit {0}
+IsSized s w Memory event = Unit {0}
+IsSized s w Disk event = Unit {0}
+IsSized s w Stopped event = Unit {0}
+
+abbrev pub IsSizedAt : Setting → W.Build → List Entry → Type 0
+IsSizedAt s w [] = Unit {0}
+IsSizedAt s w (Took e ∷ es) = IsSizedAt s (W.after_one s w e) es
+IsSizedAt s w (Claimed executor task keep_out kept_log kept_out ∷ es) = IsSizedAt s w es
+IsSizedAt s w (Line line ∷ es) = IsSizedAt s w es
+IsSizedAt s w (Failed fault event ∷ es) = IsSized s w fault event
+
 -- What is known by the opening and the history.
 pub record Facts {D T : Type 0} (reads : D → Option (List ℕ)) (may_leave : D → List ℕ → Type 0) (clock : D → ℕ) (since : D → ℕ → List ℕ → Type 0) (faults : D → ℕ) (stance : T → Stance) (opening now : Kept D T) (history : List Entry) : Type 0 where
-  -- the disk's count of faults: it rose where the disk failed
+  -- the disk's count of faults: it rose where the disk failed, and only there
   pub count : faults opening.journal.disk ≤ faults now.journal.disk
   pub rose : kept_fault history ≡ Some Disk → Rose (faults opening.journal.disk) (faults now.journal.disk)
+  pub calm : ¬ (kept_fault history ≡ Some Disk) → faults now.journal.disk ≡ faults opening.journal.disk
+  -- the journal is never shorter
+  pub longer : opening.journal.len ≤ now.journal.len
+  -- the two numbers of `Full`, by the journal and the build now, and by each build of the definitions that the opening stands for
   pub full : IsFullAt stance now history
+  pub size : (w : W.Build) → StandsFor stance opening.build w → IsSizedAt (setting_in opening.build) w history
   pub running : kept_fault history ≡ None → now.stopped ≡ false
   -- the build is that of the opening after the events that were taken
   pub shown : kept_fault history ≡ None → IsShown stance opening.build (tooks history) now.build

@@ -10,7 +10,7 @@ use Rattle.site_state.specs.declared.ask.Entry.TheVariants.{Took, Claimed, Line,
 abbrev pub tooks : List Entry → List Event
 tooks [] = []
 tooks (Took e ∷ es) = e ∷ tooks es
-tooks (Claimed executor task kept_log kept_out ∷ es) = tooks es
+tooks (Claimed executor task keep_out kept_log kept_out ∷ es) = tooks es
 tooks (Line line ∷ es) = tooks es
 tooks (Failed fault event ∷ es) = tooks es
 
@@ -18,7 +18,7 @@ tooks (Failed fault event ∷ es) = tooks es
 abbrev pub kept_fault : List Entry → Option TakeFault
 kept_fault [] = None
 kept_fault (Took e ∷ es) = kept_fault es
-kept_fault (Claimed executor task kept_log kept_out ∷ es) = kept_fault es
+kept_fault (Claimed executor task keep_out kept_log kept_out ∷ es) = kept_fault es
 kept_fault (Line line ∷ es) = kept_fault es
 kept_fault (Failed fault event ∷ es) = Some fault
 
@@ -33,7 +33,7 @@ at_risk Stopped event = []
 abbrev pub pending : List Entry → List Event
 pending [] = []
 pending (Took e ∷ es) = pending es
-pending (Claimed executor task kept_log kept_out ∷ es) = pending es
+pending (Claimed executor task keep_out kept_log kept_out ∷ es) = pending es
 pending (Line line ∷ es) = pending es
 pending (Failed fault event ∷ es) = at_risk fault event
 
@@ -41,7 +41,7 @@ pending (Failed fault event ∷ es) = at_risk fault event
 abbrev pub is_claimed : ℕ → List Entry → Bool
 is_claimed task [] = false
 is_claimed task (Took e ∷ es) = is_claimed task es
-is_claimed task (Claimed executor claimed kept_log kept_out ∷ es) = nat_eq claimed task || is_claimed task es
+is_claimed task (Claimed executor claimed keep_out kept_log kept_out ∷ es) = nat_eq claimed task || is_claimed task es
 is_claimed task (Line line ∷ es) = is_claimed task es
 is_claimed task (Failed fault event ∷ es) = is_claimed task es
 
@@ -49,7 +49,7 @@ is_claimed task (Failed fault event ∷ es) = is_claimed task es
 abbrev pub lines : List Entry → List (List ℕ)
 lines [] = []
 lines (Took e ∷ es) = lines es
-lines (Claimed executor task kept_log kept_out ∷ es) = lines es
+lines (Claimed executor task keep_out kept_log kept_out ∷ es) = lines es
 lines (Line line ∷ es) = line ∷ lines es
 lines (Failed fault event ∷ es) = lines es
 

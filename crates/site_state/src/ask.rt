@@ -25,14 +25,16 @@ pub enum Ask {
 pub enum Entry {
     /// The event was taken, and is on the disk.
     Took(Event),
-    /// The task was claimed for the executor. So many bytes of its streams `Log` and `Out` were taken then.
+    /// The task was claimed for the executor, with or without a stream `Out` of its own. So many bytes of its streams `Log` and
+    /// `Out` were taken then.
     Claimed {
         executor: u32,
         task: u32,
+        keep_out: bool,
         kept_log: u64,
         kept_out: u64,
     },
-    /// The answer line was heard: it decides what the next entry took, or nothing.
+    /// The answer line was heard: the next entry is its decision, where it decided an input.
     Line(Bytes),
     /// The build was stopped by this fault: `Disk` and `Full` of this event, `Memory` without one.
     Failed {

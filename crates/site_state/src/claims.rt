@@ -151,6 +151,7 @@ fn give(
     history.push_reserved(Entry::Claimed {
         executor,
         task: request.number,
+        keep_out: order.keep_out,
         kept_log: order.kept_log,
         kept_out: order.kept_out,
     });

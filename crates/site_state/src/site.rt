@@ -38,9 +38,10 @@ impl<D: Disk, R: SavedThread + Drop> SiteState<D, R> {
     ///
     /// # Errors
     ///
-    /// Each hands the disk back. `Disk` and `Full` come exactly as `DurableBuild::take` answers them for one of these grants;
-    /// `Memory` where the memory was refused: before anything was written, or for one of these grants, of which nothing was
-    /// written then. `Stopped` never comes.
+    /// Each hands the disk back. `Disk` and `Full` come exactly as `DurableBuild::take` answers them for one of these grants,
+    /// `Full` with the numbers of that grant's record, and the disk's count of faults rises at `Disk` alone. `Memory` where the
+    /// memory was refused: before anything was written, or for one of these grants, of which nothing was written then. `Stopped`
+    /// never comes.
     pub fn open(
         alloc: Global,
         durable: DurableBuild<D, R>,

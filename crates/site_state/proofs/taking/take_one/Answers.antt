@@ -12,5 +12,5 @@ returns-clause-facts g c opening k =
     let D = g.D.Disk in
     let t = c.take-answer.ensures in
     let e = facts_one D.reads D.may_leave D.clock D.may_have_left_since D.faults g.R.ScriptThread.stance opening c.args.durable.now c.args.history.now.items c.requires.none k c.take-answer.new.self t.cause.never_falls
-    g.met.D.Disk.counts_now c.args.event c.take-answer.result c.requires.running c.requires.in_order t.answers t.leaves t.setting t.stands t.keeps t.cause.failed in
+    g.met.D.Disk.counts_now c.args.event c.take-answer.result c.requires.running c.requires.in_order t.answers t.leaves t.size t.setting t.stands t.keeps t.cause.failed t.cause.calm in
     rw (c.note-2.ensures.noted, c.reserve.ensures.items) e
