@@ -1,0 +1,8 @@
+pub mod PartLemmas
+pub mod TaleLemmas
+pub mod ClaimLaws
+pub mod AskLemmas
+pub mod TurnLaws
+pub mod TurnsLemmas
+pub mod LifeLemmas
+pub mod AllTurnsLaws

@@ -1,0 +1,15 @@
+//! The way of the workers to a build behind the lock.
+//!
+//! A [`SiteGate`] is the gate of one member: each of its calls is one step of the program lock round a `SiteState`, through a pass of
+//! its own. What it tells contracts is read off the entries that its pass has in the history.
+#![tactic(auto)]
+
+mod gate;
+mod life;
+mod place;
+mod turn;
+
+pub use gate::SiteGate;
+pub use life::live;
+pub use place::Place;
+pub use turn::take_turn;

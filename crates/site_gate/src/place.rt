@@ -1,0 +1,15 @@
+//! Which lock a gate is of.
+ghost use Rattle.std.specs.Prelude.{ℕ};
+ghost use Rattle.atomic_table.specs.Seated.{TableId};
+
+/// A name for a lock, for contracts alone. Whoever opens the lock picks what it stands for.
+///
+/// Work that is generic over gates gives a gate back as a value of its type and nothing more. The type names the lock, so
+/// that the pass of the gate may be taken in again.
+pub trait Place {
+    /// The table of the lock.
+    ghost table: { TableId };
+
+    /// How many parts of the right to close the pass of a gate has, by its number.
+    ghost share: { ℕ → ℕ };
+}
