@@ -1,7 +1,7 @@
 -- How a command ends that lets a life go on, put together.
-use Rattle.std.proofs.Common.{◌≡◌, ◌⊎◌, ◌+◌, ◌<◌, ◌^◌, ℕ, Bool, true, false, List, [], ◌∷◌, ◌++◌, Option, Some, None, Result, Ok, Err, inl, refl, sym, ap, ◌∙◌, subst}
-use Rattle.std.specs.Prelude.{IfSome, IsSomeAnd, MatchResult, if◌then◌else◌}
-use Rattle.device_faults.specs.Faults.{Rose}
+use Rattle.std.proofs.Common.{◌≡◌, ◌⊎◌, ◌+◌, ◌<◌, ◌^◌, ℕ, List, [], ◌∷◌, ◌++◌, Option, Some, None, Result, Ok, Err, inl, refl, sym, ap, subst}
+use Rattle.std.specs.Prelude.{IfSome, IsSomeAnd, MatchResult}
+use Rattle.device_faults.specs.Faults.{CountsFault, Rose}
 use Rattle.jp_disk.specs.Moments.{AtEachMoment}
 use Rattle.agent_worker.specs.declared.fault.TakeFault.{TakeFault}
 use Rattle.agent_worker.specs.declared.fault.TakeFault.TheVariants as take
@@ -10,7 +10,6 @@ use Rattle.model_run.specs.State.{Setting}
 use Rattle.model_run.specs.World.{Build, world_in}
 use Rattle.settle_laws.specs.Stances.{Stance}
 use Rattle.build_core.specs.Builds.{StandsFor}
-use Rattle.run_command.specs.Statuses.{result_status, world_status}
 use Rattle.script_run.specs.declared.rest.Rest.{Rest}
 use Rattle.script_run.specs.declared.rest.Rest.TheVariants.{Ended, Waits, AnswersFailed}
 use Rattle.saved_run.specs.declared.life.Life.{Life}
@@ -19,17 +18,14 @@ use Rattle.saved_run.specs.Lives.{image_after, IsFull, IsNext, SoFar, Turned, Br
 use Rattle.saved_run.specs.Saved.{Stores, Survives}
 use Rattle.saved_run.proofs.LifeLemmas.{saved_image, stands_world}
 use Rattle.build_commands.specs.declared.refusal.Refusal.{Refusal}
-use Rattle.build_commands.specs.declared.refusal.Refusal.TheVariants.{ReadFailed, DiskFailed, OutOfMemory, NoBuild, Damaged, Full}
+use Rattle.build_commands.specs.declared.refusal.Refusal.TheVariants.{DiskFailed, OutOfMemory}
 use Rattle.build_commands.specs.Refusals.{SaysTake, refusal_status, refusal_text}
-use Rattle.build_commands.specs.Finishing.{Made, Rests, Breaks, answers_failed, disk_failed, full, no_memory, Finishes, by_rest, by_break, TellsEnd}
+use Rattle.build_commands.specs.Finishing.{Made, Rests, Breaks, answers_failed, disk_failed, full, no_memory, Finishes, by_rest, by_break, TellsEnd, TellsRest}
+use Rattle.build_commands.specs.Reporting.{Reports}
+use Rattle.build_commands.specs.Reporting as report
+use Rattle.build_commands.specs.Texts.{full_text}
 use Rattle.build_commands.specs.Writing.{Writes, Tells}
-
--- the status of a world that has ended or not
-pub ended_status : (w : Build) (n : ℕ) → w.ended ≡ true → n ≡ result_status w.shared.result → n ≡ world_status w
-ended_status w n e is = is ∙ sym (ap (λ (b : Bool). if b then result_status w.shared.result else 3) e)
-
-pub going_status : (w : Build) → w.ended ≡ false → 3 ≡ world_status w
-going_status w e = sym (ap (λ (b : Bool). if b then result_status w.shared.result else 3) e)
+use Rattle.build_commands.proofs.RefusalLemmas.{as_said, as_told}
 
 -- the event that did not fit, and the two sizes
 full_next : (setting : Setting) (events : List Event) (len at add : ℕ) (o : Option Event) → IsSomeAnd o (IsNext setting events) → IfSome o (λ e. IsFull e (image_after setting (events ++ e ∷ [])) len (take.Full at add))
@@ -70,32 +66,27 @@ module _ {D T : Type 0} (reads : D → Option (List ℕ)) (may_leave : D → Lis
     abbrev Ends : ℕ → Type 0
     Ends status = Finishes may_leave clock since setting origin before first now life.durable.journal.disk a b x y old new c d status
 
+    abbrev BreaksSo : ℕ → List ℕ → Type 0
+    BreaksSo = Breaks may_leave clock since setting origin before first now life.durable.journal.disk a b x y
+
     -- a text of a refusal
-    broke : (r : Refusal) (status : ℕ) → status ≡ refusal_status r → Breaks may_leave clock since setting origin before first now life.durable.journal.disk a b x y (refusal_status r) (refusal_text r) → Tells old new c d (refusal_text r) → Ends status
+    broke : (r : Refusal) (status : ℕ) → status ≡ refusal_status r → BreaksSo (refusal_status r) (refusal_text r) → Tells old new c d (refusal_text r) → Ends status
     broke r status is breaks wrote = subst Ends (sym is) (by_break breaks wrote)
 
     finishes_broken : (f : TakeFault) (r : Refusal) (status : ℕ) → Broken reads may_leave clock since stance setting origin before first now f life → SaysTake f r → (f ≡ take.Disk → Rose a b) → status ≡ refusal_status r → Tells old new c d (refusal_text r) → Ends status
-    finishes_broken take.Memory r status k says rose is wrote =
-        broke r status is (subst (λ (q : Refusal). Breaks may_leave clock since setting origin before first now life.durable.journal.disk a b x y (refusal_status q) (refusal_text q)) (sym says)
-        (no_memory (made_broken take.Memory k None k.fails.may_risk) k.going)) wrote
-    finishes_broken take.Disk r status k says rose is wrote =
-        broke r status is (subst (λ (q : Refusal). Breaks may_leave clock since setting origin before first now life.durable.journal.disk a b x y (refusal_status q) (refusal_text q)) (sym says)
-        (disk_failed (made_broken take.Disk k k.fails.risked refl) k.going (rose refl))) wrote
-    finishes_broken (take.Full at add) (Full line) status k says rose is wrote =
+    finishes_broken take.Memory r status k says rose is wrote = broke r status is (as_told BreaksSo r OutOfMemory says (no_memory (made_broken take.Memory k None k.fails.may_risk) k.going)) wrote
+    finishes_broken take.Disk r status k says rose is wrote = broke r status is (as_told BreaksSo r DiskFailed says (disk_failed (made_broken take.Disk k k.fails.risked refl) k.going (rose refl))) wrote
+    finishes_broken (take.Full at add) r status k says rose is wrote =
         let next = full_next setting k.events life.durable.journal.len at add k.fails.refused k.fails.is_next k.fails.full in
-        broke (Full line) status is (subst (λ (t : List ℕ). Breaks may_leave clock since setting origin before first now life.durable.journal.disk a b x y 14 t) (sym says)
-        (full at add next.0 (made_broken (take.Full at add) k None k.fails.may_risk) k.going next.1 next.2 next.3)) wrote
-    finishes_broken (take.Full at add) OutOfMemory status k says rose is wrote = broke OutOfMemory status is (no_memory (made_broken (take.Full at add) k None k.fails.may_risk) k.going) wrote
-    finishes_broken (take.Full at add) ReadFailed status k says rose is wrote = absurd says
-    finishes_broken (take.Full at add) DiskFailed status k says rose is wrote = absurd says
-    finishes_broken (take.Full at add) NoBuild status k says rose is wrote = absurd says
-    finishes_broken (take.Full at add) (Damaged line) status k says rose is wrote = absurd says
+        let made = made_broken (take.Full at add) k None k.fails.may_risk in
+        broke r status is (as_said BreaksSo r 14 (full_text at add) says (no_memory made k.going) (full at add next.0 made k.going next.1 next.2 next.3)) wrote
     finishes_broken take.Stopped r status k says rose is wrote = absurd (never_stopped setting k.events life.durable.journal.len k.fails.refused k.fails.is_next k.fails.full)
 
-    finishes_rested : (rest : Rest) (status : ℕ) → ¬ (rest ≡ AnswersFailed) → Turned reads may_leave clock since stance setting origin before first now (Some rest) life
-        → ((w : Build) → StandsFor stance life.durable.build w → Writes old new c d w.shared.log (world_status w) status) → Ends status
+    finishes_rested : (rest : Rest) (status : ℕ) → ¬ (rest ≡ AnswersFailed) → Turned reads may_leave clock since stance setting origin before first now (Some rest) life → TellsRest (StandsFor stance life.durable.build) old new c d status → Ends status
     finishes_rested rest status other t wrote =
-        by_rest (rests_so rest other t) (wrote (world_in setting t.events) (stands_world reads may_leave clock since stance setting t.events life.durable t.so_far.lasts.stands))
+        let w = world_in setting t.events in
+        let same = wrote.is w (stands_world reads may_leave clock since stance setting t.events life.durable t.so_far.lasts.stands) in
+        by_rest (rests_so rest other t) (subst (λ (n : ℕ). Writes old new c d w.shared.log n status) same.1 (subst (λ (l : List ℕ). Writes old new c d l wrote.ended status) same.0 wrote.wrote))
 
     pub finishes : (ended : Result Rest TakeFault) (status : ℕ) → MatchResult ended (λ rest. Turned reads may_leave clock since stance setting origin before first now (Some rest) life) (λ f. Broken reads may_leave clock since stance setting origin before first now f life)
         → TellsEnd (StandsFor stance life.durable.build) old new c d ended status → (ended ≡ Ok AnswersFailed → Rose x y) → (ended ≡ Err take.Disk → Rose a b) → Ends status
@@ -103,3 +94,20 @@ module _ {D T : Type 0} (reads : D → Option (List ℕ)) (may_leave : D → Lis
     finishes (Ok Waits) status t wrote answers disk = finishes_rested Waits status (λ e. absurd (cc)) t wrote
     finishes (Ok AnswersFailed) status t wrote answers disk = subst Ends (sym wrote.0) (by_break (answers_failed (made_so_far t.part t.events t.so_far) t.turns (answers refl)) wrote.1)
     finishes (Err f) status k wrote answers disk = finishes_broken f wrote.0 status k wrote.1 (λ e. disk (ap Err e)) wrote.2 wrote.3
+
+module _ (Stands : Build → Type 0) (a b x y : ℕ) (old new : Option (List ℕ)) (c d : ℕ) where
+  reports_broken : (f : TakeFault) (r : Refusal) → SaysTake f r → CountsFault a b (f ≡ take.Disk) → y ≡ x → Tells old new c d (refusal_text r) → Reports a b x y old new c d (refusal_status r)
+  reports_broken take.Memory r says disk calm = as_told (λ n t. Tells old new c d t → Reports a b x y old new c d n) r OutOfMemory says (report.no_memory (disk.calm (λ e. absurd (cc)), calm))
+  reports_broken take.Stopped r says disk calm = as_told (λ n t. Tells old new c d t → Reports a b x y old new c d n) r OutOfMemory says (report.no_memory (disk.calm (λ e. absurd (cc)), calm))
+  reports_broken take.Disk r says disk calm = as_told (λ n t. Tells old new c d t → Reports a b x y old new c d n) r DiskFailed says (report.disk_failed (disk.failed refl) calm)
+  reports_broken (take.Full at add) r says disk calm =
+      let quiet : (b ≡ a) × (y ≡ x) = (disk.calm (λ e. absurd (cc)), calm) in
+      as_said (λ n t. Tells old new c d t → Reports a b x y old new c d n) r 14 (full_text at add) says (report.no_memory quiet) (report.full at add quiet)
+
+  pub reports : (ended : Result Rest TakeFault) (status : ℕ) → TellsEnd Stands old new c d ended status → CountsFault x y (ended ≡ Ok AnswersFailed) → CountsFault a b (ended ≡ Err take.Disk) → Reports a b x y old new c d status
+  reports (Ok AnswersFailed) status wrote answers disk = subst (Reports a b x y old new c d) (sym wrote.0) (report.answers_failed (disk.calm (λ e. absurd (cc))) (answers.failed refl) wrote.1)
+  reports (Ok Ended) status wrote answers disk = report.rested (disk.calm (λ e. absurd (cc)), answers.calm (λ e. absurd (cc))) wrote.known wrote.wrote
+  reports (Ok Waits) status wrote answers disk = report.rested (disk.calm (λ e. absurd (cc)), answers.calm (λ e. absurd (cc))) wrote.known wrote.wrote
+  reports (Err f) status wrote answers disk =
+      let counts : CountsFault a b (f ≡ take.Disk) = record { never_falls = disk.never_falls; calm = λ other. disk.calm (λ e. other (cc)); failed = λ e. disk.failed (ap Err e) } in
+      subst (Reports a b x y old new c d) (sym wrote.2) (reports_broken f wrote.0 wrote.1 counts (answers.calm (λ e. absurd (cc))) wrote.3)

@@ -12,8 +12,10 @@ use Rattle.durable_build.specs.declared.faults.StoreFault.TheVariants as fault
 use Rattle.durable_build.specs.Opening.{OpenFails}
 use Rattle.saved_run.specs.Saved.{Stores}
 use Rattle.build_commands.specs.declared.refusal.Refusal.{Refusal}
+use Rattle.build_commands.specs.declared.refusal.Refusal.TheVariants.{DiskFailed, NoBuild, OutOfMemory}
 use Rattle.build_commands.specs.Refusals.{TellsFault, refusal_status, refusal_text}
 use Rattle.build_commands.specs.Resuming.{NotOpened, no_build, disk_failed, no_memory}
+use Rattle.build_commands.proofs.RefusalLemmas.{as_told}
 
 -- a consistent store of some events is one
 pub is_consistent : (setting : Setting) (events : List Event) (file : List ℕ) → Stores setting events file → IsConsistent world_image file
@@ -31,9 +33,9 @@ no_events (r ∷ rs) payloads none spelled = absurd (subst (AllSpell (r ∷ rs))
 
 pub not_opened : (setting : Setting) (events : List Event) (file : List ℕ) (a b : ℕ) (f : StoreFault) (r : Refusal) → TellsFault f r → OpenFails file f → Stores setting events file → ((at : ℕ) → f ≡ fault.Damaged at → ⊥) → (f ≡ fault.Disk → Rose a b)
     → NotOpened events a b (refusal_status r) (refusal_text r)
-not_opened setting events file a b fault.Memory r tells fails stores sound rose = subst (λ (q : Refusal). NotOpened events a b (refusal_status q) (refusal_text q)) (sym tells) no_memory
-not_opened setting events file a b fault.Disk r tells fails stores sound rose = subst (λ (q : Refusal). NotOpened events a b (refusal_status q) (refusal_text q)) (sym tells) (disk_failed (rose refl))
+not_opened setting events file a b fault.Memory r tells fails stores sound rose = as_told (NotOpened events a b) r OutOfMemory tells no_memory
+not_opened setting events file a b fault.Disk r tells fails stores sound rose = as_told (NotOpened events a b) r DiskFailed tells (disk_failed (rose refl))
 not_opened setting events file a b fault.Empty r tells fails stores sound rose =
     let none : stores.payloads ≡ [] = ap (λ (w : Walked). w.payloads) (sym stores.has ∙ fails) in
-    subst (λ (q : Refusal). NotOpened events a b (refusal_status q) (refusal_text q)) (sym tells) (no_build (sym stores.told.are ∙ no_events stores.told.records stores.payloads none stores.told.spelled))
+    as_told (NotOpened events a b) r NoBuild tells (no_build (sym stores.told.are ∙ no_events stores.told.records stores.payloads none stores.told.spelled))
 not_opened setting events file a b (fault.Damaged at) r tells fails stores sound rose = absurd (sound at refl)

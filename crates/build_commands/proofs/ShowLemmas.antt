@@ -1,5 +1,5 @@
 -- How a command that shows a build ends, put together, and the cause of each status.
-use Rattle.std.proofs.Common.{◌≡◌, ◌⊎◌, ◌<◌, ℕ, List, [], Option, None, Some, IfSome, inl, inr, refl, sym, subst, arith}
+use Rattle.std.proofs.Common.{◌≡◌, ◌⊎◌, ◌<◌, ◌∙◌, ℕ, List, [], Option, None, Some, IfSome, inl, inr, refl, sym, subst, arith}
 use Rattle.device_faults.specs.Faults.{Rose}
 use Rattle.journal_core.specs.Records.{Has}
 use Rattle.model_run.specs.World.{Build}
@@ -7,10 +7,13 @@ use Rattle.durable_build.specs.declared.faults.StoreFault.{StoreFault}
 use Rattle.durable_build.specs.declared.faults.StoreFault.TheVariants as fault
 use Rattle.durable_build.specs.Opening.{OpenFails}
 use Rattle.build_commands.specs.declared.refusal.Refusal.{Refusal}
-use Rattle.build_commands.specs.declared.refusal.Refusal.TheVariants.{ReadFailed, DiskFailed, OutOfMemory, NoBuild, Damaged, Full}
+use Rattle.build_commands.specs.declared.refusal.Refusal.TheVariants as variant
+use Rattle.build_commands.specs.declared.refusal.Refusal.TheVariants.{ReadFailed, AgentsRefused, TooLong, ScriptRefused, DiskFailed, OutOfMemory, NoBuild, Damaged, Full}
 use Rattle.build_commands.specs.Refusals.{refusal_status, refusal_text, TellsFault}
-use Rattle.build_commands.specs.Showing.{ShowsBuild, Decides, shown, no_build, damaged, disk_failed, no_memory, Shows, build, refusal, TellsOf, told, no_room, HasBuild, HasNone, Causes}
+use Rattle.build_commands.specs.Showing.{ShowsBuild, NotTold, no_build, damaged, disk_failed, no_memory, Decides, shown, not_told, Shows, build, refusal, TellsOf, told, no_room, HasBuild, HasNone, Causes}
+use Rattle.build_commands.specs.Texts.{damaged_text}
 use Rattle.build_commands.specs.Writing.{Writes, whole, cut, Tells}
+use Rattle.build_commands.proofs.RefusalLemmas.{as_said, as_told}
 
 -- what holds of the bytes of a disk, where it tells them
 pub if_told : (o : Option (List ℕ)) (P : List ℕ → Type 0) → ((file : List ℕ) → o ≡ Some file → P file) → IfSome o P
@@ -25,23 +28,45 @@ both file has (inr hurt) = has.1 hurt.0 hurt.1
 here : (P : List ℕ → Type 0) (o : Option (List ℕ)) (file : List ℕ) → o ≡ Some file → IfSome o P → P file
 here P o file is p = subst (λ (x : Option (List ℕ)). IfSome x P) is p
 
-module _ (text_of : Build → List ℕ) (stored : Option (List ℕ)) (before after : ℕ) where
-  -- a store that was not opened
-  decides_fault : (f : StoreFault) (r : Refusal) → TellsFault f r → IfSome stored (λ file. OpenFails file f) → (¬ (f ≡ fault.Disk) → after ≡ before) → (f ≡ fault.Disk → Rose before after)
-      → Decides text_of stored before after (refusal_status r) (refusal_text r)
-  decides_fault fault.Memory r tells fails calm rose = subst (λ (x : Refusal). Decides text_of stored before after (refusal_status x) (refusal_text x)) (sym tells) (no_memory (calm (λ e. cc)))
-  decides_fault fault.Disk r tells fails calm rose = subst (λ (x : Refusal). Decides text_of stored before after (refusal_status x) (refusal_text x)) (sym tells) (disk_failed (rose refl))
-  decides_fault fault.Empty r tells fails calm rose = subst (λ (x : Refusal). Decides text_of stored before after (refusal_status x) (refusal_text x)) (sym tells) (no_build (calm (λ e. cc)) fails)
-  decides_fault (fault.Damaged at) (Damaged line) tells fails calm rose = subst (λ (t : List ℕ). Decides text_of stored before after 9 t) (sym tells) (damaged at (calm (λ e. cc)) fails)
-  decides_fault (fault.Damaged at) OutOfMemory tells fails calm rose = no_memory (calm (λ e. cc))
-  decides_fault (fault.Damaged at) DiskFailed tells fails calm rose = absurd tells
-  decides_fault (fault.Damaged at) NoBuild tells fails calm rose = absurd tells
-  decides_fault (fault.Damaged at) ReadFailed tells fails calm rose = absurd tells
-  decides_fault (fault.Damaged at) (Full line) tells fails calm rose = absurd tells
+-- a store that was not opened
+pub not_opened : (stored : Option (List ℕ)) (before after : ℕ) (f : StoreFault) (r : Refusal) → TellsFault f r → IfSome stored (λ file. OpenFails file f) → (¬ (f ≡ fault.Disk) → after ≡ before) → (f ≡ fault.Disk → Rose before after)
+    → NotTold stored before after (refusal_status r) (refusal_text r)
+not_opened stored before after fault.Memory r tells fails calm rose = as_told (NotTold stored before after) r OutOfMemory tells (no_memory (calm (λ e. cc)))
+not_opened stored before after fault.Disk r tells fails calm rose = as_told (NotTold stored before after) r DiskFailed tells (disk_failed (rose refl))
+not_opened stored before after fault.Empty r tells fails calm rose = as_told (NotTold stored before after) r NoBuild tells (no_build (calm (λ e. cc)) fails)
+not_opened stored before after (fault.Damaged at) r tells fails calm rose = as_said (NotTold stored before after) r 9 (damaged_text at) tells (no_memory (calm (λ e. cc))) (damaged at (calm (λ e. cc)) fails)
 
+-- a refusal has not the status of a build that was shown
+other_status : (r : Refusal) → (refusal_status r ≡ 0 → ⊥) × (refusal_status r ≡ 7 → ⊥)
+other_status DiskFailed = (λ e. omega (arith, e), λ e. omega (arith, e))
+other_status ReadFailed = (λ e. omega (arith, e), λ e. omega (arith, e))
+other_status (AgentsRefused line) = (λ e. omega (arith, e), λ e. omega (arith, e))
+other_status TooLong = (λ e. omega (arith, e), λ e. omega (arith, e))
+other_status variant.HasBuild = (λ e. omega (arith, e), λ e. omega (arith, e))
+other_status (ScriptRefused line) = (λ e. omega (arith, e), λ e. omega (arith, e))
+other_status (Full line) = (λ e. omega (arith, e), λ e. omega (arith, e))
+other_status OutOfMemory = (λ e. omega (arith, e), λ e. omega (arith, e))
+other_status NoBuild = (λ e. omega (arith, e), λ e. omega (arith, e))
+other_status (Damaged line) = (λ e. omega (arith, e), λ e. omega (arith, e))
+
+pub not_shown : (r : Refusal) (status : ℕ) → status ≡ refusal_status r → (status ≡ 0) ⊎ (status ≡ 7) → ⊥
+not_shown r status is (inl e) = (other_status r).0 (sym is ∙ e)
+not_shown r status is (inr e) = (other_status r).1 (sym is ∙ e)
+
+-- nor has want of memory
+pub shown_so : (status : ℕ) (P : Type 0) → (status ≡ 0) ⊎ (status ≡ 7) → (status ≡ 8) ⊎ P → P
+shown_so status P so (inr is) = is
+shown_so status P (inl e) (inl eight) = absurd (omega (arith, e, eight))
+shown_so status P (inr e) (inl eight) = absurd (omega (arith, e, eight))
+
+module _ (text_of : Build → List ℕ) (stored : Option (List ℕ)) (before after : ℕ) where
   some_status : (r : Refusal) → 0 < refusal_status r
   some_status DiskFailed = omega arith
   some_status ReadFailed = omega arith
+  some_status (AgentsRefused line) = omega arith
+  some_status TooLong = omega arith
+  some_status variant.HasBuild = omega arith
+  some_status (ScriptRefused line) = omega arith
   some_status (Full line) = omega arith
   some_status OutOfMemory = omega arith
   some_status NoBuild = omega arith
@@ -51,7 +76,7 @@ module _ (text_of : Build → List ℕ) (stored : Option (List ℕ)) (before aft
     pub shows_fault : (f : StoreFault) (r : Refusal) (status : ℕ) → TellsFault f r → IfSome stored (λ file. OpenFails file f) → (¬ (f ≡ fault.Disk) → after ≡ before) → (f ≡ fault.Disk → Rose before after)
         → status ≡ refusal_status r → Tells old new c d (refusal_text r) → Shows text_of stored before after old new c d status
     shows_fault f r status tells fails calm rose is wrote =
-        subst (λ (n : ℕ). Shows text_of stored before after old new c d n) (sym is) (refusal (decides_fault f r tells fails calm rose) (some_status r) wrote)
+        subst (λ (n : ℕ). Shows text_of stored before after old new c d n) (sym is) (refusal (not_told (not_opened stored before after f r tells fails calm rose)) (some_status r) wrote)
 
     pub shows_text : (text : List ℕ) (status : ℕ) → after ≡ before → IfSome stored (λ file. ShowsBuild text_of file text) → Writes old new c d text 0 status → Shows text_of stored before after old new c d status
     shows_text text status calm is wrote = build (shown calm is) wrote
@@ -59,7 +84,7 @@ module _ (text_of : Build → List ℕ) (stored : Option (List ℕ)) (before aft
     pub shows_told : (StandsFor : Build → Type 0) (status : ℕ) → after ≡ before → ((text : List ℕ) → ((w : Build) → StandsFor w → text ≡ text_of w) → IfSome stored (λ file. ShowsBuild text_of file text))
         → TellsOf text_of StandsFor old new c d status → Shows text_of stored before after old new c d status
     shows_told StandsFor status calm is (told {text = text} of wrote) = build (shown calm (is text of)) wrote
-    shows_told StandsFor status calm is (no_room eight wrote) = subst (λ (n : ℕ). Shows text_of stored before after old new c d n) (sym eight) (refusal (no_memory calm) (omega arith) wrote)
+    shows_told StandsFor status calm is (no_room eight wrote) = subst (λ (n : ℕ). Shows text_of stored before after old new c d n) (sym eight) (refusal (not_told (no_memory calm)) (omega arith) wrote)
 
   -- A status with its cause, before the text is written.
   data Outcome (c d : ℕ) (status : ℕ) : Type 0 where
@@ -75,26 +100,26 @@ module _ (text_of : Build → List ℕ) (stored : Option (List ℕ)) (before aft
       found : (text : List ℕ) (o : Option (List ℕ)) → IfSome o (λ file. ShowsBuild text_of file text) → IfSome o HasBuild
       found text None is = tt
       found text (Some file) is = (is.some, is.sound)
-  has_build (no_build calm none) e = absurd (omega (arith, e))
-  has_build (damaged at calm fails) e = absurd (omega (arith, e))
-  has_build (disk_failed rose) e = absurd (omega (arith, e))
-  has_build (no_memory calm) e = absurd (omega (arith, e))
+  has_build (not_told (no_build calm none)) e = absurd (omega (arith, e))
+  has_build (not_told (damaged at calm fails)) e = absurd (omega (arith, e))
+  has_build (not_told (disk_failed rose)) e = absurd (omega (arith, e))
+  has_build (not_told (no_memory calm)) e = absurd (omega (arith, e))
 
   module _ {c d : ℕ} (status : ℕ) where
     decided : {n : ℕ} {text : List ℕ} → Decides text_of stored before after n text → status ≡ n → Outcome c d status
     decided (shown calm is) e = as_shown e calm (has_build (shown calm is) refl)
-    decided (no_build calm none) e = as_refused e calm (found stored none)
+    decided (not_told (no_build calm none)) e = as_refused e calm (found stored none)
       where
         found : (o : Option (List ℕ)) → IfSome o (Has []) → IfSome o HasNone
         found None none = tt
         found (Some file) none = inl none
-    decided (damaged at calm fails) e = as_refused e calm (found stored fails)
+    decided (not_told (damaged at calm fails)) e = as_refused e calm (found stored fails)
       where
         found : (o : Option (List ℕ)) → IfSome o (λ file. OpenFails file (fault.Damaged at)) → IfSome o HasNone
         found None fails = tt
         found (Some file) fails = inr (at, fails)
-    decided (disk_failed rose) e = as_failed e rose
-    decided (no_memory calm) e = as_wanting e
+    decided (not_told (disk_failed rose)) e = as_failed e rose
+    decided (not_told (no_memory calm)) e = as_wanting e
 
   outcome : {old new : Option (List ℕ)} {c d : ℕ} (status : ℕ) → Shows text_of stored before after old new c d status → Outcome c d status
   outcome status (build decides (whole appends calm)) = decided status decides refl

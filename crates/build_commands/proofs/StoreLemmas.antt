@@ -1,20 +1,24 @@
 -- What a store tells that was opened.
-use Rattle.std.proofs.Common.{◌≡◌, ◌<◌, ℕ, true, false, List, [], ◌∷◌, length, Option, inl, inr, sym, ap, ◌∙◌, subst, arith}
+use Rattle.std.proofs.Common.{◌≡◌, ◌<◌, ℕ, true, false, List, [], ◌∷◌, length, Option, inl, inr, refl, sym, ap, ◌∙◌, subst, arith}
 use Rattle.journal_core.specs.Records.{Has, Walked}
 use Rattle.field_form.specs.Forms.{Spells}
 use Rattle.record_form.specs.Records.{record_form}
 use Rattle.record_form.specs.declared.record.EventRecord.{EventRecord}
-use Rattle.model_run.specs.State.{Setting}
+use Rattle.image_form.specs.declared.image.Image.{Image}
+use Rattle.model_run.specs.State.{Common, Setting}
 use Rattle.model_run.specs.World.{Build, world_in}
 use Rattle.settle_laws.specs.Stances.{Stance}
 use Rattle.build_core.specs.Builds.{Parts, StandsFor, setting_in}
+use Rattle.build_core.specs.Phases.{has_begun, shown}
+use Rattle.build_core.specs.declared.phase.Phase.{Phase}
+use Rattle.build_core.specs.declared.phase.Phase.TheVariants.{Unbegun, Running, Ended, Stopped}
 use Rattle.build_images.specs.Images.{image_in, world_image}
 use Rattle.store_laws.specs.Store.{AllSpell, IsStory, Starts, events_of}
 use Rattle.store_laws.proofs.Tellings.{one_record, one_setting}
 use Rattle.durable_build.specs.declared.faults.StoreFault.TheVariants.{Damaged}
-use Rattle.durable_build.specs.Standing.{IsWhole, IsDamagedAt, Kept, Opening, StandsBy, StandsForStory}
+use Rattle.durable_build.specs.Standing.{IsWhole, IsDamagedAt, Kept, Closing, Opening, StandsBy, StandsForStory, last_of}
 use Rattle.durable_build.specs.Opening.{OpenFails, Opened}
-use Rattle.build_commands.specs.Showing.{ShowsBuild}
+use Rattle.build_commands.specs.Showing.{HasBuild, ShowsBuild}
 
 same_payloads : (ps qs : List (List ℕ)) (file : List ℕ) → Has ps file → Has qs file → ps ≡ qs
 same_payloads ps qs file a b = ap (λ (w : Walked). w.payloads) (sym a ∙ b)
@@ -27,6 +31,13 @@ same_setting : (s t : Setting) (script agents p : List ℕ) (r : EventRecord) �
 same_setting s t script agents p r o spells starts =
     let same : o.first ≡ r = one_record o.first r p o.spells spells in
     one_setting t s script agents (subst (Starts t) (ap (λ (x : EventRecord). x.event) (sym same) ∙ o.starts) starts) o.mean
+
+-- a build that has begun shows all its nodes
+pub shown_nodes : (p : Phase) (u : Common) → has_begun p ≡ true → (shown p u).nodes ≡ u.nodes
+shown_nodes Unbegun u begun = absurd (cc)
+shown_nodes Running u begun = refl
+shown_nodes Ended u begun = refl
+shown_nodes Stopped u begun = refl
 
 module _ {T : Type 0} (stance : T → Stance) (b : Parts T) (script agents : List ℕ) where
   stands_for : (payloads : List (List ℕ)) (s : Setting) (records : List EventRecord) → 0 < length payloads → StandsBy stance b script agents payloads → StandsForStory stance b payloads
@@ -55,6 +66,9 @@ module _ {D T : Type 0} (reads : D → Option (List ℕ)) (may_leave : D → Lis
       let same = same_payloads ps o.payloads file damaged.0 o.has in
       not_damaged stance k.build k.script k.agents o.payloads at o.some o.keeps.stands whole (subst (λ (qs : List (List ℕ)). IsDamagedAt qs at) same damaged.1)
 
+  pub has_build : IsWhole (setting_in k.build) (image_in stance k.build) → HasBuild file
+  has_build whole = (has_some, sound whole)
+
   -- what is the text of each build of the definitions that the opened one stands for, is the text of the store's build
   pub shows_build : (text_of : Build → List ℕ) (text : List ℕ) → IsWhole (setting_in k.build) (image_in stance k.build) → ((w : Build) → StandsFor stance k.build w → text ≡ text_of w) → ShowsBuild text_of file text
   shows_build text_of text whole is = record {
@@ -64,3 +78,9 @@ module _ {D T : Type 0} (reads : D → Option (List ℕ)) (may_leave : D → Lis
         let spelled = subst (AllSpell records) (same_payloads tells.payloads o.payloads file tells.has o.has) tells.spelled in
         is (world_in setting (events_of records)) (stands_for stance k.build k.script k.agents o.payloads setting records o.some o.keeps.stands o.keeps.story spelled story);
   }
+
+  -- the last record's image is that of the opened build
+  pub last_is : (p : List ℕ) (ps : List (List ℕ)) (image : Image) → Has (p ∷ ps) file → Closing image (last_of p ps) → image_in stance k.build ≡ image
+  last_is p ps image has closing =
+      let s = subst (λ (qs : List (List ℕ)). StandsBy stance k.build k.script k.agents qs) (same_payloads o.payloads (p ∷ ps) file o.has has) o.keeps.stands in
+      sym s.2.is ∙ ap (λ (r : EventRecord). r.image) (one_record s.2.last closing.last (last_of p ps) s.2.spells closing.spells) ∙ closing.is

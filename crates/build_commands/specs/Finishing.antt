@@ -7,10 +7,10 @@ use Rattle.agent_worker.specs.declared.fault.TakeFault.{TakeFault}
 use Rattle.model_run.specs.declared.event.Event.{Event}
 use Rattle.model_run.specs.State.{Setting}
 use Rattle.model_run.specs.World.{Build, world_in}
-use Rattle.run_command.specs.Statuses.{world_status}
+use Rattle.run_command.specs.Statuses.{world_status, HasLog}
 use Rattle.run_command.specs.Texts.{read_failed_text}
 use Rattle.script_run.specs.declared.rest.Rest.{Rest}
-use Rattle.script_run.specs.declared.rest.Rest.TheVariants.{Ended, Waits, AnswersFailed}
+use Rattle.script_run.specs.declared.rest.Rest.TheVariants.{AnswersFailed}
 use Rattle.script_run.specs.Rests.{RestsFor}
 use Rattle.saved_run.specs.Going.{GoesOn}
 use Rattle.durable_build.specs.Taking.{added}
@@ -61,9 +61,16 @@ module _ {D : Type 0} (may_leave : D → List ℕ → Type 0) (clock : D → ℕ
     by_break : {text : List ℕ} {status : ℕ} → Breaks disk_before disk_after answers_before answers_after status text → writing.Tells old new sink_before sink_after text
         → Finishes disk_before disk_after answers_before answers_after old new sink_before sink_after status
 
+-- The log of a build that rests was written, whole or its front, with the status of whatever build of the definitions it stands for.
+pub record TellsRest (Stands : Build → Type 0) (old new : Option (List ℕ)) (sink_before sink_after status : ℕ) : Type 0 where
+  pub log : List ℕ
+  pub ended : ℕ
+  pub known : HasLog ended
+  pub wrote : Writes old new sink_before sink_after log ended status
+  pub is : (w : Build) → Stands w → (log ≡ w.shared.log) × (ended ≡ world_status w)
+
 -- What was written of a build that has gone on, and with which status.
 abbrev pub TellsEnd : (Build → Type 0) → Option (List ℕ) → Option (List ℕ) → ℕ → ℕ → Result Rest TakeFault → ℕ → Type 0
 TellsEnd Stands old new c d (Ok AnswersFailed) status = (status ≡ 6) × writing.Tells old new c d read_failed_text
-TellsEnd Stands old new c d (Ok Ended) status = (w : Build) → Stands w → Writes old new c d w.shared.log (world_status w) status
-TellsEnd Stands old new c d (Ok Waits) status = (w : Build) → Stands w → Writes old new c d w.shared.log (world_status w) status
+TellsEnd Stands old new c d (Ok rest) status = TellsRest Stands old new c d status
 TellsEnd Stands old new c d (Err fault) status = (refusal : Refusal) × SaysTake fault refusal × (status ≡ refusal_status refusal) × writing.Tells old new c d (refusal_text refusal)

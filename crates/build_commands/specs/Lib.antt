@@ -3,4 +3,8 @@ pub mod Writing
 pub mod Refusals
 pub mod Showing
 pub mod Finishing
+pub mod Reporting
 pub mod Resuming
+pub mod Plans
+pub mod Checking
+pub mod Beginning

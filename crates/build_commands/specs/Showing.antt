@@ -1,14 +1,16 @@
 -- What a command writes that shows the build of a store (this product's own).
-use Rattle.std.specs.Prelude.{◌≡◌, ◌⊎◌, ◌<◌, ℕ, List, [], Option, Some, IfSome}
+use Rattle.std.specs.Prelude.{◌≡◌, ◌⊎◌, ◌<◌, ℕ, List, [], ◌∷◌, Option, Some, IfSome}
 use Rattle.device_faults.specs.Faults.{Rose}
 use Rattle.journal_core.specs.Records.{Has}
 use Rattle.record_form.specs.declared.record.EventRecord.{EventRecord}
+use Rattle.image_form.specs.declared.image.Image.{Image}
 use Rattle.model_run.specs.State.{Setting}
 use Rattle.model_run.specs.World.{Build, world_in}
 use Rattle.build_images.specs.Images.{world_image}
 use Rattle.store_laws.specs.Store.{IsStory, Tells, events_of}
 use Rattle.durable_build.specs.declared.faults.StoreFault.TheVariants.{Damaged}
 use Rattle.durable_build.specs.Opening.{OpenFails}
+use Rattle.durable_build.specs.Standing.{Closing, last_of}
 use Rattle.build_commands.specs.Texts.{out_of_memory_text, disk_failed_text, no_build_text, damaged_text}
 use Rattle.build_commands.specs.Writing as writing
 use Rattle.build_commands.specs.Writing.{Writes}
@@ -19,13 +21,18 @@ pub record ShowsBuild (text_of : Build → List ℕ) (file text : List ℕ) : Ty
   pub sound : (at : ℕ) → ¬ (OpenFails file (Damaged at))
   pub is : (setting : Setting) (records : List EventRecord) → Tells records file → IsStory world_image setting records → text ≡ text_of (world_in setting (events_of records))
 
--- The table of such a command: status and text, by the bytes of the store where the disk tells them, and by the disk's count of faults.
+-- Why the build of a store is not told, with status and text: by the bytes of the store where the disk tells them, and by the disk's count of
+-- faults.
+pub data NotTold (stored : Option (List ℕ)) (before after : ℕ) : ℕ → List ℕ → Type 0 where
+  no_build : after ≡ before → IfSome stored (Has []) → NotTold stored before after 9 no_build_text
+  damaged : (at : ℕ) → after ≡ before → IfSome stored (λ file. OpenFails file (Damaged at)) → NotTold stored before after 9 (damaged_text at)
+  disk_failed : Rose before after → NotTold stored before after 5 disk_failed_text
+  no_memory : after ≡ before → NotTold stored before after 8 out_of_memory_text
+
+-- The table of a command that shows a build.
 pub data Decides (text_of : Build → List ℕ) (stored : Option (List ℕ)) (before after : ℕ) : ℕ → List ℕ → Type 0 where
   shown : {text : List ℕ} → after ≡ before → IfSome stored (λ file. ShowsBuild text_of file text) → Decides text_of stored before after 0 text
-  no_build : after ≡ before → IfSome stored (Has []) → Decides text_of stored before after 9 no_build_text
-  damaged : (at : ℕ) → after ≡ before → IfSome stored (λ file. OpenFails file (Damaged at)) → Decides text_of stored before after 9 (damaged_text at)
-  disk_failed : Rose before after → Decides text_of stored before after 5 disk_failed_text
-  no_memory : after ≡ before → Decides text_of stored before after 8 out_of_memory_text
+  not_told : {status : ℕ} {text : List ℕ} → NotTold stored before after status text → Decides text_of stored before after status text
 
 -- Its text was written whole, or the sink counted a fault and has the front of it: then the text of a build makes the status 7, and that of a
 -- refusal leaves it as it is.
@@ -34,6 +41,12 @@ pub data Shows (text_of : Build → List ℕ) (stored : Option (List ℕ)) (befo
       → Shows text_of stored before after old new sink_before sink_after status
   refusal : {text : List ℕ} {status : ℕ} → Decides text_of stored before after status text → 0 < status → writing.Tells old new sink_before sink_after text
       → Shows text_of stored before after old new sink_before sink_after status
+
+-- Where a build was shown, its text is that of the last record's image, whatever the other records tell.
+abbrev pub ShowsLast : (Image → List ℕ) → List ℕ → Option (List ℕ) → Option (List ℕ) → ℕ → ℕ → ℕ → Type 0
+ShowsLast text_in file old new sink_before sink_after status =
+    (p : List ℕ) (ps : List (List ℕ)) (image : Image) → Has (p ∷ ps) file → Closing image (last_of p ps) → (status ≡ 0) ⊎ (status ≡ 7)
+    → Writes old new sink_before sink_after (text_in image) 0 status
 
 -- The text of a build, for each build of the definitions that it stands for, was written or not; or its memory was refused.
 pub data TellsOf (text_of : Build → List ℕ) (StandsFor : Build → Type 0) (old new : Option (List ℕ)) (sink_before sink_after : ℕ) : ℕ → Type 0 where

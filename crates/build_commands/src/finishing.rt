@@ -3,10 +3,9 @@ ghost use Rattle.std.specs.Prelude.{◌≡◌, [], ℕ, List, Option};
 ghost use Rattle.build_core.specs.Builds.{StandsFor};
 ghost use Rattle.model_run.specs.declared.event.Event.{Event as AnEvent};
 ghost use Rattle.model_run.specs.State.{Setting};
-ghost use Rattle.model_run.specs.World.{Build as World};
-ghost use Rattle.run_command.specs.Statuses.{result_status, world_status};
 ghost use Rattle.saved_run.specs.Lives.{SoFar};
-ghost use Rattle.build_commands.specs.Finishing.{Finishes, TellsEnd};
+ghost use Rattle.build_commands.specs.Reporting.{Reports};
+ghost use Rattle.build_commands.specs.Finishing.{Finishes, TellsEnd, TellsRest};
 
 use crate::refusal::{Refusal, tell, tell_text};
 use crate::show::Shown;
@@ -14,7 +13,7 @@ use build_core::Build;
 use durable_build::TakeFault;
 use jp_disk::Disk;
 use jp_io::{Sink, Source};
-use model_run::BuildResult;
+use run_command::build_status;
 use saved_run::Life;
 use saved_thread::SavedThread;
 use script_run::Rest;
@@ -40,6 +39,7 @@ pub fn finish<D: Disk, R: SavedThread + Drop, W: Wait + AllocGlobal, A: Source, 
     answers: &mut A,
     out: &mut K,
 ) -> Shown<D>
+    ensures reports { Reports (D.faults life.durable.journal.disk) (D.faults result.disk) (A.faults answers.old) (A.faults answers.new) (K.written out.old) (K.written out.new) (K.faults out.old) (K.faults out.new) result.status }
     ensures finishes { (setting : Setting) (origin : D) (before : List AnEvent) (first : Option (List ℕ)) (events : List AnEvent)
         → SoFar D.reads D.may_leave D.clock D.may_have_left_since R.stance setting origin before first (A.left answers.old) [] events life
         → Finishes D.may_leave D.clock D.may_have_left_since setting origin before first (A.left answers.new) result.disk
@@ -66,33 +66,14 @@ fn tell_end<R: SavedThread + Drop, K: Sink>(
 {
     match ended {
         Ok(Rest::AnswersFailed) => tell(out, &Refusal::ReadFailed),
-        Ok(Rest::Ended | Rest::Waits) => tell_text(out, build.log(), status_of(build)),
+        Ok(Rest::Ended | Rest::Waits) => tell_rest(out, build),
         Err(fault) => tell(out, &Refusal::of_take(alloc, fault)),
     }
 }
 
-/// The exit status of a build that has ended, or waits.
-fn status_of<R: SavedThread + Drop>(build: &Build<R>) -> u8
-    ensures { (w : World) → StandsFor R.stance build.now w → result ≡ world_status w }
+/// Writes the log of a build that rests, and answers the exit status.
+fn tell_rest<R: SavedThread + Drop, K: Sink>(out: &mut K, build: &Build<R>) -> u8
+    ensures { TellsRest (StandsFor R.stance build.now) (K.written out.old) (K.written out.new) (K.faults out.old) (K.faults out.new) result }
 {
-    if build.has_ended() {
-        return result_status(build.result());
-    }
-    WAITS
-}
-
-/// The status of a build that waits for what nobody answers.
-const WAITS: u8 = 3;
-
-/// The exit status of a build with this result.
-fn result_status(ended: BuildResult) -> u8
-    ensures { result ≡ result_status ended }
-{
-    match ended {
-        BuildResult::Success => 0,
-        BuildResult::Failure => 1,
-        BuildResult::Unstable => 10,
-        BuildResult::NotBuilt => 11,
-        BuildResult::Aborted => 12,
-    }
+    tell_text(out, build.log(), build_status(build))
 }

@@ -1,8 +1,9 @@
 //! The commands over the store of a build: from the words of the command line, the streams and the disk to the output and the
 //! exit status.
 //!
-//! [`resume`] goes on with the build of a store and writes its log; [`finish`] is the part of it that any life ends with, a new one
-//! too. [`log`] and [`graph`] write what the build of a store has come to; they change no byte of it.
+//! [`check`] looks for faults of a script and its agents file. [`run`] begins their build, and [`resume`] goes on with the build of
+//! a store; both write its log, and [`finish`] is the part that they end with. [`log`] and [`graph`] write what the build of a store
+//! has come to; they change no byte of it. [`read_plan`] reads and judges script and agents file.
 //!
 //! ```text
 //! let shown = log::<_, Thread, _>(alloc, FileDisk::new(&rt, path), &mut out);
@@ -10,12 +11,18 @@
 //! ```
 #![tactic(auto)]
 
+mod checking;
 mod finishing;
+mod plan;
 mod refusal;
 mod resuming;
+mod running;
 mod show;
 
+pub use checking::check;
 pub use finishing::finish;
+pub use plan::{Plan, read_plan};
 pub use refusal::{Refusal, tell, tell_text};
 pub use resuming::resume;
+pub use running::run;
 pub use show::{Shown, graph, log};

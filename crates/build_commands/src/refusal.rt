@@ -1,11 +1,13 @@
 //! Why a command does nothing, and its text.
 ghost use Rattle.std.specs.Prelude.{◌≡◌};
-ghost use Rattle.build_commands.specs.Refusals.{SaysTake, TellsFault, refusal_status, refusal_text};
+ghost use Rattle.build_commands.specs.Refusals.{SaysBegin, SaysTake, TellsFault, refusal_status, refusal_text};
 ghost use Rattle.build_commands.specs.Writing as writing;
 ghost use Rattle.build_commands.specs.Writing.{Writes};
 
 use durable_build::{StoreFault, TakeFault};
 use jp_io::{Sink, write_all};
+use model_text::Text;
+use saved_run::BeginFault;
 use std::alloc::Global;
 
 /// Why a command does nothing.
@@ -13,12 +15,20 @@ use std::alloc::Global;
 pub enum Refusal {
     /// A source failed.
     ReadFailed,
+    /// The agents file has a fault, and this text tells its path.
+    AgentsRefused(Text),
+    /// The script has more bytes than it may have.
+    TooLong,
+    /// The script has a fault, and this text tells its place.
+    ScriptRefused(String),
     /// The disk failed.
     DiskFailed,
     /// There was no memory.
     OutOfMemory,
     /// The record of the next event does not fit into the store, and this text tells the two sizes.
     Full(String),
+    /// The store has a record, or the beginning of one.
+    HasBuild,
     /// The store has no record.
     NoBuild,
     /// The store is damaged, and this text tells where.
@@ -59,15 +69,27 @@ impl Refusal {
         }
     }
 
+    /// The refusal that tells why a build was not begun.
+    pub fn of_begin(alloc: Global, fault: BeginFault) -> Refusal
+        ensures { SaysBegin fault result }
+    {
+        match fault {
+            BeginFault::HasBuild => Refusal::HasBuild,
+            BeginFault::Take(fault) => Refusal::of_take(alloc, fault),
+        }
+    }
+
     /// The exit status of the program.
     pub fn status(&self) -> u8
         ensures { result ≡ refusal_status self.now }
     {
         match self {
+            Refusal::TooLong | Refusal::ScriptRefused(_) => 4,
             Refusal::DiskFailed => 5,
             Refusal::ReadFailed => 6,
             Refusal::OutOfMemory => 8,
-            Refusal::NoBuild | Refusal::Damaged(_) => 9,
+            Refusal::HasBuild | Refusal::NoBuild | Refusal::Damaged(_) => 9,
+            Refusal::AgentsRefused(_) => 13,
             Refusal::Full(_) => 14,
         }
     }
@@ -78,8 +100,12 @@ impl Refusal {
     {
         match self {
             Refusal::ReadFailed => b"controller: read failed\n",
+            Refusal::AgentsRefused(text) => text.as_slice(),
+            Refusal::TooLong => b"Jenkinsfile: longer than 1048576 bytes\n",
+            Refusal::ScriptRefused(text) => text.as_bytes(),
             Refusal::DiskFailed => b"controller: disk failed\n",
             Refusal::OutOfMemory => b"controller: out of memory\n",
+            Refusal::HasBuild => b"program.dat: already has a build\n",
             Refusal::NoBuild => b"program.dat: no build\n",
             Refusal::Damaged(text) | Refusal::Full(text) => text.as_bytes(),
         }

@@ -3,7 +3,8 @@ ghost use Rattle.std.specs.Prelude.{◌≡◌, ℕ, List, Some};
 ghost use Rattle.model_run.specs.declared.event.Event.{Event as AnEvent};
 ghost use Rattle.model_run.specs.State.{Setting};
 ghost use Rattle.saved_run.specs.Saved.{Stores};
-ghost use Rattle.build_commands.specs.Resuming.{Resumes};
+ghost use Rattle.run_command.specs.Inputs.{taken_from};
+ghost use Rattle.build_commands.specs.Resuming.{Reopens, Resumes};
 
 use crate::finishing::finish;
 use crate::refusal::{Refusal, tell};
@@ -34,6 +35,7 @@ pub fn resume<D: Disk, R: SavedThread + Drop, W: Wait + AllocGlobal, A: Source, 
     answers: &mut A,
     out: &mut K,
 ) -> Shown<D>
+    ensures reopens { Reopens (D.reads disk) (D.faults disk) (D.faults result.disk) (taken_from A.left A.faults answers.old answers.new) (K.written out.old) (K.written out.new) (K.faults out.old) (K.faults out.new) result.status }
     ensures resumes { (file : List ℕ) → D.reads disk ≡ Some file → (setting : Setting) (events : List AnEvent) → Stores setting events file
         → Resumes D.may_leave D.clock D.may_have_left_since D.faults setting events (A.left answers.old) (A.left answers.new) disk result.disk
         (A.faults answers.old) (A.faults answers.new) (K.written out.old) (K.written out.new) (K.faults out.old) (K.faults out.new) result.status }

@@ -1,9 +1,10 @@
 //! The commands that show the build of a store.
-ghost use Rattle.std.specs.Prelude.{◌≡◌, List, ℕ, Some};
+ghost use Rattle.std.specs.Prelude.{◌≡◌, ◌⊎◌, List, ℕ, Some};
 ghost use Rattle.jp_disk.specs.Moments.{AtEachMoment};
-ghost use Rattle.build_core.specs.Builds.{StandsFor};
+ghost use Rattle.build_core.specs.Builds.{StandsFor, nodes_of};
 ghost use Rattle.model_run.specs.GraphText.{graph_text};
-ghost use Rattle.build_commands.specs.Showing.{Causes, Shows, TellsOf};
+ghost use Rattle.build_commands.specs.Showing.{Causes, Shows, ShowsLast, TellsOf};
+ghost use Rattle.build_commands.specs.Writing.{Writes};
 
 use crate::refusal::{Refusal, tell, tell_text};
 use build_core::Build;
@@ -33,10 +34,12 @@ pub struct Shown<D> {
 /// | 0 | else | the log so far |
 /// | 8 | want of memory | `controller: out of memory` |
 ///
-/// Where the store is that of one build, its log is that of the world of the events that the store has.
+/// It is the log of the last record's image, whatever the other records tell. Where the store is that of one build, its log is
+/// that of the world of the events that the store has.
 pub fn log<D: Disk, R: SavedThread + Drop, K: Sink>(alloc: Global, disk: D, out: &mut K) -> Shown<D>
     ensures causes { Causes (D.reads disk) (D.faults disk) (D.faults result.disk) (K.faults out.old) (K.faults out.new) result.status }
     ensures shows { Shows (λ w. w.shared.log) (D.reads disk) (D.faults disk) (D.faults result.disk) (K.written out.old) (K.written out.new) (K.faults out.old) (K.faults out.new) result.status }
+    ensures last { (file : List ℕ) → D.reads disk ≡ Some file → ShowsLast (λ i. i.log) file (K.written out.old) (K.written out.new) (K.faults out.old) (K.faults out.new) result.status }
     ensures store { (file : List ℕ) → D.reads disk ≡ Some file → D.reads result.disk ≡ Some file }
     ensures any_moment { AtEachMoment D.clock D.may_have_left_since disk result.disk (D.may_leave disk) }
 {
@@ -64,6 +67,7 @@ pub fn graph<D: Disk, R: SavedThread + Drop, K: Sink>(
 ) -> Shown<D>
     ensures causes { Causes (D.reads disk) (D.faults disk) (D.faults result.disk) (K.faults out.old) (K.faults out.new) result.status }
     ensures shows { Shows (λ w. graph_text w.shared.nodes) (D.reads disk) (D.faults disk) (D.faults result.disk) (K.written out.old) (K.written out.new) (K.faults out.old) (K.faults out.new) result.status }
+    ensures last { (file : List ℕ) → D.reads disk ≡ Some file → ShowsLast (λ i. graph_text i.nodes) file (K.written out.old) (K.written out.new) (K.faults out.old) (K.faults out.new) result.status }
     ensures store { (file : List ℕ) → D.reads disk ≡ Some file → D.reads result.disk ≡ Some file }
     ensures any_moment { AtEachMoment D.clock D.may_have_left_since disk result.disk (D.may_leave disk) }
 {
@@ -84,7 +88,8 @@ pub fn graph<D: Disk, R: SavedThread + Drop, K: Sink>(
 
 /// Writes the flow graph of a build, and answers the exit status.
 fn tell_graph<R: SavedThread + Drop, K: Sink>(out: &mut K, build: &Build<R>) -> u8
-    ensures { TellsOf (λ w. graph_text w.shared.nodes) (StandsFor R.stance build.now) (K.written out.old) (K.written out.new) (K.faults out.old) (K.faults out.new) result }
+    ensures told { TellsOf (λ w. graph_text w.shared.nodes) (StandsFor R.stance build.now) (K.written out.old) (K.written out.new) (K.faults out.old) (K.faults out.new) result }
+    ensures here { (result ≡ 8) ⊎ Writes (K.written out.old) (K.written out.new) (K.faults out.old) (K.faults out.new) (graph_text (nodes_of build.now)) 0 result }
 {
     match build.graph_text() {
         Ok(text) => tell_text(out, text.as_slice(), 0),

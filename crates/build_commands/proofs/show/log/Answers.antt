@@ -2,9 +2,11 @@ use Rattle.std.proofs.Common.{ap, sym, ◌∙◌, subst, List, ℕ}
 use Rattle.build_core.specs.Builds.{Parts, StandsFor}
 use Rattle.model_run.specs.World.{Build}
 use Rattle.durable_build.specs.Opening.{OpenFails}
+use Rattle.image_form.specs.declared.image.Image.{Image}
 use Rattle.build_commands.specs.Showing.{ShowsBuild}
-use Rattle.build_commands.proofs.StoreLemmas.{shows_build}
-use Rattle.build_commands.proofs.ShowLemmas.{causes_of, if_told, shows_fault, shows_text}
+use Rattle.build_commands.specs.Writing.{Writes}
+use Rattle.build_commands.proofs.StoreLemmas.{last_is, shows_build}
+use Rattle.build_commands.proofs.ShowLemmas.{causes_of, if_told, not_shown, shows_fault, shows_text}
 use Rattle.build_commands.proofs.show.log.Goals as goal
 
 pub returns-in-Ok-clause-shows : goal.returns-in-Ok-clause-shows
@@ -34,3 +36,14 @@ returns-in-Err-clause-shows g c =
 
 pub returns-in-Err-clause-causes : goal.returns-in-Err-clause-causes
 returns-in-Err-clause-causes g c = causes_of (returns-in-Err-clause-shows g c)
+
+pub returns-in-Ok-clause-last : goal.returns-in-Ok-clause-last
+returns-in-Ok-clause-last g c = λ file at p ps image has closing so.
+    let D = g.D.Disk in
+    let K = g.K.Sink in
+    let is = last_is D.reads D.may_leave g.R.ScriptThread.stance file c.in-Ok.durable (c.in-Ok.ensures.opened file at).0 p ps image has closing in
+    subst (λ (text : List ℕ). Writes (K.written c.args.out.now) (K.written c.tell_text-status.new.out) (K.faults c.args.out.now) (K.faults c.tell_text-status.new.out) text 0 c.tell_text-status.result)
+    (c.log.ensures.here ∙ ap (λ (b : Parts g.row.R.Denot). b.shared.log) c.build.ensures ∙ ap (λ (i : Image). i.log) is) c.tell_text-status.ensures
+
+pub returns-in-Err-clause-last : goal.returns-in-Err-clause-last
+returns-in-Err-clause-last g c = λ file at p ps image has closing so. absurd (not_shown c.of_store.result c.tell-status.result c.tell-status.ensures.status so)

@@ -1,0 +1,10 @@
+use Rattle.build_commands.proofs.finishing.tell_rest.Goals as goal
+
+pub returns : goal.returns
+returns g c = record {
+  log = c.log.result.now;
+  ended = c.build_status.result;
+  known = c.build_status.ensures.0;
+  wrote = c.tell_text.ensures;
+  is = λ w s. (c.log.ensures.world w s, c.build_status.ensures.1 w s);
+}

@@ -1,0 +1,52 @@
+-- What `run` comes to (this product's own).
+use Rattle.std.specs.Prelude.{◌≡◌, ℕ, List, [], ◌∷◌, Option, Some, None}
+use Rattle.device_faults.specs.Faults.{CountsFault}
+use Rattle.journal_core.specs.Answers.{IsStarted}
+use Rattle.journal_core.specs.Moments.{SinceSync}
+use Rattle.agent_worker.specs.declared.fault.TakeFault.{TakeFault}
+use Rattle.agent_worker.specs.declared.fault.TakeFault.TheVariants.{Disk, Full}
+use Rattle.model_syntax.specs.declared.tree.Tree.{Tree}
+use Rattle.model_run.specs.declared.event.Event.TheVariants.{Start as StartEvent}
+use Rattle.model_run.specs.declared.site.Site.{Site}
+use Rattle.script_run.specs.Standing.{script_setting}
+use Rattle.settle_laws.specs.Stances.{Stance}
+use Rattle.saved_run.specs.declared.life.BeginFault.{BeginFault}
+use Rattle.saved_run.specs.declared.life.BeginFault.TheVariants.{HasBuild, Take}
+use Rattle.saved_run.specs.Lives.{BeginRefuses}
+use Rattle.saved_run.specs.Saved.{Survives}
+use Rattle.run_command.specs.Inputs.{Input, IsUnread}
+use Rattle.build_commands.specs.Finishing.{Finishes}
+use Rattle.build_commands.specs.Plans.{Give, RefusesFiles}
+use Rattle.build_commands.specs.Reporting.{Reports}
+use Rattle.build_commands.specs.Texts.{disk_failed_text, full_text, has_build_text, out_of_memory_text}
+use Rattle.build_commands.specs.Writing.{Tells}
+
+-- Status and text of a build that was not begun. Want of memory may come in place of a text that needs memory.
+pub data BeginSays : BeginFault → ℕ → List ℕ → Type 0 where
+  has_build : BeginSays HasBuild 9 has_build_text
+  disk_failed : BeginSays (Take Disk) 5 disk_failed_text
+  full : (len add : ℕ) → BeginSays (Take (Full len add)) 14 (full_text len add)
+  no_memory : {fault : TakeFault} → ¬ (fault ≡ Disk) → BeginSays (Take fault) 8 out_of_memory_text
+
+module _ {D T : Type 0} (reads : D → Option (List ℕ)) (may_leave : D → List ℕ → Type 0) (clock : D → ℕ) (since : D → ℕ → List ℕ → Type 0) (stance : T → Stance) (faults : D → ℕ) (disk now : D) (answers : Input)
+    (old new : Option (List ℕ)) (sink_before sink_after : ℕ) where
+  -- A build that was begun over this file, which has no record, and went on. Up to a moment at which the file is durable a crash leaves what it
+  -- might have left before; from then on no event or the `Start`; and from the `Start` on what `Finishes` says.
+  pub record WentOn (script agents : List ℕ) (tree : Tree) (site : Site) (file : List ℕ) (started : D) (status : ℕ) : Type 0 where
+    pub fresh : ¬ (IsStarted file)
+    pub moments : SinceSync clock since may_leave file disk started (Survives (script_setting tree site) [] (StartEvent script agents ∷ []) None)
+    pub finishes : Finishes may_leave clock since (script_setting tree site) started (StartEvent script agents ∷ []) answers.left answers.rest now (faults started) (faults now) answers.before answers.after old new sink_before sink_after status
+
+  -- What becomes of a script and an agents file that can be built: of a disk that tells its bytes by these, and of any by the counts.
+  pub data Begins (script agents : List ℕ) (tree : Tree) (site : Site) : ℕ → Type 0 where
+    unbegun : {fault : BeginFault} {status : ℕ} {text : List ℕ} → IsUnread answers → BeginSays fault status text → CountsFault (faults disk) (faults now) (fault ≡ Take Disk)
+        → ((file : List ℕ) → reads disk ≡ Some file → BeginRefuses reads may_leave clock since stance (script_setting tree site) (StartEvent script agents) file disk fault now)
+        → Tells old new sink_before sink_after text → Begins script agents tree site status
+    begun : {status : ℕ} (started : D) → faults started ≡ faults disk → Reports (faults disk) (faults now) answers.before answers.after old new sink_before sink_after status
+        → ((file : List ℕ) → reads disk ≡ Some file → WentOn script agents tree site file started status)
+        → Begins script agents tree site status
+
+  -- The table of `run`: script or agents file is refused, and then the disk is not called and no answer is read; or both can be built.
+  pub data Runs (script agents : Input) : ℕ → Type 0 where
+    refused : {status : ℕ} {text : List ℕ} → RefusesFiles script agents status text → now ≡ disk → IsUnread answers → Tells old new sink_before sink_after text → Runs script agents status
+    built : {s a : List ℕ} {tree : Tree} {site : Site} {status : ℕ} → Give script agents s a tree site → Begins s a tree site status → Runs script agents status

@@ -1,0 +1,84 @@
+//! The command that begins the build of a script.
+ghost use Rattle.std.specs.Prelude.{◌+◌};
+ghost use Rattle.jp_io.specs.Whole.{TakesAtMost};
+ghost use Rattle.run_command.specs.Ends.{script_limit, agents_limit, Builds};
+ghost use Rattle.run_command.specs.Inputs.{taken_from};
+ghost use Rattle.build_commands.specs.Beginning.{Begins, Runs};
+
+use crate::finishing::finish;
+use crate::plan::{Plan, read_plan};
+use crate::refusal::{Refusal, tell};
+use crate::show::Shown;
+use jp_disk::Disk;
+use jp_io::{Sink, Source};
+use saved_run::Life;
+use saved_thread::SavedThread;
+use std::sync::Wait;
+
+/// Makes the store of the build of a script, goes on with the build until it has ended or nobody can, and writes its log.
+///
+/// | status | comes | text |
+/// |---|---|---|
+/// | 6 | only where a source counted a fault; of the answers only where an input is open | `controller: read failed` |
+/// | 13 | exactly where the agents file has a fault | its path and kind |
+/// | 4 | exactly where the script has a fault or is too long | the place of its first fault |
+/// | 9 | exactly where the store has a record, or the beginning of one | `program.dat: already has a build` |
+/// | 14 | only where the record of the next event does not fit into the store | the two sizes |
+/// | 5 | only where the disk counted a fault | `controller: disk failed` |
+/// | 7 | only where the sink counted a fault | a part of the log, from its beginning |
+/// | 0, 1, 10, 11, 12 | only where the build has ended so | its log |
+/// | 3 | only where no grant is due, and no input is open or the answers were read to their end | the log so far |
+/// | 8 | want of memory | `controller: out of memory` |
+///
+/// The disk is called only where script and agents file are without a fault. Each of their sources is asked for at most one byte
+/// more than its file may have. It may wait for ever, as the answers may.
+pub fn run<D: Disk, R: SavedThread + Drop, W: Wait + AllocGlobal, S: Source, A: Source, K: Sink>(
+    rt: &W,
+    script: &mut S,
+    agents: &mut S,
+    disk: D,
+    answers: &mut A,
+    out: &mut K,
+) -> Shown<D>
+    ensures runs { Runs D.reads D.may_leave D.clock D.may_have_left_since R.stance D.faults disk result.disk (taken_from A.left A.faults answers.old answers.new)
+        (K.written out.old) (K.written out.new) (K.faults out.old) (K.faults out.new)
+        (taken_from S.left S.faults script.old script.new) (taken_from S.left S.faults agents.old agents.new) result.status }
+    ensures most_script { TakesAtMost (script_limit + 1) (S.left script.old) (S.left script.new) }
+    ensures most_agents { TakesAtMost (agents_limit + 1) (S.left agents.old) (S.left agents.new) }
+{
+    match read_plan(rt.alloc(), script, agents) {
+        Ok(plan) => begin::<D, R, W, A, K>(rt, plan, disk, answers, out),
+        Err(refusal) => {
+            let status = tell(out, &refusal);
+            Shown { status, disk }
+        }
+    }
+}
+
+/// The same where script and agents file can be built.
+fn begin<D: Disk, R: SavedThread + Drop, W: Wait + AllocGlobal, A: Source, K: Sink>(
+    rt: &W,
+    plan: Plan,
+    disk: D,
+    answers: &mut A,
+    out: &mut K,
+) -> Shown<D>
+    requires builds { Builds plan.script plan.agents plan.tree plan.site }
+    ensures { Begins D.reads D.may_leave D.clock D.may_have_left_since R.stance D.faults disk result.disk (taken_from A.left A.faults answers.old answers.new)
+        (K.written out.old) (K.written out.new) (K.faults out.old) (K.faults out.new) plan.script plan.agents plan.tree plan.site result.status }
+{
+    let alloc = rt.alloc();
+    let Plan {
+        script,
+        agents,
+        tree,
+        site,
+    } = plan;
+    match Life::<D, R>::begin(alloc, disk, tree, site, script, agents) {
+        Ok(life) => finish(rt, life, answers, out),
+        Err((fault, disk)) => {
+            let status = tell(out, &Refusal::of_begin(alloc, fault));
+            Shown { status, disk }
+        }
+    }
+}

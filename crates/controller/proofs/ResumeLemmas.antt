@@ -1,0 +1,161 @@
+-- The parts of a call's contract for `resume`, from its tables.
+use Rattle.std.proofs.Common.{◌≡◌, ◌⊎◌, ℕ, List, [], ◌++◌, Option, Some, inl, inr, refl, sym, ◌∙◌, subst, ⊎_elim, arith}
+use Rattle.std.specs.Prelude.{IfSome}
+use Rattle.device_faults.specs.Faults.{Rose}
+use Rattle.jp_disk.proofs.MomentLemmas.{if_told}
+use Rattle.model_run.specs.declared.event.Event.{Event}
+use Rattle.model_run.specs.State.{Setting}
+use Rattle.run_command.specs.Ends.{HasRun}
+use Rattle.run_command.specs.Inputs.{HasFailed, IsUnread}
+use Rattle.build_commands.specs.Finishing.{Finishes}
+use Rattle.build_commands.specs.Resuming.{NotOpened, Resumes, Reopens}
+use Rattle.build_commands.specs.Resuming as resume
+use Rattle.build_commands.specs.Showing.{HasBuild, HasNone, NotTold}
+use Rattle.build_commands.specs.Showing as showing
+use Rattle.controller.specs.Call.{Takes, Call, Finds, Tells}
+use Rattle.controller.specs.Causes.{AllCalm, HasWorked, ResumeCauses, WentOn}
+use Rattle.controller.specs.Commands.{ResumesBy}
+use Rattle.controller.specs.Crash.{Lasts, Stays}
+use Rattle.controller.specs.FirstFault.{TellsFault}
+use Rattle.controller.specs.Output.{Delivers, Says}
+use Rattle.controller.proofs.CallLemmas.{unrun, untold}
+use Rattle.controller.proofs.LifeLemmas.{gone, finish_delivers, finish_went, finish_worked}
+use Rattle.controller.proofs.RunLemmas.{reports_untold, reports_answers, reports_disk, reports_sink, reports_build, reports_usage}
+use Rattle.controller.proofs.TextLemmas.{reports_say, not_told_says}
+
+-- a store does not have a build and none
+both : (file : List ℕ) → HasBuild file → HasNone file → ⊥
+both file has (inl none) = has.0 none
+both file has (inr hurt) = has.1 hurt.0 hurt.1
+
+opened_unrun : {events : List Event} {a b n : ℕ} {text : List ℕ} → NotOpened events a b n text → HasRun n → ⊥
+opened_unrun (resume.no_build none) run = unrun 9 9 refl refl run
+opened_unrun (resume.disk_failed rose) run = unrun 5 5 refl refl run
+opened_unrun resume.no_memory run = unrun 8 8 refl refl run
+
+pub not_told_untold : {stored : Option (List ℕ)} {a b n : ℕ} {text : List ℕ} → NotTold stored a b n text → TellsFault n → ⊥
+not_told_untold (showing.no_build calm none) is = untold 9 9 refl (λ e. omega (arith, e)) (λ e. omega (arith, e)) is
+not_told_untold (showing.damaged at calm fails) is = untold 9 9 refl (λ e. omega (arith, e)) (λ e. omega (arith, e)) is
+not_told_untold (showing.disk_failed rose) is = untold 5 5 refl (λ e. omega (arith, e)) (λ e. omega (arith, e)) is
+not_told_untold (showing.no_memory calm) is = untold 8 8 refl (λ e. omega (arith, e)) (λ e. omega (arith, e)) is
+
+not_told_other : {stored : Option (List ℕ)} {a b n : ℕ} {text : List ℕ} → NotTold stored a b n text → (¬ (n ≡ 6)) × (¬ (n ≡ 7)) × (¬ (n ≡ 2))
+not_told_other (showing.no_build calm none) = (λ e. omega (arith, e), λ e. omega (arith, e), λ e. omega (arith, e))
+not_told_other (showing.damaged at calm fails) = (λ e. omega (arith, e), λ e. omega (arith, e), λ e. omega (arith, e))
+not_told_other (showing.disk_failed rose) = (λ e. omega (arith, e), λ e. omega (arith, e), λ e. omega (arith, e))
+not_told_other (showing.no_memory calm) = (λ e. omega (arith, e), λ e. omega (arith, e), λ e. omega (arith, e))
+
+not_told_disk : {stored : Option (List ℕ)} {a b n : ℕ} {text : List ℕ} → NotTold stored a b n text → n ≡ 5 → Rose a b
+not_told_disk (showing.no_build calm none) five = absurd (omega (arith, five))
+not_told_disk (showing.damaged at calm fails) five = absurd (omega (arith, five))
+not_told_disk (showing.disk_failed rose) five = rose
+not_told_disk (showing.no_memory calm) five = absurd (omega (arith, five))
+
+not_told_always : {stored : Option (List ℕ)} {a b n : ℕ} {text : List ℕ} → NotTold stored a b n text → ¬ (Rose a b) → (n ≡ 9) ⊎ (n ≡ 8)
+not_told_always (showing.no_build calm none) quiet = inl refl
+not_told_always (showing.damaged at calm fails) quiet = inl refl
+not_told_always (showing.disk_failed rose) quiet = absurd (quiet rose)
+not_told_always (showing.no_memory calm) quiet = inr refl
+
+module _ {D : Type 0} (reads : D → Option (List ℕ)) (may_leave : D → List ℕ → Type 0) (clock : D → ℕ) (since : D → ℕ → List ℕ → Type 0) (faults : D → ℕ) (told_image : (d : D) → IfSome (reads d) (λ file. may_leave d file)) (c : Call D) where
+  abbrev ReopensSo : ℕ → Type 0
+  ReopensSo n = Reopens (reads c.disk) (faults c.disk) (faults c.now) c.answers c.old c.new c.sink_before c.sink_after n
+
+  abbrev ResumesSo : Setting → List Event → ℕ → Type 0
+  ResumesSo setting events n = Resumes may_leave clock since faults setting events c.answers.left c.answers.rest c.disk c.now c.answers.before c.answers.after c.old c.new c.sink_before c.sink_after n
+
+  -- over any store
+  pub resume_says : {n : ℕ} → ReopensSo n → HasRun n ⊎ ((text : List ℕ) × Says n text × Tells text c)
+  resume_says (resume.unopened {text = text} unread why tells) = inr (text, not_told_says why, tells)
+  resume_says (resume.goes_on has reports) = reports_say reports
+
+  pub resume_untold : {n : ℕ} → ReopensSo n → TellsFault n → ⊥
+  resume_untold (resume.unopened unread why tells) is = not_told_untold why is
+  resume_untold (resume.goes_on has reports) is = reports_untold reports is
+
+  pub resume_known : {n : ℕ} → ReopensSo n → n ≡ 2 → ⊥
+  resume_known (resume.unopened unread why tells) two = (not_told_other why).2 two
+  resume_known (resume.goes_on has reports) two = reports_usage reports two
+
+  answers_failed : {n : ℕ} → ReopensSo n → n ≡ 6 → HasFailed c.answers
+  answers_failed (resume.unopened unread why tells) six = absurd ((not_told_other why).0 six)
+  answers_failed (resume.goes_on has reports) six = reports_answers reports six
+
+  disk_failed : {n : ℕ} → ReopensSo n → n ≡ 5 → Rose (faults c.disk) (faults c.now)
+  disk_failed (resume.unopened unread why tells) five = not_told_disk why five
+  disk_failed (resume.goes_on has reports) five = reports_disk reports five
+
+  sink_failed : {n : ℕ} → ReopensSo n → n ≡ 7 → Rose c.sink_before c.sink_after
+  sink_failed (resume.unopened unread why tells) seven = absurd ((not_told_other why).1 seven)
+  sink_failed (resume.goes_on has reports) seven = reports_sink reports seven
+
+  none : {n : ℕ} → ReopensSo n → n ≡ 9 → (text : List ℕ) × NotTold (reads c.disk) (faults c.disk) (faults c.now) n text × Tells text c
+  none (resume.unopened {text = text} unread why tells) nine = (text, why, tells)
+  none (resume.goes_on has reports) nine = absurd (reports_build reports nine)
+
+  pub resume_unread : {n : ℕ} → ReopensSo n → n ≡ 9 → IsUnread c.answers
+  resume_unread (resume.unopened unread why tells) nine = unread
+  resume_unread (resume.goes_on has reports) nine = absurd (reports_build reports nine)
+
+  finds_none : {n : ℕ} → ReopensSo n → ¬ (Rose (faults c.disk) (faults c.now)) → (file : List ℕ) → reads c.disk ≡ Some file → HasNone file → (n ≡ 9) ⊎ (n ≡ 8)
+  finds_none (resume.unopened unread why tells) quiet file told is = not_told_always why quiet
+  finds_none (resume.goes_on has reports) quiet file told is = absurd (both file (if_told HasBuild told has) is)
+
+  -- over a consistent one
+  module _ (setting : Setting) (events : List Event) where
+    abbrev FinishesSo : D → ℕ → Type 0
+    FinishesSo opened n = Finishes may_leave clock since setting opened events c.answers.left c.answers.rest c.now (faults opened) (faults c.now) c.answers.before c.answers.after c.old c.new c.sink_before c.sink_after n
+
+    delivered : {n : ℕ} → ResumesSo setting events n → n ≡ c.status → HasRun n → (more : List Event) × Delivers reads setting events (events ++ more) c
+    delivered (resume.refused unread stays why tells) is run = absurd (opened_unrun why run)
+    delivered (resume.went_on opened up_to same finishes) is run =
+        finish_delivers reads may_leave clock since faults told_image setting opened events c same (subst (FinishesSo opened) is finishes) (subst HasRun is run)
+
+    lasts : {n : ℕ} → ResumesSo setting events n → Stays reads may_leave clock since faults c ⊎ ((taken : List Event) × (risked : Option Event) × Takes setting events taken c × Lasts reads may_leave clock since faults setting events taken risked c)
+    lasts (resume.refused unread stays why tells) = inl stays
+    lasts (resume.went_on opened up_to same finishes) =
+        let g = gone reads may_leave clock since faults told_image setting opened events c same finishes in
+        inr (g.taken, g.risked, g.takes, record { origin = opened; up_to = up_to; from_then = g.moments; at_end = g.images; sure = g.sure })
+
+    not_opened_went : {a b n : ℕ} {text : List ℕ} → NotOpened events a b n text → (n ≡ 9) ⊎ (n ≡ 5) ⊎ (n ≡ 8)
+    not_opened_went (resume.no_build none) = inl refl
+    not_opened_went (resume.disk_failed rose) = inr (inl refl)
+    not_opened_went resume.no_memory = inr (inr refl)
+
+    went : {n : ℕ} → ResumesSo setting events n → n ≡ c.status → (c.status ≡ 9) ⊎ (c.status ≡ 5) ⊎ (c.status ≡ 8) ⊎ WentOn reads faults setting events c
+    went (resume.refused unread stays why tells) is =
+        ⊎_elim (λ nine. inl (sym is ∙ nine)) (⊎_elim (λ five. inr (inl (sym is ∙ five))) (λ eight. inr (inr (inl (sym is ∙ eight))))) (not_opened_went why)
+    went (resume.went_on opened up_to same finishes) is =
+        inr (inr (inr (finish_went reads may_leave clock since faults told_image setting opened events c same (subst (FinishesSo opened) is finishes))))
+
+    not_opened_works : {n : ℕ} {text : List ℕ} → NotOpened events (faults c.disk) (faults c.now) n text → AllCalm reads faults c → ¬ (events ≡ []) → HasWorked n
+    not_opened_works (resume.no_build none) calm some = absurd (some none)
+    not_opened_works (resume.disk_failed rose) calm some = absurd (calm.disk rose)
+    not_opened_works resume.no_memory calm some = inr (inl refl)
+
+    works : {n : ℕ} → ResumesSo setting events n → n ≡ c.status → AllCalm reads faults c → ¬ (events ≡ []) → HasWorked c.status
+    works (resume.refused unread stays why tells) is calm some = subst HasWorked is (not_opened_works why calm some)
+    works (resume.went_on opened up_to same finishes) is calm some =
+        finish_worked reads may_leave clock since faults told_image setting opened events c same (subst (FinishesSo opened) is finishes) calm
+
+  module _ (by : ResumesBy reads may_leave clock since faults c) where
+    here : (setting : Setting) (events : List Event) → Finds reads setting events c → ResumesSo setting events c.status
+    here setting events finds = by.resumes finds.file finds.told setting events finds.stores
+
+    pub resume_outputs : HasRun c.status → (setting : Setting) (events : List Event) → Finds reads setting events c → (more : List Event) × Delivers reads setting events (events ++ more) c
+    resume_outputs run setting events finds = delivered setting events (here setting events finds) refl run
+
+    pub resume_crashes : (setting : Setting) (events : List Event) → Finds reads setting events c
+        → Stays reads may_leave clock since faults c ⊎ ((taken : List Event) × (risked : Option Event) × Takes setting events taken c × Lasts reads may_leave clock since faults setting events taken risked c)
+    resume_crashes setting events finds = lasts setting events (here setting events finds)
+
+    pub resume_causes : ResumeCauses reads faults c
+    resume_causes = record {
+      answers = answers_failed by.reopens;
+      disk = disk_failed by.reopens;
+      sink = sink_failed by.reopens;
+      no_build = none by.reopens;
+      finds_none = finds_none by.reopens;
+      went_on = λ setting events finds. went setting events (here setting events finds) refl;
+      works = λ calm setting events finds some. works setting events (here setting events finds) refl calm some;
+    }

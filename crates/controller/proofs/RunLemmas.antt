@@ -1,0 +1,487 @@
+-- The parts of a call's contract for `run`, from its table.
+use Rattle.std.proofs.Common.{true, ◌≡◌, ◌⊎◌, ◌+◌, ◌<◌, ◌≤◌, ◌^◌, ℕ, List, [], ◌∷◌, ◌++◌, Option, None, Some, inl, inr, refl, sym, ap, ◌∙◌, subst, append_assoc, ⊎_elim, arith}
+use Rattle.std.specs.Prelude.{IfSome, IsSomeAnd}
+use Rattle.std.specs.Io.KnownBytes.{Consumes, IsAtEnd}
+use Rattle.std.proofs.KnownBytes.{Consumes-nil}
+use Rattle.saved_run.specs.Going as life
+use Rattle.build_commands.specs.Texts.{full_text, has_build_text}
+use Rattle.device_faults.specs.Faults.{Rose, CountsFault}
+use Rattle.jp_disk.specs.Moments.{AtEachMoment}
+use Rattle.jp_disk.proofs.MomentLemmas.{if_told, runs_on, at_each_weaker, starts}
+use Rattle.journal_core.specs.Answers.{IsStarted}
+use Rattle.journal_core.specs.Moments.{SinceSync}
+use Rattle.journal_core.specs.Records.{records}
+use Rattle.agent_worker.specs.declared.fault.TakeFault.{TakeFault}
+use Rattle.agent_worker.specs.declared.fault.TakeFault.TheVariants as take
+use Rattle.model_syntax.specs.declared.tree.Tree.{Tree}
+use Rattle.model_run.specs.declared.event.Event.{Event}
+use Rattle.model_run.specs.declared.event.Event.TheVariants.{Start as StartEvent}
+use Rattle.model_run.specs.declared.site.Site.{Site}
+use Rattle.model_run.specs.State.{Setting}
+use Rattle.settle_laws.specs.Stances.{Stance}
+use Rattle.script_run.specs.Standing.{script_setting}
+use Rattle.saved_run.specs.declared.life.BeginFault.{BeginFault}
+use Rattle.saved_run.specs.declared.life.BeginFault.TheVariants as fault
+use Rattle.saved_run.specs.Lives.{BeginRefuses, StartFails, MayRisk}
+use Rattle.saved_run.specs.Saved.{Stores, Survives}
+use Rattle.run_command.specs.Causes.{HasFault, HasSite, IsRefused, by_fault, by_length, OfFiles}
+use Rattle.run_command.specs.Ends.{Builds, HasRun}
+use Rattle.run_command.specs.Inputs.{HasFailed, IsUnread}
+use Rattle.build_commands.specs.Beginning.{BeginSays, WentOn as WentOnBegun, Begins, Runs}
+use Rattle.build_commands.specs.Beginning as begin
+use Rattle.build_commands.specs.Plans.{Faults, Give, Hold, RefusesFiles}
+use Rattle.build_commands.specs.Plans as plan
+use Rattle.build_commands.specs.Reporting.{Reports}
+use Rattle.build_commands.specs.Reporting as report
+use Rattle.controller.specs.Call.{AreRead, Call, Tells}
+use Rattle.controller.specs.Causes as causes
+use Rattle.controller.specs.Causes.{AllCalm, HasWorked, IsUnbegun, RunCauses, RunWentOn}
+use Rattle.controller.specs.Crash.{LastsRun, Stays}
+use Rattle.controller.specs.FirstFault.{TellsFault, JudgesFiles}
+use Rattle.controller.specs.Output.{DeliversRun, Says}
+use Rattle.controller.proofs.CallLemmas.{unrun, seven_no_log, untold, run_untold, built_not_refused, built_site, site_no_fault, mean_of, of_files, where_told, some_and}
+use Rattle.controller.proofs.LifeLemmas.{gone, finish_delivers, finish_went, finish_worked}
+use Rattle.controller.proofs.TextLemmas.{written, written_run, says_unrun, files_say, begin_says, reports_say}
+
+-- a front of nothing is nothing
+nothing_front : (kept rest : List Event) → [] ≡ kept ++ rest → kept ≡ []
+nothing_front [] rest is = refl
+nothing_front (e ∷ es) rest is = absurd (cc)
+
+-- files that are judged: what is told of them
+module _ {D : Type 0} (c : Call D) where
+  pub files_told : {n : ℕ} {text : List ℕ} → RefusesFiles c.script c.agents n text → Tells text c → TellsFault n
+      → OfFiles c.script c.agents (λ script agents. (t : List ℕ) × Faults script agents n t × Tells t c)
+  files_told (plan.unread failed) tells is = absurd (untold 6 6 refl (λ e. omega (arith, e)) (λ e. omega (arith, e)) is)
+  files_told (plan.no_room calm) tells is = absurd (untold 8 8 refl (λ e. omega (arith, e)) (λ e. omega (arith, e)) is)
+  files_told (plan.judged {s = s} {a = a} {status = n} {text = text} calm hold faults) tells is =
+      of_files c.script c.agents s a (λ script agents. (t : List ℕ) × Faults script agents n t × Tells t c) hold (text, faults, tells)
+
+  faults_tell : {s a : List ℕ} {n : ℕ} {text : List ℕ} → Faults s a n text → TellsFault n ⊎ (n ≡ 8)
+  faults_tell (plan.of_agents is) = inl (inr refl)
+  faults_tell (plan.too_long site long) = inl (inl refl)
+  faults_tell (plan.of_script site fits first) = inl (inl refl)
+  faults_tell plan.no_memory = inr refl
+
+  pub files_tell : {n : ℕ} {text : List ℕ} → RefusesFiles c.script c.agents n text → AreRead c → TellsFault n ⊎ (n ≡ 8)
+  files_tell (plan.unread failed) read = absurd (⊎_elim read.0 read.1 failed)
+  files_tell (plan.no_room calm) read = inr refl
+  files_tell (plan.judged calm hold faults) read = faults_tell faults
+
+  -- files that can be built, and whose sources were read, are refused only for want of memory
+  faults_want : {s a : List ℕ} {n : ℕ} {text : List ℕ} → Faults s a n text → HasSite a → ¬ (IsRefused s) → n ≡ 8
+  faults_want {a = a} (plan.of_agents {path = path} {kind = kind} is) site sound = absurd (site_no_fault a site (path, kind, is))
+  faults_want (plan.too_long other long) site sound = absurd (sound (by_length long))
+  faults_want (plan.of_script other fits first) site sound = absurd (sound (by_fault first))
+  faults_want plan.no_memory site sound = refl
+
+  pub files_want : {n : ℕ} {text : List ℕ} → RefusesFiles c.script c.agents n text → AreRead c → OfFiles c.script c.agents (λ script agents. HasSite agents → ¬ (IsRefused script) → n ≡ 8)
+  files_want (plan.unread failed) read = absurd (⊎_elim read.0 read.1 failed)
+  files_want (plan.no_room calm) read = λ script agents at_s at_a site sound. refl
+  files_want (plan.judged {s = s} {a = a} {status = n} calm hold faults) read =
+      of_files c.script c.agents s a (λ script agents. HasSite agents → ¬ (IsRefused script) → n ≡ 8) hold (λ site sound. faults_want faults site sound)
+
+  pub files_failed : {n : ℕ} {text : List ℕ} → RefusesFiles c.script c.agents n text → n ≡ 6 → HasFailed c.script ⊎ HasFailed c.agents
+  files_failed (plan.unread failed) six = failed
+  files_failed (plan.no_room calm) six = absurd (omega (arith, six))
+  files_failed (plan.judged calm hold faults) six = absurd (never faults six)
+    where
+      never : {s a : List ℕ} {n : ℕ} {text : List ℕ} → Faults s a n text → n ≡ 6 → ⊥
+      never (plan.of_agents is) e = omega (arith, e)
+      never (plan.too_long site long) e = omega (arith, e)
+      never (plan.of_script site fits first) e = omega (arith, e)
+      never plan.no_memory e = omega (arith, e)
+
+  faults_unbegun : {s a : List ℕ} {n : ℕ} {text : List ℕ} → Faults s a n text → (n ≡ 4) ⊎ (n ≡ 13) ⊎ (n ≡ 8)
+  faults_unbegun (plan.of_agents is) = inr (inl refl)
+  faults_unbegun (plan.too_long site long) = inl refl
+  faults_unbegun (plan.of_script site fits first) = inl refl
+  faults_unbegun plan.no_memory = inr (inr refl)
+
+  pub files_unbegun : {n : ℕ} {text : List ℕ} → RefusesFiles c.script c.agents n text → ((n ≡ 4) ⊎ (n ≡ 13) ⊎ (n ≡ 8)) ⊎ ((n ≡ 6) × (HasFailed c.script ⊎ HasFailed c.agents))
+  files_unbegun (plan.unread failed) = inr (refl, failed)
+  files_unbegun (plan.no_room calm) = inl (inr (inr refl))
+  files_unbegun (plan.judged calm hold faults) = inl (faults_unbegun faults)
+
+  pub files_other : {n : ℕ} {text : List ℕ} → RefusesFiles c.script c.agents n text → (¬ (n ≡ 5)) × (¬ (n ≡ 7)) × (¬ (n ≡ 9)) × (¬ (n ≡ 2))
+  files_other (plan.unread failed) = (λ e. omega (arith, e), λ e. omega (arith, e), λ e. omega (arith, e), λ e. omega (arith, e))
+  files_other (plan.no_room calm) = (λ e. omega (arith, e), λ e. omega (arith, e), λ e. omega (arith, e), λ e. omega (arith, e))
+  files_other (plan.judged calm hold faults) = other faults
+    where
+      other : {s a : List ℕ} {n : ℕ} {text : List ℕ} → Faults s a n text → (¬ (n ≡ 5)) × (¬ (n ≡ 7)) × (¬ (n ≡ 9)) × (¬ (n ≡ 2))
+      other (plan.of_agents is) = (λ e. omega (arith, e), λ e. omega (arith, e), λ e. omega (arith, e), λ e. omega (arith, e))
+      other (plan.too_long site long) = (λ e. omega (arith, e), λ e. omega (arith, e), λ e. omega (arith, e), λ e. omega (arith, e))
+      other (plan.of_script site fits first) = (λ e. omega (arith, e), λ e. omega (arith, e), λ e. omega (arith, e), λ e. omega (arith, e))
+      other plan.no_memory = (λ e. omega (arith, e), λ e. omega (arith, e), λ e. omega (arith, e), λ e. omega (arith, e))
+
+-- what the counts tell of a build that went on
+module _ {a b x y d e : ℕ} {old new : Option (List ℕ)} where
+  pub reports_untold : {n : ℕ} → Reports a b x y old new d e n → TellsFault n → ⊥
+  reports_untold {n = n} (report.rested quiet log writes) is = run_untold n (written_run log writes) is
+  reports_untold (report.answers_failed calm rose tells) is = untold 6 6 refl (λ e. omega (arith, e)) (λ e. omega (arith, e)) is
+  reports_untold (report.disk_failed rose calm tells) is = untold 5 5 refl (λ e. omega (arith, e)) (λ e. omega (arith, e)) is
+  reports_untold (report.full len add quiet tells) is = untold 14 14 refl (λ e. omega (arith, e)) (λ e. omega (arith, e)) is
+  reports_untold (report.no_memory quiet tells) is = untold 8 8 refl (λ e. omega (arith, e)) (λ e. omega (arith, e)) is
+
+  pub reports_answers : {n : ℕ} → Reports a b x y old new d e n → n ≡ 6 → Rose x y
+  reports_answers {n = n} (report.rested quiet log writes) six = absurd (unrun 6 n six refl (written_run log writes))
+  reports_answers (report.answers_failed calm rose tells) six = rose
+  reports_answers (report.disk_failed rose calm tells) six = absurd (omega (arith, six))
+  reports_answers (report.full len add quiet tells) six = absurd (omega (arith, six))
+  reports_answers (report.no_memory quiet tells) six = absurd (omega (arith, six))
+
+  pub reports_disk : {n : ℕ} → Reports a b x y old new d e n → n ≡ 5 → Rose a b
+  reports_disk {n = n} (report.rested quiet log writes) five = absurd (unrun 5 n five refl (written_run log writes))
+  reports_disk (report.answers_failed calm rose tells) five = absurd (omega (arith, five))
+  reports_disk (report.disk_failed rose calm tells) five = rose
+  reports_disk (report.full len add quiet tells) five = absurd (omega (arith, five))
+  reports_disk (report.no_memory quiet tells) five = absurd (omega (arith, five))
+
+  pub reports_sink : {n : ℕ} → Reports a b x y old new d e n → n ≡ 7 → Rose d e
+  reports_sink {n = n} (report.rested {ended = m} quiet log writes) seven = ⊎_elim (λ is. absurd (seven_no_log m (sym is ∙ seven) log)) (λ failed. failed.1) (written writes)
+  reports_sink (report.answers_failed calm rose tells) seven = absurd (omega (arith, seven))
+  reports_sink (report.disk_failed rose calm tells) seven = absurd (omega (arith, seven))
+  reports_sink (report.full len add quiet tells) seven = absurd (omega (arith, seven))
+  reports_sink (report.no_memory quiet tells) seven = absurd (omega (arith, seven))
+
+  pub reports_build : {n : ℕ} → Reports a b x y old new d e n → n ≡ 9 → ⊥
+  reports_build {n = n} (report.rested quiet log writes) nine = unrun 9 n nine refl (written_run log writes)
+  reports_build (report.answers_failed calm rose tells) nine = omega (arith, nine)
+  reports_build (report.disk_failed rose calm tells) nine = omega (arith, nine)
+  reports_build (report.full len add quiet tells) nine = omega (arith, nine)
+  reports_build (report.no_memory quiet tells) nine = omega (arith, nine)
+
+  pub reports_usage : {n : ℕ} → Reports a b x y old new d e n → n ≡ 2 → ⊥
+  reports_usage {n = n} (report.rested quiet log writes) two = unrun 2 n two refl (written_run log writes)
+  reports_usage (report.answers_failed calm rose tells) two = omega (arith, two)
+  reports_usage (report.disk_failed rose calm tells) two = omega (arith, two)
+  reports_usage (report.full len add quiet tells) two = omega (arith, two)
+  reports_usage (report.no_memory quiet tells) two = omega (arith, two)
+
+-- the status of a build that was not begun
+begin_untold : {f : BeginFault} {n : ℕ} {text : List ℕ} → BeginSays f n text → TellsFault n → ⊥
+begin_untold begin.has_build is = untold 9 9 refl (λ e. omega (arith, e)) (λ e. omega (arith, e)) is
+begin_untold begin.disk_failed is = untold 5 5 refl (λ e. omega (arith, e)) (λ e. omega (arith, e)) is
+begin_untold (begin.full len add) is = untold 14 14 refl (λ e. omega (arith, e)) (λ e. omega (arith, e)) is
+begin_untold (begin.no_memory other) is = untold 8 8 refl (λ e. omega (arith, e)) (λ e. omega (arith, e)) is
+
+begin_other : {f : BeginFault} {n : ℕ} {text : List ℕ} → BeginSays f n text → (¬ (n ≡ 6)) × (¬ (n ≡ 7)) × (¬ (n ≡ 2))
+begin_other begin.has_build = (λ e. omega (arith, e), λ e. omega (arith, e), λ e. omega (arith, e))
+begin_other begin.disk_failed = (λ e. omega (arith, e), λ e. omega (arith, e), λ e. omega (arith, e))
+begin_other (begin.full len add) = (λ e. omega (arith, e), λ e. omega (arith, e), λ e. omega (arith, e))
+begin_other (begin.no_memory other) = (λ e. omega (arith, e), λ e. omega (arith, e), λ e. omega (arith, e))
+
+begin_nine : {f : BeginFault} {n : ℕ} {text : List ℕ} → BeginSays f n text → n ≡ 9 → f ≡ fault.HasBuild
+begin_nine begin.has_build nine = refl
+begin_nine begin.disk_failed nine = absurd (omega (arith, nine))
+begin_nine (begin.full len add) nine = absurd (omega (arith, nine))
+begin_nine (begin.no_memory other) nine = absurd (omega (arith, nine))
+
+begin_text : {f : BeginFault} {n : ℕ} {text : List ℕ} → BeginSays f n text → n ≡ 9 → text ≡ has_build_text
+begin_text begin.has_build nine = refl
+begin_text begin.disk_failed nine = absurd (omega (arith, nine))
+begin_text (begin.full len add) nine = absurd (omega (arith, nine))
+begin_text (begin.no_memory other) nine = absurd (omega (arith, nine))
+
+begin_five : {f : BeginFault} {n : ℕ} {text : List ℕ} → BeginSays f n text → n ≡ 5 → f ≡ fault.Take take.Disk
+begin_five begin.has_build five = absurd (omega (arith, five))
+begin_five begin.disk_failed five = refl
+begin_five (begin.full len add) five = absurd (omega (arith, five))
+begin_five (begin.no_memory other) five = absurd (omega (arith, five))
+
+-- only a fault of the disk leaves the refused event open
+risked_only : (f : TakeFault) (start : Event) (risked : Option Event) → MayRisk f (Some start) risked → ((f ≡ take.Disk) × (risked ≡ Some start)) ⊎ (risked ≡ None)
+risked_only take.Disk start risked is = inl (refl, is)
+risked_only take.Memory start risked is = inr is
+risked_only (take.Full len add) start risked is = inr is
+risked_only take.Stopped start risked is = inr is
+
+module _ {D T : Type 0} (reads : D → Option (List ℕ)) (may_leave : D → List ℕ → Type 0) (clock : D → ℕ) (since : D → ℕ → List ℕ → Type 0) (stance : T → Stance) (faults : D → ℕ)
+    (told_image : (d : D) → IfSome (reads d) (λ file. may_leave d file)) (counts_now : (d : D) (t : ℕ) (image : List ℕ) → t ≤ clock d → may_leave d image → since d t image)
+    (only_now : (d : D) (image : List ℕ) → since d (clock d) image → may_leave d image) (c : Call D) where
+  abbrev RunsSo : ℕ → Type 0
+  RunsSo n = Runs reads may_leave clock since stance faults c.disk c.now c.answers c.old c.new c.sink_before c.sink_after c.script c.agents n
+
+  abbrev GoesSo : (s a : List ℕ) → Tree → Site → List ℕ → D → ℕ → Type 0
+  GoesSo s a tree site file started n = WentOnBegun reads may_leave clock since stance faults c.disk c.now c.answers c.old c.new c.sink_before c.sink_after s a tree site file started n
+
+  -- a call that left the disk as it was
+  pub stays_here : c.now ≡ c.disk → Stays reads may_leave clock since faults c
+  stays_here same = subst (λ (d : D). AtEachMoment clock since c.disk d (may_leave c.disk)) (sym same) (starts clock since c.disk (may_leave c.disk) (λ image left. only_now c.disk image left))
+
+  -- OUTPUT
+  outputs : {n : ℕ} → RunsSo n → n ≡ c.status → HasRun n
+      → IsAtEnd c.script.rest × IsAtEnd c.agents.rest × ((file : List ℕ) → reads c.disk ≡ Some file → OfFiles c.script c.agents (DeliversRun reads c))
+  outputs (begin.refused refused same unread tells) is run = absurd (says_unrun (files_say refused) run)
+  outputs (begin.built give (begin.unbegun unread says counts refuses tells)) is run = absurd (says_unrun (begin_says says) run)
+  outputs (begin.built {s = s} {a = a} {tree = tree} {site = site} give (begin.begun started same reports goes)) is run = (
+    give.script_ends,
+    give.agents_end,
+    λ file told. of_files c.script c.agents s a (DeliversRun reads c) give.hold (
+        let g = goes file told in
+        let d = finish_delivers reads may_leave clock since faults told_image (script_setting tree site) started (StartEvent s a ∷ []) c same (subst (λ (m : ℕ). GoesSo s a tree site file started m) is g).finishes (subst HasRun is run) in
+        record { setting = script_setting tree site; mean = mean_of give.builds; more = d.0; delivers = d.1 }),
+  )
+
+  pub run_outputs : RunsSo c.status → HasRun c.status → IsAtEnd c.script.rest × IsAtEnd c.agents.rest × ((file : List ℕ) → reads c.disk ≡ Some file → OfFiles c.script c.agents (DeliversRun reads c))
+  run_outputs runs run = outputs runs refl run
+
+  pub run_says : {n : ℕ} → RunsSo n → HasRun n ⊎ ((text : List ℕ) × Says n text × Tells text c)
+  run_says (begin.refused {text = text} refused same unread tells) = inr (text, files_say refused, tells)
+  run_says (begin.built give (begin.unbegun {text = text} unread says counts refuses tells)) = inr (text, begin_says says, tells)
+  run_says (begin.built give (begin.begun started same reports goes)) = reports_say reports
+
+  -- CRASH
+  module _ (s a : List ℕ) (tree : Tree) (site : Site) (builds : Builds s a tree site) where
+    start_starts : (risked : Option Event) (f : TakeFault) → MayRisk f (Some (StartEvent s a)) risked → IfSome risked (λ e. e ≡ StartEvent s a)
+    start_starts None f is = tt
+    start_starts (Some e) f is = ⊎_elim (λ disk. same_event disk.1) (λ none. absurd (let bad : Some e ≡ None = none in cc)) (risked_only f (StartEvent s a) (Some e) is)
+      where
+        same_event : Some e ≡ Some (StartEvent s a) → e ≡ StartEvent s a
+        same_event eq = cc
+
+    -- a `Start` whose take failed
+    start_lasts : (file : List ℕ) (f : TakeFault) → CountsFault (faults c.disk) (faults c.now) (fault.Take f ≡ fault.Take take.Disk)
+        → StartFails reads may_leave clock since stance (script_setting tree site) (StartEvent s a) file c.disk c.now f → LastsRun reads may_leave clock since faults c s a
+    start_lasts file f counts fails = record {
+      setting = script_setting tree site;
+      mean = mean_of builds;
+      taken = [];
+      risked = fails.risked;
+      lasts = record {
+        origin = fails.moments.synced;
+        up_to = fails.moments.up_to;
+        from_then = fails.moments.from_then;
+        at_end = λ image left. kept_then image (fails.moments.from_then.each image (counts_now c.now (clock fails.moments.synced) image fails.moments.from_then.later left));
+        sure = λ calm. ⊎_elim (λ disk. absurd (calm (counts.failed (ap (λ (x : TakeFault). fault.Take x) disk.0)))) (λ none. none) (risked_only f (StartEvent s a) fails.risked fails.may_risk);
+      };
+      starts = inr (refl, start_starts fails.risked f fails.may_risk);
+    }
+      where
+        kept_then : (image : List ℕ) → Survives (script_setting tree site) [] [] fails.risked image
+            → Stores (script_setting tree site) [] image ⊎ IsSomeAnd fails.risked (λ e. Stores (script_setting tree site) ([] ++ e ∷ []) image)
+        kept_then image survives = ⊎_elim (λ front. inl (subst (λ (es : List Event). Stores (script_setting tree site) es image) (nothing_front survives.kept front.0 front.1) survives.stores))
+            (λ all. inr (some_and fails.risked (λ e. survives.kept ≡ [] ++ e ∷ []) (λ e. Stores (script_setting tree site) ([] ++ e ∷ []) image) (λ e is. subst (λ (es : List Event). Stores (script_setting tree site) es image) is survives.stores) all))
+            survives.front.within
+
+    abbrev Leaves : List ℕ → Type 0
+    Leaves file = Stays reads may_leave clock since faults c ⊎ (SinceSync clock since may_leave file c.disk c.now (λ image. records image ≡ records file) ⊎ (¬ (IsStarted file) × LastsRun reads may_leave clock since faults c s a))
+
+    unbegun_leaves : (file : List ℕ) (f : BeginFault) → CountsFault (faults c.disk) (faults c.now) (f ≡ fault.Take take.Disk)
+        → BeginRefuses reads may_leave clock since stance (script_setting tree site) (StartEvent s a) file c.disk f c.now → Leaves file
+    unbegun_leaves file fault.HasBuild counts refuses = inr (inl refuses.2)
+    unbegun_leaves file (fault.Take (take.Full len add)) counts refuses = inr (inr (refuses.1.fresh, start_lasts file (take.Full len add) counts refuses.1))
+    unbegun_leaves file (fault.Take take.Memory) counts refuses = ⊎_elim (λ stays. inl stays) (⊎_elim (λ keeps. inr (inl keeps)) (λ fails. inr (inr (fails.fresh, start_lasts file take.Memory counts fails)))) refuses.1
+    unbegun_leaves file (fault.Take take.Disk) counts refuses = ⊎_elim (λ stays. inl stays) (⊎_elim (λ keeps. inr (inl keeps)) (λ fails. inr (inr (fails.fresh, start_lasts file take.Disk counts fails)))) refuses.1
+    unbegun_leaves file (fault.Take take.Stopped) counts refuses = ⊎_elim (λ stays. inl stays) (⊎_elim (λ keeps. inr (inl keeps)) (λ fails. inr (inr (fails.fresh, start_lasts file take.Stopped counts fails)))) refuses.1
+
+    -- a build that was begun and went on
+    begun_lasts : {n : ℕ} (file : List ℕ) (started : D) → faults started ≡ faults c.disk → GoesSo s a tree site file started n → LastsRun reads may_leave clock since faults c s a
+    begun_lasts file started same goes =
+        let setting : Setting = script_setting tree site in
+        let start : List Event = StartEvent s a ∷ [] in
+        let g = gone reads may_leave clock since faults told_image setting started start c same goes.finishes in
+        record {
+          setting = setting;
+          mean = mean_of builds;
+          taken = g.taken;
+          risked = g.risked;
+          lasts = record {
+            origin = goes.moments.synced;
+            up_to = goes.moments.up_to;
+            from_then = runs_on clock since goes.moments.synced started c.now (Survives setting [] g.taken g.risked)
+                (at_each_weaker clock since goes.moments.synced started (Survives setting [] start None) (Survives setting [] g.taken g.risked) (λ image survives. grown setting g.taken g.more g.risked image g.is survives) goes.moments.from_then)
+                (at_each_weaker clock since started c.now (Survives setting start g.taken g.risked) (Survives setting [] g.taken g.risked) (λ image survives. from_none setting g.taken g.risked image survives) g.moments);
+            at_end = g.images;
+            sure = g.sure;
+          };
+          starts = inl g.takes;
+        }
+      where
+        grown : (setting : Setting) (taken more : List Event) (risked : Option Event) (image : List ℕ) → taken ≡ (StartEvent s a ∷ []) ++ more → Survives setting [] (StartEvent s a ∷ []) None image → Survives setting [] taken risked image
+        grown setting taken more risked image is survives = record {
+          kept = survives.kept;
+          front = record { begins = survives.front.begins; within = inl (only survives.front.within) };
+          stores = survives.stores;
+        }
+          where
+            only : ((rest : List Event) × (StartEvent s a ∷ [] ≡ survives.kept ++ rest)) ⊎ IsSomeAnd {T = Event} None (λ e. survives.kept ≡ (StartEvent s a ∷ []) ++ e ∷ []) → (rest : List Event) × (taken ≡ survives.kept ++ rest)
+            only (inl rest) = (rest.0 ++ more, is ∙ ap (λ (es : List Event). es ++ more) rest.1 ∙ append_assoc survives.kept rest.0 more)
+            only (inr none) = absurd none
+
+        from_none : (setting : Setting) (taken : List Event) (risked : Option Event) (image : List ℕ) → Survives setting (StartEvent s a ∷ []) taken risked image → Survives setting [] taken risked image
+        from_none setting taken risked image survives = record {
+          kept = survives.kept;
+          front = record { begins = (survives.kept, refl); within = survives.front.within };
+          stores = survives.stores;
+        }
+
+  leaves_files : (file : List ℕ) (s a : List ℕ) (tree : Tree) (site : Site) (builds : Builds s a tree site) → Hold c.script c.agents s a → Leaves s a tree site builds file
+      → Stays reads may_leave clock since faults c ⊎ (SinceSync clock since may_leave file c.disk c.now (λ image. records image ≡ records file) ⊎ (¬ (IsStarted file) × OfFiles c.script c.agents (LastsRun reads may_leave clock since faults c)))
+  leaves_files file s a tree site builds hold (inl stays) = inl stays
+  leaves_files file s a tree site builds hold (inr (inl keeps)) = inr (inl keeps)
+  leaves_files file s a tree site builds hold (inr (inr lasts)) = inr (inr (lasts.0, of_files c.script c.agents s a (LastsRun reads may_leave clock since faults c) hold lasts.1))
+
+  pub run_crashes : {n : ℕ} → RunsSo n → (file : List ℕ) → reads c.disk ≡ Some file
+      → Stays reads may_leave clock since faults c ⊎ (SinceSync clock since may_leave file c.disk c.now (λ image. records image ≡ records file) ⊎ (¬ (IsStarted file) × OfFiles c.script c.agents (LastsRun reads may_leave clock since faults c)))
+  run_crashes (begin.refused refused same unread tells) file told = inl (stays_here same)
+  run_crashes (begin.built {s = s} {a = a} {tree = tree} {site = site} give (begin.unbegun {fault = f} unread says counts refuses tells)) file told =
+      leaves_files file s a tree site give.builds give.hold (unbegun_leaves s a tree site give.builds file f counts (refuses file told))
+  run_crashes (begin.built {s = s} {a = a} {tree = tree} {site = site} give (begin.begun started same reports goes)) file told =
+      inr (inr ((goes file told).fresh, of_files c.script c.agents s a (LastsRun reads may_leave clock since faults c) give.hold (begun_lasts s a tree site give.builds file started same (goes file told))))
+
+  -- FIRST FAULT
+  judges_told : {n : ℕ} → RunsSo n → TellsFault n → OfFiles c.script c.agents (λ script agents. (text : List ℕ) × Faults script agents n text × Tells text c)
+  judges_told (begin.refused refused same unread tells) is = files_told c refused tells is
+  judges_told (begin.built give (begin.unbegun unread says counts refuses tells)) is = absurd (begin_untold says is)
+  judges_told (begin.built give (begin.begun started same reports goes)) is = absurd (reports_untold reports is)
+
+  judges_tell : {n : ℕ} → RunsSo n → AreRead c → OfFiles c.script c.agents (λ script agents. HasFault agents ⊎ IsRefused script → TellsFault n ⊎ (n ≡ 8))
+  judges_tell (begin.refused refused same unread tells) read = λ script agents at_s at_a faulty. files_tell c refused read
+  judges_tell {n = n} (begin.built {s = s} {a = a} give begins) read =
+      of_files c.script c.agents s a (λ script agents. HasFault agents ⊎ IsRefused script → TellsFault n ⊎ (n ≡ 8)) give.hold
+      (λ faulty. absurd (⊎_elim (λ of_agents. site_no_fault a (built_site give.builds) of_agents) (λ of_script. built_not_refused give.builds of_script) faulty))
+
+  judges_untouched : {n : ℕ} → RunsSo n → TellsFault n → c.now ≡ c.disk
+  judges_untouched (begin.refused refused same unread tells) is = same
+  judges_untouched (begin.built give (begin.unbegun unread says counts refuses tells)) is = absurd (begin_untold says is)
+  judges_untouched (begin.built give (begin.begun started same reports goes)) is = absurd (reports_untold reports is)
+
+  pub run_judges : RunsSo c.status → JudgesFiles c
+  run_judges runs = record { told = judges_told runs; tells = judges_tell runs; untouched = judges_untouched runs }
+
+  -- CAUSES
+  sources : {n : ℕ} → RunsSo n → n ≡ 6 → HasFailed c.script ⊎ HasFailed c.agents ⊎ HasFailed c.answers
+  sources (begin.refused refused same unread tells) six = ⊎_elim (λ script. inl script) (λ agents. inr (inl agents)) (files_failed c refused six)
+  sources (begin.built give (begin.unbegun unread says counts refuses tells)) six = absurd ((begin_other says).0 six)
+  sources (begin.built give (begin.begun started same reports goes)) six = inr (inr (reports_answers reports six))
+
+  disks : {n : ℕ} → RunsSo n → n ≡ 5 → Rose (faults c.disk) (faults c.now)
+  disks (begin.refused refused same unread tells) five = absurd ((files_other c refused).0 five)
+  disks (begin.built give (begin.unbegun unread says counts refuses tells)) five = counts.failed (begin_five says five)
+  disks (begin.built give (begin.begun started same reports goes)) five = reports_disk reports five
+
+  sinks : {n : ℕ} → RunsSo n → n ≡ 7 → Rose c.sink_before c.sink_after
+  sinks (begin.refused refused same unread tells) seven = absurd ((files_other c refused).1 seven)
+  sinks (begin.built give (begin.unbegun unread says counts refuses tells)) seven = absurd ((begin_other says).1 seven)
+  sinks (begin.built give (begin.begun started same reports goes)) seven = reports_sink reports seven
+
+  started_by : (setting : Setting) (start : Event) (file : List ℕ) (f : BeginFault) → f ≡ fault.HasBuild → BeginRefuses reads may_leave clock since stance setting start file c.disk f c.now → IsStarted file × (reads c.now ≡ Some file)
+  started_by setting start file fault.HasBuild is refuses = (refuses.0, refuses.1)
+  started_by setting start file (fault.Take f) is refuses = absurd (cc)
+
+  builds_found : {n : ℕ} → RunsSo n → n ≡ 9 → Tells has_build_text c × ((file : List ℕ) → reads c.disk ≡ Some file → IsStarted file × (reads c.now ≡ Some file))
+  builds_found (begin.refused refused same unread tells) nine = absurd ((files_other c refused).2 nine)
+  builds_found (begin.built {s = s} {a = a} {tree = tree} {site = site} give (begin.unbegun {fault = f} unread says counts refuses tells)) nine =
+      (subst (λ (text : List ℕ). Tells text c) (begin_text says nine) tells, λ file told. started_by (script_setting tree site) (StartEvent s a) file f (begin_nine says nine) (refuses file told))
+  builds_found (begin.built give (begin.begun started same reports goes)) nine = absurd (reports_build reports nine)
+
+  -- where no device failed
+  unbegun_finds : {n : ℕ} {text : List ℕ} {f : BeginFault} (setting : Setting) (start : Event) (file : List ℕ) → BeginSays f n text → CountsFault (faults c.disk) (faults c.now) (f ≡ fault.Take take.Disk)
+      → BeginRefuses reads may_leave clock since stance setting start file c.disk f c.now → ¬ (Rose (faults c.disk) (faults c.now)) → IsStarted file → (n ≡ 9) ⊎ (n ≡ 8)
+  unbegun_finds setting start file begin.has_build counts refuses calm is = inl refl
+  unbegun_finds setting start file begin.disk_failed counts refuses calm is = absurd (calm (counts.failed refl))
+  unbegun_finds setting start file (begin.full len add) counts refuses calm is = absurd (refuses.1.fresh is)
+  unbegun_finds setting start file (begin.no_memory other) counts refuses calm is = inr refl
+
+  finds : {n : ℕ} → RunsSo n → AreRead c → ¬ (Rose (faults c.disk) (faults c.now)) → (file : List ℕ) → reads c.disk ≡ Some file → IsStarted file → OfFiles c.script c.agents (λ script agents. HasSite agents → ¬ (IsRefused script) → (n ≡ 9) ⊎ (n ≡ 8))
+  finds (begin.refused refused same unread tells) read calm file told is = λ script agents at_s at_a site sound. inr (files_want c refused read script agents at_s at_a site sound)
+  finds (begin.built {s = s} {a = a} {tree = tree} {site = site} give (begin.unbegun unread says counts refuses tells)) read calm file told is =
+      λ script agents at_s at_a has sound. unbegun_finds (script_setting tree site) (StartEvent s a) file says counts (refuses file told) calm is
+  finds (begin.built give (begin.begun started same reports goes)) read calm file told is = absurd ((goes file told).fresh is)
+
+  unbegun_works : {n : ℕ} {text : List ℕ} {f : BeginFault} (setting : Setting) (start : Event) (file : List ℕ) → BeginSays f n text → CountsFault (faults c.disk) (faults c.now) (f ≡ fault.Take take.Disk)
+      → BeginRefuses reads may_leave clock since stance setting start file c.disk f c.now → ¬ (Rose (faults c.disk) (faults c.now)) → ¬ (IsStarted file) → HasWorked n
+  unbegun_works setting start file begin.has_build counts refuses calm fresh = absurd (fresh refuses.0)
+  unbegun_works setting start file begin.disk_failed counts refuses calm fresh = absurd (calm (counts.failed refl))
+  unbegun_works setting start file (begin.full len add) counts refuses calm fresh = inr (inr refl)
+  unbegun_works setting start file (begin.no_memory other) counts refuses calm fresh = inr (inl refl)
+
+  works : {n : ℕ} → RunsSo n → n ≡ c.status → AllCalm reads faults c → (file : List ℕ) → reads c.disk ≡ Some file → ¬ (IsStarted file) → OfFiles c.script c.agents (λ script agents. HasSite agents → ¬ (IsRefused script) → HasWorked n)
+  works (begin.refused refused same unread tells) is calm file told fresh = λ script agents at_s at_a site sound. inr (inl (files_want c refused calm.files script agents at_s at_a site sound))
+  works (begin.built {s = s} {a = a} {tree = tree} {site = site} give (begin.unbegun unread says counts refuses tells)) is calm file told fresh =
+      λ script agents at_s at_a has sound. unbegun_works (script_setting tree site) (StartEvent s a) file says counts (refuses file told) calm.disk fresh
+  works (begin.built {s = s} {a = a} {tree = tree} {site = site} give (begin.begun started same reports goes)) is calm file told fresh =
+      λ script agents at_s at_a has sound. subst HasWorked (sym is) (finish_worked reads may_leave clock since faults told_image (script_setting tree site) started (StartEvent s a ∷ []) c same (subst (λ (m : ℕ). GoesSo s a tree site file started m) is (goes file told)).finishes calm)
+
+  -- what the store has then
+  full_went : (s a : List ℕ) (tree : Tree) (site : Site) (builds : Builds s a tree site) (file : List ℕ) (len add : ℕ) → c.status ≡ 14 → IsUnread c.answers → Tells (full_text len add) c → CountsFault (faults c.disk) (faults c.now) (fault.Take (take.Full len add) ≡ fault.Take take.Disk)
+      → BeginRefuses reads may_leave clock since stance (script_setting tree site) (StartEvent s a) file c.disk (fault.Take (take.Full len add)) c.now → RunWentOn reads faults c s a
+  unfolding start_lasts
+  full_went s a tree site builds file len add is unread tells counts refuses =
+      let setting : Setting = script_setting tree site in
+      record {
+        setting = setting;
+        mean = mean_of builds;
+        before = [];
+        start = inl refl;
+        went_on = record {
+          more = [];
+          takes = record { read = []; part = []; more = true; goes = life.begins; answers = subst (λ (o : Option (List ℕ)). Consumes c.answers.left o []) (sym unread.rest) (Consumes-nil c.answers.left) };
+          stores = λ other. where_told (reads c.now) (Stores setting []) (λ now told. none_taken now (start_at_end now told));
+          stops = subst (causes.Stops reads faults setting [] c) (sym is) (causes.full refl (record {
+            next = StartEvent s a;
+            is_next = record { accepted = refl; due = refl };
+            len = len;
+            too_long = subst (λ (m : ℕ). 2 ^ 30 < len + m) refuses.0.2 refuses.0.1;
+            told = subst (λ (m : ℕ). Tells (full_text len m) c) refuses.0.2 tells;
+          }));
+        };
+      }
+    where
+      start_at_end : (now : List ℕ) → reads c.now ≡ Some now → Stores (script_setting tree site) [] now ⊎ IsSomeAnd refuses.1.risked (λ e. Stores (script_setting tree site) ([] ++ e ∷ []) now)
+      start_at_end now told = (start_lasts s a tree site builds file (take.Full len add) counts refuses.1).lasts.at_end now (if_told (λ f. may_leave c.now f) told (told_image c.now))
+
+      none_taken : (now : List ℕ) → Stores (script_setting tree site) [] now ⊎ IsSomeAnd refuses.1.risked (λ e. Stores (script_setting tree site) ([] ++ e ∷ []) now) → Stores (script_setting tree site) [] now
+      none_taken now (inl all) = all
+      none_taken now (inr some) = absurd (subst (λ (o : Option Event). IsSomeAnd o (λ e. Stores (script_setting tree site) ([] ++ e ∷ []) now)) refuses.1.may_risk some)
+
+  unbegun_went : {n : ℕ} {text : List ℕ} {f : BeginFault} (s a : List ℕ) (tree : Tree) (site : Site) (builds : Builds s a tree site) (file : List ℕ) → n ≡ c.status → BeginSays f n text → IsUnread c.answers → Tells text c
+      → CountsFault (faults c.disk) (faults c.now) (f ≡ fault.Take take.Disk) → BeginRefuses reads may_leave clock since stance (script_setting tree site) (StartEvent s a) file c.disk f c.now
+      → IsUnbegun reads faults c ⊎ RunWentOn reads faults c s a
+  unbegun_went s a tree site builds file is begin.has_build unread tells counts refuses = inl (inr (inr (inl (sym is))))
+  unbegun_went s a tree site builds file is begin.disk_failed unread tells counts refuses = inl (inr (inr (inr (inl (sym is)))))
+  unbegun_went s a tree site builds file is (begin.full len add) unread tells counts refuses = inr (full_went s a tree site builds file len add (sym is) unread tells counts refuses)
+  unbegun_went s a tree site builds file is (begin.no_memory other) unread tells counts refuses = inl (inr (inr (inr (inr (inl (sym is))))))
+
+  files_not_begun : {n : ℕ} {text : List ℕ} → RefusesFiles c.script c.agents n text → n ≡ c.status → IsUnbegun reads faults c
+  files_not_begun refused is =
+      ⊎_elim (λ status. ⊎_elim (λ four. inl (sym is ∙ four)) (⊎_elim (λ thirteen. inr (inl (sym is ∙ thirteen))) (λ eight. inr (inr (inr (inr (inl (sym is ∙ eight))))))) status)
+      (λ failed. inr (inr (inr (inr (inr (sym is ∙ failed.0, failed.1)))))) (files_unbegun c refused)
+
+  went_on : {n : ℕ} → RunsSo n → n ≡ c.status → (file : List ℕ) → reads c.disk ≡ Some file → OfFiles c.script c.agents (λ script agents. IsUnbegun reads faults c ⊎ RunWentOn reads faults c script agents)
+  went_on (begin.refused refused same unread tells) is file told = λ script agents at_s at_a. inl (files_not_begun refused is)
+  went_on (begin.built {s = s} {a = a} {tree = tree} {site = site} give (begin.unbegun unread says counts refuses tells)) is file told =
+      of_files c.script c.agents s a (λ script agents. IsUnbegun reads faults c ⊎ RunWentOn reads faults c script agents) give.hold (unbegun_went s a tree site give.builds file is says unread tells counts (refuses file told))
+  went_on (begin.built {s = s} {a = a} {tree = tree} {site = site} give (begin.begun started same reports goes)) is file told =
+      of_files c.script c.agents s a (λ script agents. IsUnbegun reads faults c ⊎ RunWentOn reads faults c script agents) give.hold (inr (record {
+        setting = script_setting tree site;
+        mean = mean_of give.builds;
+        before = StartEvent s a ∷ [];
+        start = inr refl;
+        went_on = finish_went reads may_leave clock since faults told_image (script_setting tree site) started (StartEvent s a ∷ []) c same (subst (λ (m : ℕ). GoesSo s a tree site file started m) is (goes file told)).finishes;
+      }))
+
+  pub run_causes : RunsSo c.status → RunCauses reads faults c
+  run_causes runs = record {
+    source = sources runs;
+    disk = disks runs;
+    sink = sinks runs;
+    has_build = builds_found runs;
+    finds_build = finds runs;
+    went_on = went_on runs refl;
+    works = works runs refl;
+  }
+
+  -- it is no usage
+  pub run_known : {n : ℕ} → RunsSo n → n ≡ 2 → ⊥
+  run_known (begin.refused refused same unread tells) two = (files_other c refused).3 two
+  run_known (begin.built give (begin.unbegun unread says counts refuses tells)) two = (begin_other says).2 two
+  run_known (begin.built give (begin.begun started same reports goes)) two = reports_usage reports two
+
+  -- no answer is read where no build goes on
+  pub run_unread : {n : ℕ} → RunsSo n → (n ≡ 4) ⊎ (n ≡ 13) ⊎ (n ≡ 9) → IsUnread c.answers
+  run_unread (begin.refused refused same unread tells) is = unread
+  run_unread (begin.built give (begin.unbegun unread says counts refuses tells)) is = unread
+  run_unread (begin.built give (begin.begun started same reports goes)) is =
+      absurd (⊎_elim (λ four. reports_untold reports (inl four)) (⊎_elim (λ thirteen. reports_untold reports (inr thirteen)) (λ nine. reports_build reports nine)) is)

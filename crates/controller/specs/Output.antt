@@ -1,0 +1,71 @@
+-- What a call writes, and what the store holds behind it (this product's own).
+use Rattle.std.specs.Prelude.{◌≡◌, ◌⊎◌, ℕ, List, [], ◌∷◌, ◌++◌, Option, Some, IfSome}
+use Rattle.std.specs.Io.KnownBytes.{IsAtEnd}
+use Rattle.command_words.specs.declared.command.Command.{Command}
+use Rattle.command_words.specs.declared.command.Command.TheVariants.{Run, Resume, Log, Graph, Check}
+use Rattle.model_syntax.specs.declared.fault.ScriptFault.{ScriptFault}
+use Rattle.model_run.specs.declared.agents.AgentsKind.{AgentsKind}
+use Rattle.model_run.specs.declared.event.Event.{Event}
+use Rattle.model_run.specs.declared.event.Event.TheVariants.{Start as StartEvent}
+use Rattle.model_run.specs.GraphText.{graph_text}
+use Rattle.model_run.specs.State.{Setting}
+use Rattle.model_run.specs.World.{Build, world_in}
+use Rattle.store_laws.specs.Store.{Mean}
+use Rattle.journal_core.specs.Records.{Has}
+use Rattle.durable_build.specs.declared.faults.StoreFault.TheVariants.{Damaged}
+use Rattle.durable_build.specs.Opening.{OpenFails}
+use Rattle.saved_run.specs.Saved.{Stores}
+use Rattle.run_command.specs.Causes.{HasSite, IsRefused, OfFiles}
+use Rattle.run_command.specs.Ends.{HasRun}
+use Rattle.run_command.specs.Statuses.{world_status}
+use Rattle.run_command.specs.Texts as run
+use Rattle.build_commands.specs.Texts as store
+use Rattle.controller.specs.Call.{Call, Is, Finds, Takes, Writes, Tells}
+
+-- the status and the text of a call that does not do what its command is for
+pub data Says : ℕ → List ℕ → Type 0 where
+  usage : Says 2 run.usage_text
+  script_too_long : Says 4 run.too_long_text
+  script_faulty : (fault : ScriptFault) → Says 4 (run.fault_line fault)
+  disk_failed : Says 5 store.disk_failed_text
+  read_failed : Says 6 run.read_failed_text
+  no_memory : Says 8 store.out_of_memory_text
+  has_build : Says 9 store.has_build_text
+  no_build : Says 9 store.no_build_text
+  damaged : (at : ℕ) → Says 9 (store.damaged_text at)
+  agents_faulty : (path : List ℕ) (kind : AgentsKind) → Says 13 (run.agents_line path kind)
+  full : (len add : ℕ) → Says 14 (store.full_text len add)
+
+module _ {D : Type 0} (reads : D → Option (List ℕ)) where
+  -- The build went on from the events before to these. The store is a consistent one of them, where the disk tells it; and the log of their world was written, with the status of that world,
+  -- or the front of the log, and then with 7.
+  pub record Delivers (setting : Setting) (before events : List Event) (c : Call D) : Type 0 where
+    pub takes : Takes setting before events c
+    pub stores : IfSome (reads c.now) (Stores setting events)
+    pub log : Writes (world_in setting events).shared.log (world_status (world_in setting events)) c
+
+  -- the events of `run` begin with the `Start` of all bytes of both files
+  pub record DeliversRun (c : Call D) (script agents : List ℕ) : Type 0 where
+    pub setting : Setting
+    pub mean : Mean script agents setting
+    pub more : List Event
+    pub delivers : Delivers setting (StartEvent script agents ∷ []) (StartEvent script agents ∷ more) c
+
+  -- what is shown of the build of the store, of which no byte changes
+  pub record ShowsStore (text_of : Build → List ℕ) (c : Call D) : Type 0 where
+    pub text : HasRun c.status → (setting : Setting) (events : List Event) → Finds reads setting events c → Writes (text_of (world_in setting events)) 0 c
+    pub unchanged : (file : List ℕ) → reads c.disk ≡ Some file → reads c.now ≡ Some file
+    pub refused : c.status ≡ 9 → ((at : ℕ) × Tells (store.damaged_text at) c × IfSome (reads c.disk) (λ file. OpenFails file (Damaged at))) ⊎ (Tells store.no_build_text c × IfSome (reads c.disk) (Has []))
+
+  -- What a command is for: a build that has ended or waits, whose events begin with those of the store; the log or the graph of the store's build; `ok`.
+  abbrev pub OutputOf : Command → Call D → Type 0
+  OutputOf Run c = HasRun c.status → IsAtEnd c.script.rest × IsAtEnd c.agents.rest × ((file : List ℕ) → reads c.disk ≡ Some file → OfFiles c.script c.agents (DeliversRun c))
+  OutputOf Resume c = HasRun c.status → (setting : Setting) (events : List Event) → Finds reads setting events c → (more : List Event) × Delivers setting events (events ++ more) c
+  OutputOf Log c = ShowsStore (λ w. w.shared.log) c
+  OutputOf Graph c = ShowsStore (λ w. graph_text w.shared.nodes) c
+  OutputOf Check c = HasRun c.status → Writes store.ok_text 0 c × OfFiles c.script c.agents (λ script agents. HasSite agents × ¬ (IsRefused script))
+
+  pub record Output (c : Call D) : Type 0 where
+    pub command : (command : Command) → Is command c → OutputOf command c
+    -- any other status has its text
+    pub refusal : HasRun c.status ⊎ ((text : List ℕ) × Says c.status text × Tells text c)

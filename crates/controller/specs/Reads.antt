@@ -1,0 +1,31 @@
+-- What a call reads of its sources (this product's own).
+use Rattle.std.specs.Prelude.{◌≡◌, ◌⊎◌, ◌+◌}
+use Rattle.jp_io.specs.Whole.{TakesAtMost}
+use Rattle.command_words.specs.declared.command.Command.{Command}
+use Rattle.command_words.specs.declared.command.Command.TheVariants.{Run, Resume, Log, Graph, Check}
+use Rattle.command_words.specs.Words.{IsCommand}
+use Rattle.run_command.specs.Ends.{script_limit, agents_limit}
+use Rattle.run_command.specs.Inputs.{IsUnread}
+use Rattle.controller.specs.Call.{Call, Is}
+
+-- neither script nor agents file
+pub record ReadsNoFile {D : Type 0} (c : Call D) : Type 0 where
+  pub script : IsUnread c.script
+  pub agents : IsUnread c.agents
+
+-- at most one byte more of each than it may have
+pub record ReadsFiles {D : Type 0} (c : Call D) : Type 0 where
+  pub script : TakesAtMost (script_limit + 1) c.script.left c.script.rest
+  pub agents : TakesAtMost (agents_limit + 1) c.agents.left c.agents.rest
+
+-- `run` and `check` read both files, `run` and `resume` the answers, and not where no build goes on; no other source is asked
+abbrev pub ReadsOf : {D : Type 0} → Command → Call D → Type 0
+ReadsOf Run c = ReadsFiles c × ((c.status ≡ 4) ⊎ (c.status ≡ 13) ⊎ (c.status ≡ 9) → IsUnread c.answers)
+ReadsOf Resume c = ReadsNoFile c × (c.status ≡ 9 → IsUnread c.answers)
+ReadsOf Log c = ReadsNoFile c × IsUnread c.answers
+ReadsOf Graph c = ReadsNoFile c × IsUnread c.answers
+ReadsOf Check c = ReadsFiles c × IsUnread c.answers
+
+pub record Reads {D : Type 0} (c : Call D) : Type 0 where
+  pub command : (command : Command) → Is command c → ReadsOf command c
+  pub usage : ¬ (IsCommand c.words) → ReadsNoFile c × IsUnread c.answers

@@ -1,0 +1,145 @@
+//! The call that the program makes.
+ghost use Rattle.std.specs.Prelude.{◌≡◌, map, string_bytes};
+ghost use Rattle.run_command.specs.Inputs.{taken_from};
+ghost use Rattle.run_command.specs.Texts.{usage_text};
+ghost use Rattle.build_commands.specs.Writing as writing;
+ghost use Rattle.controller.specs.Call.{call_of};
+ghost use Rattle.controller.specs.Causes.{Causes};
+ghost use Rattle.controller.specs.Commands.{Does};
+ghost use Rattle.controller.specs.Crash.{Crash};
+ghost use Rattle.controller.specs.FirstFault.{FirstFault};
+ghost use Rattle.controller.specs.Output.{Output};
+ghost use Rattle.controller.specs.Reads.{Reads};
+
+use build_commands::{Shown, check, graph, log, resume, run};
+use command_words::{Command, command_in};
+use jp_disk::Disk;
+use jp_io::{Sink, Source, write_all};
+use saved_thread::SavedThread;
+use std::alloc::Global;
+use std::sync::Wait;
+
+/// How a call of the controller has ended.
+#[derive(Drop)]
+pub struct Ended<D, A> {
+    /// The exit status of the program.
+    pub status: u8,
+    /// The disk.
+    pub disk: D,
+    /// The answers, as far as they were not read.
+    pub answers: A,
+}
+
+/// Does the command that the words give, over the store of a build.
+///
+/// The words are a command exactly where there are three of them, the second is `run`, `resume`, `log`, `graph` or `check`, and the
+/// third, the folder, is not empty and does not begin with `-`. `run` begins the build of a script and `resume` goes on with that of
+/// a store; both work until it has ended or nobody can go on, and write its log. `log` and `graph` write what the build of a store
+/// has come to, and change no byte of it. `check` looks for faults of a script and its agents file, and does not call the disk.
+///
+/// | status | comes | text |
+/// |---|---|---|
+/// | 2 | exactly where the words are no command | how to use the program |
+/// | 6 | only where a source counted a fault | `controller: read failed` |
+/// | 13 | exactly where the agents file has a fault | its path and kind |
+/// | 4 | exactly where the script has a fault or is too long | the place of its first fault |
+/// | 9 | exactly where `run` finds a record | `program.dat: already has a build` |
+/// | 9 | exactly where the other commands over a store find no record, or a damaged one | `program.dat: no build`, or the place of the damage |
+/// | 14 | only where the record of the next event does not fit into the store | the two sizes |
+/// | 5 | only where the disk counted a fault | `controller: disk failed` |
+/// | 7 | only where the sink counted a fault | a part of the text, from its beginning |
+/// | 0, 1, 10, 11, 12 | 0 alone for `log`, `graph` and `check`; else only where the build has ended so | the log, or the command's text |
+/// | 3 | only where no grant is due, and no input is open or the answers were read to their end | the log so far |
+/// | 8 | want of memory | `controller: out of memory` |
+///
+/// What is said of the bytes of a source, the sink or the disk holds where it tells them; a disk that tells nothing, as a real
+/// file, still has its statuses with their counts of faults. It may wait for ever, as the answers may.
+pub fn controller<
+    R: SavedThread + Drop,
+    W: Wait + AllocGlobal,
+    D: Disk,
+    S: Source,
+    A: Source,
+    K: Sink,
+>(
+    rt: &W,
+    alloc: Global,
+    words: Vec<String>,
+    script: &mut S,
+    agents: &mut S,
+    disk: D,
+    answers: A,
+    out: &mut K,
+) -> Ended<D, A>
+    ensures output { Output D.reads (call_of (map string_bytes words.items) (taken_from S.left S.faults script.old script.new) (taken_from S.left S.faults agents.old agents.new)
+        (taken_from A.left A.faults answers result.answers) disk result.disk (K.written out.old) (K.written out.new) (K.faults out.old) (K.faults out.new) result.status) }
+    ensures crash { Crash D.reads D.may_leave D.clock D.may_have_left_since D.faults (call_of (map string_bytes words.items) (taken_from S.left S.faults script.old script.new) (taken_from S.left S.faults agents.old agents.new)
+        (taken_from A.left A.faults answers result.answers) disk result.disk (K.written out.old) (K.written out.new) (K.faults out.old) (K.faults out.new) result.status) }
+    ensures first_fault { FirstFault (call_of (map string_bytes words.items) (taken_from S.left S.faults script.old script.new) (taken_from S.left S.faults agents.old agents.new)
+        (taken_from A.left A.faults answers result.answers) disk result.disk (K.written out.old) (K.written out.new) (K.faults out.old) (K.faults out.new) result.status) }
+    ensures causes { Causes D.reads D.faults (call_of (map string_bytes words.items) (taken_from S.left S.faults script.old script.new) (taken_from S.left S.faults agents.old agents.new)
+        (taken_from A.left A.faults answers result.answers) disk result.disk (K.written out.old) (K.written out.new) (K.faults out.old) (K.faults out.new) result.status) }
+    ensures reads { Reads (call_of (map string_bytes words.items) (taken_from S.left S.faults script.old script.new) (taken_from S.left S.faults agents.old agents.new)
+        (taken_from A.left A.faults answers result.answers) disk result.disk (K.written out.old) (K.written out.new) (K.faults out.old) (K.faults out.new) result.status) }
+{
+    let mut answers = answers;
+    let Shown { status, disk } = act::<R, W, D, S, A, K>(
+        rt,
+        alloc,
+        &words,
+        script,
+        agents,
+        disk,
+        &mut answers,
+        out,
+    );
+    Ended {
+        status,
+        disk,
+        answers,
+    }
+}
+
+/// Does the command that the words give.
+fn act<R: SavedThread + Drop, W: Wait + AllocGlobal, D: Disk, S: Source, A: Source, K: Sink>(
+    rt: &W,
+    alloc: Global,
+    words: &[String],
+    script: &mut S,
+    agents: &mut S,
+    disk: D,
+    answers: &mut A,
+    out: &mut K,
+) -> Shown<D>
+    ensures does { Does D.reads D.may_leave D.clock D.may_have_left_since R.stance D.faults (call_of (map string_bytes words.now) (taken_from S.left S.faults script.old script.new) (taken_from S.left S.faults agents.old agents.new)
+        (taken_from A.left A.faults answers.old answers.new) disk result.disk (K.written out.old) (K.written out.new) (K.faults out.old) (K.faults out.new) result.status) }
+{
+    match command_in(words) {
+        Some((Command::Run, _)) => {
+            run::<D, R, W, S, A, K>(rt, script, agents, disk, answers, out)
+        }
+        Some((Command::Resume, _)) => resume::<D, R, W, A, K>(rt, disk, answers, out),
+        Some((Command::Log, _)) => log::<D, R, K>(alloc, disk, out),
+        Some((Command::Graph, _)) => graph::<D, R, K>(alloc, disk, out),
+        Some((Command::Check, _)) => {
+            let status = check(alloc, script, agents, out);
+            Shown { status, disk }
+        }
+        None => {
+            let status = tell_usage(out);
+            Shown { status, disk }
+        }
+    }
+}
+
+/// How to use the program.
+const USAGE: &[u8] = b"usage: controller run|resume|log|graph|check DIR\n       controller gen N\n";
+
+/// Says how to use the program, and answers the exit status.
+fn tell_usage<K: Sink>(out: &mut K) -> u8
+    ensures status { result ≡ 2 }
+    ensures text { writing.Tells (K.written out.old) (K.written out.new) (K.faults out.old) (K.faults out.new) usage_text }
+{
+    let _ = write_all(out, USAGE);
+    2
+}
