@@ -1,17 +1,25 @@
-//! The program: it runs a Pipeline from a folder.
+//! The program: it runs a Pipeline from a folder, and keeps its build there.
 //!
 //! `controller run DIR` reads the script in `DIR/Jenkinsfile` and what executors it has in `DIR/agents.json`, runs it and
-//! writes the console log. Answer lines for the steps `input` are read from standard input. All that it promises stands at
-//! [`run_command::controller`], the one call that `main` makes.
+//! writes the console log; each event of the build is kept in `DIR/program.dat` before the next one comes, so that
+//! `controller resume DIR` can go on with it after a stop at any moment. `log DIR` and `graph DIR` write what the build
+//! has come to, and `check DIR` looks for faults of the two files. Answer lines for the steps `input` are read from
+//! standard input. All that it promises stands at [`controller::controller`], the one call that `main` makes.
+//!
+//! One controller at a time works on a folder: `run` and `resume` hold a lock on `DIR/program.lock`.
 #![tactic(auto)]
 
+use build_commands::{Refusal, tell};
+use command_words::{Command, command_in};
+use controller::controller;
 use cps_machine::MachineThread;
 use jp_io::{LazyFile, StdSink, StdSource};
-use run_command::{Ending, controller, run_folder, tell};
+use real_edge::{FileDisk, LockedDisk};
 use std::alloc::{AllocError, Global};
+use std::fs::File;
 use std::io::ErrorKind;
 use std::process::ExitCode;
-use std::rt::Env;
+use std::rt::{Env, Files};
 use std::{env, io};
 
 fn main(rt: HostRuntime) -> ExitCode {
@@ -23,45 +31,76 @@ fn main(rt: HostRuntime) -> ExitCode {
                 words,
                 script,
                 agents,
+                store,
+                lock,
             } = call;
             let mut script = StdSource::new(LazyFile::new(&rt, script));
             let mut agents = StdSource::new(LazyFile::new(&rt, agents));
             let answers = StdSource::new(rt.stdin());
-            let ended = controller::<MachineThread, _, _, _, _>(
+            let disk = disk_at(&rt, store, lock);
+            let ended = controller::<MachineThread, _, _, _, _, _>(
                 &rt,
                 alloc,
                 words,
                 &mut script,
                 &mut agents,
+                disk,
                 answers,
                 &mut out,
             );
             ended.status
         }
-        Err(AllocError) => tell::<MachineThread, _>(&mut out, &Ending::OutOfMemory),
+        Err(AllocError) => tell(&mut out, &Refusal::OutOfMemory),
     };
     ExitCode::from(status)
 }
 
-/// The words of the command line, and the paths of both files in the folder that they name.
+/// The words of the command line, and the paths of the files in the folder that they name.
 #[derive(Drop)]
 struct Call {
     words: Vec<String>,
     script: String,
     agents: String,
+    store: String,
+    /// The file that is locked, where the command writes the store.
+    lock: Option<String>,
 }
 
-/// The words of the command line, and the paths of both files in the folder that they name.
+/// The words of the command line, and the paths of the files in the folder that they name.
 fn prepare<R: Env + AllocGlobal>(rt: &R, alloc: Global) -> Result<Call, AllocError> {
     let words = read_words(rt, alloc)?;
-    let folder = run_folder(&words).unwrap_or("");
+    let (folder, writes) = match command_in(&words) {
+        Some((Command::Run | Command::Resume, folder)) => (folder, true),
+        Some((_, folder)) => (folder, false),
+        None => ("", false),
+    };
     let script = format!(in alloc; "{folder}/Jenkinsfile")?;
     let agents = format!(in alloc; "{folder}/agents.json")?;
+    let store = format!(in alloc; "{folder}/program.dat")?;
+    let lock = if writes {
+        Some(format!(in alloc; "{folder}/program.lock")?)
+    } else {
+        None
+    };
     Ok(Call {
         words,
         script,
         agents,
+        store,
+        lock,
     })
+}
+
+/// The disk over the store at this path, with the lock that is asked for.
+fn disk_at<R: Files<File = File> + Eprint>(
+    rt: &R,
+    store: String,
+    lock: Option<String>,
+) -> LockedDisk<'_, R, FileDisk<'_, R>> {
+    let Some(lock) = lock else {
+        return LockedDisk::unlocked(FileDisk::new(rt, store));
+    };
+    LockedDisk::locked(rt, lock, FileDisk::new(rt, store))
 }
 
 /// The words of the command line. Where one is not UTF-8 there are none, which is no command.
@@ -72,6 +111,3 @@ fn read_words<R: Env + AllocGlobal>(rt: &R, alloc: Global) -> Result<Vec<String>
         Err(_) => Ok(Vec::new(alloc)),
     }
 }
-
-#[cfg(test)]
-mod tests;
