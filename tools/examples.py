@@ -8,8 +8,10 @@ With words it runs those alone whose name has one of them. The examples are
 - each row of the tables in examples/faults/README.md;
 - in docs/USING.md each row of a table whose first column is `in Jenkins` or `met by`, and each script with a log behind it.
 
-Where the program is built it runs them; else the kit runs all of them without a proof, and compiles the sources once. With
-`--reference` the interpreter in tools/reference runs those that it can run. The status is 0 where all are as their pages say.
+Where the program is built it runs them, and then tries the other commands on each: `check`; `resume` with one answer at a time,
+behind a `run` without answers, which must give the same log; `log` and `graph`, which must write nothing; and each of them where
+there is no build. Else the kit runs all of them without a proof, and compiles the sources once. With `--reference` the interpreter
+in tools/reference runs those that it can run. The status is 0 where all are as their pages say.
 """
 import argparse
 import difflib
@@ -155,12 +157,16 @@ def examples():
 # --- ways to run them: each gives what was printed and the status, in order
 
 
-def by_program(given):
+def run_program(program, command, folder, answers=b""):
+    ran = subprocess.run([program, command, folder], input=answers, stdout=subprocess.PIPE, check=False)
+    return ran.stdout.decode(errors="replace"), ran.returncode
+
+
+def by_program(given, program):
     for example in given:
         with tempfile.TemporaryDirectory(prefix="controller-example-") as room:
             example.write(f"{room}/folder")
-            ran = subprocess.run([BUILT, "run", f"{room}/folder"], input=example.answers, stdout=subprocess.PIPE, check=False)
-            yield ran.stdout.decode(), ran.returncode
+            yield run_program(program, "run", f"{room}/folder", example.answers)
 
 
 def by_kit(given):
@@ -190,18 +196,83 @@ def told(printed, said, count):
         yield parts.get(name, ""), int(status[1]) if status else said[-2000:]
 
 
+def reference(example, *words):
+    """What the interpreter prints, and its status; nothing for an example with something that it does not know."""
+    if example.statuses == [13] or isinstance(example.wanted, re.Pattern) and example.wanted.pattern in UNCOUNTED:
+        return None
+    with tempfile.TemporaryDirectory(prefix="controller-example-") as room:
+        example.write(f"{room}/folder")
+        command = [sys.executable, f"{TOP}/tools/reference/run.py", *words, f"{room}/folder"]
+        ran = subprocess.run(command, input=example.answers, stdout=subprocess.PIPE, stderr=subprocess.DEVNULL, check=False)
+    return None if ran.returncode == 125 else (ran.stdout.decode(), ran.returncode)
+
+
 def by_reference(given):
-    """Nothing for an example with something that the reference does not know."""
     for example in given:
-        uncounted = isinstance(example.wanted, re.Pattern) and example.wanted.pattern in UNCOUNTED
-        if uncounted or example.statuses == [13]:
-            yield None
-            continue
-        with tempfile.TemporaryDirectory(prefix="controller-example-") as room:
-            example.write(f"{room}/folder")
-            command = [sys.executable, f"{TOP}/tools/reference/run.py", f"{room}/folder"]
-            ran = subprocess.run(command, input=example.answers, stdout=subprocess.PIPE, stderr=subprocess.DEVNULL, check=False)
-        yield None if ran.returncode == 125 else (ran.stdout.decode(), ran.returncode)
+        yield reference(example)
+
+
+# --- the other commands, each with what it printed and its status, and what is right
+
+
+NO_BUILD, HAS_BUILD = ("program.dat: no build\n", 9), ("program.dat: already has a build\n", 9)
+SHOWING = ("log", "graph", "check")
+
+
+def refused(program, folder, ended):
+    """A script or an agents file with a fault leaves no store."""
+    yield "check", run_program(program, "check", folder), ended
+    for command in ("resume", "log", "graph"):
+        yield command, run_program(program, command, folder), NO_BUILD
+    yield "the folder's files", sorted(set(os.listdir(folder)) - {"program.lock"}), ["Jenkinsfile", "agents.json", "answers"]
+
+
+def stored(program, folder, ended, graph):
+    """A build that can go no further is shown, and is not begun again."""
+    before = state_of(folder)
+    yield "log", run_program(program, "log", folder), (ended[0], 0)
+    if graph is not None:
+        yield "graph", run_program(program, "graph", folder), (graph[0], 0)
+    yield "check", run_program(program, "check", folder), ("ok\n", 0)
+    yield "the store behind log, graph and check", state_of(folder), before
+    yield "run once more", run_program(program, "run", folder), HAS_BUILD
+    yield "resume", run_program(program, "resume", folder), ended
+
+
+def state_of(folder):
+    with open(f"{folder}/program.dat", "rb") as store:
+        return store.read(), os.stat(store.fileno()).st_mtime_ns, sorted(os.listdir(folder))
+
+
+def resumed(program, folder, ended, answers):
+    """A build that is stopped at each of its questions, and goes on with one answer, ends as one that was never stopped."""
+    printed, _ = now = run_program(program, "run", folder)
+    for line in answers.splitlines(keepends=True):
+        now = run_program(program, "resume", folder, line)
+        yield "resume begins with the log so far", now[0].startswith(without_end(printed)), True
+        printed = now[0]
+    yield "resume with one answer at a time", now, ended
+
+
+def without_end(log):
+    """A line of a log that is not ended by a newline may go on."""
+    return log[: log.rfind("\n") + 1]
+
+
+def other_commands(example, ended, program):
+    with tempfile.TemporaryDirectory(prefix="controller-example-") as room:
+        for name in ("once", "twice"):
+            example.write(f"{room}/{name}")
+        run_program(program, "run", f"{room}/once", example.answers)
+        if ended[1] in (4, 13):
+            yield from refused(program, f"{room}/once", ended)
+        else:
+            yield from stored(program, f"{room}/once", ended, reference(example, "--graph"))
+            yield from resumed(program, f"{room}/twice", ended, example.answers)
+
+
+def wrong_commands(example, ended, program):
+    return [f"{example.name}: {name}: {found!r}, wanted {wanted!r}" for name, found, wanted in other_commands(example, ended, program) if found != wanted]
 
 
 def is_built():
@@ -218,19 +289,26 @@ def is_built():
 def main():
     parser = argparse.ArgumentParser(description=__doc__.splitlines()[0])
     parser.add_argument("--reference", action="store_true", help="run them by the interpreter in tools/reference")
+    parser.add_argument("--program", help="run them by this program")
     parser.add_argument("words", nargs="*", help="run those alone whose name has one of these words")
     asked = parser.parse_args()
     given = [it for it in examples() if not asked.words or any(word in it.name for word in asked.words)]
-    way = by_reference if asked.reference else by_program if is_built() else by_kit
-    if way is by_kit:
+    program = None if asked.reference else asked.program or (BUILT if is_built() else None)
+    if not program and not asked.reference:
         print("examples: unproved and slow; ./controller build proves and builds the program", file=sys.stderr, flush=True)
+    way = by_reference(given) if asked.reference else by_program(given, program) if program else by_kit(given)
     wrong = unknown = 0
-    for example, ended in zip(given, way(given)):
+    for example, ended in zip(given, way):
+        complaints = []
         if ended is None:
             unknown += 1
         elif not example.is_right(*ended):
+            complaints = [example.complaint(*ended)]
+        elif program:
+            complaints = wrong_commands(example, ended, program)
+        if complaints:
             wrong += 1
-            print(example.complaint(*ended), end="\n\n")
+            print(*complaints, sep="\n", end="\n\n")
     left_out = f", {unknown} left out" if unknown else ""
     print(f"{len(given) - wrong - unknown} examples as their pages say, {wrong} others{left_out}")
     return 1 if wrong else 0

@@ -1,9 +1,10 @@
 #!/usr/bin/env python3
 """Runs the controller without proving it: `tools/unproved.py WORD..`, as `./controller` does where the program is not built.
 
-The kit compiles the sources anew and runs them in a folder of its own, with checks in place of proofs. Standard output and
-the exit status are those of the program. Standard error first says that the run is unproved. Where the kit gives no answer,
-because it cannot compile the sources or the run passes one of its bounds, the exit status is 125.
+The kit compiles the sources anew and runs them, with checks in place of proofs. Standard output and the exit status are those of
+the program, and the store is the one of the folder. Standard error first says that the run is unproved. Where the kit gives no
+answer, because it cannot compile the sources or the run passes one of its bounds, the exit status is 125; a build that had begun
+is then stopped as by a kill.
 """
 import os
 import re
@@ -13,38 +14,30 @@ import sys
 TOP = os.path.dirname(os.path.dirname(os.path.realpath(__file__)))
 NO_ANSWER = 125
 SECONDS = "600"
-# The files that the program reads of its folder.
-FILES = ("Jenkinsfile", "agents.json")
+COMMANDS = ("run", "resume", "log", "graph", "check")
 
 
 def say(text):
     print(f"controller: {text}", file=sys.stderr, flush=True)
 
 
-def names_a_folder(words):
-    return len(words) == 2 and words[0] == "run" and words[1] != "" and not words[1].startswith("-")
+def with_whole_path(words):
+    """The kit's run stands in a folder of its own, so the words name DIR from the root on."""
+    if len(words) == 2 and words[0] in COMMANDS and words[1] != "" and not words[1].startswith("-"):
+        return [words[0], os.path.abspath(words[1])]
+    return words
 
 
-def words_and_files(words):
-    """The run stands in an empty folder, so the files of DIR are copied into one there, and the words name that one."""
-    if not names_a_folder(words):
-        return words, []
-    found = [(name, os.path.join(os.path.abspath(words[1]), name)) for name in FILES]
-    given = [f"--data=folder/{name}={path}" for name, path in found if os.path.isfile(path) and os.access(path, os.R_OK)]
-    return ["run", "folder"], given
-
-
-def kit_run(words, files):
+def kit_run(words):
     """The finished run of the kit, with its standard error kept, since the kit's own lines follow those of the program."""
-    split = [part for it in files for part in it.split("=", 1)]
-    command = ["rt", "try", "--seconds", SECONDS, *split, "--", *words]
+    command = ["rt", "try", "--seconds", SECONDS, "--", *words]
     return subprocess.run(command, cwd=f"{TOP}/crates/jenkinsd", stderr=subprocess.PIPE)
 
 
 def main(words):
     say("unproved and slow; ./controller build proves and builds the program")
     try:
-        ran = kit_run(*words_and_files(words))
+        ran = kit_run(with_whole_path(words))
     except KeyboardInterrupt:
         return 130
     except FileNotFoundError:

@@ -2,7 +2,7 @@
 """Compares this reference with what the program must print for the trials of crates/script_trials, which are sources with events.
 
 A trial is left out that meets a limit which the reference does not count, or asks for what it does not tell: `requests`, `tail`,
-`agents` and `start`. The status is 0 where no other trial differs.
+`agents` and `start`; and so are those of images and of stores. The status is 0 where no other trial differs.
 """
 import os
 import re
@@ -16,6 +16,7 @@ from tokens import Fault
 TRIALS = f"{os.path.dirname(os.path.dirname(os.path.dirname(os.path.realpath(__file__))))}/crates/script_trials"
 UNCOUNTED = re.compile(r"Limit reached: (?!call depth|value depth|green threads)")
 UNTOLD = ("requests", "tail", "agents", "start")
+OTHER = ("images: ", "store: ")
 
 
 def trials_in(file):
@@ -46,7 +47,7 @@ def compared():
         orders = [line[2:] for line in lines if line.startswith("> ")]
         asks = {order.split(" ")[0] for order in orders}
         try:
-            unknown = UNCOUNTED.search(wanted) or asks.intersection(UNTOLD)
+            unknown = name.startswith(OTHER) or UNCOUNTED.search(wanted) or asks.intersection(UNTOLD)
             source = "\n".join(line for line in lines if not line.startswith("> "))
             given = None if unknown else told(source, orders)
         except TooLong:
