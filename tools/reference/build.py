@@ -490,7 +490,6 @@ class Build(Steps):
     def new_thread(self, parent, name=""):
         thread = Thread(self.next_thread, parent, name)
         self.next_thread += 1
-        self.threads.append(thread)
         return thread
 
     def start(self):
@@ -498,6 +497,7 @@ class Build(Steps):
         thread = self.new_thread(None)
         thread.head = self.node("start", [])
         thread.run = self.script(thread)
+        self.threads.append(thread)
         self.settle()
 
     def settle(self):
@@ -518,9 +518,10 @@ class Build(Steps):
             return
         thread.answer = None
         if branches is not None:
-            thread.open = list(branches)
-            if len(self.threads) > MOST_THREADS:
+            if len(self.threads) + len(branches) > MOST_THREADS:
                 raise LimitReached("green threads")
+            thread.open = list(branches)
+            self.threads.extend(branches)
 
     def end_thread(self, thread, outcome):
         thread.outcome = outcome
