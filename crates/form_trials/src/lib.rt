@@ -8,6 +8,8 @@ mod checks; // image_check
 #[cfg(test)]
 mod codes; // cps_code
 #[cfg(test)]
+mod deltas; // delta_form
+#[cfg(test)]
 mod fields; // field_form
 #[cfg(test)]
 mod frames; // image_frames

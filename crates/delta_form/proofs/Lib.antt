@@ -1,0 +1,7 @@
+pub mod Answering
+pub mod Orders
+pub mod Fronts
+pub mod Walks
+pub mod NoneInBoth
+pub mod InOrder
+mod AfterExamples

@@ -1,0 +1,6 @@
+pub mod Numbers
+pub mod Deltas
+pub mod Applying
+pub mod Changes
+pub mod After
+pub mod ChangeLaws
