@@ -1,9 +1,10 @@
 -- Why a build was not begun, and of what it is begun.
-use Rattle.std.proofs.Common.{ℕ, List, refl}
+use Rattle.std.proofs.Common.{◌≡◌, ℕ, List, Option, None, Some, refl}
+use Rattle.std.specs.Prelude.{IsSome}
 use Rattle.agent_worker.specs.declared.fault.TakeFault.TheVariants as take
 use Rattle.model_syntax.specs.declared.tree.Tree.{Tree}
 use Rattle.model_run.specs.declared.site.Site.{Site}
-use Rattle.run_command.specs.Ends.{Builds}
+use Rattle.run_command.specs.Files.{Builds}
 use Rattle.saved_run.specs.declared.life.BeginFault.{BeginFault}
 use Rattle.saved_run.specs.declared.life.BeginFault.TheVariants as begin
 use Rattle.script_run.specs.Standing.{script_setting}
@@ -25,3 +26,8 @@ begin_says (begin.Take (take.Full len add)) r says = as_said (BeginSays (begin.T
 -- what can be built means a setting
 pub meant : (script agents : List ℕ) (tree : Tree) (site : Site) → Builds script agents tree site → Mean script agents (script_setting tree site)
 meant script agents tree site b = record { tree = tree; within = b.fits; faultless = b.faultless; means = b.means; is = refl }
+
+-- the bytes that a disk tells
+pub known_file : (o : Option (List ℕ)) → IsSome o → (file : List ℕ) × (o ≡ Some file)
+known_file None known = absurd (cc)
+known_file (Some file) known = (file, refl)

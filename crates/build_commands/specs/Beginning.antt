@@ -12,7 +12,7 @@ use Rattle.script_run.specs.Standing.{script_setting}
 use Rattle.settle_laws.specs.Stances.{Stance}
 use Rattle.saved_run.specs.declared.life.BeginFault.{BeginFault}
 use Rattle.saved_run.specs.declared.life.BeginFault.TheVariants.{HasBuild, Take}
-use Rattle.saved_run.specs.Lives.{BeginRefuses}
+use Rattle.saved_run.specs.Lives.{BeginRefuses, TellsStart}
 use Rattle.saved_run.specs.Saved.{Survives}
 use Rattle.run_command.specs.Inputs.{Input, IsUnread}
 use Rattle.build_commands.specs.Finishing.{Finishes}
@@ -30,20 +30,21 @@ pub data BeginSays : BeginFault → ℕ → List ℕ → Type 0 where
 
 module _ {D T : Type 0} (reads : D → Option (List ℕ)) (may_leave : D → List ℕ → Type 0) (clock : D → ℕ) (since : D → ℕ → List ℕ → Type 0) (stance : T → Stance) (faults : D → ℕ) (disk now : D) (answers : Input)
     (old new : Option (List ℕ)) (sink_before sink_after : ℕ) where
-  -- A build that was begun over this file, which has no record, and went on. Up to a moment at which the file is durable a crash leaves what it
-  -- might have left before; from then on no event or the `Start`; and from the `Start` on what `Finishes` says.
-  pub record WentOn (script agents : List ℕ) (tree : Tree) (site : Site) (file : List ℕ) (started : D) (status : ℕ) : Type 0 where
+  -- A build that was begun over this file, which has no record. Up to a moment at which the file is durable a crash leaves what it might have left
+  -- before; from then on no event or the `Start`.
+  pub record BeginsOver (script agents : List ℕ) (tree : Tree) (site : Site) (file : List ℕ) (started : D) : Type 0 where
     pub fresh : ¬ (IsStarted file)
     pub moments : SinceSync clock since may_leave file disk started (Survives (script_setting tree site) [] (StartEvent script agents ∷ []) None)
-    pub finishes : Finishes may_leave clock since (script_setting tree site) started (StartEvent script agents ∷ []) answers.left answers.rest now (faults started) (faults now) answers.before answers.after old new sink_before sink_after status
 
-  -- What becomes of a script and an agents file that can be built: of a disk that tells its bytes by these, and of any by the counts.
+  -- What becomes of a script and an agents file that can be built, on each disk, and of what it tells of its bytes. From the `Start` on `Finishes` says it.
   pub data Begins (script agents : List ℕ) (tree : Tree) (site : Site) : ℕ → Type 0 where
     unbegun : {fault : BeginFault} {status : ℕ} {text : List ℕ} → IsUnread answers → BeginSays fault status text → CountsFault (faults disk) (faults now) (fault ≡ Take Disk)
+        → TellsStart (script_setting tree site) (StartEvent script agents) fault
         → ((file : List ℕ) → reads disk ≡ Some file → BeginRefuses reads may_leave clock since stance (script_setting tree site) (StartEvent script agents) file disk fault now)
         → Tells old new sink_before sink_after text → Begins script agents tree site status
     begun : {status : ℕ} (started : D) → faults started ≡ faults disk → Reports (faults disk) (faults now) answers.before answers.after old new sink_before sink_after status
-        → ((file : List ℕ) → reads disk ≡ Some file → WentOn script agents tree site file started status)
+        → Finishes reads may_leave clock since (script_setting tree site) (reads disk) started (StartEvent script agents ∷ []) answers.left answers.rest now (faults started) (faults now) answers.before answers.after old new sink_before sink_after status
+        → ((file : List ℕ) → reads disk ≡ Some file → BeginsOver script agents tree site file started)
         → Begins script agents tree site status
 
   -- The table of `run`: script or agents file is refused, and then the disk is not called and no answer is read; or both can be built.

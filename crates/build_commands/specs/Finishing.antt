@@ -1,5 +1,5 @@
 -- How a life ends that a command lets go on, with its status and its text (this product's own).
-use Rattle.std.specs.Prelude.{◌≡◌, ◌⊎◌, ◌+◌, ◌<◌, ◌^◌, ℕ, Bool, false, List, [], ◌∷◌, ◌++◌, Option, None, IsSomeAnd, Result, Ok, Err}
+use Rattle.std.specs.Prelude.{◌≡◌, ◌⊎◌, ◌+◌, ◌<◌, ◌^◌, ℕ, Bool, false, List, [], ◌∷◌, ◌++◌, Option, None, IfSome, IsSome, IsSomeAnd, Result, Ok, Err}
 use Rattle.std.specs.Io.KnownBytes.{Consumes, IsAtEnd}
 use Rattle.device_faults.specs.Faults.{Rose}
 use Rattle.jp_disk.specs.Moments.{AtEachMoment}
@@ -14,23 +14,41 @@ use Rattle.script_run.specs.declared.rest.Rest.TheVariants.{AnswersFailed}
 use Rattle.script_run.specs.Rests.{RestsFor}
 use Rattle.saved_run.specs.Going.{GoesOn}
 use Rattle.durable_build.specs.Taking.{added}
-use Rattle.saved_run.specs.Lives.{image_after, IsNext}
-use Rattle.saved_run.specs.Saved.{Stores, Survives}
+use Rattle.saved_run.specs.Lives.{image_after, IsCaused, IsNext}
+use Rattle.saved_run.specs.Saved.{Stores, Survives, journal_length}
 use Rattle.build_commands.specs.declared.refusal.Refusal.{Refusal}
 use Rattle.build_commands.specs.Refusals.{SaysTake, refusal_status, refusal_text}
 use Rattle.build_commands.specs.Texts.{disk_failed_text, full_text, out_of_memory_text}
 use Rattle.build_commands.specs.Writing as writing
 use Rattle.build_commands.specs.Writing.{Writes}
 
-module _ {D : Type 0} (may_leave : D → List ℕ → Type 0) (clock : D → ℕ) (since : D → ℕ → List ℕ → Type 0) (setting : Setting) (origin : D) (before : List Event) (left now : Option (List ℕ)) (disk : D) where
-  -- What a life has made of the store: these events, by what was read of the answers. A crash since `origin`, over which there were those from
-  -- before, leaves a front of them; one now leaves all of them; or, both, them and the one whose take the disk failed.
+-- This event came next, and a life has a cause for it: it is the grant that is due, or the decision of this part of the answers, a whole line, behind which
+-- they have this left.
+pub record ComesNext (setting : Setting) (left : Option (List ℕ)) (events : List Event) (part : List ℕ) (event : Event) : Type 0 where
+  pub is_next : IsNext setting events event
+  pub caused : IsCaused setting events left part event
+
+-- The journal cannot take the record of the event that came next: these are the journal's length, and what the record would add. `entry` and `stored` are what
+-- the disk told of its bytes at first and tells now.
+pub record IsFull (setting : Setting) (left entry stored : Option (List ℕ)) (events : List Event) (part : List ℕ) (len add : ℕ) : Type 0 where
+  pub event : Event
+  pub next : ComesNext setting left events part event
+  pub too_long : 2 ^ 30 < len + add
+  pub adds : add ≡ added event (image_after setting (events ++ event ∷ []))
+  pub length_is : IsSome entry → IfSome stored (λ file. len ≡ journal_length file)
+
+module _ {D : Type 0} (reads : D → Option (List ℕ)) (may_leave : D → List ℕ → Type 0) (clock : D → ℕ) (since : D → ℕ → List ℕ → Type 0) (setting : Setting) (entry : Option (List ℕ)) (origin : D) (before : List Event) (left now : Option (List ℕ)) (disk : D) where
+  -- What a life has taken, by what was read of the answers: these events; perhaps, where the disk failed, the next one is on it too. Where the disk
+  -- told its bytes, which `entry` is, a crash since `origin`, over which there were the events from before, leaves a front of them; one now leaves
+  -- all of them; or, both, them and that one.
   pub record Made (events : List Event) (risked : Option Event) (more : Bool) (part : List ℕ) : Type 0 where
     pub read : List ℕ
     pub goes : GoesOn setting before events read more
     pub answers : Consumes left now (read ++ part)
-    pub moments : AtEachMoment clock since origin disk (Survives setting before events risked)
-    pub images : (image : List ℕ) → may_leave disk image → Stores setting events image ⊎ IsSomeAnd risked (λ e. Stores setting (events ++ e ∷ []) image)
+    pub at_end : more ≡ false → IsAtEnd now
+    pub next : IfSome risked (ComesNext setting now events part)
+    pub moments : IsSome entry → AtEachMoment clock since origin disk (Survives setting before events risked)
+    pub images : IsSome entry → (image : List ℕ) → may_leave disk image → Stores setting events image ⊎ IsSomeAnd risked (λ e. Stores setting (events ++ e ∷ []) image)
 
   -- The build has ended, or nobody goes on with it: its text is its log.
   pub record Rests (events : List Event) : Type 0 where
@@ -40,7 +58,6 @@ module _ {D : Type 0} (may_leave : D → List ℕ → Type 0) (clock : D → ℕ
     pub made : Made events None more part
     pub rests : RestsFor rest setting (world_in setting events) more part
     pub read_on : ¬ (rest ≡ AnswersFailed)
-    pub at_end : more ≡ false → IsAtEnd now
 
   -- It has not ended, and cannot go on.
   pub data Breaks (disk_before disk_after answers_before answers_after : ℕ) : ℕ → List ℕ → Type 0 where
@@ -48,8 +65,7 @@ module _ {D : Type 0} (may_leave : D → List ℕ → Type 0) (clock : D → ℕ
         → Breaks disk_before disk_after answers_before answers_after 6 read_failed_text
     disk_failed : {events : List Event} {risked : Option Event} {more : Bool} {part : List ℕ} → Made events risked more part → (world_in setting events).ended ≡ false → Rose disk_before disk_after
         → Breaks disk_before disk_after answers_before answers_after 5 disk_failed_text
-    full : {events : List Event} {more : Bool} {part : List ℕ} (len add : ℕ) (e : Event) → Made events None more part → (world_in setting events).ended ≡ false → IsNext setting events e
-        → 2 ^ 30 < len + add → add ≡ added e (image_after setting (events ++ e ∷ []))
+    full : {events : List Event} {more : Bool} {part : List ℕ} (len add : ℕ) → Made events None more part → (world_in setting events).ended ≡ false → IsFull setting now entry (reads disk) events part len add
         → Breaks disk_before disk_after answers_before answers_after 14 (full_text len add)
     no_memory : {events : List Event} {more : Bool} {part : List ℕ} → Made events None more part → (world_in setting events).ended ≡ false
         → Breaks disk_before disk_after answers_before answers_after 8 out_of_memory_text

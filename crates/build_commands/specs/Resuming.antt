@@ -1,5 +1,5 @@
 -- What `resume` does with a consistent store (this product's own).
-use Rattle.std.specs.Prelude.{◌≡◌, ℕ, List, [], Option, IfSome}
+use Rattle.std.specs.Prelude.{◌≡◌, ℕ, List, [], Option, Some, IfSome}
 use Rattle.device_faults.specs.Faults.{Rose}
 use Rattle.jp_disk.specs.Moments.{AtEachMoment}
 use Rattle.model_run.specs.declared.event.Event.{Event}
@@ -17,18 +17,24 @@ pub data NotOpened (events : List Event) (disk_before disk_after : ℕ) : ℕ �
   disk_failed : Rose disk_before disk_after → NotOpened events disk_before disk_after 5 disk_failed_text
   no_memory : NotOpened events disk_before disk_after 8 out_of_memory_text
 
-module _ {D : Type 0} (may_leave : D → List ℕ → Type 0) (clock : D → ℕ) (since : D → ℕ → List ℕ → Type 0) (faults : D → ℕ) (setting : Setting) (events : List Event) (left now : Option (List ℕ)) (old disk : D) where
-  -- The store was not opened, and a crash leaves nothing new; or it was, at a moment up to which a crash leaves nothing new, and its build went on.
-  pub data Resumes (answers_before answers_after : ℕ) (written rest : Option (List ℕ)) (sink_before sink_after : ℕ) : ℕ → Type 0 where
-    refused : {status : ℕ} {text : List ℕ} → now ≡ left → AtEachMoment clock since old disk (may_leave old) → NotOpened events (faults old) (faults disk) status text → writing.Tells written rest sink_before sink_after text
-        → Resumes answers_before answers_after written rest sink_before sink_after status
-    went_on : {status : ℕ} (opened : D) → AtEachMoment clock since old opened (may_leave old) → faults opened ≡ faults old
-        → Finishes may_leave clock since setting opened events left now disk (faults opened) (faults disk) answers_before answers_after written rest sink_before sink_after status
-        → Resumes answers_before answers_after written rest sink_before sink_after status
+-- Nothing was written: the disk reads what it read, and a crash leaves nothing new.
+pub record IsUntouched {D : Type 0} (reads : D → Option (List ℕ)) (may_leave : D → List ℕ → Type 0) (clock : D → ℕ) (since : D → ℕ → List ℕ → Type 0) (old now : D) : Type 0 where
+  pub same : (file : List ℕ) → reads old ≡ Some file → reads now ≡ Some file
+  pub moments : AtEachMoment clock since old now (may_leave old)
 
--- What `resume` comes to over any store: it was not opened, and no answer was read; or it was, and its build went on.
-pub data Reopens (stored : Option (List ℕ)) (disk_before disk_after : ℕ) (answers : Input) (written rest : Option (List ℕ)) (sink_before sink_after : ℕ) : ℕ → Type 0 where
-  unopened : {status : ℕ} {text : List ℕ} → IsUnread answers → NotTold stored disk_before disk_after status text → writing.Tells written rest sink_before sink_after text
-      → Reopens stored disk_before disk_after answers written rest sink_before sink_after status
-  goes_on : {status : ℕ} → IfSome stored HasBuild → Reports disk_before disk_after answers.before answers.after written rest sink_before sink_after status
-      → Reopens stored disk_before disk_after answers written rest sink_before sink_after status
+module _ {D : Type 0} (reads : D → Option (List ℕ)) (may_leave : D → List ℕ → Type 0) (clock : D → ℕ) (since : D → ℕ → List ℕ → Type 0) (faults : D → ℕ) where
+  module _ (setting : Setting) (events : List Event) (left now : Option (List ℕ)) (old disk : D) where
+    -- The store was not opened, and nothing was written; or it was, at a moment up to which a crash leaves nothing new, and its build went on.
+    pub data Resumes (answers_before answers_after : ℕ) (written rest : Option (List ℕ)) (sink_before sink_after : ℕ) : ℕ → Type 0 where
+      refused : {status : ℕ} {text : List ℕ} → now ≡ left → IsUntouched reads may_leave clock since old disk → NotOpened events (faults old) (faults disk) status text → writing.Tells written rest sink_before sink_after text
+          → Resumes answers_before answers_after written rest sink_before sink_after status
+      went_on : {status : ℕ} (opened : D) → AtEachMoment clock since old opened (may_leave old) → faults opened ≡ faults old
+          → Finishes reads may_leave clock since setting (reads old) opened events left now disk (faults opened) (faults disk) answers_before answers_after written rest sink_before sink_after status
+          → Resumes answers_before answers_after written rest sink_before sink_after status
+
+  -- What `resume` comes to over any store: it was not opened, no answer was read and nothing was written; or it was, and its build went on.
+  pub data Reopens (old disk : D) (answers : Input) (written rest : Option (List ℕ)) (sink_before sink_after : ℕ) : ℕ → Type 0 where
+    unopened : {status : ℕ} {text : List ℕ} → IsUnread answers → IsUntouched reads may_leave clock since old disk → NotTold (reads old) (faults old) (faults disk) status text → writing.Tells written rest sink_before sink_after text
+        → Reopens old disk answers written rest sink_before sink_after status
+    goes_on : {status : ℕ} → IfSome (reads old) HasBuild → Reports (faults old) (faults disk) answers.before answers.after written rest sink_before sink_after status
+        → Reopens old disk answers written rest sink_before sink_after status

@@ -7,8 +7,8 @@ ghost use Rattle.saved_run.specs.Lives.{SoFar};
 ghost use Rattle.build_commands.specs.Reporting.{Reports};
 ghost use Rattle.build_commands.specs.Finishing.{Finishes, TellsEnd, TellsRest};
 
+use crate::done::Done;
 use crate::refusal::{Refusal, tell, tell_text};
-use crate::show::Shown;
 use build_core::Build;
 use durable_build::TakeFault;
 use jp_disk::Disk;
@@ -38,18 +38,18 @@ pub fn finish<D: Disk, R: SavedThread + Drop, W: Wait + AllocGlobal, A: Source, 
     life: Life<D, R>,
     answers: &mut A,
     out: &mut K,
-) -> Shown<D>
+) -> Done<D>
     ensures reports { Reports (D.faults life.durable.journal.disk) (D.faults result.disk) (A.faults answers.old) (A.faults answers.new) (K.written out.old) (K.written out.new) (K.faults out.old) (K.faults out.new) result.status }
-    ensures finishes { (setting : Setting) (origin : D) (before : List AnEvent) (first : Option (List ℕ)) (events : List AnEvent)
-        → SoFar D.reads D.may_leave D.clock D.may_have_left_since R.stance setting origin before first (A.left answers.old) [] events life
-        → Finishes D.may_leave D.clock D.may_have_left_since setting origin before first (A.left answers.new) result.disk
+    ensures finishes { (setting : Setting) (entry : Option (List ℕ)) (origin : D) (before : List AnEvent) (first : Option (List ℕ)) (events : List AnEvent)
+        → SoFar D.reads D.may_leave D.clock D.may_have_left_since R.stance setting entry origin before first (A.left answers.old) [] events life
+        → Finishes D.reads D.may_leave D.clock D.may_have_left_since setting entry origin before first (A.left answers.new) result.disk
         (D.faults life.durable.journal.disk) (D.faults result.disk) (A.faults answers.old) (A.faults answers.new)
         (K.written out.old) (K.written out.new) (K.faults out.old) (K.faults out.new) result.status }
 {
     let mut life = life;
     let ended = life.go_on(rt, answers);
     let status = tell_end(rt.alloc(), out, life.build(), ended);
-    Shown {
+    Done {
         status,
         disk: life.close(),
     }

@@ -1,17 +1,17 @@
-//! The commands over the store of a build: from the words of the command line, the streams and the disk to the output and the
-//! exit status.
+//! The commands over the store of a build: from the streams and the disk to the output and the exit status.
 //!
 //! [`check`] looks for faults of a script and its agents file. [`run`] begins their build, and [`resume`] goes on with the build of
 //! a store; both write its log, and [`finish`] is the part that they end with. [`log`] and [`graph`] write what the build of a store
 //! has come to; they change no byte of it. [`read_plan`] reads and judges script and agents file.
 //!
 //! ```text
-//! let shown = log::<_, Thread, _>(alloc, FileDisk::new(&rt, path), &mut out);
-//! ExitCode::from(shown.status)
+//! let done = log::<_, Thread, _>(alloc, FileDisk::new(&rt, path), &mut out);
+//! ExitCode::from(done.status)
 //! ```
 #![tactic(auto)]
 
 mod checking;
+mod done;
 mod finishing;
 mod plan;
 mod refusal;
@@ -20,9 +20,10 @@ mod running;
 mod show;
 
 pub use checking::check;
+pub use done::Done;
 pub use finishing::finish;
 pub use plan::{Plan, read_plan};
 pub use refusal::{Refusal, tell, tell_text};
 pub use resuming::resume;
 pub use running::run;
-pub use show::{Shown, graph, log};
+pub use show::{graph, log};

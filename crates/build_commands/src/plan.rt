@@ -2,7 +2,7 @@
 ghost use Rattle.std.specs.Prelude.{◌≡◌, ◌+◌};
 ghost use Rattle.jp_io.specs.Whole.{TakesAtMost};
 ghost use Rattle.model_run.specs.AgentsFile.{agents_file, Means};
-ghost use Rattle.run_command.specs.Ends.{script_limit, agents_limit};
+ghost use Rattle.run_command.specs.Files.{script_limit, agents_limit};
 ghost use Rattle.run_command.specs.Inputs.{taken_from};
 ghost use Rattle.run_command.specs.Texts.{agents_line, fault_line};
 ghost use Rattle.build_commands.specs.Plans.{Judged, Plans};

@@ -1,4 +1,4 @@
-//! Why a command does nothing, and its text.
+//! Why a command does not write what it is for, and what it writes then.
 ghost use Rattle.std.specs.Prelude.{◌≡◌};
 ghost use Rattle.build_commands.specs.Refusals.{SaysBegin, SaysTake, TellsFault, refusal_status, refusal_text};
 ghost use Rattle.build_commands.specs.Writing as writing;
@@ -10,7 +10,7 @@ use model_text::Text;
 use saved_run::BeginFault;
 use std::alloc::Global;
 
-/// Why a command does nothing.
+/// Why a command does not write what it is for.
 #[derive(Drop)]
 pub enum Refusal {
     /// A source failed.
@@ -53,7 +53,8 @@ impl Refusal {
         }
     }
 
-    /// The refusal that tells why an event was not taken. That of a full store needs memory for its text.
+    /// The refusal that tells why an event was not taken. That of a full store needs memory for its text. `Stopped` comes only behind
+    /// an earlier fault, which no command lives to see.
     pub fn of_take(alloc: Global, fault: TakeFault) -> Refusal
         ensures { SaysTake fault result }
     {

@@ -6,9 +6,9 @@ ghost use Rattle.saved_run.specs.Saved.{Stores};
 ghost use Rattle.run_command.specs.Inputs.{taken_from};
 ghost use Rattle.build_commands.specs.Resuming.{Reopens, Resumes};
 
+use crate::done::Done;
 use crate::finishing::finish;
 use crate::refusal::{Refusal, tell};
-use crate::show::Shown;
 use jp_disk::Disk;
 use jp_io::{Sink, Source};
 use saved_run::Life;
@@ -34,10 +34,10 @@ pub fn resume<D: Disk, R: SavedThread + Drop, W: Wait + AllocGlobal, A: Source, 
     disk: D,
     answers: &mut A,
     out: &mut K,
-) -> Shown<D>
-    ensures reopens { Reopens (D.reads disk) (D.faults disk) (D.faults result.disk) (taken_from A.left A.faults answers.old answers.new) (K.written out.old) (K.written out.new) (K.faults out.old) (K.faults out.new) result.status }
+) -> Done<D>
+    ensures reopens { Reopens D.reads D.may_leave D.clock D.may_have_left_since D.faults disk result.disk (taken_from A.left A.faults answers.old answers.new) (K.written out.old) (K.written out.new) (K.faults out.old) (K.faults out.new) result.status }
     ensures resumes { (file : List ℕ) → D.reads disk ≡ Some file → (setting : Setting) (events : List AnEvent) → Stores setting events file
-        → Resumes D.may_leave D.clock D.may_have_left_since D.faults setting events (A.left answers.old) (A.left answers.new) disk result.disk
+        → Resumes D.reads D.may_leave D.clock D.may_have_left_since D.faults setting events (A.left answers.old) (A.left answers.new) disk result.disk
         (A.faults answers.old) (A.faults answers.new) (K.written out.old) (K.written out.new) (K.faults out.old) (K.faults out.new) result.status }
 {
     let alloc = rt.alloc();
@@ -45,7 +45,7 @@ pub fn resume<D: Disk, R: SavedThread + Drop, W: Wait + AllocGlobal, A: Source, 
         Ok(life) => finish(rt, life, answers, out),
         Err((fault, disk)) => {
             let status = tell(out, &Refusal::of_store(alloc, fault));
-            Shown { status, disk }
+            Done { status, disk }
         }
     }
 }

@@ -1,14 +1,14 @@
 //! The command that begins the build of a script.
 ghost use Rattle.std.specs.Prelude.{◌+◌};
 ghost use Rattle.jp_io.specs.Whole.{TakesAtMost};
-ghost use Rattle.run_command.specs.Ends.{script_limit, agents_limit, Builds};
+ghost use Rattle.run_command.specs.Files.{script_limit, agents_limit, Builds};
 ghost use Rattle.run_command.specs.Inputs.{taken_from};
 ghost use Rattle.build_commands.specs.Beginning.{Begins, Runs};
 
+use crate::done::Done;
 use crate::finishing::finish;
 use crate::plan::{Plan, read_plan};
 use crate::refusal::{Refusal, tell};
-use crate::show::Shown;
 use jp_disk::Disk;
 use jp_io::{Sink, Source};
 use saved_run::Life;
@@ -39,7 +39,7 @@ pub fn run<D: Disk, R: SavedThread + Drop, W: Wait + AllocGlobal, S: Source, A: 
     disk: D,
     answers: &mut A,
     out: &mut K,
-) -> Shown<D>
+) -> Done<D>
     ensures runs { Runs D.reads D.may_leave D.clock D.may_have_left_since R.stance D.faults disk result.disk (taken_from A.left A.faults answers.old answers.new)
         (K.written out.old) (K.written out.new) (K.faults out.old) (K.faults out.new)
         (taken_from S.left S.faults script.old script.new) (taken_from S.left S.faults agents.old agents.new) result.status }
@@ -50,7 +50,7 @@ pub fn run<D: Disk, R: SavedThread + Drop, W: Wait + AllocGlobal, S: Source, A: 
         Ok(plan) => begin::<D, R, W, A, K>(rt, plan, disk, answers, out),
         Err(refusal) => {
             let status = tell(out, &refusal);
-            Shown { status, disk }
+            Done { status, disk }
         }
     }
 }
@@ -62,7 +62,7 @@ fn begin<D: Disk, R: SavedThread + Drop, W: Wait + AllocGlobal, A: Source, K: Si
     disk: D,
     answers: &mut A,
     out: &mut K,
-) -> Shown<D>
+) -> Done<D>
     requires builds { Builds plan.script plan.agents plan.tree plan.site }
     ensures { Begins D.reads D.may_leave D.clock D.may_have_left_since R.stance D.faults disk result.disk (taken_from A.left A.faults answers.old answers.new)
         (K.written out.old) (K.written out.new) (K.faults out.old) (K.faults out.new) plan.script plan.agents plan.tree plan.site result.status }
@@ -78,7 +78,7 @@ fn begin<D: Disk, R: SavedThread + Drop, W: Wait + AllocGlobal, A: Source, K: Si
         Ok(life) => finish(rt, life, answers, out),
         Err((fault, disk)) => {
             let status = tell(out, &Refusal::of_begin(alloc, fault));
-            Shown { status, disk }
+            Done { status, disk }
         }
     }
 }

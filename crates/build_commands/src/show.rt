@@ -6,6 +6,7 @@ ghost use Rattle.model_run.specs.GraphText.{graph_text};
 ghost use Rattle.build_commands.specs.Showing.{Causes, Shows, ShowsLast, TellsOf};
 ghost use Rattle.build_commands.specs.Writing.{Writes};
 
+use crate::done::Done;
 use crate::refusal::{Refusal, tell, tell_text};
 use build_core::Build;
 use durable_build::DurableBuild;
@@ -13,15 +14,6 @@ use jp_disk::Disk;
 use jp_io::Sink;
 use saved_thread::SavedThread;
 use std::alloc::{AllocError, Global};
-
-/// How a command has ended that shows the build of a store.
-#[derive(Drop)]
-pub struct Shown<D> {
-    /// The exit status of the program.
-    pub status: u8,
-    /// The disk. No byte of it was changed.
-    pub disk: D,
-}
 
 /// Writes the log of the build of a store. It changes no byte of it.
 ///
@@ -36,7 +28,7 @@ pub struct Shown<D> {
 ///
 /// It is the log of the last record's image, whatever the other records tell. Where the store is that of one build, its log is
 /// that of the world of the events that the store has.
-pub fn log<D: Disk, R: SavedThread + Drop, K: Sink>(alloc: Global, disk: D, out: &mut K) -> Shown<D>
+pub fn log<D: Disk, R: SavedThread + Drop, K: Sink>(alloc: Global, disk: D, out: &mut K) -> Done<D>
     ensures causes { Causes (D.reads disk) (D.faults disk) (D.faults result.disk) (K.faults out.old) (K.faults out.new) result.status }
     ensures shows { Shows (λ w. w.shared.log) (D.reads disk) (D.faults disk) (D.faults result.disk) (K.written out.old) (K.written out.new) (K.faults out.old) (K.faults out.new) result.status }
     ensures last { (file : List ℕ) → D.reads disk ≡ Some file → ShowsLast (λ i. i.log) file (K.written out.old) (K.written out.new) (K.faults out.old) (K.faults out.new) result.status }
@@ -46,14 +38,14 @@ pub fn log<D: Disk, R: SavedThread + Drop, K: Sink>(alloc: Global, disk: D, out:
     match DurableBuild::<D, R>::open(alloc, disk) {
         Ok(durable) => {
             let status = tell_text(out, durable.build().log(), 0);
-            Shown {
+            Done {
                 status,
                 disk: durable.close(),
             }
         }
         Err((fault, disk)) => {
             let status = tell(out, &Refusal::of_store(alloc, fault));
-            Shown { status, disk }
+            Done { status, disk }
         }
     }
 }
@@ -64,7 +56,7 @@ pub fn graph<D: Disk, R: SavedThread + Drop, K: Sink>(
     alloc: Global,
     disk: D,
     out: &mut K,
-) -> Shown<D>
+) -> Done<D>
     ensures causes { Causes (D.reads disk) (D.faults disk) (D.faults result.disk) (K.faults out.old) (K.faults out.new) result.status }
     ensures shows { Shows (λ w. graph_text w.shared.nodes) (D.reads disk) (D.faults disk) (D.faults result.disk) (K.written out.old) (K.written out.new) (K.faults out.old) (K.faults out.new) result.status }
     ensures last { (file : List ℕ) → D.reads disk ≡ Some file → ShowsLast (λ i. graph_text i.nodes) file (K.written out.old) (K.written out.new) (K.faults out.old) (K.faults out.new) result.status }
@@ -74,14 +66,14 @@ pub fn graph<D: Disk, R: SavedThread + Drop, K: Sink>(
     match DurableBuild::<D, R>::open(alloc, disk) {
         Ok(durable) => {
             let status = tell_graph(out, durable.build());
-            Shown {
+            Done {
                 status,
                 disk: durable.close(),
             }
         }
         Err((fault, disk)) => {
             let status = tell(out, &Refusal::of_store(alloc, fault));
-            Shown { status, disk }
+            Done { status, disk }
         }
     }
 }

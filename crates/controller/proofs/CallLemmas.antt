@@ -13,10 +13,9 @@ use Rattle.model_run.specs.declared.site.Site.{Site}
 use Rattle.model_run.specs.World.{Build}
 use Rattle.store_laws.specs.Store.{Mean}
 use Rattle.script_run.specs.Standing.{script_setting}
-use Rattle.run_command.specs.Causes.{HasFault, HasSite, IsRefused, by_fault, by_length, OfFiles}
-use Rattle.run_command.specs.Ends.{Builds, HasRun}
+use Rattle.run_command.specs.Files.{HasFault, HasSite, IsRefused, by_fault, by_length, OfFiles, Builds}
+use Rattle.run_command.specs.Statuses.{HasRun, result_status, world_status, HasLog}
 use Rattle.run_command.specs.Inputs.{Input}
-use Rattle.run_command.specs.Statuses.{result_status, world_status, HasLog}
 use Rattle.run_command.proofs.StatusLemmas.{ended_status, going_status}
 use Rattle.build_commands.specs.Plans.{Hold}
 use Rattle.controller.specs.Call.{Call, Is}

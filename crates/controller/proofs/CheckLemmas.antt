@@ -2,21 +2,21 @@
 use Rattle.std.proofs.Common.{◌≡◌, ◌⊎◌, ℕ, List, Option, inl, inr, refl, ⊎_elim, arith}
 use Rattle.device_faults.specs.Faults.{Rose}
 use Rattle.model_run.specs.declared.result.BuildResult.TheVariants.{Success}
-use Rattle.run_command.specs.Causes.{HasFault, HasSite, IsRefused, OfFiles}
-use Rattle.run_command.specs.Ends.{HasRun}
-use Rattle.run_command.specs.Inputs.{HasFailed}
+use Rattle.run_command.specs.Files.{HasFault, HasSite, IsRefused, OfFiles}
+use Rattle.run_command.specs.Statuses.{HasRun}
+use Rattle.run_command.specs.Inputs.{HasFailed, IsUnread}
 use Rattle.build_commands.specs.Checking.{Checks}
 use Rattle.build_commands.specs.Checking as checking
-use Rattle.build_commands.specs.Plans.{Faults, RefusesFiles}
+use Rattle.build_commands.specs.Plans.{AreCalm, Faults, RefusesFiles}
 use Rattle.build_commands.specs.Plans as plan
 use Rattle.build_commands.specs.Texts.{ok_text}
 use Rattle.build_commands.specs.Writing as writing
-use Rattle.controller.specs.Call.{AreRead, Call, Tells}
+use Rattle.controller.specs.Call.{AreRead, Call, Tells, WithFiles}
 use Rattle.controller.specs.Causes.{CheckCauses}
 use Rattle.controller.specs.FirstFault.{JudgesFiles, TellsFault}
 use Rattle.controller.specs.Output.{Says}
 use Rattle.controller.proofs.CallLemmas.{unrun, run_untold, built_not_refused, built_site, of_files, site_no_fault}
-use Rattle.controller.proofs.RunLemmas.{files_told, files_tell, files_want, files_failed, files_other}
+use Rattle.controller.proofs.RunLemmas.{files_told, files_tell, files_want, files_failed, files_other, files_uncalm}
 use Rattle.controller.proofs.TextLemmas.{written, written_run, says_unrun, files_say}
 
 module _ {D : Type 0} (c : Call D) where
@@ -26,16 +26,16 @@ module _ {D : Type 0} (c : Call D) where
   sound_run : {n : ℕ} → writing.Writes c.old c.new c.sink_before c.sink_after ok_text 0 n → HasRun n
   sound_run writes = written_run (inl (Success, refl)) writes
 
-  pub check_outputs : {n : ℕ} → ChecksSo n → HasRun n → writing.Writes c.old c.new c.sink_before c.sink_after ok_text 0 n × OfFiles c.script c.agents (λ script agents. HasSite agents × ¬ (IsRefused script))
+  pub check_outputs : {n : ℕ} → ChecksSo n → HasRun n → writing.Writes c.old c.new c.sink_before c.sink_after ok_text 0 n × WithFiles c (λ script agents. HasSite agents × ¬ (IsRefused script))
   check_outputs (checking.sound {s = s} {a = a} give writes) run =
-      (writes, of_files c.script c.agents s a (λ script agents. HasSite agents × ¬ (IsRefused script)) give.hold (built_site give.builds, λ refused. built_not_refused give.builds refused))
+      (writes, (s, a, give.hold, (built_site give.builds, λ refused. built_not_refused give.builds refused)))
   check_outputs (checking.refused refused tells) run = absurd (says_unrun (files_say refused) run)
 
   pub check_says : {n : ℕ} → ChecksSo n → HasRun n ⊎ ((text : List ℕ) × Says n text × Tells text c)
   check_says (checking.sound give writes) = inl (sound_run writes)
   check_says (checking.refused {text = text} refused tells) = inr (text, files_say refused, tells)
 
-  told : {n : ℕ} → ChecksSo n → TellsFault n → OfFiles c.script c.agents (λ script agents. (text : List ℕ) × Faults script agents n text × Tells text c)
+  told : {n : ℕ} → ChecksSo n → TellsFault n → AreCalm c.script c.agents × WithFiles c (λ script agents. (text : List ℕ) × Faults script agents n text × Tells text c)
   told {n = n} (checking.sound give writes) is = absurd (run_untold n (sound_run writes) is)
   told (checking.refused refused tells) is = files_told c refused tells is
 
@@ -75,8 +75,13 @@ module _ {D : Type 0} (c : Call D) where
   works (checking.sound give writes) read quiet = λ script agents at_s at_a site sound. ⊎_elim (λ zero. inl zero) (λ failed. absurd (quiet failed.1)) (written writes)
   works (checking.refused refused tells) read quiet = λ script agents at_s at_a site sound. inr (files_want c refused read script agents at_s at_a site sound)
 
-  pub check_causes : {reads : D → Option (List ℕ)} {faults : D → ℕ} → ChecksSo c.status → CheckCauses reads faults c
-  check_causes checks = record { known = known checks; source = source checks; sink = sink checks; works = works checks }
+  unread_told : {n : ℕ} → c.now ≡ c.disk → IsUnread c.answers → ChecksSo n → ¬ (AreCalm c.script c.agents) → (n ≡ 6) × (c.now ≡ c.disk) × IsUnread c.answers
+  unread_told same unread (checking.sound give writes) other = absurd (other give.calm)
+  unread_told same unread (checking.refused refused tells) other = (files_uncalm c refused other, same, unread)
+
+  pub check_causes : {reads : D → Option (List ℕ)} {may_leave : D → List ℕ → Type 0} {clock : D → ℕ} {since : D → ℕ → List ℕ → Type 0} {faults : D → ℕ} → c.now ≡ c.disk → IsUnread c.answers → ChecksSo c.status
+      → CheckCauses reads may_leave clock since faults c
+  check_causes same unread checks = record { known = known checks; source = source checks; unread = unread_told same unread checks; sink = sink checks; works = works checks }
 
   pub check_known : {n : ℕ} → ChecksSo n → n ≡ 2 → ⊥
   check_known {n = n} (checking.sound give writes) two = unrun 2 n two refl (sound_run writes)

@@ -1,21 +1,21 @@
 -- The parts of a call's contract for `resume`, from its tables.
-use Rattle.std.proofs.Common.{◌≡◌, ◌⊎◌, ℕ, List, [], ◌++◌, Option, Some, inl, inr, refl, sym, ◌∙◌, subst, ⊎_elim, arith}
-use Rattle.std.specs.Prelude.{IfSome}
+use Rattle.std.proofs.Common.{◌≡◌, ◌⊎◌, ℕ, List, [], ◌++◌, Option, Some, inl, inr, refl, ap, subst, arith}
+use Rattle.std.specs.Prelude.{IfSome, IsSome, is_some}
 use Rattle.device_faults.specs.Faults.{Rose}
 use Rattle.jp_disk.proofs.MomentLemmas.{if_told}
 use Rattle.model_run.specs.declared.event.Event.{Event}
 use Rattle.model_run.specs.State.{Setting}
-use Rattle.run_command.specs.Ends.{HasRun}
+use Rattle.run_command.specs.Statuses.{HasRun}
 use Rattle.run_command.specs.Inputs.{HasFailed, IsUnread}
 use Rattle.build_commands.specs.Finishing.{Finishes}
-use Rattle.build_commands.specs.Resuming.{NotOpened, Resumes, Reopens}
+use Rattle.build_commands.specs.Resuming.{IsUntouched, NotOpened, Resumes, Reopens}
 use Rattle.build_commands.specs.Resuming as resume
 use Rattle.build_commands.specs.Showing.{HasBuild, HasNone, NotTold}
 use Rattle.build_commands.specs.Showing as showing
-use Rattle.controller.specs.Call.{Takes, Call, Finds, Tells}
-use Rattle.controller.specs.Causes.{AllCalm, HasWorked, ResumeCauses, WentOn}
+use Rattle.controller.specs.Call.{Call, Finds, Tells}
+use Rattle.controller.specs.Causes.{AllCalm, HasWorked, ResumeCauses, Unopened, WentOn}
 use Rattle.controller.specs.Commands.{ResumesBy}
-use Rattle.controller.specs.Crash.{Lasts, Stays}
+use Rattle.controller.specs.Crash.{Lasts, Stays, TakesUpTo}
 use Rattle.controller.specs.FirstFault.{TellsFault}
 use Rattle.controller.specs.Output.{Delivers, Says}
 use Rattle.controller.proofs.CallLemmas.{unrun, untold}
@@ -59,82 +59,81 @@ not_told_always (showing.no_memory calm) quiet = inr refl
 
 module _ {D : Type 0} (reads : D → Option (List ℕ)) (may_leave : D → List ℕ → Type 0) (clock : D → ℕ) (since : D → ℕ → List ℕ → Type 0) (faults : D → ℕ) (told_image : (d : D) → IfSome (reads d) (λ file. may_leave d file)) (c : Call D) where
   abbrev ReopensSo : ℕ → Type 0
-  ReopensSo n = Reopens (reads c.disk) (faults c.disk) (faults c.now) c.answers c.old c.new c.sink_before c.sink_after n
+  ReopensSo n = Reopens reads may_leave clock since faults c.disk c.now c.answers c.old c.new c.sink_before c.sink_after n
 
   abbrev ResumesSo : Setting → List Event → ℕ → Type 0
-  ResumesSo setting events n = Resumes may_leave clock since faults setting events c.answers.left c.answers.rest c.disk c.now c.answers.before c.answers.after c.old c.new c.sink_before c.sink_after n
+  ResumesSo setting events n = Resumes reads may_leave clock since faults setting events c.answers.left c.answers.rest c.disk c.now c.answers.before c.answers.after c.old c.new c.sink_before c.sink_after n
 
   -- over any store
   pub resume_says : {n : ℕ} → ReopensSo n → HasRun n ⊎ ((text : List ℕ) × Says n text × Tells text c)
-  resume_says (resume.unopened {text = text} unread why tells) = inr (text, not_told_says why, tells)
+  resume_says (resume.unopened {text = text} unread same why tells) = inr (text, not_told_says why, tells)
   resume_says (resume.goes_on has reports) = reports_say reports
 
   pub resume_untold : {n : ℕ} → ReopensSo n → TellsFault n → ⊥
-  resume_untold (resume.unopened unread why tells) is = not_told_untold why is
+  resume_untold (resume.unopened unread same why tells) is = not_told_untold why is
   resume_untold (resume.goes_on has reports) is = reports_untold reports is
 
   pub resume_known : {n : ℕ} → ReopensSo n → n ≡ 2 → ⊥
-  resume_known (resume.unopened unread why tells) two = (not_told_other why).2 two
+  resume_known (resume.unopened unread same why tells) two = (not_told_other why).2 two
   resume_known (resume.goes_on has reports) two = reports_usage reports two
 
   answers_failed : {n : ℕ} → ReopensSo n → n ≡ 6 → HasFailed c.answers
-  answers_failed (resume.unopened unread why tells) six = absurd ((not_told_other why).0 six)
+  answers_failed (resume.unopened unread same why tells) six = absurd ((not_told_other why).0 six)
   answers_failed (resume.goes_on has reports) six = reports_answers reports six
 
   disk_failed : {n : ℕ} → ReopensSo n → n ≡ 5 → Rose (faults c.disk) (faults c.now)
-  disk_failed (resume.unopened unread why tells) five = not_told_disk why five
+  disk_failed (resume.unopened unread same why tells) five = not_told_disk why five
   disk_failed (resume.goes_on has reports) five = reports_disk reports five
 
   sink_failed : {n : ℕ} → ReopensSo n → n ≡ 7 → Rose c.sink_before c.sink_after
-  sink_failed (resume.unopened unread why tells) seven = absurd ((not_told_other why).1 seven)
+  sink_failed (resume.unopened unread same why tells) seven = absurd ((not_told_other why).1 seven)
   sink_failed (resume.goes_on has reports) seven = reports_sink reports seven
 
   none : {n : ℕ} → ReopensSo n → n ≡ 9 → (text : List ℕ) × NotTold (reads c.disk) (faults c.disk) (faults c.now) n text × Tells text c
-  none (resume.unopened {text = text} unread why tells) nine = (text, why, tells)
+  none (resume.unopened {text = text} unread same why tells) nine = (text, why, tells)
   none (resume.goes_on has reports) nine = absurd (reports_build reports nine)
 
   pub resume_unread : {n : ℕ} → ReopensSo n → n ≡ 9 → IsUnread c.answers
-  resume_unread (resume.unopened unread why tells) nine = unread
+  resume_unread (resume.unopened unread same why tells) nine = unread
   resume_unread (resume.goes_on has reports) nine = absurd (reports_build reports nine)
 
   finds_none : {n : ℕ} → ReopensSo n → ¬ (Rose (faults c.disk) (faults c.now)) → (file : List ℕ) → reads c.disk ≡ Some file → HasNone file → (n ≡ 9) ⊎ (n ≡ 8)
-  finds_none (resume.unopened unread why tells) quiet file told is = not_told_always why quiet
+  finds_none (resume.unopened unread same why tells) quiet file told is = not_told_always why quiet
   finds_none (resume.goes_on has reports) quiet file told is = absurd (both file (if_told HasBuild told has) is)
 
   -- over a consistent one
   module _ (setting : Setting) (events : List Event) where
     abbrev FinishesSo : D → ℕ → Type 0
-    FinishesSo opened n = Finishes may_leave clock since setting opened events c.answers.left c.answers.rest c.now (faults opened) (faults c.now) c.answers.before c.answers.after c.old c.new c.sink_before c.sink_after n
+    FinishesSo opened n = Finishes reads may_leave clock since setting (reads c.disk) opened events c.answers.left c.answers.rest c.now (faults opened) (faults c.now) c.answers.before c.answers.after c.old c.new c.sink_before c.sink_after n
 
-    delivered : {n : ℕ} → ResumesSo setting events n → n ≡ c.status → HasRun n → (more : List Event) × Delivers reads setting events (events ++ more) c
-    delivered (resume.refused unread stays why tells) is run = absurd (opened_unrun why run)
+    delivered : {n : ℕ} → ResumesSo setting events n → n ≡ c.status → HasRun n → (more : List Event) × Delivers reads may_leave setting events (events ++ more) c
+    delivered (resume.refused unread same why tells) is run = absurd (opened_unrun why run)
     delivered (resume.went_on opened up_to same finishes) is run =
         finish_delivers reads may_leave clock since faults told_image setting opened events c same (subst (FinishesSo opened) is finishes) (subst HasRun is run)
 
-    lasts : {n : ℕ} → ResumesSo setting events n → Stays reads may_leave clock since faults c ⊎ ((taken : List Event) × (risked : Option Event) × Takes setting events taken c × Lasts reads may_leave clock since faults setting events taken risked c)
-    lasts (resume.refused unread stays why tells) = inl stays
-    lasts (resume.went_on opened up_to same finishes) =
-        let g = gone reads may_leave clock since faults told_image setting opened events c same finishes in
-        inr (g.taken, g.risked, g.takes, record { origin = opened; up_to = up_to; from_then = g.moments; at_end = g.images; sure = g.sure })
+    lasts : {n : ℕ} → ResumesSo setting events n → n ≡ c.status → IsSome (reads c.disk)
+        → Stays reads may_leave clock since faults c ⊎ ((taken : List Event) × (risked : Option Event) × TakesUpTo reads may_leave clock since faults setting events taken risked c × Lasts reads may_leave clock since faults setting events taken risked c)
+    lasts (resume.refused unread same why tells) is known = inl same.moments
+    lasts (resume.went_on opened up_to same finishes) is known =
+        let g = gone reads may_leave clock since faults told_image setting opened events c same (subst (FinishesSo opened) is finishes) in
+        inr (g.taken, g.risked, record { takes = g.takes; next = g.next }, record { origin = opened; up_to = up_to; from_then = g.moments known; at_end = g.images known; sure = g.sure; shown = g.shown })
 
-    not_opened_went : {a b n : ℕ} {text : List ℕ} → NotOpened events a b n text → (n ≡ 9) ⊎ (n ≡ 5) ⊎ (n ≡ 8)
-    not_opened_went (resume.no_build none) = inl refl
-    not_opened_went (resume.disk_failed rose) = inr (inl refl)
-    not_opened_went resume.no_memory = inr (inr refl)
+    opened_why : {n : ℕ} {text : List ℕ} → NotOpened events (faults c.disk) (faults c.now) n text → (n ≡ 9) ⊎ (n ≡ 5) ⊎ (n ≡ 8)
+    opened_why (resume.no_build none) = inl refl
+    opened_why (resume.disk_failed rose) = inr (inl refl)
+    opened_why resume.no_memory = inr (inr refl)
 
-    went : {n : ℕ} → ResumesSo setting events n → n ≡ c.status → (c.status ≡ 9) ⊎ (c.status ≡ 5) ⊎ (c.status ≡ 8) ⊎ WentOn reads faults setting events c
-    went (resume.refused unread stays why tells) is =
-        ⊎_elim (λ nine. inl (sym is ∙ nine)) (⊎_elim (λ five. inr (inl (sym is ∙ five))) (λ eight. inr (inr (inl (sym is ∙ eight))))) (not_opened_went why)
-    went (resume.went_on opened up_to same finishes) is =
-        inr (inr (inr (finish_went reads may_leave clock since faults told_image setting opened events c same (subst (FinishesSo opened) is finishes))))
+    went : {n : ℕ} → ResumesSo setting events n → n ≡ c.status → Unopened reads may_leave clock since faults c ⊎ WentOn reads may_leave clock since faults setting events c
+    went (resume.refused unread same why tells) is = inl (record { why = subst (λ (m : ℕ). (m ≡ 9) ⊎ (m ≡ 5) ⊎ (m ≡ 8)) is (opened_why why); disk = same; unread = unread })
+    went (resume.went_on opened up_to same finishes) is = inr (finish_went reads may_leave clock since faults told_image setting opened events c same (subst (FinishesSo opened) is finishes))
 
-    not_opened_works : {n : ℕ} {text : List ℕ} → NotOpened events (faults c.disk) (faults c.now) n text → AllCalm reads faults c → ¬ (events ≡ []) → HasWorked n
+    not_opened_works : {n : ℕ} {text : List ℕ} → NotOpened events (faults c.disk) (faults c.now) n text → AllCalm reads may_leave clock since faults c → ¬ (events ≡ []) → HasWorked n
     not_opened_works (resume.no_build none) calm some = absurd (some none)
     not_opened_works (resume.disk_failed rose) calm some = absurd (calm.disk rose)
     not_opened_works resume.no_memory calm some = inr (inl refl)
 
-    works : {n : ℕ} → ResumesSo setting events n → n ≡ c.status → AllCalm reads faults c → ¬ (events ≡ []) → HasWorked c.status
-    works (resume.refused unread stays why tells) is calm some = subst HasWorked is (not_opened_works why calm some)
+    works : {n : ℕ} → ResumesSo setting events n → n ≡ c.status → AllCalm reads may_leave clock since faults c → ¬ (events ≡ []) → HasWorked c.status
+    works (resume.refused unread same why tells) is calm some = subst HasWorked is (not_opened_works why calm some)
     works (resume.went_on opened up_to same finishes) is calm some =
         finish_worked reads may_leave clock since faults told_image setting opened events c same (subst (FinishesSo opened) is finishes) calm
 
@@ -142,14 +141,20 @@ module _ {D : Type 0} (reads : D → Option (List ℕ)) (may_leave : D → List 
     here : (setting : Setting) (events : List Event) → Finds reads setting events c → ResumesSo setting events c.status
     here setting events finds = by.resumes finds.file finds.told setting events finds.stores
 
-    pub resume_outputs : HasRun c.status → (setting : Setting) (events : List Event) → Finds reads setting events c → (more : List Event) × Delivers reads setting events (events ++ more) c
+    pub resume_outputs : HasRun c.status → (setting : Setting) (events : List Event) → Finds reads setting events c → (more : List Event) × Delivers reads may_leave setting events (events ++ more) c
     resume_outputs run setting events finds = delivered setting events (here setting events finds) refl run
 
-    pub resume_crashes : (setting : Setting) (events : List Event) → Finds reads setting events c
-        → Stays reads may_leave clock since faults c ⊎ ((taken : List Event) × (risked : Option Event) × Takes setting events taken c × Lasts reads may_leave clock since faults setting events taken risked c)
-    resume_crashes setting events finds = lasts setting events (here setting events finds)
+    -- a store that was not opened has each byte
+    untouched : {n : ℕ} → ReopensSo n → n ≡ 9 → IsUntouched reads may_leave clock since c.disk c.now
+    untouched (resume.unopened unread same why tells) nine = same
+    untouched (resume.goes_on has reports) nine = absurd (reports_build reports nine)
 
-    pub resume_causes : ResumeCauses reads faults c
+    pub resume_crashes : (c.status ≡ 9 → IsUntouched reads may_leave clock since c.disk c.now)
+        × ((setting : Setting) (events : List Event) → Finds reads setting events c
+        → Stays reads may_leave clock since faults c ⊎ ((taken : List Event) × (risked : Option Event) × TakesUpTo reads may_leave clock since faults setting events taken risked c × Lasts reads may_leave clock since faults setting events taken risked c))
+    resume_crashes = (untouched by.reopens, λ setting events finds. lasts setting events (here setting events finds) refl (ap is_some finds.told))
+
+    pub resume_causes : ResumeCauses reads may_leave clock since faults c
     resume_causes = record {
       answers = answers_failed by.reopens;
       disk = disk_failed by.reopens;

@@ -1,16 +1,14 @@
 -- The parts of a call's contract for `run`, from its table.
-use Rattle.std.proofs.Common.{true, ◌≡◌, ◌⊎◌, ◌+◌, ◌<◌, ◌≤◌, ◌^◌, ℕ, List, [], ◌∷◌, ◌++◌, Option, None, Some, inl, inr, refl, sym, ap, ◌∙◌, subst, append_assoc, ⊎_elim, arith}
-use Rattle.std.specs.Prelude.{IfSome, IsSomeAnd}
-use Rattle.std.specs.Io.KnownBytes.{Consumes, IsAtEnd}
-use Rattle.std.proofs.KnownBytes.{Consumes-nil}
-use Rattle.saved_run.specs.Going as life
+use Rattle.std.proofs.Common.{◌≡◌, ◌⊎◌, ◌+◌, ◌<◌, ◌≤◌, ◌^◌, ℕ, List, [], ◌∷◌, ◌++◌, Option, None, Some, inl, inr, refl, sym, ap, ◌∙◌, subst, append_assoc, ⊎_elim, arith}
+use Rattle.std.specs.Prelude.{IfSome, IsSome, IsSomeAnd, is_some}
+use Rattle.std.specs.Io.KnownBytes.{IsAtEnd}
 use Rattle.build_commands.specs.Texts.{full_text, has_build_text}
 use Rattle.device_faults.specs.Faults.{Rose, CountsFault}
 use Rattle.jp_disk.specs.Moments.{AtEachMoment}
-use Rattle.jp_disk.proofs.MomentLemmas.{if_told, runs_on, at_each_weaker, starts}
+use Rattle.jp_disk.proofs.MomentLemmas.{runs_on, at_each_weaker, starts}
 use Rattle.journal_core.specs.Answers.{IsStarted}
 use Rattle.journal_core.specs.Moments.{SinceSync}
-use Rattle.journal_core.specs.Records.{records}
+use Rattle.journal_core.specs.Records.{Has, records}
 use Rattle.agent_worker.specs.declared.fault.TakeFault.{TakeFault}
 use Rattle.agent_worker.specs.declared.fault.TakeFault.TheVariants as take
 use Rattle.model_syntax.specs.declared.tree.Tree.{Tree}
@@ -22,24 +20,26 @@ use Rattle.settle_laws.specs.Stances.{Stance}
 use Rattle.script_run.specs.Standing.{script_setting}
 use Rattle.saved_run.specs.declared.life.BeginFault.{BeginFault}
 use Rattle.saved_run.specs.declared.life.BeginFault.TheVariants as fault
-use Rattle.saved_run.specs.Lives.{BeginRefuses, StartFails, MayRisk}
+use Rattle.record_form.specs.declared.record.EventRecord.{EventRecord}
+use Rattle.store_laws.specs.Store.{AllSpell, Mean, events_of}
+use Rattle.saved_run.specs.Lives.{BeginRefuses, StartFails, MayRisk, TellsStart}
 use Rattle.saved_run.specs.Saved.{Stores, Survives}
-use Rattle.run_command.specs.Causes.{HasFault, HasSite, IsRefused, by_fault, by_length, OfFiles}
-use Rattle.run_command.specs.Ends.{Builds, HasRun}
+use Rattle.run_command.specs.Files.{HasFault, HasSite, IsRefused, by_fault, by_length, OfFiles, Builds}
+use Rattle.run_command.specs.Statuses.{HasRun}
 use Rattle.run_command.specs.Inputs.{HasFailed, IsUnread}
-use Rattle.build_commands.specs.Beginning.{BeginSays, WentOn as WentOnBegun, Begins, Runs}
+use Rattle.build_commands.specs.Beginning.{BeginSays, BeginsOver, Runs}
 use Rattle.build_commands.specs.Beginning as begin
-use Rattle.build_commands.specs.Plans.{Faults, Give, Hold, RefusesFiles}
+use Rattle.build_commands.specs.Finishing.{Finishes}
+use Rattle.build_commands.specs.Plans.{AreCalm, Faults, Hold, RefusesFiles}
 use Rattle.build_commands.specs.Plans as plan
 use Rattle.build_commands.specs.Reporting.{Reports}
 use Rattle.build_commands.specs.Reporting as report
-use Rattle.controller.specs.Call.{AreRead, Call, Tells}
-use Rattle.controller.specs.Causes as causes
-use Rattle.controller.specs.Causes.{AllCalm, HasWorked, IsUnbegun, RunCauses, RunWentOn}
+use Rattle.controller.specs.Call.{AreRead, Call, Tells, WithFiles}
+use Rattle.controller.specs.Causes.{AllCalm, HasWorked, IsFullAtOnce, LeavesAll, RunCauses, RunWentOn, Unbegun}
 use Rattle.controller.specs.Crash.{LastsRun, Stays}
 use Rattle.controller.specs.FirstFault.{TellsFault, JudgesFiles}
 use Rattle.controller.specs.Output.{DeliversRun, Says}
-use Rattle.controller.proofs.CallLemmas.{unrun, seven_no_log, untold, run_untold, built_not_refused, built_site, site_no_fault, mean_of, of_files, where_told, some_and}
+use Rattle.controller.proofs.CallLemmas.{unrun, seven_no_log, untold, run_untold, built_not_refused, built_site, site_no_fault, mean_of, of_files, some_and}
 use Rattle.controller.proofs.LifeLemmas.{gone, finish_delivers, finish_went, finish_worked}
 use Rattle.controller.proofs.TextLemmas.{written, written_run, says_unrun, files_say, begin_says, reports_say}
 
@@ -51,11 +51,16 @@ nothing_front (e ∷ es) rest is = absurd (cc)
 -- files that are judged: what is told of them
 module _ {D : Type 0} (c : Call D) where
   pub files_told : {n : ℕ} {text : List ℕ} → RefusesFiles c.script c.agents n text → Tells text c → TellsFault n
-      → OfFiles c.script c.agents (λ script agents. (t : List ℕ) × Faults script agents n t × Tells t c)
+      → AreCalm c.script c.agents × WithFiles c (λ script agents. (t : List ℕ) × Faults script agents n t × Tells t c)
   files_told (plan.unread failed) tells is = absurd (untold 6 6 refl (λ e. omega (arith, e)) (λ e. omega (arith, e)) is)
   files_told (plan.no_room calm) tells is = absurd (untold 8 8 refl (λ e. omega (arith, e)) (λ e. omega (arith, e)) is)
-  files_told (plan.judged {s = s} {a = a} {status = n} {text = text} calm hold faults) tells is =
-      of_files c.script c.agents s a (λ script agents. (t : List ℕ) × Faults script agents n t × Tells t c) hold (text, faults, tells)
+  files_told (plan.judged {s = s} {a = a} {text = text} calm hold faults) tells is = (calm, (s, a, hold, (text, faults, tells)))
+
+  -- a source that counted a fault is told
+  pub files_uncalm : {n : ℕ} {text : List ℕ} → RefusesFiles c.script c.agents n text → ¬ (AreCalm c.script c.agents) → n ≡ 6
+  files_uncalm (plan.unread failed) other = refl
+  files_uncalm (plan.no_room calm) other = absurd (other calm)
+  files_uncalm (plan.judged calm hold faults) other = absurd (other calm)
 
   faults_tell : {s a : List ℕ} {n : ℕ} {text : List ℕ} → Faults s a n text → TellsFault n ⊎ (n ≡ 8)
   faults_tell (plan.of_agents is) = inl (inr refl)
@@ -92,16 +97,16 @@ module _ {D : Type 0} (c : Call D) where
       never (plan.of_script site fits first) e = omega (arith, e)
       never plan.no_memory e = omega (arith, e)
 
-  faults_unbegun : {s a : List ℕ} {n : ℕ} {text : List ℕ} → Faults s a n text → (n ≡ 4) ⊎ (n ≡ 13) ⊎ (n ≡ 8)
+  faults_unbegun : {s a : List ℕ} {n : ℕ} {text : List ℕ} → Faults s a n text → (n ≡ 4) ⊎ (n ≡ 13) ⊎ (n ≡ 8) ⊎ ((n ≡ 6) × (HasFailed c.script ⊎ HasFailed c.agents))
   faults_unbegun (plan.of_agents is) = inr (inl refl)
   faults_unbegun (plan.too_long site long) = inl refl
   faults_unbegun (plan.of_script site fits first) = inl refl
-  faults_unbegun plan.no_memory = inr (inr refl)
+  faults_unbegun plan.no_memory = inr (inr (inl refl))
 
-  pub files_unbegun : {n : ℕ} {text : List ℕ} → RefusesFiles c.script c.agents n text → ((n ≡ 4) ⊎ (n ≡ 13) ⊎ (n ≡ 8)) ⊎ ((n ≡ 6) × (HasFailed c.script ⊎ HasFailed c.agents))
-  files_unbegun (plan.unread failed) = inr (refl, failed)
-  files_unbegun (plan.no_room calm) = inl (inr (inr refl))
-  files_unbegun (plan.judged calm hold faults) = inl (faults_unbegun faults)
+  pub files_unbegun : {n : ℕ} {text : List ℕ} → RefusesFiles c.script c.agents n text → (n ≡ 4) ⊎ (n ≡ 13) ⊎ (n ≡ 8) ⊎ ((n ≡ 6) × (HasFailed c.script ⊎ HasFailed c.agents))
+  files_unbegun (plan.unread failed) = inr (inr (inr (refl, failed)))
+  files_unbegun (plan.no_room calm) = inr (inr (inl refl))
+  files_unbegun (plan.judged calm hold faults) = faults_unbegun faults
 
   pub files_other : {n : ℕ} {text : List ℕ} → RefusesFiles c.script c.agents n text → (¬ (n ≡ 5)) × (¬ (n ≡ 7)) × (¬ (n ≡ 9)) × (¬ (n ≡ 2))
   files_other (plan.unread failed) = (λ e. omega (arith, e), λ e. omega (arith, e), λ e. omega (arith, e), λ e. omega (arith, e))
@@ -120,42 +125,42 @@ module _ {a b x y d e : ℕ} {old new : Option (List ℕ)} where
   reports_untold {n = n} (report.rested quiet log writes) is = run_untold n (written_run log writes) is
   reports_untold (report.answers_failed calm rose tells) is = untold 6 6 refl (λ e. omega (arith, e)) (λ e. omega (arith, e)) is
   reports_untold (report.disk_failed rose calm tells) is = untold 5 5 refl (λ e. omega (arith, e)) (λ e. omega (arith, e)) is
-  reports_untold (report.full len add quiet tells) is = untold 14 14 refl (λ e. omega (arith, e)) (λ e. omega (arith, e)) is
+  reports_untold (report.full len event image quiet long tells) is = untold 14 14 refl (λ e. omega (arith, e)) (λ e. omega (arith, e)) is
   reports_untold (report.no_memory quiet tells) is = untold 8 8 refl (λ e. omega (arith, e)) (λ e. omega (arith, e)) is
 
   pub reports_answers : {n : ℕ} → Reports a b x y old new d e n → n ≡ 6 → Rose x y
   reports_answers {n = n} (report.rested quiet log writes) six = absurd (unrun 6 n six refl (written_run log writes))
   reports_answers (report.answers_failed calm rose tells) six = rose
   reports_answers (report.disk_failed rose calm tells) six = absurd (omega (arith, six))
-  reports_answers (report.full len add quiet tells) six = absurd (omega (arith, six))
+  reports_answers (report.full len event image quiet long tells) six = absurd (omega (arith, six))
   reports_answers (report.no_memory quiet tells) six = absurd (omega (arith, six))
 
   pub reports_disk : {n : ℕ} → Reports a b x y old new d e n → n ≡ 5 → Rose a b
   reports_disk {n = n} (report.rested quiet log writes) five = absurd (unrun 5 n five refl (written_run log writes))
   reports_disk (report.answers_failed calm rose tells) five = absurd (omega (arith, five))
   reports_disk (report.disk_failed rose calm tells) five = rose
-  reports_disk (report.full len add quiet tells) five = absurd (omega (arith, five))
+  reports_disk (report.full len event image quiet long tells) five = absurd (omega (arith, five))
   reports_disk (report.no_memory quiet tells) five = absurd (omega (arith, five))
 
   pub reports_sink : {n : ℕ} → Reports a b x y old new d e n → n ≡ 7 → Rose d e
   reports_sink {n = n} (report.rested {ended = m} quiet log writes) seven = ⊎_elim (λ is. absurd (seven_no_log m (sym is ∙ seven) log)) (λ failed. failed.1) (written writes)
   reports_sink (report.answers_failed calm rose tells) seven = absurd (omega (arith, seven))
   reports_sink (report.disk_failed rose calm tells) seven = absurd (omega (arith, seven))
-  reports_sink (report.full len add quiet tells) seven = absurd (omega (arith, seven))
+  reports_sink (report.full len event image quiet long tells) seven = absurd (omega (arith, seven))
   reports_sink (report.no_memory quiet tells) seven = absurd (omega (arith, seven))
 
   pub reports_build : {n : ℕ} → Reports a b x y old new d e n → n ≡ 9 → ⊥
   reports_build {n = n} (report.rested quiet log writes) nine = unrun 9 n nine refl (written_run log writes)
   reports_build (report.answers_failed calm rose tells) nine = omega (arith, nine)
   reports_build (report.disk_failed rose calm tells) nine = omega (arith, nine)
-  reports_build (report.full len add quiet tells) nine = omega (arith, nine)
+  reports_build (report.full len event image quiet long tells) nine = omega (arith, nine)
   reports_build (report.no_memory quiet tells) nine = omega (arith, nine)
 
   pub reports_usage : {n : ℕ} → Reports a b x y old new d e n → n ≡ 2 → ⊥
   reports_usage {n = n} (report.rested quiet log writes) two = unrun 2 n two refl (written_run log writes)
   reports_usage (report.answers_failed calm rose tells) two = omega (arith, two)
   reports_usage (report.disk_failed rose calm tells) two = omega (arith, two)
-  reports_usage (report.full len add quiet tells) two = omega (arith, two)
+  reports_usage (report.full len event image quiet long tells) two = omega (arith, two)
   reports_usage (report.no_memory quiet tells) two = omega (arith, two)
 
 -- the status of a build that was not begun
@@ -189,6 +194,31 @@ begin_five begin.disk_failed five = refl
 begin_five (begin.full len add) five = absurd (omega (arith, five))
 begin_five (begin.no_memory other) five = absurd (omega (arith, five))
 
+begin_disk : {f : BeginFault} {n : ℕ} {text : List ℕ} → BeginSays f n text → f ≡ fault.Take take.Disk → n ≡ 5
+begin_disk begin.has_build is = absurd (cc)
+begin_disk begin.disk_failed is = refl
+begin_disk (begin.full len add) is = absurd (cc)
+begin_disk (begin.no_memory {fault = f} other) is = absurd (other (same_fault f is))
+  where
+    same_fault : (f : TakeFault) → fault.Take f ≡ fault.Take take.Disk → f ≡ take.Disk
+    same_fault f is = cc
+
+-- a build that was not begun shows no log
+begin_unrun : {f : BeginFault} {n : ℕ} {text : List ℕ} → BeginSays f n text → HasRun n → ⊥
+begin_unrun begin.has_build run = unrun 9 9 refl refl run
+begin_unrun begin.disk_failed run = unrun 5 5 refl refl run
+begin_unrun (begin.full len add) run = unrun 14 14 refl refl run
+begin_unrun (begin.no_memory other) run = unrun 8 8 refl refl run
+
+-- a store without an event has no record
+no_record : (records : List EventRecord) (payloads : List (List ℕ)) → events_of records ≡ [] → AllSpell records payloads → payloads ≡ []
+no_record [] [] none spelled = refl
+no_record [] (p ∷ ps) none spelled = absurd spelled
+no_record (r ∷ rs) payloads none spelled = absurd (cc)
+
+has_none : (setting : Setting) (image : List ℕ) → Stores setting [] image → Has [] image
+has_none setting image stores = subst (λ (ps : List (List ℕ)). Has ps image) (no_record stores.told.records stores.payloads stores.told.are stores.told.spelled) stores.has
+
 -- only a fault of the disk leaves the refused event open
 risked_only : (f : TakeFault) (start : Event) (risked : Option Event) → MayRisk f (Some start) risked → ((f ≡ take.Disk) × (risked ≡ Some start)) ⊎ (risked ≡ None)
 risked_only take.Disk start risked is = inl (refl, is)
@@ -202,34 +232,32 @@ module _ {D T : Type 0} (reads : D → Option (List ℕ)) (may_leave : D → Lis
   abbrev RunsSo : ℕ → Type 0
   RunsSo n = Runs reads may_leave clock since stance faults c.disk c.now c.answers c.old c.new c.sink_before c.sink_after c.script c.agents n
 
-  abbrev GoesSo : (s a : List ℕ) → Tree → Site → List ℕ → D → ℕ → Type 0
-  GoesSo s a tree site file started n = WentOnBegun reads may_leave clock since stance faults c.disk c.now c.answers c.old c.new c.sink_before c.sink_after s a tree site file started n
+  abbrev FinishesBy : (s a : List ℕ) → Tree → Site → D → ℕ → Type 0
+  FinishesBy s a tree site started n =
+      Finishes reads may_leave clock since (script_setting tree site) (reads c.disk) started (StartEvent s a ∷ []) c.answers.left c.answers.rest c.now (faults started) (faults c.now) c.answers.before c.answers.after c.old c.new c.sink_before c.sink_after n
+
+  abbrev OverSo : (s a : List ℕ) → Tree → Site → List ℕ → D → Type 0
+  OverSo s a tree site file started = BeginsOver reads may_leave clock since stance faults c.disk c.now c.answers c.old c.new c.sink_before c.sink_after s a tree site file started
 
   -- a call that left the disk as it was
   pub stays_here : c.now ≡ c.disk → Stays reads may_leave clock since faults c
   stays_here same = subst (λ (d : D). AtEachMoment clock since c.disk d (may_leave c.disk)) (sym same) (starts clock since c.disk (may_leave c.disk) (λ image left. only_now c.disk image left))
 
   -- OUTPUT
-  outputs : {n : ℕ} → RunsSo n → n ≡ c.status → HasRun n
-      → IsAtEnd c.script.rest × IsAtEnd c.agents.rest × ((file : List ℕ) → reads c.disk ≡ Some file → OfFiles c.script c.agents (DeliversRun reads c))
+  outputs : {n : ℕ} → RunsSo n → n ≡ c.status → HasRun n → IsAtEnd c.script.rest × IsAtEnd c.agents.rest × WithFiles c (DeliversRun reads may_leave c)
   outputs (begin.refused refused same unread tells) is run = absurd (says_unrun (files_say refused) run)
-  outputs (begin.built give (begin.unbegun unread says counts refuses tells)) is run = absurd (says_unrun (begin_says says) run)
-  outputs (begin.built {s = s} {a = a} {tree = tree} {site = site} give (begin.begun started same reports goes)) is run = (
-    give.script_ends,
-    give.agents_end,
-    λ file told. of_files c.script c.agents s a (DeliversRun reads c) give.hold (
-        let g = goes file told in
-        let d = finish_delivers reads may_leave clock since faults told_image (script_setting tree site) started (StartEvent s a ∷ []) c same (subst (λ (m : ℕ). GoesSo s a tree site file started m) is g).finishes (subst HasRun is run) in
-        record { setting = script_setting tree site; mean = mean_of give.builds; more = d.0; delivers = d.1 }),
-  )
+  outputs (begin.built give (begin.unbegun unread says counts sizes refuses tells)) is run = absurd (begin_unrun says run)
+  outputs (begin.built {s = s} {a = a} {tree = tree} {site = site} give (begin.begun started same reports finishes over)) is run =
+      let d = finish_delivers reads may_leave clock since faults told_image (script_setting tree site) started (StartEvent s a ∷ []) c same (subst (λ (m : ℕ). FinishesBy s a tree site started m) is finishes) (subst HasRun is run) in
+      (give.script_ends, give.agents_end, (s, a, give.hold, record { setting = script_setting tree site; mean = mean_of give.builds; more = d.0; delivers = d.1 }))
 
-  pub run_outputs : RunsSo c.status → HasRun c.status → IsAtEnd c.script.rest × IsAtEnd c.agents.rest × ((file : List ℕ) → reads c.disk ≡ Some file → OfFiles c.script c.agents (DeliversRun reads c))
+  pub run_outputs : RunsSo c.status → HasRun c.status → IsAtEnd c.script.rest × IsAtEnd c.agents.rest × WithFiles c (DeliversRun reads may_leave c)
   run_outputs runs run = outputs runs refl run
 
   pub run_says : {n : ℕ} → RunsSo n → HasRun n ⊎ ((text : List ℕ) × Says n text × Tells text c)
   run_says (begin.refused {text = text} refused same unread tells) = inr (text, files_say refused, tells)
-  run_says (begin.built give (begin.unbegun {text = text} unread says counts refuses tells)) = inr (text, begin_says says, tells)
-  run_says (begin.built give (begin.begun started same reports goes)) = reports_say reports
+  run_says (begin.built {s = s} {a = a} {tree = tree} {site = site} give (begin.unbegun {text = text} unread says counts sizes refuses tells)) = inr (text, begin_says (script_setting tree site) (StartEvent s a) says sizes, tells)
+  run_says (begin.built give (begin.begun started same reports finishes over)) = reports_say reports
 
   -- CRASH
   module _ (s a : List ℕ) (tree : Tree) (site : Site) (builds : Builds s a tree site) where
@@ -241,9 +269,9 @@ module _ {D T : Type 0} (reads : D → Option (List ℕ)) (may_leave : D → Lis
         same_event eq = cc
 
     -- a `Start` whose take failed
-    start_lasts : (file : List ℕ) (f : TakeFault) → CountsFault (faults c.disk) (faults c.now) (fault.Take f ≡ fault.Take take.Disk)
-        → StartFails reads may_leave clock since stance (script_setting tree site) (StartEvent s a) file c.disk c.now f → LastsRun reads may_leave clock since faults c s a
-    start_lasts file f counts fails = record {
+    start_lasts : (file : List ℕ) (f : TakeFault) → (HasRun c.status → ⊥) → CountsFault (faults c.disk) (faults c.now) (fault.Take f ≡ fault.Take take.Disk)
+        → StartFails reads may_leave clock since stance (script_setting tree site) (StartEvent s a) file c.disk c.now f → LastsRun reads may_leave clock since faults c file s a
+    start_lasts file f unrun counts fails = record {
       setting = script_setting tree site;
       mean = mean_of builds;
       taken = [];
@@ -254,7 +282,9 @@ module _ {D T : Type 0} (reads : D → Option (List ℕ)) (may_leave : D → Lis
         from_then = fails.moments.from_then;
         at_end = λ image left. kept_then image (fails.moments.from_then.each image (counts_now c.now (clock fails.moments.synced) image fails.moments.from_then.later left));
         sure = λ calm. ⊎_elim (λ disk. absurd (calm (counts.failed (ap (λ (x : TakeFault). fault.Take x) disk.0)))) (λ none. none) (risked_only f (StartEvent s a) fails.risked fails.may_risk);
+        shown = λ run. absurd (unrun run);
       };
+      synced = fails.moments.durable;
       starts = inr (refl, start_starts fails.risked f fails.may_risk);
     }
       where
@@ -265,37 +295,44 @@ module _ {D T : Type 0} (reads : D → Option (List ℕ)) (may_leave : D → Lis
             survives.front.within
 
     abbrev Leaves : List ℕ → Type 0
-    Leaves file = Stays reads may_leave clock since faults c ⊎ (SinceSync clock since may_leave file c.disk c.now (λ image. records image ≡ records file) ⊎ (¬ (IsStarted file) × LastsRun reads may_leave clock since faults c s a))
+    Leaves file = Stays reads may_leave clock since faults c ⊎ (SinceSync clock since may_leave file c.disk c.now (λ image. records image ≡ records file) ⊎ (¬ (IsStarted file) × LastsRun reads may_leave clock since faults c file s a))
 
-    unbegun_leaves : (file : List ℕ) (f : BeginFault) → CountsFault (faults c.disk) (faults c.now) (f ≡ fault.Take take.Disk)
+    failed_leaves : (file : List ℕ) (f : TakeFault) → (HasRun c.status → ⊥) → CountsFault (faults c.disk) (faults c.now) (fault.Take f ≡ fault.Take take.Disk)
+        → StartFails reads may_leave clock since stance (script_setting tree site) (StartEvent s a) file c.disk c.now f → Leaves file
+    failed_leaves file f unrun counts fails = inr (inr (fails.fresh, start_lasts file f unrun counts fails))
+
+    unbegun_leaves : (file : List ℕ) (f : BeginFault) → (HasRun c.status → ⊥) → CountsFault (faults c.disk) (faults c.now) (f ≡ fault.Take take.Disk)
         → BeginRefuses reads may_leave clock since stance (script_setting tree site) (StartEvent s a) file c.disk f c.now → Leaves file
-    unbegun_leaves file fault.HasBuild counts refuses = inr (inl refuses.2)
-    unbegun_leaves file (fault.Take (take.Full len add)) counts refuses = inr (inr (refuses.1.fresh, start_lasts file (take.Full len add) counts refuses.1))
-    unbegun_leaves file (fault.Take take.Memory) counts refuses = ⊎_elim (λ stays. inl stays) (⊎_elim (λ keeps. inr (inl keeps)) (λ fails. inr (inr (fails.fresh, start_lasts file take.Memory counts fails)))) refuses.1
-    unbegun_leaves file (fault.Take take.Disk) counts refuses = ⊎_elim (λ stays. inl stays) (⊎_elim (λ keeps. inr (inl keeps)) (λ fails. inr (inr (fails.fresh, start_lasts file take.Disk counts fails)))) refuses.1
-    unbegun_leaves file (fault.Take take.Stopped) counts refuses = ⊎_elim (λ stays. inl stays) (⊎_elim (λ keeps. inr (inl keeps)) (λ fails. inr (inr (fails.fresh, start_lasts file take.Stopped counts fails)))) refuses.1
+    unbegun_leaves file fault.HasBuild unrun counts refuses = inr (inl refuses.2)
+    unbegun_leaves file (fault.Take (take.Full len add)) unrun counts refuses = failed_leaves file (take.Full len add) unrun counts refuses.1
+    unbegun_leaves file (fault.Take take.Memory) unrun counts refuses = ⊎_elim (λ stays. inl stays) (⊎_elim (λ keeps. inr (inl keeps)) (λ fails. failed_leaves file take.Memory unrun counts fails)) refuses.1
+    unbegun_leaves file (fault.Take take.Disk) unrun counts refuses = ⊎_elim (λ stays. inl stays) (⊎_elim (λ keeps. inr (inl keeps)) (λ fails. failed_leaves file take.Disk unrun counts fails)) refuses.1
+    unbegun_leaves file (fault.Take take.Stopped) unrun counts refuses = ⊎_elim (λ stays. inl stays) (⊎_elim (λ keeps. inr (inl keeps)) (λ fails. failed_leaves file take.Stopped unrun counts fails)) refuses.1
 
     -- a build that was begun and went on
-    begun_lasts : {n : ℕ} (file : List ℕ) (started : D) → faults started ≡ faults c.disk → GoesSo s a tree site file started n → LastsRun reads may_leave clock since faults c s a
-    begun_lasts file started same goes =
+    begun_lasts : (file : List ℕ) (started : D) → reads c.disk ≡ Some file → faults started ≡ faults c.disk → FinishesBy s a tree site started c.status → OverSo s a tree site file started → LastsRun reads may_leave clock since faults c file s a
+    begun_lasts file started told same finishes over =
         let setting : Setting = script_setting tree site in
         let start : List Event = StartEvent s a ∷ [] in
-        let g = gone reads may_leave clock since faults told_image setting started start c same goes.finishes in
+        let g = gone reads may_leave clock since faults told_image setting started start c same finishes in
+        let known : IsSome (reads c.disk) = ap is_some told in
         record {
           setting = setting;
           mean = mean_of builds;
           taken = g.taken;
           risked = g.risked;
           lasts = record {
-            origin = goes.moments.synced;
-            up_to = goes.moments.up_to;
-            from_then = runs_on clock since goes.moments.synced started c.now (Survives setting [] g.taken g.risked)
-                (at_each_weaker clock since goes.moments.synced started (Survives setting [] start None) (Survives setting [] g.taken g.risked) (λ image survives. grown setting g.taken g.more g.risked image g.is survives) goes.moments.from_then)
-                (at_each_weaker clock since started c.now (Survives setting start g.taken g.risked) (Survives setting [] g.taken g.risked) (λ image survives. from_none setting g.taken g.risked image survives) g.moments);
-            at_end = g.images;
+            origin = over.moments.synced;
+            up_to = over.moments.up_to;
+            from_then = runs_on clock since over.moments.synced started c.now (Survives setting [] g.taken g.risked)
+                (at_each_weaker clock since over.moments.synced started (Survives setting [] start None) (Survives setting [] g.taken g.risked) (λ image survives. grown setting g.taken g.more g.risked image g.is survives) over.moments.from_then)
+                (at_each_weaker clock since started c.now (Survives setting start g.taken g.risked) (Survives setting [] g.taken g.risked) (λ image survives. from_none setting g.taken g.risked image survives) (g.moments known));
+            at_end = g.images known;
             sure = g.sure;
+            shown = g.shown;
           };
-          starts = inl g.takes;
+          synced = over.moments.durable;
+          starts = inl (record { takes = g.takes; next = g.next });
         }
       where
         grown : (setting : Setting) (taken more : List Event) (risked : Option Event) (image : List ℕ) → taken ≡ (StartEvent s a ∷ []) ++ more → Survives setting [] (StartEvent s a ∷ []) None image → Survives setting [] taken risked image
@@ -316,25 +353,30 @@ module _ {D T : Type 0} (reads : D → Option (List ℕ)) (may_leave : D → Lis
           stores = survives.stores;
         }
 
-  leaves_files : (file : List ℕ) (s a : List ℕ) (tree : Tree) (site : Site) (builds : Builds s a tree site) → Hold c.script c.agents s a → Leaves s a tree site builds file
-      → Stays reads may_leave clock since faults c ⊎ (SinceSync clock since may_leave file c.disk c.now (λ image. records image ≡ records file) ⊎ (¬ (IsStarted file) × OfFiles c.script c.agents (LastsRun reads may_leave clock since faults c)))
+  abbrev CrashesSo : List ℕ → Type 0
+  CrashesSo file = Stays reads may_leave clock since faults c
+      ⊎ (SinceSync clock since may_leave file c.disk c.now (λ image. records image ≡ records file) ⊎ (¬ (IsStarted file) × WithFiles c (LastsRun reads may_leave clock since faults c file)))
+
+  leaves_files : (file : List ℕ) (s a : List ℕ) (tree : Tree) (site : Site) (builds : Builds s a tree site) → Hold c.script c.agents s a → Leaves s a tree site builds file → CrashesSo file
   leaves_files file s a tree site builds hold (inl stays) = inl stays
   leaves_files file s a tree site builds hold (inr (inl keeps)) = inr (inl keeps)
-  leaves_files file s a tree site builds hold (inr (inr lasts)) = inr (inr (lasts.0, of_files c.script c.agents s a (LastsRun reads may_leave clock since faults c) hold lasts.1))
+  leaves_files file s a tree site builds hold (inr (inr lasts)) = inr (inr (lasts.0, (s, a, hold, lasts.1)))
 
-  pub run_crashes : {n : ℕ} → RunsSo n → (file : List ℕ) → reads c.disk ≡ Some file
-      → Stays reads may_leave clock since faults c ⊎ (SinceSync clock since may_leave file c.disk c.now (λ image. records image ≡ records file) ⊎ (¬ (IsStarted file) × OfFiles c.script c.agents (LastsRun reads may_leave clock since faults c)))
-  run_crashes (begin.refused refused same unread tells) file told = inl (stays_here same)
-  run_crashes (begin.built {s = s} {a = a} {tree = tree} {site = site} give (begin.unbegun {fault = f} unread says counts refuses tells)) file told =
-      leaves_files file s a tree site give.builds give.hold (unbegun_leaves s a tree site give.builds file f counts (refuses file told))
-  run_crashes (begin.built {s = s} {a = a} {tree = tree} {site = site} give (begin.begun started same reports goes)) file told =
-      inr (inr ((goes file told).fresh, of_files c.script c.agents s a (LastsRun reads may_leave clock since faults c) give.hold (begun_lasts s a tree site give.builds file started same (goes file told))))
+  crashes : {n : ℕ} → RunsSo n → n ≡ c.status → (file : List ℕ) → reads c.disk ≡ Some file → CrashesSo file
+  crashes (begin.refused refused same unread tells) is file told = inl (stays_here same)
+  crashes (begin.built {s = s} {a = a} {tree = tree} {site = site} give (begin.unbegun {fault = f} unread says counts sizes refuses tells)) is file told =
+      leaves_files file s a tree site give.builds give.hold (unbegun_leaves s a tree site give.builds file f (λ run. begin_unrun says (subst HasRun (sym is) run)) counts (refuses file told))
+  crashes (begin.built {s = s} {a = a} {tree = tree} {site = site} give (begin.begun started same reports finishes over)) is file told =
+      inr (inr ((over file told).fresh, (s, a, give.hold, begun_lasts s a tree site give.builds file started told same (subst (λ (m : ℕ). FinishesBy s a tree site started m) is finishes) (over file told))))
+
+  pub run_crashes : RunsSo c.status → (file : List ℕ) → reads c.disk ≡ Some file → CrashesSo file
+  run_crashes runs file told = crashes runs refl file told
 
   -- FIRST FAULT
-  judges_told : {n : ℕ} → RunsSo n → TellsFault n → OfFiles c.script c.agents (λ script agents. (text : List ℕ) × Faults script agents n text × Tells text c)
+  judges_told : {n : ℕ} → RunsSo n → TellsFault n → AreCalm c.script c.agents × WithFiles c (λ script agents. (text : List ℕ) × Faults script agents n text × Tells text c)
   judges_told (begin.refused refused same unread tells) is = files_told c refused tells is
-  judges_told (begin.built give (begin.unbegun unread says counts refuses tells)) is = absurd (begin_untold says is)
-  judges_told (begin.built give (begin.begun started same reports goes)) is = absurd (reports_untold reports is)
+  judges_told (begin.built give (begin.unbegun unread says counts sizes refuses tells)) is = absurd (begin_untold says is)
+  judges_told (begin.built give (begin.begun started same reports finishes over)) is = absurd (reports_untold reports is)
 
   judges_tell : {n : ℕ} → RunsSo n → AreRead c → OfFiles c.script c.agents (λ script agents. HasFault agents ⊎ IsRefused script → TellsFault n ⊎ (n ≡ 8))
   judges_tell (begin.refused refused same unread tells) read = λ script agents at_s at_a faulty. files_tell c refused read
@@ -344,8 +386,8 @@ module _ {D T : Type 0} (reads : D → Option (List ℕ)) (may_leave : D → Lis
 
   judges_untouched : {n : ℕ} → RunsSo n → TellsFault n → c.now ≡ c.disk
   judges_untouched (begin.refused refused same unread tells) is = same
-  judges_untouched (begin.built give (begin.unbegun unread says counts refuses tells)) is = absurd (begin_untold says is)
-  judges_untouched (begin.built give (begin.begun started same reports goes)) is = absurd (reports_untold reports is)
+  judges_untouched (begin.built give (begin.unbegun unread says counts sizes refuses tells)) is = absurd (begin_untold says is)
+  judges_untouched (begin.built give (begin.begun started same reports finishes over)) is = absurd (reports_untold reports is)
 
   pub run_judges : RunsSo c.status → JudgesFiles c
   run_judges runs = record { told = judges_told runs; tells = judges_tell runs; untouched = judges_untouched runs }
@@ -353,18 +395,18 @@ module _ {D T : Type 0} (reads : D → Option (List ℕ)) (may_leave : D → Lis
   -- CAUSES
   sources : {n : ℕ} → RunsSo n → n ≡ 6 → HasFailed c.script ⊎ HasFailed c.agents ⊎ HasFailed c.answers
   sources (begin.refused refused same unread tells) six = ⊎_elim (λ script. inl script) (λ agents. inr (inl agents)) (files_failed c refused six)
-  sources (begin.built give (begin.unbegun unread says counts refuses tells)) six = absurd ((begin_other says).0 six)
-  sources (begin.built give (begin.begun started same reports goes)) six = inr (inr (reports_answers reports six))
+  sources (begin.built give (begin.unbegun unread says counts sizes refuses tells)) six = absurd ((begin_other says).0 six)
+  sources (begin.built give (begin.begun started same reports finishes over)) six = inr (inr (reports_answers reports six))
 
   disks : {n : ℕ} → RunsSo n → n ≡ 5 → Rose (faults c.disk) (faults c.now)
   disks (begin.refused refused same unread tells) five = absurd ((files_other c refused).0 five)
-  disks (begin.built give (begin.unbegun unread says counts refuses tells)) five = counts.failed (begin_five says five)
-  disks (begin.built give (begin.begun started same reports goes)) five = reports_disk reports five
+  disks (begin.built give (begin.unbegun unread says counts sizes refuses tells)) five = counts.failed (begin_five says five)
+  disks (begin.built give (begin.begun started same reports finishes over)) five = reports_disk reports five
 
   sinks : {n : ℕ} → RunsSo n → n ≡ 7 → Rose c.sink_before c.sink_after
   sinks (begin.refused refused same unread tells) seven = absurd ((files_other c refused).1 seven)
-  sinks (begin.built give (begin.unbegun unread says counts refuses tells)) seven = absurd ((begin_other says).1 seven)
-  sinks (begin.built give (begin.begun started same reports goes)) seven = reports_sink reports seven
+  sinks (begin.built give (begin.unbegun unread says counts sizes refuses tells)) seven = absurd ((begin_other says).1 seven)
+  sinks (begin.built give (begin.begun started same reports finishes over)) seven = reports_sink reports seven
 
   started_by : (setting : Setting) (start : Event) (file : List ℕ) (f : BeginFault) → f ≡ fault.HasBuild → BeginRefuses reads may_leave clock since stance setting start file c.disk f c.now → IsStarted file × (reads c.now ≡ Some file)
   started_by setting start file fault.HasBuild is refuses = (refuses.0, refuses.1)
@@ -372,9 +414,9 @@ module _ {D T : Type 0} (reads : D → Option (List ℕ)) (may_leave : D → Lis
 
   builds_found : {n : ℕ} → RunsSo n → n ≡ 9 → Tells has_build_text c × ((file : List ℕ) → reads c.disk ≡ Some file → IsStarted file × (reads c.now ≡ Some file))
   builds_found (begin.refused refused same unread tells) nine = absurd ((files_other c refused).2 nine)
-  builds_found (begin.built {s = s} {a = a} {tree = tree} {site = site} give (begin.unbegun {fault = f} unread says counts refuses tells)) nine =
+  builds_found (begin.built {s = s} {a = a} {tree = tree} {site = site} give (begin.unbegun {fault = f} unread says counts sizes refuses tells)) nine =
       (subst (λ (text : List ℕ). Tells text c) (begin_text says nine) tells, λ file told. started_by (script_setting tree site) (StartEvent s a) file f (begin_nine says nine) (refuses file told))
-  builds_found (begin.built give (begin.begun started same reports goes)) nine = absurd (reports_build reports nine)
+  builds_found (begin.built give (begin.begun started same reports finishes over)) nine = absurd (reports_build reports nine)
 
   -- where no device failed
   unbegun_finds : {n : ℕ} {text : List ℕ} {f : BeginFault} (setting : Setting) (start : Event) (file : List ℕ) → BeginSays f n text → CountsFault (faults c.disk) (faults c.now) (f ≡ fault.Take take.Disk)
@@ -386,9 +428,9 @@ module _ {D T : Type 0} (reads : D → Option (List ℕ)) (may_leave : D → Lis
 
   finds : {n : ℕ} → RunsSo n → AreRead c → ¬ (Rose (faults c.disk) (faults c.now)) → (file : List ℕ) → reads c.disk ≡ Some file → IsStarted file → OfFiles c.script c.agents (λ script agents. HasSite agents → ¬ (IsRefused script) → (n ≡ 9) ⊎ (n ≡ 8))
   finds (begin.refused refused same unread tells) read calm file told is = λ script agents at_s at_a site sound. inr (files_want c refused read script agents at_s at_a site sound)
-  finds (begin.built {s = s} {a = a} {tree = tree} {site = site} give (begin.unbegun unread says counts refuses tells)) read calm file told is =
+  finds (begin.built {s = s} {a = a} {tree = tree} {site = site} give (begin.unbegun unread says counts sizes refuses tells)) read calm file told is =
       λ script agents at_s at_a has sound. unbegun_finds (script_setting tree site) (StartEvent s a) file says counts (refuses file told) calm is
-  finds (begin.built give (begin.begun started same reports goes)) read calm file told is = absurd ((goes file told).fresh is)
+  finds (begin.built give (begin.begun started same reports finishes over)) read calm file told is = absurd ((over file told).fresh is)
 
   unbegun_works : {n : ℕ} {text : List ℕ} {f : BeginFault} (setting : Setting) (start : Event) (file : List ℕ) → BeginSays f n text → CountsFault (faults c.disk) (faults c.now) (f ≡ fault.Take take.Disk)
       → BeginRefuses reads may_leave clock since stance setting start file c.disk f c.now → ¬ (Rose (faults c.disk) (faults c.now)) → ¬ (IsStarted file) → HasWorked n
@@ -397,74 +439,100 @@ module _ {D T : Type 0} (reads : D → Option (List ℕ)) (may_leave : D → Lis
   unbegun_works setting start file (begin.full len add) counts refuses calm fresh = inr (inr refl)
   unbegun_works setting start file (begin.no_memory other) counts refuses calm fresh = inr (inl refl)
 
-  works : {n : ℕ} → RunsSo n → n ≡ c.status → AllCalm reads faults c → (file : List ℕ) → reads c.disk ≡ Some file → ¬ (IsStarted file) → OfFiles c.script c.agents (λ script agents. HasSite agents → ¬ (IsRefused script) → HasWorked n)
+  works : {n : ℕ} → RunsSo n → n ≡ c.status → AllCalm reads may_leave clock since faults c → (file : List ℕ) → reads c.disk ≡ Some file → ¬ (IsStarted file) → OfFiles c.script c.agents (λ script agents. HasSite agents → ¬ (IsRefused script) → HasWorked n)
   works (begin.refused refused same unread tells) is calm file told fresh = λ script agents at_s at_a site sound. inr (inl (files_want c refused calm.files script agents at_s at_a site sound))
-  works (begin.built {s = s} {a = a} {tree = tree} {site = site} give (begin.unbegun unread says counts refuses tells)) is calm file told fresh =
+  works (begin.built {s = s} {a = a} {tree = tree} {site = site} give (begin.unbegun unread says counts sizes refuses tells)) is calm file told fresh =
       λ script agents at_s at_a has sound. unbegun_works (script_setting tree site) (StartEvent s a) file says counts (refuses file told) calm.disk fresh
-  works (begin.built {s = s} {a = a} {tree = tree} {site = site} give (begin.begun started same reports goes)) is calm file told fresh =
-      λ script agents at_s at_a has sound. subst HasWorked (sym is) (finish_worked reads may_leave clock since faults told_image (script_setting tree site) started (StartEvent s a ∷ []) c same (subst (λ (m : ℕ). GoesSo s a tree site file started m) is (goes file told)).finishes calm)
+  works (begin.built {s = s} {a = a} {tree = tree} {site = site} give (begin.begun started same reports finishes over)) is calm file told fresh =
+      λ script agents at_s at_a has sound. subst HasWorked (sym is) (finish_worked reads may_leave clock since faults told_image (script_setting tree site) started (StartEvent s a ∷ []) c same (subst (λ (m : ℕ). FinishesBy s a tree site started m) is finishes) calm)
 
-  -- what the store has then
-  full_went : (s a : List ℕ) (tree : Tree) (site : Site) (builds : Builds s a tree site) (file : List ℕ) (len add : ℕ) → c.status ≡ 14 → IsUnread c.answers → Tells (full_text len add) c → CountsFault (faults c.disk) (faults c.now) (fault.Take (take.Full len add) ≡ fault.Take take.Disk)
-      → BeginRefuses reads may_leave clock since stance (script_setting tree site) (StartEvent s a) file c.disk (fault.Take (take.Full len add)) c.now → RunWentOn reads faults c s a
-  unfolding start_lasts
-  full_went s a tree site builds file len add is unread tells counts refuses =
-      let setting : Setting = script_setting tree site in
-      record {
-        setting = setting;
-        mean = mean_of builds;
-        before = [];
-        start = inl refl;
-        went_on = record {
-          more = [];
-          takes = record { read = []; part = []; more = true; goes = life.begins; answers = subst (λ (o : Option (List ℕ)). Consumes c.answers.left o []) (sym unread.rest) (Consumes-nil c.answers.left) };
-          stores = λ other. where_told (reads c.now) (Stores setting []) (λ now told. none_taken now (start_at_end now told));
-          stops = subst (causes.Stops reads faults setting [] c) (sym is) (causes.full refl (record {
-            next = StartEvent s a;
-            is_next = record { accepted = refl; due = refl };
-            len = len;
-            too_long = subst (λ (m : ℕ). 2 ^ 30 < len + m) refuses.0.2 refuses.0.1;
-            told = subst (λ (m : ℕ). Tells (full_text len m) c) refuses.0.2 tells;
-          }));
-        };
-      }
-    where
-      start_at_end : (now : List ℕ) → reads c.now ≡ Some now → Stores (script_setting tree site) [] now ⊎ IsSomeAnd refuses.1.risked (λ e. Stores (script_setting tree site) ([] ++ e ∷ []) now)
-      start_at_end now told = (start_lasts s a tree site builds file (take.Full len add) counts refuses.1).lasts.at_end now (if_told (λ f. may_leave c.now f) told (told_image c.now))
+  -- why no build was begun
+  module _ (s a : List ℕ) (tree : Tree) (site : Site) (builds : Builds s a tree site) where
+    full_at_once : (len add : ℕ) → TellsStart (script_setting tree site) (StartEvent s a) (fault.Take (take.Full len add)) → Tells (full_text len add) c → IsFullAtOnce reads may_leave clock since faults s a c
+    full_at_once len add sizes tells =
+        let all : (2 ^ 30 < 1 + add) × Tells (full_text 1 add) c = subst (λ (l : ℕ). (2 ^ 30 < l + add) × Tells (full_text l add) c) sizes.0 (sizes.1, tells) in
+        record {
+          setting = script_setting tree site;
+          mean = mean_of builds;
+          too_long = subst (λ (m : ℕ). 2 ^ 30 < 1 + m) sizes.2 all.0;
+          told = subst (λ (m : ℕ). Tells (full_text 1 m) c) sizes.2 all.1;
+        }
 
-      none_taken : (now : List ℕ) → Stores (script_setting tree site) [] now ⊎ IsSomeAnd refuses.1.risked (λ e. Stores (script_setting tree site) ([] ++ e ∷ []) now) → Stores (script_setting tree site) [] now
-      none_taken now (inl all) = all
-      none_taken now (inr some) = absurd (subst (λ (o : Option Event). IsSomeAnd o (λ e. Stores (script_setting tree site) ([] ++ e ∷ []) now)) refuses.1.may_risk some)
+    unbegun_why : {n : ℕ} {text : List ℕ} {f : BeginFault} → n ≡ c.status → BeginSays f n text → TellsStart (script_setting tree site) (StartEvent s a) f → Tells text c
+        → (c.status ≡ 9) ⊎ (c.status ≡ 5) ⊎ (c.status ≡ 8) ⊎ ((c.status ≡ 14) × IsFullAtOnce reads may_leave clock since faults s a c)
+    unbegun_why is begin.has_build sizes tells = inl (sym is)
+    unbegun_why is begin.disk_failed sizes tells = inr (inl (sym is))
+    unbegun_why is (begin.full len add) sizes tells = inr (inr (inr (sym is, full_at_once len add sizes tells)))
+    unbegun_why is (begin.no_memory other) sizes tells = inr (inr (inl (sym is)))
 
-  unbegun_went : {n : ℕ} {text : List ℕ} {f : BeginFault} (s a : List ℕ) (tree : Tree) (site : Site) (builds : Builds s a tree site) (file : List ℕ) → n ≡ c.status → BeginSays f n text → IsUnread c.answers → Tells text c
-      → CountsFault (faults c.disk) (faults c.now) (f ≡ fault.Take take.Disk) → BeginRefuses reads may_leave clock since stance (script_setting tree site) (StartEvent s a) file c.disk f c.now
-      → IsUnbegun reads faults c ⊎ RunWentOn reads faults c s a
-  unbegun_went s a tree site builds file is begin.has_build unread tells counts refuses = inl (inr (inr (inl (sym is))))
-  unbegun_went s a tree site builds file is begin.disk_failed unread tells counts refuses = inl (inr (inr (inr (inl (sym is)))))
-  unbegun_went s a tree site builds file is (begin.full len add) unread tells counts refuses = inr (full_went s a tree site builds file len add (sym is) unread tells counts refuses)
-  unbegun_went s a tree site builds file is (begin.no_memory other) unread tells counts refuses = inl (inr (inr (inr (inr (inl (sym is))))))
+    abbrev UntakenSo : List ℕ → List ℕ → Type 0
+    UntakenSo file image =
+        may_leave c.disk image ⊎ (records image ≡ records file) ⊎ ((c.status ≡ 5) × (setting : Setting) × Mean s a setting × Stores setting (StartEvent s a ∷ []) image)
 
-  files_not_begun : {n : ℕ} {text : List ℕ} → RefusesFiles c.script c.agents n text → n ≡ c.status → IsUnbegun reads faults c
-  files_not_begun refused is =
-      ⊎_elim (λ status. ⊎_elim (λ four. inl (sym is ∙ four)) (⊎_elim (λ thirteen. inr (inl (sym is ∙ thirteen))) (λ eight. inr (inr (inr (inr (inl (sym is ∙ eight))))))) status)
-      (λ failed. inr (inr (inr (inr (inr (sym is ∙ failed.0, failed.1)))))) (files_unbegun c refused)
+    -- a `Start` whose take failed: the file has no record, and neither has what a crash leaves, but for that `Start`
+    failed_image : (file : List ℕ) (f : TakeFault) (image : List ℕ) → (f ≡ take.Disk → c.status ≡ 5) → StartFails reads may_leave clock since stance (script_setting tree site) (StartEvent s a) file c.disk c.now f → may_leave c.now image → UntakenSo file image
+    failed_image file f image five fails left =
+        let survives = fails.moments.from_then.each image (counts_now c.now (clock fails.moments.synced) image fails.moments.from_then.later left) in
+        ⊎_elim (λ front. inr (inl (has_none (script_setting tree site) image (subst (λ (es : List Event). Stores (script_setting tree site) es image) (nothing_front survives.kept front.0 front.1) survives.stores) ∙ sym fails.none)))
+        (λ all. with_start survives.kept survives.stores all (risked_only f (StartEvent s a) fails.risked fails.may_risk)) survives.front.within
+      where
+        with_start : (kept : List Event) → Stores (script_setting tree site) kept image → IsSomeAnd fails.risked (λ e. kept ≡ [] ++ e ∷ []) → ((f ≡ take.Disk) × (fails.risked ≡ Some (StartEvent s a))) ⊎ (fails.risked ≡ None) → UntakenSo file image
+        with_start kept stores all (inl disk) =
+            let is : kept ≡ StartEvent s a ∷ [] = subst (λ (o : Option Event). IsSomeAnd o (λ e. kept ≡ [] ++ e ∷ [])) disk.1 all in
+            inr (inr (five disk.0, script_setting tree site, mean_of builds, subst (λ (es : List Event). Stores (script_setting tree site) es image) is stores))
+        with_start kept stores all (inr none) = absurd (subst (λ (o : Option Event). IsSomeAnd o (λ e. kept ≡ [] ++ e ∷ [])) none all)
 
-  went_on : {n : ℕ} → RunsSo n → n ≡ c.status → (file : List ℕ) → reads c.disk ≡ Some file → OfFiles c.script c.agents (λ script agents. IsUnbegun reads faults c ⊎ RunWentOn reads faults c script agents)
-  went_on (begin.refused refused same unread tells) is file told = λ script agents at_s at_a. inl (files_not_begun refused is)
-  went_on (begin.built {s = s} {a = a} {tree = tree} {site = site} give (begin.unbegun unread says counts refuses tells)) is file told =
-      of_files c.script c.agents s a (λ script agents. IsUnbegun reads faults c ⊎ RunWentOn reads faults c script agents) give.hold (unbegun_went s a tree site give.builds file is says unread tells counts (refuses file told))
-  went_on (begin.built {s = s} {a = a} {tree = tree} {site = site} give (begin.begun started same reports goes)) is file told =
-      of_files c.script c.agents s a (λ script agents. IsUnbegun reads faults c ⊎ RunWentOn reads faults c script agents) give.hold (inr (record {
-        setting = script_setting tree site;
-        mean = mean_of give.builds;
-        before = StartEvent s a ∷ [];
-        start = inr refl;
-        went_on = finish_went reads may_leave clock since faults told_image (script_setting tree site) started (StartEvent s a ∷ []) c same (subst (λ (m : ℕ). GoesSo s a tree site file started m) is (goes file told)).finishes;
-      }))
+    either_image : (file : List ℕ) (f : TakeFault) (image : List ℕ) → (f ≡ take.Disk → c.status ≡ 5)
+        → AtEachMoment clock since c.disk c.now (may_leave c.disk) ⊎ (SinceSync clock since may_leave file c.disk c.now (λ image. records image ≡ records file) ⊎ StartFails reads may_leave clock since stance (script_setting tree site) (StartEvent s a) file c.disk c.now f)
+        → may_leave c.now image → UntakenSo file image
+    either_image file f image five why left =
+        ⊎_elim (λ stays. inl (stays.each image (counts_now c.now (clock c.disk) image stays.later left)))
+        (⊎_elim (λ keeps. inr (inl (keeps.from_then.each image (counts_now c.now (clock keeps.synced) image keeps.from_then.later left)))) (λ fails. failed_image file f image five fails left)) why
 
-  pub run_causes : RunsSo c.status → RunCauses reads faults c
+    unbegun_image : (file : List ℕ) (f : BeginFault) (image : List ℕ) → (f ≡ fault.Take take.Disk → c.status ≡ 5) → BeginRefuses reads may_leave clock since stance (script_setting tree site) (StartEvent s a) file c.disk f c.now → may_leave c.now image → UntakenSo file image
+    unbegun_image file fault.HasBuild image five refuses left =
+        let keeps = refuses.2 in
+        inr (inl (keeps.from_then.each image (counts_now c.now (clock keeps.synced) image keeps.from_then.later left)))
+    unbegun_image file (fault.Take (take.Full len add)) image five refuses left = failed_image file (take.Full len add) image (λ e. five (ap (λ (x : TakeFault). fault.Take x) e)) refuses.1 left
+    unbegun_image file (fault.Take take.Memory) image five refuses left = either_image file take.Memory image (λ e. five (ap (λ (x : TakeFault). fault.Take x) e)) refuses.1 left
+    unbegun_image file (fault.Take take.Disk) image five refuses left = either_image file take.Disk image (λ e. five (ap (λ (x : TakeFault). fault.Take x) e)) refuses.1 left
+    unbegun_image file (fault.Take take.Stopped) image five refuses left = either_image file take.Stopped image (λ e. five (ap (λ (x : TakeFault). fault.Take x) e)) refuses.1 left
+
+  went_on : {n : ℕ} → RunsSo n → n ≡ c.status → LeavesAll reads may_leave clock since faults c ⊎ WithFiles c (λ script agents. Unbegun reads may_leave clock since faults c script agents ⊎ RunWentOn reads may_leave clock since faults c script agents)
+  went_on (begin.refused refused same unread tells) is =
+      inl (record { why = subst (λ (m : ℕ). (m ≡ 4) ⊎ (m ≡ 13) ⊎ (m ≡ 8) ⊎ ((m ≡ 6) × (HasFailed c.script ⊎ HasFailed c.agents))) is (files_unbegun c refused); disk = same; unread = unread })
+  went_on (begin.built {s = s} {a = a} {tree = tree} {site = site} give (begin.unbegun {fault = f} unread says counts sizes refuses tells)) is =
+      inr (
+        s,
+        a,
+        give.hold,
+        inl (record {
+          why = unbegun_why s a tree site give.builds is says sizes tells;
+          unread = unread;
+          images = λ file told image left. unbegun_image s a tree site give.builds file f image (λ disk. sym is ∙ begin_disk says disk) (refuses file told) left;
+        }),
+      )
+  went_on (begin.built {s = s} {a = a} {tree = tree} {site = site} give (begin.begun started same reports finishes over)) is =
+      inr (
+        s,
+        a,
+        give.hold,
+        inr (record {
+          setting = script_setting tree site;
+          mean = mean_of give.builds;
+          went_on = finish_went reads may_leave clock since faults told_image (script_setting tree site) started (StartEvent s a ∷ []) c same (subst (λ (m : ℕ). FinishesBy s a tree site started m) is finishes);
+        }),
+      )
+
+  -- a source of a file that counted a fault is told
+  unread_told : {n : ℕ} → RunsSo n → ¬ (AreCalm c.script c.agents) → (n ≡ 6) × (c.now ≡ c.disk) × IsUnread c.answers
+  unread_told (begin.refused refused same unread tells) other = (files_uncalm c refused other, same, unread)
+  unread_told (begin.built give begins) other = absurd (other give.calm)
+
+  pub run_causes : RunsSo c.status → RunCauses reads may_leave clock since faults c
   run_causes runs = record {
     source = sources runs;
+    unread = unread_told runs;
     disk = disks runs;
     sink = sinks runs;
     has_build = builds_found runs;
@@ -476,12 +544,12 @@ module _ {D T : Type 0} (reads : D → Option (List ℕ)) (may_leave : D → Lis
   -- it is no usage
   pub run_known : {n : ℕ} → RunsSo n → n ≡ 2 → ⊥
   run_known (begin.refused refused same unread tells) two = (files_other c refused).3 two
-  run_known (begin.built give (begin.unbegun unread says counts refuses tells)) two = (begin_other says).2 two
-  run_known (begin.built give (begin.begun started same reports goes)) two = reports_usage reports two
+  run_known (begin.built give (begin.unbegun unread says counts sizes refuses tells)) two = (begin_other says).2 two
+  run_known (begin.built give (begin.begun started same reports finishes over)) two = reports_usage reports two
 
   -- no answer is read where no build goes on
   pub run_unread : {n : ℕ} → RunsSo n → (n ≡ 4) ⊎ (n ≡ 13) ⊎ (n ≡ 9) → IsUnread c.answers
   run_unread (begin.refused refused same unread tells) is = unread
-  run_unread (begin.built give (begin.unbegun unread says counts refuses tells)) is = unread
-  run_unread (begin.built give (begin.begun started same reports goes)) is =
+  run_unread (begin.built give (begin.unbegun unread says counts sizes refuses tells)) is = unread
+  run_unread (begin.built give (begin.begun started same reports finishes over)) is =
       absurd (⊎_elim (λ four. reports_untold reports (inl four)) (⊎_elim (λ thirteen. reports_untold reports (inr thirteen)) (λ nine. reports_build reports nine)) is)

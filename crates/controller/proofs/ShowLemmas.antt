@@ -1,12 +1,13 @@
 -- The parts of a call's contract for `log` and `graph`, from their table.
 use Rattle.std.proofs.Common.{[], ◌≡◌, ◌⊎◌, ℕ, List, Option, Some, inl, inr, refl, ap, ◌∙◌, subst, ⊎_elim, arith}
 use Rattle.jp_disk.proofs.MomentLemmas.{if_told}
+use Rattle.image_form.specs.declared.image.Image.{Image}
 use Rattle.model_run.specs.declared.event.Event.{Event}
 use Rattle.model_run.specs.declared.result.BuildResult.TheVariants.{Success}
 use Rattle.model_run.specs.State.{Setting}
 use Rattle.model_run.specs.World.{Build, world_in}
 use Rattle.saved_run.specs.Saved.{Stores}
-use Rattle.run_command.specs.Ends.{HasRun}
+use Rattle.run_command.specs.Statuses.{HasRun}
 use Rattle.build_commands.specs.Showing.{ShowsBuild, Decides, NotTold}
 use Rattle.build_commands.specs.Showing as showing
 use Rattle.build_commands.specs.Writing as writing
@@ -28,7 +29,7 @@ not_told_some (showing.damaged at calm fails) e = omega (arith, e)
 not_told_some (showing.disk_failed rose) e = omega (arith, e)
 not_told_some (showing.no_memory calm) e = omega (arith, e)
 
-module _ (text_of : Build → List ℕ) where
+module _ (text_of : Build → List ℕ) (text_in : Image → List ℕ) where
   -- the text of a consistent store
   text_here : {stored : Option (List ℕ)} {a b n : ℕ} {text : List ℕ} → Decides text_of stored a b n text → n ≡ 0 → (file : List ℕ) (setting : Setting) (events : List Event) → stored ≡ Some file → Stores setting events file
       → text ≡ text_of (world_in setting events)
@@ -68,15 +69,15 @@ module _ (text_of : Build → List ℕ) where
     refused {n = n} (showing.build decides writes) nine = absurd (unrun 9 n nine refl (written_run (inl (Success, refl)) writes))
     refused (showing.refusal decides some tells) nine = decided_none decides tells nine
 
-    pub show_outputs : ShowsBy reads may_leave clock since faults text_of c → ShowsStore reads text_of c
-    show_outputs by = record { text = wrote by.shows; unchanged = by.store; refused = refused by.shows }
+    pub show_outputs : ShowsBy reads may_leave clock since faults text_of text_in c → ShowsStore reads may_leave text_of text_in c
+    show_outputs by = record { text = wrote by.shows; last = by.last; unchanged = by.store; refused = refused by.shows }
 
-    pub show_untold : ShowsBy reads may_leave clock since faults text_of c → TellsFault c.status → ⊥
+    pub show_untold : ShowsBy reads may_leave clock since faults text_of text_in c → TellsFault c.status → ⊥
     show_untold by is = ⊎_elim (λ zero. untold 0 c.status zero (λ e. omega (arith, e)) (λ e. omega (arith, e)) is)
         (⊎_elim (λ five. untold 5 c.status five (λ e. omega (arith, e)) (λ e. omega (arith, e)) is)
         (⊎_elim (λ seven. untold 7 c.status seven (λ e. omega (arith, e)) (λ e. omega (arith, e)) is)
         (⊎_elim (λ eight. untold 8 c.status eight (λ e. omega (arith, e)) (λ e. omega (arith, e)) is) (λ nine. untold 9 c.status nine (λ e. omega (arith, e)) (λ e. omega (arith, e)) is)))) by.causes.known
 
-    pub show_known : ShowsBy reads may_leave clock since faults text_of c → c.status ≡ 2 → ⊥
+    pub show_known : ShowsBy reads may_leave clock since faults text_of text_in c → c.status ≡ 2 → ⊥
     show_known by two = ⊎_elim (λ zero. omega (arith, two, zero)) (⊎_elim (λ five. omega (arith, two, five)) (⊎_elim (λ seven. omega (arith, two, seven))
         (⊎_elim (λ eight. omega (arith, two, eight)) (λ nine. omega (arith, two, nine))))) by.causes.known

@@ -1,70 +1,61 @@
 -- When each status of a call comes: the table of statuses in docs/USING.md (this product's own).
-use Rattle.std.specs.Prelude.{◌≡◌, ◌⊎◌, ◌↔◌, ◌+◌, ◌<◌, ◌^◌, ℕ, true, false, List, [], ◌∷◌, ◌++◌, Option, None, Some, IfSome}
-use Rattle.std.specs.Io.KnownBytes.{IsAtEnd}
+use Rattle.std.specs.Prelude.{◌≡◌, ◌⊎◌, ◌↔◌, ◌+◌, ◌<◌, ◌^◌, ℕ, true, false, List, [], ◌∷◌, ◌++◌, Option, Some, IsSome}
 use Rattle.command_words.specs.declared.command.Command.{Command}
 use Rattle.command_words.specs.declared.command.Command.TheVariants.{Run, Resume, Log, Graph, Check}
 use Rattle.command_words.specs.Words.{IsCommand}
-use Rattle.build_requests.specs.Waiting.{waiting_inputs}
 use Rattle.device_faults.specs.Faults.{Rose}
 use Rattle.journal_core.specs.Answers.{IsStarted}
+use Rattle.journal_core.specs.Records.{records}
 use Rattle.model_run.specs.declared.event.Event.{Event}
 use Rattle.model_run.specs.declared.event.Event.TheVariants.{Start as StartEvent}
 use Rattle.model_run.specs.State.{Setting}
-use Rattle.model_run.specs.World.{world_in, next_grant}
+use Rattle.model_run.specs.World.{world_in}
 use Rattle.store_laws.specs.Store.{Mean}
 use Rattle.durable_build.specs.Taking.{added}
 use Rattle.script_run.specs.Running.{Listens}
-use Rattle.saved_run.specs.Lives.{image_after, IsNext}
+use Rattle.saved_run.specs.Lives.{image_after}
 use Rattle.saved_run.specs.Saved.{Stores}
-use Rattle.run_command.specs.Causes.{HasSite, IsRefused, OfFiles}
-use Rattle.run_command.specs.Inputs.{Input, HasFailed}
+use Rattle.run_command.specs.Files.{HasSite, IsRefused, OfFiles}
+use Rattle.run_command.specs.Inputs.{HasFailed, IsUnread}
 use Rattle.run_command.specs.Statuses.{HasLog, world_status}
+use Rattle.build_commands.specs.Finishing.{ComesNext, IsFull}
+use Rattle.build_commands.specs.Plans.{AreCalm}
+use Rattle.build_commands.specs.Resuming.{IsUntouched}
 use Rattle.build_commands.specs.Texts.{full_text, has_build_text}
 use Rattle.build_commands.specs.Showing as showing
 use Rattle.build_commands.specs.Showing.{HasNone, NotTold}
-use Rattle.controller.specs.Call.{AreRead, Call, Is, Finds, Takes, Tells}
-
--- nobody goes on with the build: no grant is due, and no input is open or the answers were read to their end
-pub record IsIdle (setting : Setting) (events : List Event) (answers : Input) : Type 0 where
-  pub going : (world_in setting events).ended ≡ false
-  pub granted : next_grant setting (world_in setting events) ≡ None
-  pub heard : (waiting_inputs (world_in setting events).shared.requests ≡ 0) ⊎ IsAtEnd answers.rest
-
--- the store cannot take the record of the next event, and the text tells two sizes, of which the second is what the record would add
-pub record IsFull {D : Type 0} (setting : Setting) (events : List Event) (c : Call D) : Type 0 where
-  pub next : Event
-  pub is_next : IsNext setting events next
-  pub len : ℕ
-  pub too_long : 2 ^ 30 < len + added next (image_after setting (events ++ next ∷ []))
-  pub told : Tells (full_text len (added next (image_after setting (events ++ next ∷ [])))) c
+use Rattle.controller.specs.Call.{AreRead, Call, Is, IsIdle, Finds, Takes, Tells, WithFiles}
 
 -- the status of a build that has ended or waits; or want of memory, or a store that is full
 abbrev pub HasWorked : ℕ → Type 0
 HasWorked status = HasLog status ⊎ (status ≡ 8) ⊎ (status ≡ 14)
 
-module _ {D : Type 0} (reads : D → Option (List ℕ)) (faults : D → ℕ) where
+module _ {D : Type 0} (reads : D → Option (List ℕ)) (may_leave : D → List ℕ → Type 0) (clock : D → ℕ) (since : D → ℕ → List ℕ → Type 0) (faults : D → ℕ) where
   abbrev pub DiskFailed : Call D → Type 0
   DiskFailed c = Rose (faults c.disk) (faults c.now)
 
   abbrev pub SinkFailed : Call D → Type 0
   SinkFailed c = Rose c.sink_before c.sink_after
 
-  -- With which status a call stops whose build has these events. Where it has ended or waits, the status is 7 where the sink failed.
-  pub data Stops (setting : Setting) (events : List Event) (c : Call D) : ℕ → Type 0 where
-    ended : (world_in setting events).ended ≡ true → Stops setting events c (world_status (world_in setting events))
-    waits : IsIdle setting events c.answers → Stops setting events c 3
-    cut : ((world_in setting events).ended ≡ true) ⊎ IsIdle setting events c.answers → SinkFailed c → Stops setting events c 7
-    unheard : (world_in setting events).ended ≡ false → Listens setting (world_in setting events) → HasFailed c.answers → Stops setting events c 6
-    disk_failed : (world_in setting events).ended ≡ false → DiskFailed c → Stops setting events c 5
-    full : (world_in setting events).ended ≡ false → IsFull setting events c → Stops setting events c 14
-    no_memory : (world_in setting events).ended ≡ false → Stops setting events c 8
+  -- With which status a call stops whose build has these events, with this part of the answers read behind them. Where it has ended or waits, the status is 7
+  -- where the sink failed.
+  pub data Stops (setting : Setting) (events : List Event) (part : List ℕ) (c : Call D) : ℕ → Type 0 where
+    ended : (world_in setting events).ended ≡ true → Stops setting events part c (world_status (world_in setting events))
+    waits : IsIdle setting events c.answers → Stops setting events part c 3
+    cut : ((world_in setting events).ended ≡ true) ⊎ IsIdle setting events c.answers → SinkFailed c → Stops setting events part c 7
+    unheard : (world_in setting events).ended ≡ false → Listens setting (world_in setting events) → HasFailed c.answers → Stops setting events part c 6
+    disk_failed : (world_in setting events).ended ≡ false → DiskFailed c → Stops setting events part c 5
+    -- the text tells the length of the store's journal, and what the record of the next event would add
+    full : (len add : ℕ) → (world_in setting events).ended ≡ false → IsFull setting c.answers.rest (reads c.disk) (reads c.now) events part len add → Tells (full_text len add) c → Stops setting events part c 14
+    no_memory : (world_in setting events).ended ≡ false → Stops setting events part c 8
 
-  -- The build went on from these events, to these ones, which the store has then, but where the disk failed.
+  -- The build went on from these events, to these ones. Where the disk told its bytes, a crash leaves just these then, or with 5 the next one too.
   pub record WentOn (setting : Setting) (before : List Event) (c : Call D) : Type 0 where
     pub more : List Event
     pub takes : Takes setting before (before ++ more) c
-    pub stores : ¬ (c.status ≡ 5) → IfSome (reads c.now) (Stores setting (before ++ more))
-    pub stops : Stops setting (before ++ more) c c.status
+    pub images : IsSome (reads c.disk) → (image : List ℕ) → may_leave c.now image
+        → Stores setting (before ++ more) image ⊎ ((c.status ≡ 5) × (event : Event) × ComesNext setting c.answers.rest (before ++ more) takes.part event × Stores setting ((before ++ more) ++ event ∷ []) image)
+    pub stops : Stops setting (before ++ more) takes.part c c.status
 
   -- no device counted a fault
   pub record AllCalm (c : Call D) : Type 0 where
@@ -73,21 +64,47 @@ module _ {D : Type 0} (reads : D → Option (List ℕ)) (faults : D → ℕ) whe
     pub disk : ¬ (DiskFailed c)
     pub sink : ¬ (SinkFailed c)
 
-  -- no build was begun: a file was refused or not read, or the store has a build, or the disk failed, or memory was wanting
-  abbrev pub IsUnbegun : Call D → Type 0
-  IsUnbegun c = (c.status ≡ 4) ⊎ (c.status ≡ 13) ⊎ (c.status ≡ 9) ⊎ (c.status ≡ 5) ⊎ (c.status ≡ 8) ⊎ ((c.status ≡ 6) × (HasFailed c.script ⊎ HasFailed c.agents))
+  -- Nothing was done with the files: one was refused or not read, or memory was wanting.
+  pub record LeavesAll (c : Call D) : Type 0 where
+    pub why : (c.status ≡ 4) ⊎ (c.status ≡ 13) ⊎ (c.status ≡ 8) ⊎ ((c.status ≡ 6) × (HasFailed c.script ⊎ HasFailed c.agents))
+    pub disk : c.now ≡ c.disk
+    pub unread : IsUnread c.answers
 
-  -- `run` of these files went on with their build, from nothing or from their `Start`
+  -- the record of the `Start` of these files is too long for any store, and the text tells that
+  pub record IsFullAtOnce (script agents : List ℕ) (c : Call D) : Type 0 where
+    pub setting : Setting
+    pub mean : Mean script agents setting
+    pub too_long : 2 ^ 30 < 1 + added (StartEvent script agents) (image_after setting (StartEvent script agents ∷ []))
+    pub told : Tells (full_text 1 (added (StartEvent script agents) (image_after setting (StartEvent script agents ∷ [])))) c
+
+  -- No build of these files was begun: the store has one, or the disk failed, or memory was wanting, or the `Start` is too long. Of a disk that told its bytes a
+  -- crash leaves then what it might have left at the beginning, or the records that the file had; or with 5 the `Start`.
+  pub record Unbegun (c : Call D) (script agents : List ℕ) : Type 0 where
+    pub why : (c.status ≡ 9) ⊎ (c.status ≡ 5) ⊎ (c.status ≡ 8) ⊎ ((c.status ≡ 14) × IsFullAtOnce script agents c)
+    pub unread : IsUnread c.answers
+    pub images : (file : List ℕ) → reads c.disk ≡ Some file → (image : List ℕ) → may_leave c.now image
+        → may_leave c.disk image ⊎ (records image ≡ records file) ⊎ ((c.status ≡ 5) × (setting : Setting) × Mean script agents setting × Stores setting (StartEvent script agents ∷ []) image)
+
+  -- `run` of these files went on with their build, from its `Start`
   pub record RunWentOn (c : Call D) (script agents : List ℕ) : Type 0 where
     pub setting : Setting
     pub mean : Mean script agents setting
-    pub before : List Event
-    pub start : (before ≡ []) ⊎ (before ≡ StartEvent script agents ∷ [])
-    pub went_on : WentOn setting before c
+    pub went_on : WentOn setting (StartEvent script agents ∷ []) c
+
+  -- where the source of one of the files counted a fault, that is told, and nothing is done
+  abbrev pub TellsUnread : Call D → Type 0
+  TellsUnread c = ¬ (AreCalm c.script c.agents) → (c.status ≡ 6) × (c.now ≡ c.disk) × IsUnread c.answers
+
+  -- the store was not opened, and nothing was read or written
+  pub record Unopened (c : Call D) : Type 0 where
+    pub why : (c.status ≡ 9) ⊎ (c.status ≡ 5) ⊎ (c.status ≡ 8)
+    pub disk : IsUntouched reads may_leave clock since c.disk c.now
+    pub unread : c.answers.rest ≡ c.answers.left
 
   pub record RunCauses (c : Call D) : Type 0 where
     -- 6, 5 and 7 only where a source, the disk and the sink counted a fault
     pub source : c.status ≡ 6 → HasFailed c.script ⊎ HasFailed c.agents ⊎ HasFailed c.answers
+    pub unread : TellsUnread c
     pub disk : c.status ≡ 5 → DiskFailed c
     pub sink : c.status ≡ 7 → SinkFailed c
     -- 9 only where the store has a record or the beginning of one, and then no byte of it changes; and there always, where both files can be built and the
@@ -96,7 +113,7 @@ module _ {D : Type 0} (reads : D → Option (List ℕ)) (faults : D → ℕ) whe
     pub finds_build : AreRead c → ¬ (DiskFailed c) → (file : List ℕ) → reads c.disk ≡ Some file → IsStarted file
         → OfFiles c.script c.agents (λ script agents. HasSite agents → ¬ (IsRefused script) → (c.status ≡ 9) ⊎ (c.status ≡ 8))
     -- a build was not begun, or went on until it had ended, or nobody or nothing let it go on
-    pub went_on : (file : List ℕ) → reads c.disk ≡ Some file → OfFiles c.script c.agents (λ script agents. IsUnbegun c ⊎ RunWentOn c script agents)
+    pub went_on : LeavesAll c ⊎ WithFiles c (λ script agents. Unbegun c script agents ⊎ RunWentOn c script agents)
     -- over a store without a record, and files that can be built, where no device failed: the status of a build
     pub works : AllCalm c → (file : List ℕ) → reads c.disk ≡ Some file → ¬ (IsStarted file) → OfFiles c.script c.agents (λ script agents. HasSite agents → ¬ (IsRefused script) → HasWorked c.status)
 
@@ -108,12 +125,13 @@ module _ {D : Type 0} (reads : D → Option (List ℕ)) (faults : D → ℕ) whe
     pub no_build : c.status ≡ 9 → (text : List ℕ) × NotTold (reads c.disk) (faults c.disk) (faults c.now) c.status text × Tells text c
     pub finds_none : ¬ (DiskFailed c) → (file : List ℕ) → reads c.disk ≡ Some file → HasNone file → (c.status ≡ 9) ⊎ (c.status ≡ 8)
     -- a build that was opened went on, until it had ended, or nobody or nothing let it go on
-    pub went_on : (setting : Setting) (events : List Event) → Finds reads setting events c → (c.status ≡ 9) ⊎ (c.status ≡ 5) ⊎ (c.status ≡ 8) ⊎ WentOn setting events c
+    pub went_on : (setting : Setting) (events : List Event) → Finds reads setting events c → Unopened c ⊎ WentOn setting events c
     pub works : AllCalm c → (setting : Setting) (events : List Event) → Finds reads setting events c → ¬ (events ≡ []) → HasWorked c.status
 
   pub record CheckCauses (c : Call D) : Type 0 where
     pub known : (c.status ≡ 0) ⊎ (c.status ≡ 4) ⊎ (c.status ≡ 6) ⊎ (c.status ≡ 7) ⊎ (c.status ≡ 8) ⊎ (c.status ≡ 13)
     pub source : c.status ≡ 6 → HasFailed c.script ⊎ HasFailed c.agents
+    pub unread : TellsUnread c
     pub sink : c.status ≡ 7 → SinkFailed c
     pub works : AreRead c → ¬ (SinkFailed c) → OfFiles c.script c.agents (λ script agents. HasSite agents → ¬ (IsRefused script) → (c.status ≡ 0) ⊎ (c.status ≡ 8))
 

@@ -2,18 +2,18 @@
 use Rattle.std.specs.Prelude.{◌≡◌, ◌⊎◌, ℕ, List}
 use Rattle.command_words.specs.declared.command.Command.{Command}
 use Rattle.command_words.specs.declared.command.Command.TheVariants.{Run, Check}
-use Rattle.run_command.specs.Causes.{HasFault, IsRefused, OfFiles}
-use Rattle.build_commands.specs.Plans.{Faults}
-use Rattle.controller.specs.Call.{AreRead, Call, Is, Tells}
+use Rattle.run_command.specs.Files.{HasFault, IsRefused, OfFiles}
+use Rattle.build_commands.specs.Plans.{AreCalm, Faults}
+use Rattle.controller.specs.Call.{AreRead, Call, Is, Tells, WithFiles}
 
 -- the status tells a fault of the script, or of the agents file
 abbrev pub TellsFault : ℕ → Type 0
 TellsFault status = (status ≡ 4) ⊎ (status ≡ 13)
 
--- A fault is told only where there is one: the first of the agents file, or where it has none that of the script, with its place and kind. It is told
--- always, but for want of memory; and the disk is not called.
+-- A fault is told only where both sources counted none and there is one: the first of the agents file, or where it has none that of the script, with its place
+-- and kind. It is told always, but for want of memory; and the disk is not called.
 pub record JudgesFiles {D : Type 0} (c : Call D) : Type 0 where
-  pub told : TellsFault c.status → OfFiles c.script c.agents (λ script agents. (text : List ℕ) × Faults script agents c.status text × Tells text c)
+  pub told : TellsFault c.status → AreCalm c.script c.agents × WithFiles c (λ script agents. (text : List ℕ) × Faults script agents c.status text × Tells text c)
   pub tells : AreRead c → OfFiles c.script c.agents (λ script agents. HasFault agents ⊎ IsRefused script → TellsFault c.status ⊎ (c.status ≡ 8))
   pub untouched : TellsFault c.status → c.now ≡ c.disk
 

@@ -1,5 +1,5 @@
 -- What a call writes, and what the store holds behind it (this product's own).
-use Rattle.std.specs.Prelude.{◌≡◌, ◌⊎◌, ℕ, List, [], ◌∷◌, ◌++◌, Option, Some, IfSome}
+use Rattle.std.specs.Prelude.{◌≡◌, ◌⊎◌, ◌+◌, ◌<◌, ◌^◌, ℕ, true, List, [], ◌∷◌, ◌++◌, Option, Some, IfSome, IsSome}
 use Rattle.std.specs.Io.KnownBytes.{IsAtEnd}
 use Rattle.command_words.specs.declared.command.Command.{Command}
 use Rattle.command_words.specs.declared.command.Command.TheVariants.{Run, Resume, Log, Graph, Check}
@@ -9,22 +9,23 @@ use Rattle.model_run.specs.declared.event.Event.{Event}
 use Rattle.model_run.specs.declared.event.Event.TheVariants.{Start as StartEvent}
 use Rattle.model_run.specs.GraphText.{graph_text}
 use Rattle.model_run.specs.State.{Setting}
+use Rattle.image_form.specs.declared.image.Image.{Image}
 use Rattle.model_run.specs.World.{Build, world_in}
 use Rattle.store_laws.specs.Store.{Mean}
 use Rattle.journal_core.specs.Records.{Has}
 use Rattle.durable_build.specs.declared.faults.StoreFault.TheVariants.{Damaged}
 use Rattle.durable_build.specs.Opening.{OpenFails}
 use Rattle.saved_run.specs.Saved.{Stores}
-use Rattle.run_command.specs.Causes.{HasSite, IsRefused, OfFiles}
-use Rattle.run_command.specs.Ends.{HasRun}
-use Rattle.run_command.specs.Statuses.{world_status}
+use Rattle.run_command.specs.Files.{HasSite, IsRefused}
+use Rattle.run_command.specs.Statuses.{HasRun, world_status}
 use Rattle.run_command.specs.Texts as run
+use Rattle.build_commands.specs.Showing.{ShowsLast}
 use Rattle.build_commands.specs.Texts as store
-use Rattle.controller.specs.Call.{Call, Is, Finds, Takes, Writes, Tells}
+use Rattle.controller.specs.Call.{Call, Is, IsIdle, Finds, Takes, Tells, WithFiles, Writes, usage_text}
 
 -- the status and the text of a call that does not do what its command is for
 pub data Says : ℕ → List ℕ → Type 0 where
-  usage : Says 2 run.usage_text
+  usage : Says 2 usage_text
   script_too_long : Says 4 run.too_long_text
   script_faulty : (fault : ScriptFault) → Says 4 (run.fault_line fault)
   disk_failed : Says 5 store.disk_failed_text
@@ -34,15 +35,18 @@ pub data Says : ℕ → List ℕ → Type 0 where
   no_build : Says 9 store.no_build_text
   damaged : (at : ℕ) → Says 9 (store.damaged_text at)
   agents_faulty : (path : List ℕ) (kind : AgentsKind) → Says 13 (run.agents_line path kind)
-  full : (len add : ℕ) → Says 14 (store.full_text len add)
+  full : (len add : ℕ) → 2 ^ 30 < len + add → Says 14 (store.full_text len add)
 
-module _ {D : Type 0} (reads : D → Option (List ℕ)) where
-  -- The build went on from the events before to these. The store is a consistent one of them, where the disk tells it; and the log of their world was written, with the status of that world,
-  -- or the front of the log, and then with 7.
+module _ {D : Type 0} (reads : D → Option (List ℕ)) (may_leave : D → List ℕ → Type 0) where
+  -- The build went on from the events before to these, until it had ended or nobody went on with it; and the log of their world was written, with the status of
+  -- that world, or the front of the log, and then with 7. Where the disk told its bytes, all these events are durable: a read gives a consistent store of just
+  -- them, and so does a crash.
   pub record Delivers (setting : Setting) (before events : List Event) (c : Call D) : Type 0 where
     pub takes : Takes setting before events c
-    pub stores : IfSome (reads c.now) (Stores setting events)
+    pub rests : ((world_in setting events).ended ≡ true) ⊎ IsIdle setting events c.answers
     pub log : Writes (world_in setting events).shared.log (world_status (world_in setting events)) c
+    pub stores : IsSome (reads c.disk) → IfSome (reads c.now) (Stores setting events)
+    pub durable : IsSome (reads c.disk) → (image : List ℕ) → may_leave c.now image → Stores setting events image
 
   -- the events of `run` begin with the `Start` of all bytes of both files
   pub record DeliversRun (c : Call D) (script agents : List ℕ) : Type 0 where
@@ -51,19 +55,20 @@ module _ {D : Type 0} (reads : D → Option (List ℕ)) where
     pub more : List Event
     pub delivers : Delivers setting (StartEvent script agents ∷ []) (StartEvent script agents ∷ more) c
 
-  -- what is shown of the build of the store, of which no byte changes
-  pub record ShowsStore (text_of : Build → List ℕ) (c : Call D) : Type 0 where
+  -- What is shown of the build of the store, of which no byte changes. It is the text of the last record's image, whatever the other records tell.
+  pub record ShowsStore (text_of : Build → List ℕ) (text_in : Image → List ℕ) (c : Call D) : Type 0 where
     pub text : HasRun c.status → (setting : Setting) (events : List Event) → Finds reads setting events c → Writes (text_of (world_in setting events)) 0 c
+    pub last : (file : List ℕ) → reads c.disk ≡ Some file → ShowsLast text_in file c.old c.new c.sink_before c.sink_after c.status
     pub unchanged : (file : List ℕ) → reads c.disk ≡ Some file → reads c.now ≡ Some file
     pub refused : c.status ≡ 9 → ((at : ℕ) × Tells (store.damaged_text at) c × IfSome (reads c.disk) (λ file. OpenFails file (Damaged at))) ⊎ (Tells store.no_build_text c × IfSome (reads c.disk) (Has []))
 
   -- What a command is for: a build that has ended or waits, whose events begin with those of the store; the log or the graph of the store's build; `ok`.
   abbrev pub OutputOf : Command → Call D → Type 0
-  OutputOf Run c = HasRun c.status → IsAtEnd c.script.rest × IsAtEnd c.agents.rest × ((file : List ℕ) → reads c.disk ≡ Some file → OfFiles c.script c.agents (DeliversRun c))
+  OutputOf Run c = HasRun c.status → IsAtEnd c.script.rest × IsAtEnd c.agents.rest × WithFiles c (DeliversRun c)
   OutputOf Resume c = HasRun c.status → (setting : Setting) (events : List Event) → Finds reads setting events c → (more : List Event) × Delivers setting events (events ++ more) c
-  OutputOf Log c = ShowsStore (λ w. w.shared.log) c
-  OutputOf Graph c = ShowsStore (λ w. graph_text w.shared.nodes) c
-  OutputOf Check c = HasRun c.status → Writes store.ok_text 0 c × OfFiles c.script c.agents (λ script agents. HasSite agents × ¬ (IsRefused script))
+  OutputOf Log c = ShowsStore (λ w. w.shared.log) (λ i. i.log) c
+  OutputOf Graph c = ShowsStore (λ w. graph_text w.shared.nodes) (λ i. graph_text i.nodes) c
+  OutputOf Check c = HasRun c.status → Writes store.ok_text 0 c × WithFiles c (λ script agents. HasSite agents × ¬ (IsRefused script))
 
   pub record Output (c : Call D) : Type 0 where
     pub command : (command : Command) → Is command c → OutputOf command c

@@ -4,7 +4,7 @@ use Rattle.jp_io.specs.Whole.{TakesAtMost}
 use Rattle.command_words.specs.declared.command.Command.{Command}
 use Rattle.command_words.specs.declared.command.Command.TheVariants.{Run, Resume, Log, Graph, Check}
 use Rattle.command_words.specs.Words.{IsCommand}
-use Rattle.run_command.specs.Ends.{script_limit, agents_limit}
+use Rattle.run_command.specs.Files.{script_limit, agents_limit}
 use Rattle.run_command.specs.Inputs.{IsUnread}
 use Rattle.controller.specs.Call.{Call, Is}
 

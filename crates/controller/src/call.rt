@@ -1,9 +1,8 @@
 //! The call that the program makes.
 ghost use Rattle.std.specs.Prelude.{◌≡◌, map, string_bytes};
 ghost use Rattle.run_command.specs.Inputs.{taken_from};
-ghost use Rattle.run_command.specs.Texts.{usage_text};
 ghost use Rattle.build_commands.specs.Writing as writing;
-ghost use Rattle.controller.specs.Call.{call_of};
+ghost use Rattle.controller.specs.Call.{call_of, usage_text};
 ghost use Rattle.controller.specs.Causes.{Causes};
 ghost use Rattle.controller.specs.Commands.{Does};
 ghost use Rattle.controller.specs.Crash.{Crash};
@@ -11,7 +10,7 @@ ghost use Rattle.controller.specs.FirstFault.{FirstFault};
 ghost use Rattle.controller.specs.Output.{Output};
 ghost use Rattle.controller.specs.Reads.{Reads};
 
-use build_commands::{Shown, check, graph, log, resume, run};
+use build_commands::{Done, check, graph, log, resume, run};
 use command_words::{Command, command_in};
 use jp_disk::Disk;
 use jp_io::{Sink, Source, write_all};
@@ -41,19 +40,22 @@ pub struct Ended<D, A> {
 /// |---|---|---|
 /// | 2 | exactly where the words are no command | how to use the program |
 /// | 6 | only where a source counted a fault | `controller: read failed` |
-/// | 13 | exactly where the agents file has a fault | its path and kind |
-/// | 4 | exactly where the script has a fault or is too long | the place of its first fault |
-/// | 9 | exactly where `run` finds a record | `program.dat: already has a build` |
-/// | 9 | exactly where the other commands over a store find no record, or a damaged one | `program.dat: no build`, or the place of the damage |
-/// | 14 | only where the record of the next event does not fit into the store | the two sizes |
+/// | 13 | of `run` and `check`, exactly where the agents file has a fault | its path and kind |
+/// | 4 | of `run` and `check`, exactly where the script has a fault or is too long | the place of its first fault |
+/// | 9 | of `run`, exactly where it finds a record, or the beginning of one | `program.dat: already has a build` |
+/// | 9 | of `resume`, `log` and `graph`, exactly where they find no record, or a damaged one | `program.dat: no build`, or the place of the damage |
+/// | 14 | only where the record of the next event does not fit into the store | the length of its journal, and what the record would add |
 /// | 5 | only where the disk counted a fault | `controller: disk failed` |
 /// | 7 | only where the sink counted a fault | a part of the text, from its beginning |
 /// | 0, 1, 10, 11, 12 | 0 alone for `log`, `graph` and `check`; else only where the build has ended so | the log, or the command's text |
 /// | 3 | only where no grant is due, and no input is open or the answers were read to their end | the log so far |
 /// | 8 | want of memory | `controller: out of memory` |
 ///
-/// What is said of the bytes of a source, the sink or the disk holds where it tells them; a disk that tells nothing, as a real
-/// file, still has its statuses with their counts of faults. It may wait for ever, as the answers may.
+/// Each status yields to those above it, and all but 2 to want of memory.
+///
+/// What is said of the bytes of a source, the sink or the disk holds where it tells them. Of a disk that tells nothing, as a real
+/// file, it still holds that `run` writes the log of the build that it has begun, with the status of that build. It may wait for
+/// ever, as the answers may.
 pub fn controller<
     R: SavedThread + Drop,
     W: Wait + AllocGlobal,
@@ -71,19 +73,19 @@ pub fn controller<
     answers: A,
     out: &mut K,
 ) -> Ended<D, A>
-    ensures output { Output D.reads (call_of (map string_bytes words.items) (taken_from S.left S.faults script.old script.new) (taken_from S.left S.faults agents.old agents.new)
+    ensures output { Output D.reads D.may_leave (call_of (map string_bytes words.items) (taken_from S.left S.faults script.old script.new) (taken_from S.left S.faults agents.old agents.new)
         (taken_from A.left A.faults answers result.answers) disk result.disk (K.written out.old) (K.written out.new) (K.faults out.old) (K.faults out.new) result.status) }
     ensures crash { Crash D.reads D.may_leave D.clock D.may_have_left_since D.faults (call_of (map string_bytes words.items) (taken_from S.left S.faults script.old script.new) (taken_from S.left S.faults agents.old agents.new)
         (taken_from A.left A.faults answers result.answers) disk result.disk (K.written out.old) (K.written out.new) (K.faults out.old) (K.faults out.new) result.status) }
     ensures first_fault { FirstFault (call_of (map string_bytes words.items) (taken_from S.left S.faults script.old script.new) (taken_from S.left S.faults agents.old agents.new)
         (taken_from A.left A.faults answers result.answers) disk result.disk (K.written out.old) (K.written out.new) (K.faults out.old) (K.faults out.new) result.status) }
-    ensures causes { Causes D.reads D.faults (call_of (map string_bytes words.items) (taken_from S.left S.faults script.old script.new) (taken_from S.left S.faults agents.old agents.new)
+    ensures causes { Causes D.reads D.may_leave D.clock D.may_have_left_since D.faults (call_of (map string_bytes words.items) (taken_from S.left S.faults script.old script.new) (taken_from S.left S.faults agents.old agents.new)
         (taken_from A.left A.faults answers result.answers) disk result.disk (K.written out.old) (K.written out.new) (K.faults out.old) (K.faults out.new) result.status) }
     ensures reads { Reads (call_of (map string_bytes words.items) (taken_from S.left S.faults script.old script.new) (taken_from S.left S.faults agents.old agents.new)
         (taken_from A.left A.faults answers result.answers) disk result.disk (K.written out.old) (K.written out.new) (K.faults out.old) (K.faults out.new) result.status) }
 {
     let mut answers = answers;
-    let Shown { status, disk } = act::<R, W, D, S, A, K>(
+    let Done { status, disk } = do_command::<R, W, D, S, A, K>(
         rt,
         alloc,
         &words,
@@ -101,7 +103,7 @@ pub fn controller<
 }
 
 /// Does the command that the words give.
-fn act<R: SavedThread + Drop, W: Wait + AllocGlobal, D: Disk, S: Source, A: Source, K: Sink>(
+fn do_command<R: SavedThread + Drop, W: Wait + AllocGlobal, D: Disk, S: Source, A: Source, K: Sink>(
     rt: &W,
     alloc: Global,
     words: &[String],
@@ -110,7 +112,7 @@ fn act<R: SavedThread + Drop, W: Wait + AllocGlobal, D: Disk, S: Source, A: Sour
     disk: D,
     answers: &mut A,
     out: &mut K,
-) -> Shown<D>
+) -> Done<D>
     ensures does { Does D.reads D.may_leave D.clock D.may_have_left_since R.stance D.faults (call_of (map string_bytes words.now) (taken_from S.left S.faults script.old script.new) (taken_from S.left S.faults agents.old agents.new)
         (taken_from A.left A.faults answers.old answers.new) disk result.disk (K.written out.old) (K.written out.new) (K.faults out.old) (K.faults out.new) result.status) }
 {
@@ -123,11 +125,11 @@ fn act<R: SavedThread + Drop, W: Wait + AllocGlobal, D: Disk, S: Source, A: Sour
         Some((Command::Graph, _)) => graph::<D, R, K>(alloc, disk, out),
         Some((Command::Check, _)) => {
             let status = check(alloc, script, agents, out);
-            Shown { status, disk }
+            Done { status, disk }
         }
         None => {
             let status = tell_usage(out);
-            Shown { status, disk }
+            Done { status, disk }
         }
     }
 }

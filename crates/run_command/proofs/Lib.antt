@@ -1,4 +1,2 @@
-mod CommandLemmas
 pub mod StatusLemmas
-pub mod EndsLemmas
-mod CausesLemmas
+pub mod FileLemmas

@@ -24,7 +24,6 @@ IsEnded status = (result : BuildResult) × (status ≡ result_status result)
 abbrev pub HasLog : ℕ → Type 0
 HasLog status = IsEnded status ⊎ (status ≡ 3)
 
--- the program has this status: one of a log, or words that are no command (2), a script that is refused (4), a source that failed (6), a sink
--- that failed (7), want of memory (8), an agents file with a fault (13)
-abbrev pub IsStatus : ℕ → Type 0
-IsStatus status = HasLog status ⊎ (status ≡ 2) ⊎ (status ≡ 4) ⊎ (status ≡ 6) ⊎ (status ≡ 7) ⊎ (status ≡ 8) ⊎ (status ≡ 13)
+-- a status that tells that a call did what its command is for, but for its writing: that of a log, or 7, where it was cut short
+abbrev pub HasRun : ℕ → Type 0
+HasRun status = HasLog status ⊎ (status ≡ 7)

@@ -6,14 +6,8 @@ use Rattle.model_run.specs.declared.agents.AgentsKind.{AgentsKind}
 use Rattle.model_run.specs.AgentsTexts.{agents_kind_text}
 use Rattle.model_syntax.specs.FaultTexts.{fault_text}
 
-abbrev pub usage_text : List ℕ
-usage_text = codes "usage: controller run|resume|log|graph|check DIR\n       controller gen N\n"
-
 abbrev pub read_failed_text : List ℕ
 read_failed_text = codes "controller: read failed\n"
-
-abbrev pub out_of_memory_text : List ℕ
-out_of_memory_text = codes "controller: out of memory\n"
 
 abbrev pub too_long_text : List ℕ
 too_long_text = codes "Jenkinsfile: longer than 1048576 bytes\n"

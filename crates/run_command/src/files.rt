@@ -3,8 +3,7 @@ ghost use Rattle.std.specs.Prelude.{◌≡◌, ◌⊎◌, ℕ, ◌+◌, ◌<◌,
 ghost use Rattle.std.specs.Io.KnownBytes.{Consumes, IsAtEnd};
 ghost use Rattle.jp_io.specs.declared.whole.ReadFault.TheVariants.{Memory, Failed};
 ghost use Rattle.jp_io.specs.Whole.{TakesAtMost};
-ghost use Rattle.run_command.specs.Ends.{script_limit, agents_limit};
-ghost use Rattle.run_command.specs.Files.{ReadWhole};
+ghost use Rattle.run_command.specs.Files.{agents_limit, script_limit, ReadWhole};
 ghost use Rattle.run_command.specs.Inputs.{taken_from, HasFailed, IsCalm};
 
 use agents_file::FILE_LIMIT;

@@ -1,19 +1,16 @@
-//! The command `run DIR`: from the words of the command line and the streams to the output and the exit status.
-//!
-//! All that is promised stands at [`controller`]. The threads of the build are of any kind that meets `ScriptThread`.
+//! What the commands of the controller share: the script and the agents file, read; the line that tells a fault of the agents
+//! file; and the exit status of a build.
 //!
 //! ```text
-//! let ended = controller::<Thread, _, _, _, _>(&rt, alloc, words, &mut script, &mut agents, answers, &mut out);
-//! ExitCode::from(ended.status)
+//! let files = read_files(alloc, &mut script, &mut agents)?;
+//! let status = build_status(&build);
 //! ```
 #![tactic(auto)]
 
-mod call;
-mod command;
-mod ending;
 mod files;
+mod status;
+mod texts;
 
-pub use call::{Ended, agents_text, controller};
-pub use command::run_folder;
-pub use ending::{Ending, build_status, tell};
 pub use files::{Files, read_files};
+pub use status::build_status;
+pub use texts::agents_text;

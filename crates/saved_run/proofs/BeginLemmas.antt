@@ -42,9 +42,10 @@ use Rattle.durable_build.proofs.Begun.{starts_first}
 use Rattle.durable_build.proofs.OpenLemmas.{begun_all, is_start}
 use Rattle.durable_build.specs.Taking.{IsSized, Puts, TakeAnswers, TakeLeaves, TakeKeeps, TakeSources, added}
 use Rattle.saved_run.specs.declared.life.Life.{Life}
-use Rattle.saved_run.specs.Saved.{IsTold, Stores, Survives}
+use Rattle.saved_run.specs.Saved.{IsTold, Saves, Stores, Survives}
 use Rattle.saved_run.specs.declared.life.BeginFault.TheVariants.{Take}
-use Rattle.saved_run.specs.Lives.{image_after, IsBegun, StartFaults, MayRisk, Stands, Begins, BeginRefuses, StartFails}
+use Rattle.saved_run.specs.Lives.{image_after, Goes, IsBegun, StartFaults, MayRisk, Stands, Begins, BeginRefuses, StartFails}
+use Rattle.saved_run.proofs.LifeLemmas.{saves_world}
 use Rattle.saved_run.proofs.SavedLemmas.{same_standing, told_none, told_start, survives_all, survives_risked}
 
 -- the executors of an agents file have numbers of their own
@@ -67,6 +68,18 @@ site_numbered a site means = file (nat_lt 65536 (length a)) (is_utf8 a) means
 -- the setting of a script and an agents file without a fault
 pub mean_proper : (script agents : List ℕ) (setting : Setting) → Mean script agents setting → IsProper setting
 mean_proper script agents setting mean = record { tree = mean.tree; is = mean.is; numbered = site_numbered agents setting.site mean.means }
+
+-- a build whose `Start` was accepted goes on from it
+goes_begun : {D T : Type 0} (stance : T → Stance) (setting : Setting) (script agents : List ℕ) (fresh new : Kept D T) → Mean script agents setting → setting_in fresh.build ≡ setting → StandsFor stance fresh.build unbegun
+    → setting_in new.build ≡ setting_in fresh.build → new.stopped ≡ false → ((w : Build) → StandsFor stance fresh.build w → StandsFor stance new.build (after_one (setting_in fresh.build) w (event.Start script agents)))
+    → Goes stance setting (event.Start script agents ∷ []) new
+goes_begun stance setting script agents fresh new mean same stands here running goes = record {
+  same = here ∙ same;
+  proper = mean_proper script agents setting mean;
+  begun = starts_begun setting script agents;
+  running = running;
+  stands = subst (λ (s : Setting). StandsFor stance new.build (after_one s unbegun (event.Start script agents))) same (goes unbegun stands);
+}
 
 module _ {D T : Type 0} (reads : D → Option (List ℕ)) (may_leave : D → List ℕ → Type 0) (clock : D → ℕ) (since : D → ℕ → List ℕ → Type 0) (stance : T → Stance) (setting : Setting) (script agents file : List ℕ) (disk : D) (fresh new : Kept D T)
     (mean : Mean script agents setting) (same : setting_in fresh.build ≡ setting) (stands : StandsFor stance fresh.build unbegun) (unstarted : IsStarted file → ⊥) (none : Has [] file) (keeps_none : Keeps reads may_leave stance fresh [])
@@ -107,30 +120,28 @@ module _ {D T : Type 0} (reads : D → Option (List ℕ)) (may_leave : D → Lis
     without_start now is = subst (λ (j : State D). SinceSync clock since may_leave file disk j.disk (Survives setting [] taken risked)) (sym is) (record { synced = quiet.synced; up_to = quiet.up_to; durable = quiet.durable; from_then = before_start })
 
   pub begins_taken : (answer : Taken) (life : Life D T) → life.durable ≡ new → answer ≡ taken (standing_of fresh.build) start → setting_in new.build ≡ setting_in fresh.build → TakeLeaves stance fresh new start (Ok answer)
-      → TakeKeeps reads may_leave clock since stance fresh new start [] (Ok answer) → Begins reads may_leave clock since stance setting start file disk life
-  begins_taken Accepted life at is here leaves a =
+      → ((w : Build) → StandsFor stance fresh.build w → StandsFor stance new.build (after_one (setting_in fresh.build) w start)) → TakeKeeps reads may_leave clock since stance fresh new start [] (Ok answer) → Begins reads may_leave clock since stance setting start file disk life
+  begins_taken Accepted life at is here leaves goes a =
       let told = told_here a.puts a.image in
       let now : setting_in new.build ≡ setting = here ∙ same in
       record {
         fresh = unstarted;
         stands = subst (λ (k : Kept D T). Stands reads may_leave clock since stance setting (start ∷ []) k) (sym at) (record {
-          same = now;
-          proper = mean_proper script agents setting mean;
-          begun = starts_begun setting script agents;
-          running = leaves.0;
+          goes = goes_begun stance setting script agents fresh new mean same stands here leaves.0 goes;
           saves = record { payloads = a.puts.payload ∷ []; keeps = a.keeps; told = subst (λ (s : Setting). IsTold s (start ∷ []) (a.puts.payload ∷ [])) (sym now) told };
         });
         moments = subst (λ (k : Kept D T). SinceSync clock since may_leave file disk k.journal.disk (Survives setting [] (start ∷ []) None)) (sym at)
             (with_start (start ∷ []) None (λ image stores. record { kept = []; front = record { begins = ([], refl); within = inl (start ∷ [], refl) }; stores = stores })
             (λ image stores. survives_all setting [] (start ∷ []) None image (start ∷ [], refl) stores) new.journal.disk a.puts.payload told a.puts.moments);
       }
-  begins_taken NotOpen life at is here leaves keeps = let bad : NotOpen ≡ Accepted = is ∙ starts_accepted in absurd (cc)
-  begins_taken (WrongPlace kept) life at is here leaves keeps = let bad : WrongPlace kept ≡ Accepted = is ∙ starts_accepted in absurd (cc)
-  begins_taken Finished life at is here leaves keeps = let bad : Finished ≡ Accepted = is ∙ starts_accepted in absurd (cc)
+  begins_taken NotOpen life at is here leaves goes keeps = let bad : NotOpen ≡ Accepted = is ∙ starts_accepted in absurd (cc)
+  begins_taken (WrongPlace kept) life at is here leaves goes keeps = let bad : WrongPlace kept ≡ Accepted = is ∙ starts_accepted in absurd (cc)
+  begins_taken Finished life at is here leaves goes keeps = let bad : Finished ≡ Accepted = is ∙ starts_accepted in absurd (cc)
 
   unrisked : (f : TakeFault) → new.journal ≡ fresh.journal → MayRisk f (Some start) None → StartFails reads may_leave clock since stance setting start file disk new.journal.disk f
   unrisked f is may = record {
     fresh = unstarted;
+    none = none;
     risked = None;
     may_risk = may;
     moments = without_start [] None (λ image stores. survives_all setting [] [] None image ([], refl) stores) new.journal is;
@@ -143,6 +154,7 @@ module _ {D T : Type 0} (reads : D → Option (List ℕ)) (may_leave : D → Lis
   start_fails Stopped running answers leaves keeps = let bad : false ≡ true = sym running ∙ answers in absurd (cc)
   start_fails Disk running answers leaves r = record {
     fresh = unstarted;
+    none = none;
     risked = Some start;
     may_risk = refl;
     moments = with_start [] (Some start) (λ image stores. survives_all setting [] [] (Some start) image ([], refl) stores) (λ image stores. survives_risked setting [] [] start image ([], refl) stores) new.journal.disk r.puts.payload
@@ -150,20 +162,14 @@ module _ {D T : Type 0} (reads : D → Option (List ℕ)) (may_leave : D → Lis
   }
 
 -- a build that has taken its `Start` alone
-pub is_begun : {D T : Type 0} (stance : T → Stance) (setting : Setting) (script agents : List ℕ) (fresh new : Kept D T) → setting_in fresh.build ≡ setting → StandsFor stance fresh.build unbegun
+pub is_begun : {D T : Type 0} (stance : T → Stance) (setting : Setting) (script agents : List ℕ) (fresh new : Kept D T) → Mean script agents setting → setting_in fresh.build ≡ setting → StandsFor stance fresh.build unbegun
     → (answer : Taken) → answer ≡ taken (standing_of fresh.build) (event.Start script agents) → setting_in new.build ≡ setting_in fresh.build → TakeLeaves stance fresh new (event.Start script agents) (Ok answer)
     → TakeSources fresh new (event.Start script agents) (Ok answer) → ((w : Build) → StandsFor stance fresh.build w → StandsFor stance new.build (after_one (setting_in fresh.build) w (event.Start script agents)))
     → IsBegun stance setting script agents new
-is_begun stance setting script agents fresh new same stands answer is here leaves sources goes = by_answer answer (is ∙ ap (λ (b : Standing). taken b (event.Start script agents)) (same_standing stance fresh.build unbegun stands)) leaves sources
+is_begun stance setting script agents fresh new mean same stands answer is here leaves sources goes = by_answer answer (is ∙ ap (λ (b : Standing). taken b (event.Start script agents)) (same_standing stance fresh.build unbegun stands)) leaves sources
   where
     by_answer : (a : Taken) → a ≡ Accepted → TakeLeaves stance fresh new (event.Start script agents) (Ok a) → TakeSources fresh new (event.Start script agents) (Ok a) → IsBegun stance setting script agents new
-    by_answer Accepted at left kept = record {
-      running = left.0;
-      same = here ∙ same;
-      stands = subst (λ (s : Setting). StandsFor stance new.build (after_one s unbegun (event.Start script agents))) same (goes unbegun stands);
-      has_script = kept.0;
-      has_agents = kept.1;
-    }
+    by_answer Accepted at left kept = record { goes = goes_begun stance setting script agents fresh new mean same stands here left.0 goes; has_script = kept.0; has_agents = kept.1 }
     by_answer NotOpen at left kept = absurd (cc)
     by_answer (WrongPlace place) at left kept = absurd (cc)
     by_answer Finished at left kept = absurd (cc)
@@ -221,10 +227,14 @@ reopened {D} {T} reads may_leave clock since stance setting events file k o runn
     one (p ∷ ps) (r ∷ rs) some keeps spelled story due are =
         let o = keeps.stands.1 in
         let same : setting ≡ setting_in k.build = same_setting (setting_in k.build) setting k.script k.agents p r o spelled.0 story.starts in
+        let saves : Saves reads may_leave stance k events = record { payloads = p ∷ ps; keeps = keeps; told = subst (λ (s : Setting). IsTold s events (p ∷ ps)) same (record { records = r ∷ rs; spelled = spelled; story = story; due = due; are = are }) } in
         record {
-          same = sym same;
-          proper = subst IsProper (sym same) (mean_proper k.script k.agents (setting_in k.build) o.mean);
-          begun = subst (λ (es : List Event). (world_in setting es).started ≡ true) are (begun_all setting (r.event ∷ []) (events_of rs) (starts_first setting r.event (is_start setting r.event story.starts)));
-          running = running;
-          saves = record { payloads = p ∷ ps; keeps = keeps; told = subst (λ (s : Setting). IsTold s events (p ∷ ps)) same (record { records = r ∷ rs; spelled = spelled; story = story; due = due; are = are }) };
+          goes = record {
+            same = sym same;
+            proper = subst IsProper (sym same) (mean_proper k.script k.agents (setting_in k.build) o.mean);
+            begun = subst (λ (es : List Event). (world_in setting es).started ≡ true) are (begun_all setting (r.event ∷ []) (events_of rs) (starts_first setting r.event (is_start setting r.event story.starts)));
+            running = running;
+            stands = saves_world reads may_leave clock since stance setting events k (sym same) saves;
+          };
+          saves = saves;
         }

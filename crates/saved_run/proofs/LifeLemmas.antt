@@ -1,10 +1,11 @@
 -- What a take makes of a life.
-use Rattle.std.specs.Prelude.{IfSome}
+use Rattle.std.specs.Prelude.{◌+◌, length, IfSome, IsSome}
 use Rattle.std.proofs.Common.{◌≡◌, ◌⊎◌, ◌≤◌, ℕ, true, false, List, [], ◌∷◌, ◌++◌, Option, Some, None, Ok, Err, inl, inr, refl, sym, ap, ◌∙◌, subst, append-nil, append_assoc}
 use Rattle.jp_disk.specs.Moments.{AtEachMoment}
 use Rattle.jp_disk.proofs.MomentLemmas.{runs_on, at_each_weaker, starts}
-use Rattle.journal_core.specs.Records.{HasWithOrWithout}
+use Rattle.journal_core.specs.Records.{HasWithOrWithout, Walked, framed}
 use Rattle.journal_core.specs.State.{State}
+use Rattle.journal_core.proofs.RecordLemmas.{has_framed}
 use Rattle.journal_core.proofs.StepLemmas.{stores_has}
 use Rattle.record_form.specs.Records.{record_of}
 use Rattle.agent_worker.specs.declared.fault.TakeFault.{TakeFault}
@@ -23,13 +24,18 @@ use Rattle.store_laws.specs.Store.{events_of, grant_of}
 use Rattle.durable_build.specs.Standing.{Kept, Keeps}
 use Rattle.store_laws.proofs.Stories.{world-more}
 use Rattle.durable_build.specs.Taking.{IsAfter, IsSized, Puts, TakeAnswers, TakeLeaves, TakeKeeps, added}
-use Rattle.saved_run.specs.Saved.{IsTold, Stores, Survives}
-use Rattle.saved_run.specs.Lives.{image_after, IsFull, IsOf, MayRisk, Stands, Lasts, FailsBy, TellsFault}
+use Rattle.saved_run.specs.Saved.{IsTold, Saves, Stores, Survives, journal_length}
+use Rattle.saved_run.specs.Lives.{image_after, Goes, IsFull, IsOf, MayRisk, Lasts, FailsBy, TellsFault, TellsLength}
 use Rattle.saved_run.proofs.SavedLemmas.{same_standing, told_more, survives_all, survives_risked, survives_more, survives_risk}
 
 if_some : (o : Option Event) (P Q : Event → Type 0) → ((e : Event) → P e → Q e) → IfSome o P → IfSome o Q
 if_some None P Q goes is = tt
 if_some (Some e) P Q goes is = goes e is
+
+-- a fault that is not `Full` tells no length
+pub unsized : (o : Option (List ℕ)) (f : TakeFault) → ((file : List ℕ) → TellsLength f file) → IfSome o (TellsLength f)
+unsized None f all = tt
+unsized (Some file) f all = all file
 
 module _ {D T : Type 0} (stance : T → Stance) (old new : Kept D T) (e : Event) where
   -- a take that is answered leaves a build that no fault stopped
@@ -57,72 +63,68 @@ tells_stopped {D} {T} stance kept new fault is tells = subst (λ (k : Kept D T).
     same Stopped t = t
 
 module _ {D T : Type 0} (reads : D → Option (List ℕ)) (may_leave : D → List ℕ → Type 0) (clock : D → ℕ) (since : D → ℕ → List ℕ → Type 0) (stance : T → Stance) where
-  -- the build stands for that of its events
-  pub stands_world : (setting : Setting) (events : List Event) (kept : Kept D T) → Stands reads may_leave clock since stance setting events kept → StandsFor stance kept.build (world_in setting events)
-  stands_world setting events kept s =
-      let t = s.saves.told in
+  -- a build that is saved stands for that of its events
+  pub saves_world : (setting : Setting) (events : List Event) (kept : Kept D T) → setting_in kept.build ≡ setting → Saves reads may_leave stance kept events → StandsFor stance kept.build (world_in setting events)
+  saves_world setting events kept same saves =
+      let t = saves.told in
       subst (λ (es : List Event). StandsFor stance kept.build (world_in setting es)) t.are
-      (subst (λ (x : Setting). StandsFor stance kept.build (world_in x (events_of t.records))) s.same (s.saves.keeps.story t.records t.spelled t.story))
+      (subst (λ (x : Setting). StandsFor stance kept.build (world_in x (events_of t.records))) same (saves.keeps.story t.records t.spelled t.story))
 
   -- what a crash leaves of a life, and what stands on its disk now
-  pub saved_image : (setting : Setting) (events : List Event) (kept : Kept D T) (image : List ℕ) → Stands reads may_leave clock since stance setting events kept → may_leave kept.journal.disk image → Stores setting events image
-  saved_image setting events kept image s left = record {
-    payloads = s.saves.payloads;
-    has = stores_has reads may_leave kept.journal.disk kept.journal.len s.saves.payloads image s.saves.keeps.holds left;
-    told = subst (λ (x : Setting). IsTold x events s.saves.payloads) s.same s.saves.told;
+  pub saved_image : (setting : Setting) (events : List Event) (kept : Kept D T) (image : List ℕ) → setting_in kept.build ≡ setting → Saves reads may_leave stance kept events → may_leave kept.journal.disk image → Stores setting events image
+  saved_image setting events kept image same saves left = record {
+    payloads = saves.payloads;
+    has = stores_has reads may_leave kept.journal.disk kept.journal.len saves.payloads image saves.keeps.holds left;
+    told = subst (λ (x : Setting). IsTold x events saves.payloads) same saves.told;
   }
 
+  -- the journal's length is that of the file that the disk tells
+  saved_length : (events : List Event) (kept : Kept D T) → Saves reads may_leave stance kept events → IfSome (reads kept.journal.disk) (λ file. kept.journal.len ≡ journal_length file)
+  saved_length events kept saves =
+      let h = saves.keeps.holds in
+      subst (λ (o : Option (List ℕ)). IfSome o (λ file. kept.journal.len ≡ journal_length file)) (sym h.told)
+      (h.ends ∙ ap (λ (w : Walked). length (framed w.payloads) + 1) (sym (has_framed saves.payloads h.gate h.rest h.closed h.fit)))
+
   -- a take that failed by one of these events failed by one of those
-  pub fails_by : (setting : Setting) (origin : D) (before events : List Event) (Cause Other : Event → Type 0) (fault : TakeFault) (kept : Kept D T) → ((e : Event) → Cause e → Other e)
-      → FailsBy reads may_leave clock since stance setting origin before events Cause fault kept → FailsBy reads may_leave clock since stance setting origin before events Other fault kept
-  fails_by setting origin before events Cause Other fault kept goes f = (f.0, if_some f.0.refused Cause Other goes f.1)
+  pub fails_by : (setting : Setting) (entry : Option (List ℕ)) (origin : D) (before events : List Event) (Cause Other : Event → Type 0) (fault : TakeFault) (kept : Kept D T) → ((e : Event) → Cause e → Other e)
+      → FailsBy reads may_leave clock since stance setting entry origin before events Cause fault kept → FailsBy reads may_leave clock since stance setting entry origin before events Other fault kept
+  fails_by setting entry origin before events Cause Other fault kept goes f = (f.0, if_some f.0.refused Cause Other goes f.1)
 
   -- what is said of a take that failed hangs on its journal alone
-  pub fails_same : (setting : Setting) (origin : D) (before events : List Event) (Cause : Event → Type 0) (fault : TakeFault) (kept new : Kept D T) → new.journal ≡ kept.journal
-      → FailsBy reads may_leave clock since stance setting origin before events Cause fault kept → FailsBy reads may_leave clock since stance setting origin before events Cause fault new
-  fails_same setting origin before events Cause fault kept new same f = (
+  pub fails_same : (setting : Setting) (entry : Option (List ℕ)) (origin : D) (before events : List Event) (Cause : Event → Type 0) (fault : TakeFault) (kept new : Kept D T) → new.journal ≡ kept.journal
+      → FailsBy reads may_leave clock since stance setting entry origin before events Cause fault kept → FailsBy reads may_leave clock since stance setting entry origin before events Cause fault new
+  fails_same setting entry origin before events Cause fault kept new same f = (
     record {
       refused = f.0.refused;
       is_next = f.0.is_next;
       full = subst (λ (j : State D). IfSome f.0.refused (λ (e : Event). IsFull e (image_after setting (events ++ e ∷ [])) j.len fault)) (sym same) f.0.full;
+      sized = λ known. subst (λ (j : State D). IfSome (reads j.disk) (TellsLength fault)) (sym same) (f.0.sized known);
       risked = f.0.risked;
       may_risk = f.0.may_risk;
-      moments = subst (λ (j : State D). AtEachMoment clock since origin j.disk (Survives setting before events f.0.risked)) (sym same) f.0.moments;
-      images = λ image left. f.0.images image (subst (λ (j : State D). may_leave j.disk image) same left);
+      moments = λ known. subst (λ (j : State D). AtEachMoment clock since origin j.disk (Survives setting before events f.0.risked)) (sym same) (f.0.moments known);
+      images = λ known image left. f.0.images known image (subst (λ (j : State D). may_leave j.disk image) same left);
     },
     f.1,
   )
 
   -- a life from its own disk on
-  pub lasts_here : ((d : D) (image : List ℕ) → since d (clock d) image → may_leave d image) → (setting : Setting) (events : List Event) (kept : Kept D T) → Stands reads may_leave clock since stance setting events kept
-      → Lasts reads may_leave clock since stance setting kept.journal.disk events events kept
-  lasts_here only_now setting events kept s = record {
-    stands = s;
+  pub lasts_here : ((d : D) (image : List ℕ) → since d (clock d) image → may_leave d image) → (setting : Setting) (entry : Option (List ℕ)) (events : List Event) (kept : Kept D T) → Goes stance setting events kept
+      → (IsSome entry → Saves reads may_leave stance kept events) → Lasts reads may_leave clock since stance setting entry kept.journal.disk events events kept
+  lasts_here only_now setting entry events kept goes saves = record {
+    goes = goes;
     goes_on = ([], sym (append-nil events));
-    moments = starts clock since kept.journal.disk (Survives setting events events None)
-        (λ image left. survives_all setting events events None image ([], sym (append-nil events)) (saved_image setting events kept image s (only_now kept.journal.disk image left)));
+    saves = saves;
+    moments = λ known. starts clock since kept.journal.disk (Survives setting events events None)
+        (λ image left. survives_all setting events events None image ([], sym (append-nil events)) (saved_image setting events kept image goes.same (saves known) (only_now kept.journal.disk image left)));
   }
 
-  module _ (setting : Setting) (origin : D) (before events : List Event) (old new : Kept D T) (e : Event) (lasts : Lasts reads may_leave clock since stance setting origin before events old)
+  module _ (setting : Setting) (entry : Option (List ℕ)) (origin : D) (before events : List Event) (old new : Kept D T) (e : Event) (lasts : Lasts reads may_leave clock since stance setting entry origin before events old)
       (accepted : answer_to setting (world_in setting events) e ≡ Accepted) (due : next_grant setting (world_in setting events) ≡ grant_of e) where
     -- the build accepts what its world accepts
     pub is_accepted : taken (standing_of old.build) e ≡ Accepted
     is_accepted =
-        ap (λ (b : Standing). taken b e) (same_standing stance old.build (world_in setting events) (stands_world setting events old lasts.stands))
-        ∙ ap (λ (s : Setting). answer_to s (world_in setting events) e) lasts.stands.same ∙ accepted
-
-    told_next : (puts : Puts clock since old.journal new.journal (record_of e (image_in stance new.build)) lasts.stands.saves.payloads)
-        → ((w : Build) → StandsFor stance old.build w → image_in stance new.build ≡ world_image (setting_in old.build) (after_one (setting_in old.build) w e))
-        → IsTold setting (events ++ e ∷ []) (lasts.stands.saves.payloads ++ puts.payload ∷ [])
-    told_next puts image =
-        let s = lasts.stands in
-        told_more setting events s.saves.payloads puts.payload (record_of e (image_in stance new.build)) (subst (λ (x : Setting). IsTold x events s.saves.payloads) s.same s.saves.told) s.begun puts.spells accepted due
-        (subst (λ (x : Setting). image_in stance new.build ≡ world_image x (after_one x (world_in setting events) e)) s.same (image (world_in setting events) (stands_world setting events old s)))
-
-    with_or_without : (p image : List ℕ) → IsTold setting (events ++ e ∷ []) (lasts.stands.saves.payloads ++ p ∷ []) → HasWithOrWithout lasts.stands.saves.payloads p image
-        → Stores setting events image ⊎ Stores setting (events ++ e ∷ []) image
-    with_or_without p image told (inl has) = inl (record { payloads = lasts.stands.saves.payloads; has = has; told = subst (λ (x : Setting). IsTold x events lasts.stands.saves.payloads) lasts.stands.same lasts.stands.saves.told })
-    with_or_without p image told (inr has) = inr (record { payloads = lasts.stands.saves.payloads ++ p ∷ []; has = has; told = told })
+        ap (λ (b : Standing). taken b e) (same_standing stance old.build (world_in setting events) lasts.goes.stands)
+        ∙ ap (λ (s : Setting). answer_to s (world_in setting events) e) lasts.goes.same ∙ accepted
 
     longer : (more : List Event) × (events ++ e ∷ [] ≡ before ++ more)
     longer = (lasts.goes_on.0 ++ e ∷ [], ap (λ (es : List Event). es ++ e ∷ []) lasts.goes_on.1 ∙ append_assoc before lasts.goes_on.0 (e ∷ []))
@@ -135,76 +137,107 @@ module _ {D T : Type 0} (reads : D → Option (List ℕ)) (may_leave : D → Lis
     kept_risked image (inl stores) = survives_all setting before events (Some e) image lasts.goes_on stores
     kept_risked image (inr stores) = survives_risked setting before events e image lasts.goes_on stores
 
+    -- where the disk told its bytes, the store has the events from before
+    module _ (saves : Saves reads may_leave stance old events) where
+      told_next : (puts : Puts clock since old.journal new.journal (record_of e (image_in stance new.build)) saves.payloads)
+          → ((w : Build) → StandsFor stance old.build w → image_in stance new.build ≡ world_image (setting_in old.build) (after_one (setting_in old.build) w e))
+          → IsTold setting (events ++ e ∷ []) (saves.payloads ++ puts.payload ∷ [])
+      told_next puts image =
+          told_more setting events saves.payloads puts.payload (record_of e (image_in stance new.build)) (subst (λ (x : Setting). IsTold x events saves.payloads) lasts.goes.same saves.told) lasts.goes.begun puts.spells accepted due
+          (subst (λ (x : Setting). image_in stance new.build ≡ world_image x (after_one x (world_in setting events) e)) lasts.goes.same (image (world_in setting events) lasts.goes.stands))
+
+      with_or_without : (p image : List ℕ) → IsTold setting (events ++ e ∷ []) (saves.payloads ++ p ∷ []) → HasWithOrWithout saves.payloads p image
+          → Stores setting events image ⊎ Stores setting (events ++ e ∷ []) image
+      with_or_without p image told (inl has) = inl (record { payloads = saves.payloads; has = has; told = subst (λ (x : Setting). IsTold x events saves.payloads) lasts.goes.same saves.told })
+      with_or_without p image told (inr has) = inr (record { payloads = saves.payloads ++ p ∷ []; has = has; told = told })
+
+      -- a record that was to be added
+      added_moments : (puts : Puts clock since old.journal new.journal (record_of e (image_in stance new.build)) saves.payloads)
+          → ((w : Build) → StandsFor stance old.build w → image_in stance new.build ≡ world_image (setting_in old.build) (after_one (setting_in old.build) w e))
+          → (taken : List Event) (risked : Option Event) → ((image : List ℕ) → Stores setting events image ⊎ Stores setting (events ++ e ∷ []) image → Survives setting before taken risked image)
+          → AtEachMoment clock since origin old.journal.disk (Survives setting before taken risked) → AtEachMoment clock since origin new.journal.disk (Survives setting before taken risked)
+      added_moments puts image taken risked kept so_far =
+          runs_on clock since origin old.journal.disk new.journal.disk (Survives setting before taken risked) so_far
+          (at_each_weaker clock since old.journal.disk new.journal.disk (HasWithOrWithout saves.payloads puts.payload) (Survives setting before taken risked)
+          (λ at has. kept at (with_or_without puts.payload at (told_next puts image) has)) puts.moments)
+
     -- It was taken.
     pub lasts_taken : (answer : Taken) → answer ≡ taken (standing_of old.build) e → setting_in new.build ≡ setting_in old.build → TakeLeaves stance old new e (Ok answer)
-        → ((ps : List (List ℕ)) → Keeps reads may_leave stance old ps → TakeKeeps reads may_leave clock since stance old new e ps (Ok answer)) → Lasts reads may_leave clock since stance setting origin before (events ++ e ∷ []) new
-    lasts_taken Accepted is same leaves keeps =
-        let s = lasts.stands in
-        let a = keeps s.saves.payloads s.saves.keeps in
-        let told = told_next a.puts a.image in
-        let here : setting_in new.build ≡ setting = same ∙ s.same in
+        → ((w : Build) → StandsFor stance old.build w → StandsFor stance new.build (after_one (setting_in old.build) w e))
+        → ((ps : List (List ℕ)) → Keeps reads may_leave stance old ps → TakeKeeps reads may_leave clock since stance old new e ps (Ok answer)) → Lasts reads may_leave clock since stance setting entry origin before (events ++ e ∷ []) new
+    lasts_taken Accepted is same leaves stands keeps =
+        let here : setting_in new.build ≡ setting = same ∙ lasts.goes.same in
         record {
-          stands = record {
+          goes = record {
             same = here;
-            proper = s.proper;
-            begun = stays_begun setting events e s.begun;
+            proper = lasts.goes.proper;
+            begun = stays_begun setting events e lasts.goes.begun;
             running = leaves.0;
-            saves = record { payloads = s.saves.payloads ++ a.puts.payload ∷ []; keeps = a.keeps; told = subst (λ (x : Setting). IsTold x (events ++ e ∷ []) (s.saves.payloads ++ a.puts.payload ∷ [])) (sym here) told };
+            stands = subst (λ (w : Build). StandsFor stance new.build w) (sym (world-more setting unbegun events e))
+                (subst (λ (x : Setting). StandsFor stance new.build (after_one x (world_in setting events) e)) lasts.goes.same (stands (world_in setting events) lasts.goes.stands));
           };
           goes_on = longer;
-          moments = runs_on clock since origin old.journal.disk new.journal.disk (Survives setting before (events ++ e ∷ []) None)
-              (at_each_weaker clock since origin old.journal.disk (Survives setting before events None) (Survives setting before (events ++ e ∷ []) None) (survives_more setting before events e) lasts.moments)
-              (at_each_weaker clock since old.journal.disk new.journal.disk (HasWithOrWithout s.saves.payloads a.puts.payload) (Survives setting before (events ++ e ∷ []) None)
-              (λ image has. kept_all image (with_or_without a.puts.payload image told has)) a.puts.moments);
+          saves = λ known.
+              let s = lasts.saves known in
+              let a = keeps s.payloads s.keeps in
+              record { payloads = s.payloads ++ a.puts.payload ∷ []; keeps = a.keeps; told = subst (λ (x : Setting). IsTold x (events ++ e ∷ []) (s.payloads ++ a.puts.payload ∷ [])) (sym here) (told_next s a.puts a.image) };
+          moments = λ known.
+              let s = lasts.saves known in
+              let a = keeps s.payloads s.keeps in
+              added_moments s a.puts a.image (events ++ e ∷ []) None kept_all
+              (at_each_weaker clock since origin old.journal.disk (Survives setting before events None) (Survives setting before (events ++ e ∷ []) None) (survives_more setting before events e) (lasts.moments known));
         }
-    lasts_taken NotOpen is same leaves keeps = let bad : NotOpen ≡ Accepted = is ∙ is_accepted in absurd (cc)
-    lasts_taken (WrongPlace kept) is same leaves keeps = let bad : WrongPlace kept ≡ Accepted = is ∙ is_accepted in absurd (cc)
-    lasts_taken Finished is same leaves keeps = let bad : Finished ≡ Accepted = is ∙ is_accepted in absurd (cc)
+    lasts_taken NotOpen is same leaves stands keeps = let bad : NotOpen ≡ Accepted = is ∙ is_accepted in absurd (cc)
+    lasts_taken (WrongPlace kept) is same leaves stands keeps = let bad : WrongPlace kept ≡ Accepted = is ∙ is_accepted in absurd (cc)
+    lasts_taken Finished is same leaves stands keeps = let bad : Finished ≡ Accepted = is ∙ is_accepted in absurd (cc)
 
     -- the image that a record of the event was to have is that of the world behind it
     image_is : IsAfter stance old new e → image_in stance new.build ≡ image_after setting (events ++ e ∷ [])
     image_is after =
-        let s = lasts.stands in
-        subst (λ (x : Setting). image_in stance new.build ≡ world_image x (after_one x (world_in setting events) e)) s.same (after (world_in setting events) (stands_world setting events old s))
+        subst (λ (x : Setting). image_in stance new.build ≡ world_image x (after_one x (world_in setting events) e)) lasts.goes.same (after (world_in setting events) lasts.goes.stands)
         ∙ ap (world_image setting) (sym (world-more setting unbegun events e))
 
     calm : (fault : TakeFault) → new.journal ≡ old.journal → IsOf setting events fault (Some e) → IsFull e (image_after setting (events ++ e ∷ [])) old.journal.len fault → MayRisk fault (Some e) None
-        → FailsBy reads may_leave clock since stance setting origin before events (λ (x : Event). x ≡ e) fault new
-    calm fault same of full may = (
+        → (IsSome entry → IfSome (reads old.journal.disk) (TellsLength fault)) → FailsBy reads may_leave clock since stance setting entry origin before events (λ (x : Event). x ≡ e) fault new
+    calm fault same of full may sized = (
       record {
         refused = Some e;
         is_next = of;
         full = subst (λ (j : State D). IsFull e (image_after setting (events ++ e ∷ [])) j.len fault) (sym same) full;
+        sized = λ known. subst (λ (j : State D). IfSome (reads j.disk) (TellsLength fault)) (sym same) (sized known);
         risked = None;
         may_risk = may;
-        moments = subst (λ (j : State D). AtEachMoment clock since origin j.disk (Survives setting before events None)) (sym same) lasts.moments;
-        images = λ image left. inl (saved_image setting events old image lasts.stands (subst (λ (j : State D). may_leave j.disk image) same left));
+        moments = λ known. subst (λ (j : State D). AtEachMoment clock since origin j.disk (Survives setting before events None)) (sym same) (lasts.moments known);
+        images = λ known image left. inl (saved_image setting events old image lasts.goes.same (lasts.saves known) (subst (λ (j : State D). may_leave j.disk image) same left));
       },
       refl,
     )
 
     -- It was not taken.
     pub fails_taken : ((d : D) (t : ℕ) (image : List ℕ) → t ≤ clock d → may_leave d image → since d t image) → (fault : TakeFault) → TakeAnswers stance old new e (Err fault) → IsSized stance old new e (Err fault) → TakeLeaves stance old new e (Err fault)
-        → ((ps : List (List ℕ)) → Keeps reads may_leave stance old ps → TakeKeeps reads may_leave clock since stance old new e ps (Err fault)) → FailsBy reads may_leave clock since stance setting origin before events (λ (x : Event). x ≡ e) fault new
-    fails_taken counts_now Memory answers size leaves keeps = calm Memory leaves.1 tt tt refl
+        → ((ps : List (List ℕ)) → Keeps reads may_leave stance old ps → TakeKeeps reads may_leave clock since stance old new e ps (Err fault)) → FailsBy reads may_leave clock since stance setting entry origin before events (λ (x : Event). x ≡ e) fault new
+    fails_taken counts_now Memory answers size leaves keeps = calm Memory leaves.1 tt tt refl (λ known. unsized (reads old.journal.disk) Memory (λ file. tt))
     fails_taken counts_now (Full len add) answers size leaves keeps =
         calm (Full len add) leaves.1 (record { accepted = accepted; due = due }) (answers.2, answers.3, answers.4 ∙ ap (added e) (image_is size)) refl
-    fails_taken counts_now Stopped answers size leaves keeps = let bad : false ≡ true = sym lasts.stands.running ∙ answers in absurd (cc)
-    fails_taken counts_now Disk answers size leaves keeps =
-        let s = lasts.stands in
-        let r = keeps s.saves.payloads s.saves.keeps in
-        let told = told_next r.puts r.image in (
-          record {
-            refused = Some e;
-            is_next = record { accepted = accepted; due = due };
-            full = tt;
-            risked = Some e;
-            may_risk = refl;
-            moments = runs_on clock since origin old.journal.disk new.journal.disk (Survives setting before events (Some e))
-                (at_each_weaker clock since origin old.journal.disk (Survives setting before events None) (Survives setting before events (Some e)) (survives_risk setting before events (Some e)) lasts.moments)
-                (at_each_weaker clock since old.journal.disk new.journal.disk (HasWithOrWithout s.saves.payloads r.puts.payload) (Survives setting before events (Some e))
-                (λ image has. kept_risked image (with_or_without r.puts.payload image told has)) r.puts.moments);
-            images = λ image left. with_or_without r.puts.payload image told (r.puts.moments.each image (counts_now new.journal.disk (clock old.journal.disk) image r.puts.moments.later left));
-          },
-          refl,
-        )
+        (λ known. subst (λ (n : ℕ). IfSome (reads old.journal.disk) (λ file. n ≡ journal_length file)) (sym answers.2) (saved_length events old (lasts.saves known)))
+    fails_taken counts_now Stopped answers size leaves keeps = let bad : false ≡ true = sym lasts.goes.running ∙ answers in absurd (cc)
+    fails_taken counts_now Disk answers size leaves keeps = (
+      record {
+        refused = Some e;
+        is_next = record { accepted = accepted; due = due };
+        full = tt;
+        sized = λ known. unsized (reads new.journal.disk) Disk (λ file. tt);
+        risked = Some e;
+        may_risk = refl;
+        moments = λ known.
+            let s = lasts.saves known in
+            let r = keeps s.payloads s.keeps in
+            added_moments s r.puts r.image events (Some e) kept_risked
+            (at_each_weaker clock since origin old.journal.disk (Survives setting before events None) (Survives setting before events (Some e)) (survives_risk setting before events (Some e)) (lasts.moments known));
+        images = λ known image left.
+            let s = lasts.saves known in
+            let r = keeps s.payloads s.keeps in
+            with_or_without s r.puts.payload image (told_next s r.puts r.image) (r.puts.moments.each image (counts_now new.journal.disk (clock old.journal.disk) image r.puts.moments.later left));
+      },
+      refl,
+    )

@@ -1,11 +1,11 @@
 -- What holds of a life, and how it comes to rest or breaks off (this product's own).
-use Rattle.std.specs.Prelude.{◌≡◌, ◌⊎◌, ◌+◌, ◌<◌, ◌^◌, ℕ, Bool, true, false, List, [], ◌∷◌, ◌++◌, Option, Some, None, Result, IfSome, IsSomeAnd, MatchResult}
+use Rattle.std.specs.Prelude.{◌≡◌, ◌⊎◌, ◌+◌, ◌<◌, ◌^◌, ℕ, Bool, true, false, List, [], ◌∷◌, ◌++◌, Option, Some, None, Result, IfSome, IsSome, IsSomeAnd, MatchResult}
 use Rattle.std.specs.Io.KnownBytes.{Consumes, IsAtEnd}
 use Rattle.jp_disk.specs.Moments.{AtEachMoment}
 use Rattle.journal_core.specs.Answers.{IsStarted}
 use Rattle.journal_core.specs.Moments.{SinceSync}
-use Rattle.journal_core.specs.Records.{records}
-use Rattle.agent_worker.specs.AnswerBytes.{read_bytes}
+use Rattle.journal_core.specs.Records.{Has, records}
+use Rattle.agent_worker.specs.AnswerBytes.{NoNewline, read_bytes}
 use Rattle.agent_worker.specs.declared.fault.TakeFault.{TakeFault}
 use Rattle.agent_worker.specs.declared.fault.TakeFault.TheVariants.{Memory, Disk, Full, Stopped}
 use Rattle.agent_worker.specs.declared.operator.LineEnd.{LineEnd}
@@ -23,13 +23,13 @@ use Rattle.build_core.specs.Builds.{StandsFor, setting_in}
 use Rattle.durable_build.specs.Standing.{Kept}
 use Rattle.script_run.specs.declared.rest.Rest.{Rest}
 use Rattle.script_run.specs.Rests.{LeftOver, TurnsTo}
-use Rattle.script_run.specs.Running.{Decides}
+use Rattle.script_run.specs.Running.{Decides, EndsLine}
 use Rattle.script_run.specs.Standing.{IsProper}
 use Rattle.saved_run.specs.declared.life.BeginFault.{BeginFault}
 use Rattle.saved_run.specs.declared.life.BeginFault.TheVariants.{HasBuild, Take}
 use Rattle.saved_run.specs.declared.life.Life.{Life}
 use Rattle.saved_run.specs.Going.{GoesOn}
-use Rattle.saved_run.specs.Saved.{Saves, Stores, Survives}
+use Rattle.saved_run.specs.Saved.{Saves, Stores, Survives, journal_length}
 
 -- an event behind the first
 abbrev pub IsLater : Event → Type 0
@@ -57,11 +57,17 @@ abbrev pub TellsStart : Setting → Event → BeginFault → Type 0
 TellsStart setting start HasBuild = Unit {0}
 TellsStart setting start (Take fault) = StartFaults setting start fault
 
--- A build that was begun, on each disk: it has taken its `Start` alone, whose bytes are kept, and no fault stopped it.
-pub record IsBegun {D T : Type 0} (stance : T → Stance) (setting : Setting) (script agents : List ℕ) (kept : Kept D T) : Type 0 where
-  pub running : kept.stopped ≡ false
+-- The build has begun, has taken these events under this setting of a script, and goes on from them; on each disk.
+pub record Goes {D T : Type 0} (stance : T → Stance) (setting : Setting) (events : List Event) (kept : Kept D T) : Type 0 where
   pub same : setting_in kept.build ≡ setting
-  pub stands : StandsFor stance kept.build (world_in setting (event.Start script agents ∷ []))
+  pub proper : IsProper setting
+  pub begun : (world_in setting events).started ≡ true
+  pub running : kept.stopped ≡ false
+  pub stands : StandsFor stance kept.build (world_in setting events)
+
+-- A build that was begun, on each disk: it has taken its `Start` alone, whose bytes are kept.
+pub record IsBegun {D T : Type 0} (stance : T → Stance) (setting : Setting) (script agents : List ℕ) (kept : Kept D T) : Type 0 where
+  pub goes : Goes stance setting (event.Start script agents ∷ []) kept
   pub has_script : kept.script ≡ script
   pub has_agents : kept.agents ≡ agents
 
@@ -78,10 +84,11 @@ abbrev pub StaysRunning : {D T A : Type 0} → (T → Stance) → Kept D T → K
 StaysRunning stance old new r = old.stopped ≡ false → MatchResult r (λ a. new.stopped ≡ false) (TellsFault stance new)
 
 -- Why a life takes an event: it makes the grant that is due, before anything more is read; or it is the decision of the line that was just
--- read.
-pub data IsCaused (setting : Setting) (events : List Event) : List ℕ → Event → Type 0 where
-  by_grant : (request executor : ℕ) → next_grant setting (world_in setting events) ≡ Some (request, executor) → IsCaused setting events [] (event.Granted request executor)
-  by_line : {e : Event} (line : List ℕ) (end : LineEnd) → Decides (world_in setting events) line e → IsCaused setting events (read_bytes end line) e
+-- read whole, up to its newline or to the end of the answers. `left` is what the answers have left then.
+pub data IsCaused (setting : Setting) (events : List Event) (left : Option (List ℕ)) : List ℕ → Event → Type 0 where
+  by_grant : (request executor : ℕ) → next_grant setting (world_in setting events) ≡ Some (request, executor) → IsCaused setting events left [] (event.Granted request executor)
+  by_line : {e : Event} {more : Bool} (line : List ℕ) (end : LineEnd) → NoNewline line → EndsLine end more → (more ≡ false → IsAtEnd left) → Decides (world_in setting events) line e
+      → IsCaused setting events left (read_bytes end line) e
 
 -- The event that a life would have taken next: it is accepted, and makes a grant where one is due.
 pub record IsNext (setting : Setting) (events : List Event) (e : Event) : Type 0 where
@@ -93,68 +100,74 @@ abbrev pub IsOf : Setting → List Event → TakeFault → Option Event → Type
 IsOf setting events Memory refused = Unit {0}
 IsOf setting events fault refused = IsSomeAnd refused (IsNext setting events)
 
+-- The first number of `Full` is the length of the journal in this file.
+abbrev pub TellsLength : TakeFault → List ℕ → Type 0
+TellsLength (Full at add) file = at ≡ journal_length file
+TellsLength fault file = Unit {0}
+
 -- Only a fault of the disk leaves it open whether the refused event is on it.
 abbrev pub MayRisk : TakeFault → Option Event → Option Event → Type 0
 MayRisk Disk refused risked = risked ≡ refused
 MayRisk fault refused risked = risked ≡ None
 
 module _ {D T : Type 0} (reads : D → Option (List ℕ)) (may_leave : D → List ℕ → Type 0) (clock : D → ℕ) (since : D → ℕ → List ℕ → Type 0) (stance : T → Stance) where
-  -- The store has these events, of a build that has begun, and the build goes on from them under this setting of a script.
+  -- The build goes on from these events, and the store has them.
   pub record Stands (setting : Setting) (events : List Event) (kept : Kept D T) : Type 0 where
-    pub same : setting_in kept.build ≡ setting
-    pub proper : IsProper setting
-    pub begun : (world_in setting events).started ≡ true
-    pub running : kept.stopped ≡ false
+    pub goes : Goes stance setting events kept
     pub saves : Saves reads may_leave stance kept events
 
-  -- And a crash since this disk, of which these were the events, leaves a front of those that it has now.
-  pub record Lasts (setting : Setting) (origin : D) (before events : List Event) (kept : Kept D T) : Type 0 where
-    pub stands : Stands setting events kept
+  -- A life since the moment `origin` of its disk, at which these were the events. `entry` is what the disk told of its bytes before that:
+  -- where it told them, the store has the events of now, and a crash since `origin` leaves a front of them.
+  pub record Lasts (setting : Setting) (entry : Option (List ℕ)) (origin : D) (before events : List Event) (kept : Kept D T) : Type 0 where
+    pub goes : Goes stance setting events kept
     pub goes_on : (more : List Event) × (events ≡ before ++ more)
-    pub moments : AtEachMoment clock since origin kept.journal.disk (Survives setting before events None)
+    pub saves : IsSome entry → Saves reads may_leave stance kept events
+    pub moments : IsSome entry → AtEachMoment clock since origin kept.journal.disk (Survives setting before events None)
 
-  -- The take of an accepted event answered this fault. All events from before it are durable, and a crash leaves a front of them; or them
-  -- and that event, where the disk failed.
-  pub record Fails (setting : Setting) (origin : D) (before events : List Event) (fault : TakeFault) (kept : Kept D T) : Type 0 where
+  -- The take of an accepted event answered this fault. Where the disk told its bytes, all events from before it are durable, and a crash leaves
+  -- a front of them; or them and that event, where the disk failed.
+  pub record Fails (setting : Setting) (entry : Option (List ℕ)) (origin : D) (before events : List Event) (fault : TakeFault) (kept : Kept D T) : Type 0 where
     pub refused : Option Event
     pub is_next : IsOf setting events fault refused
     pub full : IfSome refused (λ e. IsFull e (image_after setting (events ++ e ∷ [])) kept.journal.len fault)
+    pub sized : IsSome entry → IfSome (reads kept.journal.disk) (TellsLength fault)
     pub risked : Option Event
     pub may_risk : MayRisk fault refused risked
-    pub moments : AtEachMoment clock since origin kept.journal.disk (Survives setting before events risked)
-    pub images : (image : List ℕ) → may_leave kept.journal.disk image → Stores setting events image ⊎ IsSomeAnd risked (λ e. Stores setting (events ++ e ∷ []) image)
+    pub moments : IsSome entry → AtEachMoment clock since origin kept.journal.disk (Survives setting before events risked)
+    pub images : IsSome entry → (image : List ℕ) → may_leave kept.journal.disk image → Stores setting events image ⊎ IsSomeAnd risked (λ e. Stores setting (events ++ e ∷ []) image)
 
   -- And the event was one of these.
-  abbrev pub FailsBy : Setting → D → List Event → List Event → (Event → Type 0) → TakeFault → Kept D T → Type 0
-  FailsBy setting origin before events Cause fault kept = (fails : Fails setting origin before events fault kept) × IfSome fails.refused Cause
+  abbrev pub FailsBy : Setting → Option (List ℕ) → D → List Event → List Event → (Event → Type 0) → TakeFault → Kept D T → Type 0
+  FailsBy setting entry origin before events Cause fault kept = (fails : Fails setting entry origin before events fault kept) × IfSome fails.refused Cause
 
   -- A life so far, with what was read of the answers: for its events, and a part behind that.
-  pub record SoFar (setting : Setting) (origin : D) (before : List Event) (old left : Option (List ℕ)) (part : List ℕ) (events : List Event) (life : Life D T) : Type 0 where
-    pub lasts : Lasts setting origin before events life.durable
+  pub record SoFar (setting : Setting) (entry : Option (List ℕ)) (origin : D) (before : List Event) (old left : Option (List ℕ)) (part : List ℕ) (events : List Event) (life : Life D T) : Type 0 where
+    pub lasts : Lasts setting entry origin before events life.durable
     pub read : List ℕ
     pub goes : GoesOn setting before events read life.has_answers
     pub answers : Consumes old left (read ++ part)
     pub at_end : life.has_answers ≡ false → IsAtEnd left
 
   -- It goes on, or rests for this.
-  pub record Turned (setting : Setting) (origin : D) (before : List Event) (old left : Option (List ℕ)) (rest : Option Rest) (life : Life D T) : Type 0 where
+  pub record Turned (setting : Setting) (entry : Option (List ℕ)) (origin : D) (before : List Event) (old left : Option (List ℕ)) (rest : Option Rest) (life : Life D T) : Type 0 where
     pub events : List Event
     pub part : List ℕ
-    pub so_far : SoFar setting origin before old left part events life
+    pub so_far : SoFar setting entry origin before old left part events life
     pub turns : TurnsTo setting (world_in setting events) life.has_answers part rest
 
   -- It broke off behind these events, and the build has not ended. The event that was not taken is the one that came next.
-  pub record Broken (setting : Setting) (origin : D) (before : List Event) (old left : Option (List ℕ)) (fault : TakeFault) (life : Life D T) : Type 0 where
+  pub record Broken (setting : Setting) (entry : Option (List ℕ)) (origin : D) (before : List Event) (old left : Option (List ℕ)) (fault : TakeFault) (life : Life D T) : Type 0 where
     pub events : List Event
     pub has_answers : Bool
     pub read : List ℕ
     pub part : List ℕ
     pub goes : GoesOn setting before events read has_answers
     pub answers : Consumes old left (read ++ part)
+    pub at_end : has_answers ≡ false → IsAtEnd left
     pub going : (world_in setting events).ended ≡ false
     pub left_over : LeftOver setting (world_in setting events) has_answers part
-    pub fails : Fails setting origin before events fault life.durable
-    pub caused : IfSome fails.refused (IsCaused setting events part)
+    pub fails : Fails setting entry origin before events fault life.durable
+    pub caused : IfSome fails.refused (IsCaused setting events left part)
 
   -- A build was begun, over a file without a record.
   pub record Begins (setting : Setting) (start : Event) (file : List ℕ) (disk : D) (life : Life D T) : Type 0 where
@@ -165,6 +178,7 @@ module _ {D T : Type 0} (reads : D → Option (List ℕ)) (may_leave : D → Lis
   -- The take of a `Start` failed, over a file without a record: a crash leaves no record, or that of the `Start`, where the disk failed.
   pub record StartFails (setting : Setting) (start : Event) (file : List ℕ) (disk now : D) (fault : TakeFault) : Type 0 where
     pub fresh : ¬ (IsStarted file)
+    pub none : Has [] file
     pub risked : Option Event
     pub may_risk : MayRisk fault (Some start) risked
     pub moments : SinceSync clock since may_leave file disk now (Survives setting [] [] risked)

@@ -1,5 +1,5 @@
 -- What the store of a build holds at each moment of a life, and what a crash leaves (this product's own).
-use Rattle.std.specs.Prelude.{◌≡◌, ◌⊎◌, ℕ, List, [], ◌∷◌, ◌++◌, Option, IsSomeAnd}
+use Rattle.std.specs.Prelude.{◌≡◌, ◌⊎◌, ◌+◌, ℕ, List, [], ◌∷◌, ◌++◌, length, Option, IsSomeAnd}
 use Rattle.record_form.specs.declared.record.EventRecord.{EventRecord}
 use Rattle.model_run.specs.declared.event.Event.{Event}
 use Rattle.model_run.specs.State.{Setting}
@@ -8,7 +8,7 @@ use Rattle.settle_laws.specs.Stances.{Stance}
 use Rattle.build_core.specs.Builds.{setting_in}
 use Rattle.build_images.specs.Images.{world_image}
 use Rattle.store_laws.specs.Store.{AllDue, AllSpell, IsStory, events_of}
-use Rattle.journal_core.specs.Records.{Has}
+use Rattle.journal_core.specs.Records.{Has, framed, records}
 use Rattle.durable_build.specs.Standing.{Kept, Keeps}
 
 -- These payloads are the records of one build, with just these events: each was accepted, has the image of the build behind it, and makes a
@@ -25,6 +25,10 @@ pub record Stores (setting : Setting) (events : List Event) (file : List ℕ) : 
   pub payloads : List (List ℕ)
   pub has : Has payloads file
   pub told : IsTold setting events payloads
+
+-- The length of the journal in a file: its records in their frames, and the gate behind the last of them.
+abbrev pub journal_length : List ℕ → ℕ
+journal_length file = length (framed (records file).payloads) + 1
 
 -- These events begin with those from before, and are a front of the taken ones, or all of them and the one whose take the disk failed.
 pub record IsFront (before taken : List Event) (risked : Option Event) (kept : List Event) : Type 0 where

@@ -140,11 +140,11 @@ impl<D: Disk, R: SavedThread + Drop> Life<D, R> {
         rt: &W,
         answers: &mut A,
     ) -> Result<Rest, TakeFault>
-        ensures rested { (setting : Setting) (origin : D) (before : List AnEvent) (first : Option (List ℕ)) (events : List AnEvent)
-            → SoFar D.reads D.may_leave D.clock D.may_have_left_since R.stance setting origin before first (A.left answers.old) [] events self.old
+        ensures rested { (setting : Setting) (entry : Option (List ℕ)) (origin : D) (before : List AnEvent) (first : Option (List ℕ)) (events : List AnEvent)
+            → SoFar D.reads D.may_leave D.clock D.may_have_left_since R.stance setting entry origin before first (A.left answers.old) [] events self.old
             → MatchResult result
-            (λ rest. Turned D.reads D.may_leave D.clock D.may_have_left_since R.stance setting origin before first (A.left answers.new) (Some rest) self.new)
-            (λ fault. Broken D.reads D.may_leave D.clock D.may_have_left_since R.stance setting origin before first (A.left answers.new) fault self.new) }
+            (λ rest. Turned D.reads D.may_leave D.clock D.may_have_left_since R.stance setting entry origin before first (A.left answers.new) (Some rest) self.new)
+            (λ fault. Broken D.reads D.may_leave D.clock D.may_have_left_since R.stance setting entry origin before first (A.left answers.new) fault self.new) }
         ensures over { self.old.durable.stopped ≡ true → (result ≡ Err TakeFault.Stopped) × (self.new ≡ self.old) × (answers.new ≡ answers.old) }
         ensures faults { self.old.durable.stopped ≡ false → IfErr result (TellsFault R.stance self.new.durable) }
         ensures running { MatchResult result (λ rest. self.new.durable.stopped ≡ false) (λ fault. self.new.durable.stopped ≡ true) }
@@ -171,11 +171,11 @@ impl<D: Disk, R: SavedThread + Drop> Life<D, R> {
         answers: &mut A,
     ) -> Result<Rest, TakeFault>
         requires running { self.old.durable.stopped ≡ false }
-        ensures rested { (setting : Setting) (origin : D) (before : List AnEvent) (first : Option (List ℕ)) (events : List AnEvent)
-            → SoFar D.reads D.may_leave D.clock D.may_have_left_since R.stance setting origin before first (A.left answers.old) [] events self.old
+        ensures rested { (setting : Setting) (entry : Option (List ℕ)) (origin : D) (before : List AnEvent) (first : Option (List ℕ)) (events : List AnEvent)
+            → SoFar D.reads D.may_leave D.clock D.may_have_left_since R.stance setting entry origin before first (A.left answers.old) [] events self.old
             → MatchResult result
-            (λ rest. Turned D.reads D.may_leave D.clock D.may_have_left_since R.stance setting origin before first (A.left answers.new) (Some rest) self.new)
-            (λ fault. Broken D.reads D.may_leave D.clock D.may_have_left_since R.stance setting origin before first (A.left answers.new) fault self.new) }
+            (λ rest. Turned D.reads D.may_leave D.clock D.may_have_left_since R.stance setting entry origin before first (A.left answers.new) (Some rest) self.new)
+            (λ fault. Broken D.reads D.may_leave D.clock D.may_have_left_since R.stance setting entry origin before first (A.left answers.new) fault self.new) }
         ensures runs { MatchResult result (λ rest. self.new.durable.stopped ≡ false) (TellsFault R.stance self.new.durable) }
         ensures ended { result ≡ Ok Rest.Ended → has_ended self.new.durable.build.phase ≡ true }
         ensures answers { CountsFault (A.faults answers.old) (A.faults answers.new) (result ≡ Ok Rest.AnswersFailed) }
@@ -197,11 +197,11 @@ impl<D: Disk, R: SavedThread + Drop> Life<D, R> {
         rt: &W,
         answers: &mut A,
     ) -> Result<Option<Rest>, TakeFault>
-        ensures turned { (setting : Setting) (origin : D) (before : List AnEvent) (first : Option (List ℕ)) (events : List AnEvent)
-            → SoFar D.reads D.may_leave D.clock D.may_have_left_since R.stance setting origin before first (A.left answers.old) [] events self.old
+        ensures turned { (setting : Setting) (entry : Option (List ℕ)) (origin : D) (before : List AnEvent) (first : Option (List ℕ)) (events : List AnEvent)
+            → SoFar D.reads D.may_leave D.clock D.may_have_left_since R.stance setting entry origin before first (A.left answers.old) [] events self.old
             → MatchResult result
-            (λ rest. Turned D.reads D.may_leave D.clock D.may_have_left_since R.stance setting origin before first (A.left answers.new) rest self.new)
-            (λ fault. Broken D.reads D.may_leave D.clock D.may_have_left_since R.stance setting origin before first (A.left answers.new) fault self.new) }
+            (λ rest. Turned D.reads D.may_leave D.clock D.may_have_left_since R.stance setting entry origin before first (A.left answers.new) rest self.new)
+            (λ fault. Broken D.reads D.may_leave D.clock D.may_have_left_since R.stance setting entry origin before first (A.left answers.new) fault self.new) }
         ensures runs { StaysRunning R.stance self.old.durable self.new.durable result }
         ensures ended { result ≡ Ok (Some Rest.Ended) → has_ended self.new.durable.build.phase ≡ true }
         ensures answers { CountsFault (A.faults answers.old) (A.faults answers.new) (result ≡ Ok (Some Rest.AnswersFailed)) }
@@ -233,12 +233,12 @@ impl<D: Disk, R: SavedThread + Drop> Life<D, R> {
         answers: &mut A,
     ) -> Result<Option<Rest>, TakeFault>
         requires has_answers { self.old.has_answers ≡ true }
-        ensures turned { (setting : Setting) (origin : D) (before : List AnEvent) (first : Option (List ℕ)) (events : List AnEvent)
-            → SoFar D.reads D.may_leave D.clock D.may_have_left_since R.stance setting origin before first (A.left answers.old) [] events self.old
+        ensures turned { (setting : Setting) (entry : Option (List ℕ)) (origin : D) (before : List AnEvent) (first : Option (List ℕ)) (events : List AnEvent)
+            → SoFar D.reads D.may_leave D.clock D.may_have_left_since R.stance setting entry origin before first (A.left answers.old) [] events self.old
             → Listens setting (world_in setting events) → (world_in setting events).ended ≡ false
             → MatchResult result
-            (λ rest. Turned D.reads D.may_leave D.clock D.may_have_left_since R.stance setting origin before first (A.left answers.new) rest self.new)
-            (λ fault. Broken D.reads D.may_leave D.clock D.may_have_left_since R.stance setting origin before first (A.left answers.new) fault self.new) }
+            (λ rest. Turned D.reads D.may_leave D.clock D.may_have_left_since R.stance setting entry origin before first (A.left answers.new) rest self.new)
+            (λ fault. Broken D.reads D.may_leave D.clock D.may_have_left_since R.stance setting entry origin before first (A.left answers.new) fault self.new) }
         ensures runs { StaysRunning R.stance self.old.durable self.new.durable result }
         ensures not_ended { result ≡ Ok (Some Rest.Ended) → ⊥ }
         ensures answers { CountsFault (A.faults answers.old) (A.faults answers.new) (result ≡ Ok (Some Rest.AnswersFailed)) }
@@ -260,12 +260,12 @@ impl<D: Disk, R: SavedThread + Drop> Life<D, R> {
 
     /// Takes the decision in a line, where it decides an open input; else it is passed over.
     fn hear(&mut self, alloc: Global, line: &[u8]) -> Result<(), TakeFault>
-        ensures hears { (setting : Setting) (origin : D) (before events : List AnEvent)
-            → Lasts D.reads D.may_leave D.clock D.may_have_left_since R.stance setting origin before events self.old.durable
+        ensures hears { (setting : Setting) (entry : Option (List ℕ)) (origin : D) (before events : List AnEvent)
+            → Lasts D.reads D.may_leave D.clock D.may_have_left_since R.stance setting entry origin before events self.old.durable
             → Listens setting (world_in setting events) → (world_in setting events).ended ≡ false
             → MatchResult result
-            (λ _. (now : List AnEvent) × Lasts D.reads D.may_leave D.clock D.may_have_left_since R.stance setting origin before now self.new.durable × Hears setting (world_in setting events) line.now events now)
-            (λ fault. FailsBy D.reads D.may_leave D.clock D.may_have_left_since R.stance setting origin before events (Decides (world_in setting events) line.now) fault self.new.durable) }
+            (λ _. (now : List AnEvent) × Lasts D.reads D.may_leave D.clock D.may_have_left_since R.stance setting entry origin before now self.new.durable × Hears setting (world_in setting events) line.now events now)
+            (λ fault. FailsBy D.reads D.may_leave D.clock D.may_have_left_since R.stance setting entry origin before events (Decides (world_in setting events) line.now) fault self.new.durable) }
         ensures runs { StaysRunning R.stance self.old.durable self.new.durable result }
         ensures has_answers { self.new.has_answers ≡ self.old.has_answers }
         ensures disk { CountsFault (D.faults self.old.durable.journal.disk) (D.faults self.new.durable.journal.disk) (IsErrOf result TakeFault.Disk) }
@@ -293,13 +293,13 @@ impl<D: Disk, R: SavedThread + Drop> Life<D, R> {
     /// Takes an event that is accepted.
     fn take(&mut self, alloc: Global, event: &Event) -> Result<(), TakeFault>
         requires later { IsLater event.now }
-        ensures takes { (setting : Setting) (origin : D) (before events : List AnEvent)
-            → Lasts D.reads D.may_leave D.clock D.may_have_left_since R.stance setting origin before events self.old.durable
+        ensures takes { (setting : Setting) (entry : Option (List ℕ)) (origin : D) (before events : List AnEvent)
+            → Lasts D.reads D.may_leave D.clock D.may_have_left_since R.stance setting entry origin before events self.old.durable
             → answer_to setting (world_in setting events) event.now ≡ Accepted
             → next_grant setting (world_in setting events) ≡ grant_of event.now
             → MatchResult result
-            (λ _. Lasts D.reads D.may_leave D.clock D.may_have_left_since R.stance setting origin before (events ++ event.now ∷ []) self.new.durable)
-            (λ fault. FailsBy D.reads D.may_leave D.clock D.may_have_left_since R.stance setting origin before events (λ e. e ≡ event.now) fault self.new.durable) }
+            (λ _. Lasts D.reads D.may_leave D.clock D.may_have_left_since R.stance setting entry origin before (events ++ event.now ∷ []) self.new.durable)
+            (λ fault. FailsBy D.reads D.may_leave D.clock D.may_have_left_since R.stance setting entry origin before events (λ e. e ≡ event.now) fault self.new.durable) }
         ensures runs { StaysRunning R.stance self.old.durable self.new.durable result }
         ensures has_answers { self.new.has_answers ≡ self.old.has_answers }
         ensures disk { CountsFault (D.faults self.old.durable.journal.disk) (D.faults self.new.durable.journal.disk) (IsErrOf result TakeFault.Disk) }

@@ -2,7 +2,8 @@ use Rattle.std.proofs.Common.{sym, subst}
 use Rattle.build_core.specs.Builds.{Parts, StandsFor}
 use Rattle.build_commands.specs.Finishing.{Finishes, TellsEnd}
 use Rattle.build_commands.specs.Reporting.{Reports}
-use Rattle.build_commands.proofs.FinishLemmas.{finishes, reports}
+use Rattle.saved_run.specs.Lives.{TellsFault}
+use Rattle.build_commands.proofs.FinishLemmas.{finishes, reports, tells_over}
 use Rattle.build_commands.proofs.finishing.finish.Goals as goal
 
 pub returns-clause-reports : goal.returns-clause-reports
@@ -15,10 +16,11 @@ returns-clause-reports g c =
     let heard = A.faults c.go_on-ended.new.answers in
     subst (λ (d : g.row.D.Denot). Reports before (D.faults d) failed heard (K.written c.args.out.now) (K.written c.tell_end-status.new.out) (K.faults c.args.out.now) (K.faults c.tell_end-status.new.out) c.tell_end-status.result) (sym c.close.ensures)
     (reports (StandsFor g.R.ScriptThread.stance c.build.result.now) before (D.faults c.go_on-ended.new.self.durable.journal.disk) failed heard (K.written c.args.out.now) (K.written c.tell_end-status.new.out) (K.faults c.args.out.now) (K.faults c.tell_end-status.new.out)
-    c.go_on-ended.result c.tell_end-status.result c.tell_end-status.ensures c.go_on-ended.ensures.answers c.go_on-ended.ensures.disk)
+    g.R.ScriptThread.stance c.go_on-ended.new.self.durable c.go_on-ended.result c.tell_end-status.result c.tell_end-status.ensures
+    (tells_over c.args.life.durable.stopped c.go_on-ended.result (TellsFault g.R.ScriptThread.stance c.go_on-ended.new.self.durable) (λ is. (c.go_on-ended.ensures.over is).0) c.go_on-ended.ensures.faults) c.go_on-ended.ensures.answers c.go_on-ended.ensures.disk)
 
 pub returns-clause-finishes : goal.returns-clause-finishes
-returns-clause-finishes g c = λ setting origin before first events so.
+returns-clause-finishes g c = λ setting entry origin before first events so.
     let D = g.D.Disk in
     let A = g.A.Source in
     let K = g.K.Sink in
@@ -27,8 +29,8 @@ returns-clause-finishes g c = λ setting origin before first events so.
     let life = c.go_on-ended.new.self in
     let told = subst (λ (b : Parts g.row.R.Denot). TellsEnd (StandsFor stance b) (K.written c.args.out.now) (K.written c.tell_end-status.new.out) (K.faults c.args.out.now) (K.faults c.tell_end-status.new.out) c.go_on-ended.result c.tell_end-status.result)
     c.build.ensures c.tell_end-status.ensures in
-    subst (λ (d : g.row.D.Denot). Finishes D.may_leave D.clock D.may_have_left_since setting origin before first now d (D.faults c.args.life.durable.journal.disk) (D.faults d) (A.faults c.args.answers.now) (A.faults c.go_on-ended.new.answers)
+    subst (λ (d : g.row.D.Denot). Finishes D.reads D.may_leave D.clock D.may_have_left_since setting entry origin before first now d (D.faults c.args.life.durable.journal.disk) (D.faults d) (A.faults c.args.answers.now) (A.faults c.go_on-ended.new.answers)
     (K.written c.args.out.now) (K.written c.tell_end-status.new.out) (K.faults c.args.out.now) (K.faults c.tell_end-status.new.out) c.tell_end-status.result) (sym c.close.ensures)
-    (finishes D.reads D.may_leave D.clock D.may_have_left_since stance setting origin before first now life (D.faults c.args.life.durable.journal.disk) (D.faults life.durable.journal.disk) (A.faults c.args.answers.now) (A.faults c.go_on-ended.new.answers)
+    (finishes D.reads D.may_leave D.clock D.may_have_left_since stance setting entry origin before first now life (D.faults c.args.life.durable.journal.disk) (D.faults life.durable.journal.disk) (A.faults c.args.answers.now) (A.faults c.go_on-ended.new.answers)
     (K.written c.args.out.now) (K.written c.tell_end-status.new.out) (K.faults c.args.out.now) (K.faults c.tell_end-status.new.out) c.go_on-ended.result c.tell_end-status.result
-    (c.go_on-ended.ensures.rested setting origin before first events so) told c.go_on-ended.ensures.answers.failed c.go_on-ended.ensures.disk.failed)
+    (c.go_on-ended.ensures.rested setting entry origin before first events so) told c.go_on-ended.ensures.answers.failed c.go_on-ended.ensures.disk.failed)

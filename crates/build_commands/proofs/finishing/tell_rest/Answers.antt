@@ -4,7 +4,7 @@ pub returns : goal.returns
 returns g c = record {
   log = c.log.result.now;
   ended = c.build_status.result;
-  known = c.build_status.ensures.0;
+  known = c.build_status.ensures.log;
   wrote = c.tell_text.ensures;
-  is = λ w s. (c.log.ensures.world w s, c.build_status.ensures.1 w s);
+  is = λ w s. (c.log.ensures.world w s, c.build_status.ensures.world w s);
 }

@@ -9,17 +9,17 @@ use Rattle.saved_run.proofs.TurnLemmas.{broken_stopped}
 use Rattle.saved_run.proofs.life.Life.go_on.Goals as goal
 
 pub returns-then-is_stopped-clause-rested : goal.returns-then-is_stopped-clause-rested
-returns-then-is_stopped-clause-rested g c = λ setting origin before first events so.
-    let bad : true ≡ false = sym c.if-is_stopped.true ∙ c.is_stopped.ensures ∙ so.lasts.stands.running in absurd (cc)
+returns-then-is_stopped-clause-rested g c = λ setting entry origin before first events so.
+    let bad : true ≡ false = sym c.if-is_stopped.true ∙ c.is_stopped.ensures ∙ so.lasts.goes.running in absurd (cc)
 
 pub returns-in-Ok-clause-rested : goal.returns-in-Ok-clause-rested
 returns-in-Ok-clause-rested g c = c.in-Ok.ensures.rested
 
 pub returns-in-Err-clause-rested : goal.returns-in-Err-clause-rested
-returns-in-Err-clause-rested g c = λ setting origin before first events so.
+returns-in-Err-clause-rested g c = λ setting entry origin before first events so.
     let D = g.D.Disk in
-    broken_stopped D.reads D.may_leave D.clock D.may_have_left_since g.R.ScriptThread.stance setting origin before first (g.A.Source.left c.run.new.answers) c.in-Err.fault c.run.new.self _
-    (ap (λ (k : Kept g.row.D.Denot g.row.R.Denot). k.journal) c.stop.ensures) (c.in-Err.ensures.rested setting origin before first events so)
+    broken_stopped D.reads D.may_leave D.clock D.may_have_left_since g.R.ScriptThread.stance setting entry origin before first (g.A.Source.left c.run.new.answers) c.in-Err.fault c.run.new.self _
+    (ap (λ (k : Kept g.row.D.Denot g.row.R.Denot). k.journal) c.stop.ensures) (c.in-Err.ensures.rested setting entry origin before first events so)
 
 pub returns-in-Err-clause-faults : goal.returns-in-Err-clause-faults
 returns-in-Err-clause-faults g c = λ running. tells_stopped g.R.ScriptThread.stance c.run.new.self.durable c.stop.new.self c.in-Err.fault c.stop.ensures c.in-Err.ensures.runs

@@ -4,44 +4,43 @@ use Rattle.model_run.specs.declared.event.Event.TheVariants.{Decided as DecidedE
 use Rattle.model_run.specs.World.{world_in}
 use Rattle.script_run.specs.Running.{Decides, too_long, no_answer, nothing_open}
 use Rattle.script_run.proofs.Turns.{decided}
-use Rattle.saved_run.proofs.LifeLemmas.{stands_world}
 use Rattle.saved_run.proofs.TurnLemmas.{wanting, hears_passed, hears_taken}
 use Rattle.saved_run.proofs.life.Life.hear.Goals as goal
 
 pub returns-in_default-clause-hears : goal.returns-in_default-clause-hears
-returns-in_default-clause-hears g c = λ setting origin before events lasts listens going.
+returns-in_default-clause-hears g c = λ setting entry origin before events lasts listens going.
     let D = g.D.Disk in
-    hears_passed D.reads D.may_leave D.clock D.may_have_left_since g.R.ScriptThread.stance setting origin before events c.args.line.now c.args.self.now.durable lasts (too_long c.in_default.ensures)
+    hears_passed D.reads D.may_leave D.clock D.may_have_left_since g.R.ScriptThread.stance setting entry origin before events c.args.line.now c.args.self.now.durable lasts (too_long c.in_default.ensures)
 
 pub returns-in_default-answer_of-clause-hears : goal.returns-in_default-answer_of-clause-hears
-returns-in_default-answer_of-clause-hears g c = λ setting origin before events lasts listens going.
+returns-in_default-answer_of-clause-hears g c = λ setting entry origin before events lasts listens going.
     let D = g.D.Disk in
-    hears_passed D.reads D.may_leave D.clock D.may_have_left_since g.R.ScriptThread.stance setting origin before events c.args.line.now c.args.self.now.durable lasts (no_answer c.in-Some.said.now c.in-Some.ensures c.in_default-answer_of.ensures.reads)
+    hears_passed D.reads D.may_leave D.clock D.may_have_left_since g.R.ScriptThread.stance setting entry origin before events c.args.line.now c.args.self.now.durable lasts (no_answer c.in-Some.said.now c.in-Some.ensures c.in_default-answer_of.ensures.reads)
 
 pub returns-in_default-input_of-clause-hears : goal.returns-in_default-input_of-clause-hears
-returns-in_default-input_of-clause-hears g c = λ setting origin before events lasts listens going.
+returns-in_default-input_of-clause-hears g c = λ setting entry origin before events lasts listens going.
     let D = g.D.Disk in
     let w = world_in setting events in
-    let at = subst (λ (b : Parts g.row.R.Denot). StandsFor g.R.ScriptThread.stance b w) (sym c.build.ensures) (stands_world D.reads D.may_leave D.clock D.may_have_left_since g.R.ScriptThread.stance setting events c.args.self.now.durable lasts.stands) in
+    let at = subst (λ (b : Parts g.row.R.Denot). StandsFor g.R.ScriptThread.stance b w) (sym c.build.ensures) lasts.goes.stands in
     let answer = c.in-Some-answer_of.answer in
-    hears_passed D.reads D.may_leave D.clock D.may_have_left_since g.R.ScriptThread.stance setting origin before events c.args.line.now c.args.self.now.durable lasts
+    hears_passed D.reads D.may_leave D.clock D.may_have_left_since g.R.ScriptThread.stance setting entry origin before events c.args.line.now c.args.self.now.durable lasts
     (nothing_open c.in-Some.said.now c.in-Some.ensures answer.proceed answer.id.now answer.name.now c.in-Some-answer_of.ensures.reads (sym (c.in_default-input_of.ensures.world w at)))
 
 pub returns-in_default-from_slice-clause-hears : goal.returns-in_default-from_slice-clause-hears
-returns-in_default-from_slice-clause-hears g c = λ setting origin before events lasts listens going.
+returns-in_default-from_slice-clause-hears g c = λ setting entry origin before events lasts listens going.
     let D = g.D.Disk in
-    wanting D.reads D.may_leave D.clock D.may_have_left_since g.R.ScriptThread.stance setting origin before (Decides (world_in setting events) c.args.line.now) events c.args.self.now.durable lasts
+    wanting D.reads D.may_leave D.clock D.may_have_left_since g.R.ScriptThread.stance setting entry origin before (Decides (world_in setting events) c.args.line.now) events c.args.self.now.durable lasts
 
 pub returns-clause-hears : goal.returns-clause-hears
-returns-clause-hears g c = λ setting origin before events lasts listens going.
+returns-clause-hears g c = λ setting entry origin before events lasts listens going.
     let D = g.D.Disk in
     let w = world_in setting events in
-    let at = subst (λ (b : Parts g.row.R.Denot). StandsFor g.R.ScriptThread.stance b w) (sym c.build.ensures) (stands_world D.reads D.may_leave D.clock D.may_have_left_since g.R.ScriptThread.stance setting events c.args.self.now.durable lasts.stands) in
+    let at = subst (λ (b : Parts g.row.R.Denot). StandsFor g.R.ScriptThread.stance b w) (sym c.build.ensures) lasts.goes.stands in
     let answer = c.in-Some-answer_of.answer in
     let request = c.in-Some-input_of.request in
     let open_now = sym (c.in-Some-input_of.ensures.world w at) in
-    let accepted = decided setting lasts.stands.proper events lasts.stands.begun going answer.id.now request answer.proceed c.in-Ok.name open_now in
-    hears_taken D.reads D.may_leave D.clock D.may_have_left_since g.R.ScriptThread.stance setting origin before events c.args.line.now (DecidedEvent request answer.proceed c.in-Ok.name) c.take.new.self.durable c.take.result
+    let accepted = decided setting lasts.goes.proper events lasts.goes.begun going answer.id.now request answer.proceed c.in-Ok.name open_now in
+    hears_taken D.reads D.may_leave D.clock D.may_have_left_since g.R.ScriptThread.stance setting entry origin before events c.args.line.now (DecidedEvent request answer.proceed c.in-Ok.name) c.take.new.self.durable c.take.result
     (record {
       said = c.in-Some.said.now;
       kept = c.in-Some.ensures;
@@ -55,4 +54,4 @@ returns-clause-hears g c = λ setting origin before events lasts listens going.
       };
       open_now = open_now;
     })
-    accepted (c.take.ensures.takes setting origin before events lasts accepted listens.granted)
+    accepted (c.take.ensures.takes setting entry origin before events lasts accepted listens.granted)

@@ -6,15 +6,15 @@ use Rattle.saved_run.proofs.TurnLemmas.{goes_further}
 use Rattle.saved_run.proofs.life.Life.run.Goals as goal
 
 pub returns-in-Ok-Some-clause-rested : goal.returns-in-Ok-Some-clause-rested
-returns-in-Ok-Some-clause-rested g c = λ setting origin before first events so.
+returns-in-Ok-Some-clause-rested g c = λ setting entry origin before first events so.
     let D = g.D.Disk in
-    let here = c.loop.invariant.so_far setting origin before first events so in
-    subst (λ (o : Option Rest). Turned D.reads D.may_leave D.clock D.may_have_left_since g.R.ScriptThread.stance setting origin before first (g.A.Source.left c.turn.new.answers) o c.turn.new.self) c.in-Ok-Some.field-0-is (c.in-Ok-Some.ensures.turned setting origin before first here.0 here.1)
+    let here = c.loop.invariant.so_far setting entry origin before first events so in
+    subst (λ (o : Option Rest). Turned D.reads D.may_leave D.clock D.may_have_left_since g.R.ScriptThread.stance setting entry origin before first (g.A.Source.left c.turn.new.answers) o c.turn.new.self) c.in-Ok-Some.field-0-is (c.in-Ok-Some.ensures.turned setting entry origin before first here.0 here.1)
 
 pub returns-in-Err-clause-rested : goal.returns-in-Err-clause-rested
-returns-in-Err-clause-rested g c = λ setting origin before first events so.
-    let here = c.loop.invariant.so_far setting origin before first events so in
-    c.in-Err.ensures.turned setting origin before first here.0 here.1
+returns-in-Err-clause-rested g c = λ setting entry origin before first events so.
+    let here = c.loop.invariant.so_far setting entry origin before first events so in
+    c.in-Err.ensures.turned setting entry origin before first here.0 here.1
 
 pub returns-in-Ok-Some-clause-runs : goal.returns-in-Ok-Some-clause-runs
 returns-in-Ok-Some-clause-runs g c = c.in-Ok-Some.ensures.runs c.loop.invariant.running
@@ -32,8 +32,8 @@ loop-preserved g c =
       answers = c.in-Ok-None.ensures.answers.calm (λ e. absurd (cc)) ∙ c.loop.invariant.answers;
       disk = c.in-Ok-None.ensures.disk.calm (λ e. let bad : Ok c.in-Ok-None.field-0 ≡ Err Disk = e in absurd (cc)) ∙ c.loop.invariant.disk;
       running = c.in-Ok-None.ensures.runs c.loop.invariant.running;
-      so_far = λ setting origin before first events so.
-          let here = c.loop.invariant.so_far setting origin before first events so in
-          let turned = subst (λ (o : Option Rest). Turned D.reads D.may_leave D.clock D.may_have_left_since g.R.ScriptThread.stance setting origin before first (g.A.Source.left c.turn.new.answers) o c.turn.new.self) none (c.in-Ok-None.ensures.turned setting origin before first here.0 here.1) in
-          (turned.events, goes_further D.reads D.may_leave D.clock D.may_have_left_since g.R.ScriptThread.stance setting origin before first (g.A.Source.left c.loop.answers) here.0 c.loop.self c.turn.new.self (g.A.Source.left c.turn.new.answers) turned);
+      so_far = λ setting entry origin before first events so.
+          let here = c.loop.invariant.so_far setting entry origin before first events so in
+          let turned = subst (λ (o : Option Rest). Turned D.reads D.may_leave D.clock D.may_have_left_since g.R.ScriptThread.stance setting entry origin before first (g.A.Source.left c.turn.new.answers) o c.turn.new.self) none (c.in-Ok-None.ensures.turned setting entry origin before first here.0 here.1) in
+          (turned.events, goes_further D.reads D.may_leave D.clock D.may_have_left_since g.R.ScriptThread.stance setting entry origin before first (g.A.Source.left c.loop.answers) here.0 c.loop.self c.turn.new.self (g.A.Source.left c.turn.new.answers) turned);
     }

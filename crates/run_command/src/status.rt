@@ -1,0 +1,36 @@
+//! The exit status of a build.
+ghost use Rattle.std.specs.Prelude.{◌≡◌};
+ghost use Rattle.build_core.specs.Builds.{StandsFor};
+ghost use Rattle.model_run.specs.World.{Build as WorldBuild};
+ghost use Rattle.run_command.specs.Statuses.{HasLog, result_status, world_status};
+
+use build_core::Build;
+use model_run::BuildResult;
+use script_thread::ScriptThread;
+
+/// The exit status of a build that has ended, or waits.
+pub fn build_status<R: ScriptThread + Drop>(build: &Build<R>) -> u8
+    ensures log { HasLog result }
+    ensures world { (w : WorldBuild) → StandsFor R.stance build.now w → result ≡ world_status w }
+{
+    if build.has_ended() {
+        return result_status(build.result());
+    }
+    WAITS
+}
+
+/// The exit status of a build with this result.
+fn result_status(ended: BuildResult) -> u8
+    ensures { result ≡ result_status ended }
+{
+    match ended {
+        BuildResult::Success => 0,
+        BuildResult::Failure => 1,
+        BuildResult::Unstable => 10,
+        BuildResult::NotBuilt => 11,
+        BuildResult::Aborted => 12,
+    }
+}
+
+/// The status of a build that waits for what nobody answers.
+const WAITS: u8 = 3;
