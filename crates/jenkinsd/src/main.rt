@@ -1,9 +1,9 @@
-//! The program: it runs a Pipeline from a folder, and keeps its build there.
+//! The program: five commands over a Pipeline in a folder, in which its build is kept.
 //!
 //! `controller run DIR` reads the script in `DIR/Jenkinsfile` and what executors it has in `DIR/agents.json`, runs it and
 //! writes the console log; each event of the build is kept in `DIR/program.dat` before the next one comes, so that
-//! `controller resume DIR` can go on with it after a stop at any moment. `log DIR` and `graph DIR` write what the build
-//! has come to, and `check DIR` looks for faults of the two files. Answer lines for the steps `input` are read from
+//! `controller resume DIR` can go on with it after a stop at any moment. `controller log DIR` and `controller graph DIR` write
+//! what the build has come to, and `controller check DIR` looks for faults of the two files. Answer lines for the steps `input` are read from
 //! standard input. All that it promises stands at [`controller::controller`], the one call that `main` makes.
 //!
 //! One controller at a time works on a folder: `run` and `resume` hold a lock on `DIR/program.lock`.
@@ -25,7 +25,7 @@ use std::{env, io};
 fn main(rt: HostRuntime) -> ExitCode {
     let alloc = rt.alloc();
     let mut out = StdSink::new(io::writer(&rt));
-    let status = match prepare(&rt, alloc) {
+    let status = match read_call(&rt, alloc) {
         Ok(call) => {
             let Call {
                 words,
@@ -66,8 +66,8 @@ struct Call {
     lock: Option<String>,
 }
 
-/// The words of the command line, and the paths of the files in the folder that they name.
-fn prepare<R: Env + AllocGlobal>(rt: &R, alloc: Global) -> Result<Call, AllocError> {
+/// Reads the words, and puts together the paths that they ask for. Where the words are no command no file is opened.
+fn read_call<R: Env + AllocGlobal>(rt: &R, alloc: Global) -> Result<Call, AllocError> {
     let words = read_words(rt, alloc)?;
     let (folder, writes) = match command_in(&words) {
         Some((Command::Run | Command::Resume, folder)) => (folder, true),
@@ -111,3 +111,6 @@ fn read_words<R: Env + AllocGlobal>(rt: &R, alloc: Global) -> Result<Vec<String>
         Err(_) => Ok(Vec::new(alloc)),
     }
 }
+
+#[cfg(test)]
+mod tests;

@@ -1,0 +1,222 @@
+use super::*;
+use jp_disk::{Bytes, MemoryDisk, Numbers};
+use jp_io::{MemorySink, MemorySource};
+use saved_thread::SavedThread;
+use std::sync::Wait;
+use std::test::Fail;
+
+const AGENTS: &str = r#"{"job":"demo","agents":[{"name":"m","root":"/w","executors":1}]}"#;
+
+/// The bytes of a file, of which the read with this number fails; no call has the number 0.
+fn source(alloc: Global, text: &str, fails_at: u64) -> Result<MemorySource, AllocError> {
+    let bytes = Vec::from_slice(alloc, text.as_bytes())?;
+    Ok(MemorySource::new(bytes, Vec::from_slice(alloc, &[fails_at])?))
+}
+
+/// The words of the command `run`.
+fn words(alloc: Global) -> Result<Vec<String>, AllocError> {
+    let mut words = Vec::new(alloc);
+    for word in ["controller", "run", "demo"] {
+        words.push(String::from_str(alloc, word)?)?;
+    }
+    Ok(words)
+}
+
+/// The sources and the sink of a call.
+#[derive(Drop)]
+struct Streams {
+    script: MemorySource,
+    agents: MemorySource,
+    answers: MemorySource,
+    out: MemorySink,
+}
+
+/// The sources of a script, an agents file and answer lines, and a sink, where the call of each with its number fails.
+fn open_streams(
+    alloc: Global,
+    [script, agents, answers]: [&str; 3],
+    fails: [u64; 4],
+) -> Result<Streams, AllocError> {
+    Ok(Streams {
+        script: source(alloc, script, fails[0])?,
+        agents: source(alloc, agents, fails[1])?,
+        answers: source(alloc, answers, fails[2])?,
+        out: MemorySink::new(alloc, Vec::from_slice(alloc, &[fails[3]])?),
+    })
+}
+
+/// The status of a call over an empty store, and what it writes.
+fn call<R: SavedThread + Drop, W: Wait + AllocGlobal>(
+    rt: &W,
+    words: Vec<String>,
+    streams: Streams,
+) -> (u8, MemorySink) {
+    let Streams {
+        mut script,
+        mut agents,
+        answers,
+        mut out,
+    } = streams;
+    let alloc = rt.alloc();
+    let disk = MemoryDisk::new(Bytes::new(alloc), Numbers::new(alloc), None);
+    let ended = controller::<R, _, _, _, _, _>(
+        rt,
+        alloc,
+        words,
+        &mut script,
+        &mut agents,
+        disk,
+        answers,
+        &mut out,
+    );
+    (ended.status, out)
+}
+
+/// Whether a `run` over these files ends with this status and writes this text, where these calls fail.
+fn ends_with<R: SavedThread + Drop, W: Wait + AllocGlobal>(
+    rt: &W,
+    files: [&str; 3],
+    fails: [u64; 4],
+    status: u8,
+    text: &str,
+) -> Result<bool, AllocError> {
+    let streams = open_streams(rt.alloc(), files, fails)?;
+    let (ended, out) = call::<R, W>(rt, words(rt.alloc())?, streams);
+    Ok(ended == status && out.bytes() == text.as_bytes())
+}
+
+const NONE: [u64; 4] = [0, 0, 0, 0];
+
+/// A script, answer lines, the status and the log behind its first line.
+const BUILDS: [(&str, &str, u8, &str); 9] = [
+    (
+        "echo 'hi'",
+        "",
+        0,
+        "[Pipeline] echo\nhi\n[Pipeline] End of Pipeline\nFinished: SUCCESS\n",
+    ),
+    ("", "", 0, "[Pipeline] End of Pipeline\nFinished: SUCCESS\n"),
+    (
+        "x = 1 % 0",
+        "",
+        1,
+        "[Pipeline] End of Pipeline\njava.lang.ArithmeticException: / by zero\nFinished: FAILURE\n",
+    ),
+    (
+        "unstable 'u'",
+        "",
+        10,
+        "[Pipeline] unstable\nWARNING: u\n[Pipeline] End of Pipeline\nFinished: UNSTABLE\n",
+    ),
+    (
+        "catchError(buildResult: 'NOT_BUILT') { error 'boom' }",
+        "",
+        11,
+        "[Pipeline] catchError\n[Pipeline] {\n[Pipeline] error\n[Pipeline] }\nERROR: boom\n[Pipeline] // catchError\n[Pipeline] End of Pipeline\nFinished: NOT_BUILT\n",
+    ),
+    (
+        "parallel a: { error 'x' }, b: { echo 'y' }",
+        "",
+        1,
+        "[Pipeline] parallel\n[Pipeline] { (Branch: a)\n[Pipeline] { (Branch: b)\n[Pipeline] error\n[Pipeline] }\nFailed in branch a\n[Pipeline] echo\ny\n[Pipeline] }\n[Pipeline] // parallel\n[Pipeline] End of Pipeline\nERROR: x\nFinished: FAILURE\n",
+    ),
+    (
+        "input 'go?'\ninput 'more?'",
+        "proceed 1 by ann\nproceed 1 by ann\nabort 2 by bob",
+        12,
+        "[Pipeline] input\ngo?\nProceed or Abort\nApproved by ann\n[Pipeline] input\nmore?\nProceed or Abort\n[Pipeline] End of Pipeline\nRejected by bob\nFinished: ABORTED\n",
+    ),
+    (
+        "input 'go?'",
+        "proceed 2 by ann\n",
+        3,
+        "[Pipeline] input\ngo?\nProceed or Abort\n",
+    ),
+    (
+        "node { sh 'x' }",
+        "",
+        3,
+        "[Pipeline] node\nRunning on m in /w/workspace/demo\n[Pipeline] {\n[Pipeline] sh\n",
+    ),
+];
+
+/// A script and an agents file, the status and what is said of the first fault.
+const FAULTS: [(&str, &str, u8, &str); 5] = [
+    ("echo 'a", AGENTS, 4, "Jenkinsfile:1:6: unended text\n"),
+    (
+        "if (x y) { }",
+        AGENTS,
+        4,
+        "Jenkinsfile:1:7: unexpected token\n",
+    ),
+    (
+        "def x = 1\ndef x = 2",
+        AGENTS,
+        4,
+        "Jenkinsfile:2:5: name already declared\n",
+    ),
+    (
+        "echo 'hi'",
+        "{\"job\":\"demo\"}",
+        13,
+        "agents.json: agents: missing\n",
+    ),
+    (
+        "echo 'a",
+        "{\"job\":\"demo\"}",
+        13,
+        "agents.json: agents: missing\n",
+    ),
+];
+
+const READ_FAILED: &str = "controller: read failed\n";
+
+const HI: &str =
+    "[Pipeline] Start of Pipeline\n[Pipeline] echo\nhi\n[Pipeline] End of Pipeline\nFinished: SUCCESS\n";
+
+/// A script, which calls fail, the status and what is written.
+const FAILURES: [(&str, [u64; 4], u8, &str); 6] = [
+    ("echo 'hi'", [1, 0, 0, 0], 6, READ_FAILED),
+    ("echo 'hi'", [0, 1, 0, 0], 6, READ_FAILED),
+    ("input 'go?'", [0, 0, 1, 0], 6, READ_FAILED),
+    ("echo 'hi'", [0, 0, 1, 0], 0, HI),
+    ("echo 'hi'", [0, 0, 0, 1], 7, ""),
+    ("if (x) {", [0, 0, 0, 1], 4, ""),
+];
+
+#[test]
+fn builds_end_with_their_log_and_status(rt: HostRuntime) -> Result<(), Fail> {
+    for (script, answers, status, lines) in BUILDS {
+        let log = format!(in rt.alloc(); "[Pipeline] Start of Pipeline\n{lines}")?;
+        let files = [script, AGENTS, answers];
+        assert!(rt;
+            ends_with::<MachineThread, _>(&rt, files, NONE, status, log.as_str())?,
+            "{script}"
+        );
+    }
+    Ok(())
+}
+
+#[test]
+fn files_with_a_fault_are_refused(rt: HostRuntime) -> Result<(), Fail> {
+    for (script, agents, status, line) in FAULTS {
+        let files = [script, agents, ""];
+        assert!(rt;
+            ends_with::<MachineThread, _>(&rt, files, NONE, status, line)?,
+            "{script}"
+        );
+    }
+    Ok(())
+}
+
+#[test]
+fn failing_reads_give_6_and_a_failing_write_gives_7(rt: HostRuntime) -> Result<(), Fail> {
+    for (script, fails, status, text) in FAILURES {
+        let files = [script, AGENTS, ""];
+        assert!(rt;
+            ends_with::<MachineThread, _>(&rt, files, fails, status, text)?,
+            "{script}"
+        );
+    }
+    Ok(())
+}

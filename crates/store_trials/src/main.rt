@@ -1,0 +1,56 @@
+//! Gives commands to the controller, one behind the other on one folder, over a disk and streams in memory, and writes what
+//! each of them wrote and its status: on the trials of the file `stdin` beside this folder it has to write just what stands in
+//! `stdout`.
+//!
+//! A body that always answers that there is no memory meets every contract. So what the commands do with ample memory is
+//! shown here, with devices that fail, and with machines that stop. What is wanted does not come from the program: it was
+//! worked out by hand from the rules that `docs/` states, and `data/stores.py` spells the stores that are given.
+//!
+//! | order | what happens |
+//! |---|---|
+//! | `agents FILE` | the folder has this agents file, from the beginning |
+//! | `run`, `resume`, `log`, `graph`, `check`, each with answer lines | the controller does this; ` \| ` stands between two answer lines |
+//! | `words WORDS` | the controller is called with these words |
+//! | `fail DEVICE CALL` | this call of `script`, `agents`, `answers`, `out` or `disk` fails at the next command |
+//! | `store BYTES` | the folder has a store of these bytes, with two digits of base 16 each |
+//! | `cut NUMBER` | the store loses this many bytes at its end |
+//! | `stops WAYS STEP COMMAND ; ANSWERS` | the command is stopped at each call of the disk in turn, and gone on with |
+//! | `stretch PLACE ZEROS COMMAND` | the controller does this over the store with so many zeros put in at this place; what it writes there is not kept |
+//! | `fails WAYS STEP COMMAND ; ANSWERS` | the same, where that call of the disk alone fails |
+#![tactic(auto)]
+
+mod call;
+mod lives;
+mod orders;
+mod stores;
+mod stretched;
+mod told;
+
+use cps_machine::MachineThread;
+use std::alloc::Global;
+use std::io;
+use std::io::Write;
+use std::process::ExitCode;
+use std::sync::Wait;
+use stores::run_trial;
+
+fn main(rt: HostRuntime) -> ExitCode {
+    match run_trials(&rt, rt.alloc()) {
+        Ok(()) => ExitCode::SUCCESS,
+        Err(_) => ExitCode::from(1),
+    }
+}
+
+/// Runs all trials of standard input.
+fn run_trials<R: Input + Print + Wait + AllocGlobal>(rt: &R, alloc: Global) -> io::Result<()> {
+    let trials = io::read_to_string(alloc, rt.reader())?;
+    let mut out = io::writer(rt);
+    for text in trials.split("=== ").skip(1) {
+        println!(rt; "=== {}", text.lines().next().unwrap_or(""))?;
+        match run_trial::<MachineThread, R>(rt, text) {
+            Ok(written) => out.write_all(&written)?,
+            Err(_) => println!(rt; "out of memory")?,
+        }
+    }
+    Ok(())
+}

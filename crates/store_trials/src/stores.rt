@@ -1,0 +1,105 @@
+//! A trial over the store of a build.
+
+use crate::call::{Folder, call, call_stretched};
+use crate::lives::write_lives;
+use crate::orders::{Command, Fault, Order, read_order};
+use crate::told::{write_called, write_line};
+use saved_thread::SavedThread;
+use std::alloc::{AllocError, Global};
+use std::sync::Wait;
+use trial_text::read_trial;
+
+/// A folder, and what fails at the next command over it.
+#[derive(Drop)]
+struct Place<'a> {
+    folder: Folder<'a>,
+    fault: Option<Fault>,
+}
+
+/// What a trial writes: each command, with its output and its status. `AllocError` where the memory was refused.
+pub fn run_trial<R: SavedThread + Drop, W: Wait + AllocGlobal>(
+    rt: &W,
+    text: &str,
+) -> Result<Vec<u8>, AllocError> {
+    let trial = read_trial(rt.alloc(), text)?;
+    let folder = Folder {
+        script: &trial.script,
+        agents: trial.agents().as_bytes(),
+        store: Vec::new(rt.alloc()),
+    };
+    do_orders::<R, W>(rt, folder, &trial.orders)
+}
+
+/// Does what the orders say, on one folder. `AllocError` where the memory was refused.
+fn do_orders<R: SavedThread + Drop, W: Wait + AllocGlobal>(
+    rt: &W,
+    folder: Folder<'_>,
+    orders: &[&str],
+) -> Result<Vec<u8>, AllocError> {
+    let mut place = Place {
+        folder,
+        fault: None,
+    };
+    let mut out = Vec::new(rt.alloc());
+    for line in orders {
+        do_order::<R, W>(rt, &mut place, line, &mut out)?;
+    }
+    Ok(out)
+}
+
+/// Does what an order says. `AllocError` where the memory was refused.
+fn do_order<R: SavedThread + Drop, W: Wait + AllocGlobal>(
+    rt: &W,
+    place: &mut Place<'_>,
+    line: &str,
+    out: &mut Vec<u8>,
+) -> Result<(), AllocError> {
+    match read_order(line) {
+        Order::Agents => Ok(()),
+        Order::Call(command) => do_command::<R, W>(rt, place, &command, line, out),
+        Order::Fail(fault) => {
+            place.fault = Some(fault);
+            Ok(())
+        }
+        Order::Store(digits) => read_store(rt.alloc(), digits, &mut place.folder.store),
+        Order::Cut(bytes) => {
+            cut(&mut place.folder.store, bytes as usize);
+            Ok(())
+        }
+        Order::Lives(lives) => write_lives::<R, W>(rt, &place.folder, &lives, line, out),
+        Order::Stretch(stretch) => {
+            let called = call_stretched::<R, W>(rt, &place.folder, &stretch)?;
+            write_called(rt.alloc(), line, called, out)
+        }
+        Order::Unknown => write_line(out, "an unknown order"),
+    }
+}
+
+/// Calls the controller, and leaves its store in the folder. `AllocError` where the memory was refused.
+fn do_command<R: SavedThread + Drop, W: Wait + AllocGlobal>(
+    rt: &W,
+    place: &mut Place<'_>,
+    command: &Command<'_>,
+    line: &str,
+    out: &mut Vec<u8>,
+) -> Result<(), AllocError> {
+    let called = call::<R, W>(rt, &place.folder, command, place.fault)?;
+    place.fault = None;
+    place.folder.store = Vec::from_slice(rt.alloc(), called.disk.bytes())?;
+    write_called(rt.alloc(), line, called, out)
+}
+
+/// Reads the bytes of a store, two digits of base 16 each, with a blank between two of them. `AllocError` where the memory
+/// was refused.
+fn read_store(alloc: Global, digits: &str, store: &mut Vec<u8>) -> Result<(), AllocError> {
+    *store = Vec::new(alloc);
+    for byte in digits.split(" ") {
+        store.push(u8::from_str_radix(byte, 16).unwrap_or(0))?;
+    }
+    Ok(())
+}
+
+/// Cuts bytes from the end of a store.
+fn cut(store: &mut Vec<u8>, bytes: usize) {
+    store.truncate(store.len().saturating_sub(bytes));
+}

@@ -1,0 +1,40 @@
+//! What a call of the controller came to, as text.
+
+use crate::call::Called;
+use jp_io::{MemorySource, Source};
+use std::alloc::{AllocError, Global};
+
+/// Writes an order, what the controller wrote, its status, and how many bytes of the answers were not read, where there are
+/// some. `AllocError` where the memory was refused.
+pub fn write_called<D: Drop>(
+    alloc: Global,
+    line: &str,
+    called: Called<D>,
+    out: &mut Vec<u8>,
+) -> Result<(), AllocError> {
+    write_line(out, &format!(in alloc; "$ {line}")?)?;
+    out.extend_from_slice(called.out.bytes())?;
+    write_line(out, &ending(alloc, called.status, unread(called.answers))?)
+}
+
+/// Writes a line. `AllocError` where the memory was refused.
+pub fn write_line(out: &mut Vec<u8>, line: &str) -> Result<(), AllocError> {
+    out.extend_from_slice(line.as_bytes())?;
+    out.push(b'\n')?;
+    Ok(())
+}
+
+/// The line of a status and of answers that were not read.
+fn ending(alloc: Global, status: u8, unread: usize) -> Result<String, AllocError> {
+    if unread == 0 {
+        return format!(in alloc; "status {status}");
+    }
+    format!(in alloc; "status {status}, {unread} bytes of the answers were not read")
+}
+
+/// How many bytes of the answers were not read; of many, 100.
+fn unread(answers: MemorySource) -> usize {
+    let mut answers = answers;
+    let mut bytes = [0; 100];
+    answers.read(&mut bytes).unwrap_or(0)
+}
