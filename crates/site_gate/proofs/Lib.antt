@@ -4,5 +4,3 @@ pub mod ClaimLaws
 pub mod AskLemmas
 pub mod TurnLaws
 pub mod TurnsLemmas
-pub mod LifeLemmas
-pub mod AllTurnsLaws

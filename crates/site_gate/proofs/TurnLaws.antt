@@ -162,13 +162,14 @@ module _ {H : Type 0} (calls : H → Option (List Call)) (launches dirs : H → 
   -- An executor's work over a gate that was new is a turn.
   pub executor_turn : (number looks : ℕ) (honest : Type 0) (own : List Entry) (said : Said) (is_open : Bool) (old now : H) (worked : Worked)
       → Works number looks honest (telling calls launches dirs output exit (λ t. t) old (tells_of [] Nothing false)) (telling calls launches dirs output exit (λ t. t) now (tells_of own said is_open)) worked
-      → ExecutorTurn number looks honest own (on_host launches dirs output exit old) (on_host launches dirs output exit now) worked
+      → ExecutorTurn number looks honest own (calls old) (calls now) (on_host launches dirs output exit old) (on_host launches dirs output exit now) worked
   executor_turn number looks honest own said is_open old now worked w =
       let so = w.so_far in
       record {
         past = w.past;
         lawful = so.lawful;
         orders = so.own refl;
+        called = so.calls;
         told = so.told;
         claimed = so.claimed;
         ends = w.ends;

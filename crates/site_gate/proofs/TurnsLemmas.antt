@@ -1,5 +1,5 @@
 -- A turn of a member, put together from its calls on the lock.
-use Rattle.std.proofs.Common.{◌≡◌, ℕ, ℤ, Bool, false, List, [], Option, ap, ◌∙◌, subst}
+use Rattle.std.proofs.Common.{◌≡◌, ℕ, ℤ, Bool, false, List, [], ◌++◌, Option, sym, ap, ◌∙◌, subst, append_assoc}
 use Rattle.program_lock.specs.declared.view.Known.{Known}
 use Rattle.program_lock.specs.History.{entries_of}
 use Rattle.program_lock.specs.Merge.{IsMergeOf}
@@ -34,7 +34,7 @@ module _ {H A : Type 0} (honest : H → Type 0) (faults : H → ℕ) (calls : H 
   works_by tells (Operator answers line ended failed) (Executor now next) g g' worked w = absurd w
 
   executed : (m m' : Member H A) (own : List Entry) (said : Said) (is_open : Bool) (worked : Worked) → Work m m' worked (tells_of [] Nothing false) (tells_of own said is_open)
-      → Executed honest launches dirs output exit looks m m' worked own
+      → Executed honest calls launches dirs output exit looks m m' worked own
   executed (Executor number host) (Executor now next) own said is_open worked w = executor_turn calls launches dirs output exit number looks (honest host) own said is_open host next worked w.3
   executed (Operator answers line ended failed) (Operator next kept now_ended now_failed) own said is_open worked w = tt
   executed (Executor number host) (Operator next kept now_ended now_failed) own said is_open worked w = absurd w
@@ -43,15 +43,18 @@ module _ {H A : Type 0} (honest : H → Type 0) (faults : H → ℕ) (calls : H 
   -- A pass was split off, work was done through it, and it was taken in again.
   pub did_turn : {B : Type 0} (v u new other w : Known Entry B) (m m' : Member H A) (said : Said) (is_open : Bool) (worked : Worked) (old now : GateTells) → Splits v u new → Joins u other w
       → old ≡ tells_of (entries_of new.numbers new.seen) Nothing false → now ≡ tells_of (entries_of other.numbers other.seen) said is_open → Work m m' worked old now
-      → TakesTurn (Work m m' worked) (Executed honest launches dirs output exit looks m m' worked) v w
+      → TakesTurn (Work m m' worked) (Executed honest calls launches dirs output exit looks m m' worked) v w
   did_turn v u new other w m m' said is_open worked old now s j from_new to_other did =
       let works : Work m m' worked (tells_of (entries_of new.numbers new.seen) Nothing false) (tells_of (entries_of other.numbers other.seen) said is_open) =
       subst (λ (t : GateTells). Work m m' worked t (tells_of (entries_of other.numbers other.seen) said is_open)) from_new (subst (Work m m' worked old) to_other did) in
       let own = entries_of other.numbers other.seen in
       let from_none : Work m m' worked (tells_of [] Nothing false) (tells_of own said is_open) =
       subst (λ (es : List Entry). Work m m' worked (tells_of es Nothing false) (tells_of own said is_open)) (entries_of-split_off v u new s) works in
+      let begins : v.seen ++ (s.begins.0 ++ j.mine.0) ≡ w.seen =
+      sym (append_assoc v.seen s.begins.0 j.mine.0) ∙ ap (λ (es : List (ℕ × Entry)). es ++ j.mine.0) (s.begins.1 ∙ ap (λ k. k.seen) (sym s.now)) ∙ j.mine.1 in
       record {
         base_stays = ap (λ k. k.base) j.now ∙ ap (λ k. k.base) s.now;
+        begins = (s.begins.0 ++ j.mine.0, begins);
         own = own;
         merged = subst (λ (es : List Entry). IsMergeOf es own (entries_of w.numbers w.seen)) (entries_of-split v u new s) (entries_of-join u other w j);
         said = said;

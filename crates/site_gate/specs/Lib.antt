@@ -2,5 +2,3 @@ pub mod Tales
 pub mod Asking
 pub mod Turning
 pub mod Turns
-pub mod Lives
-pub mod AllTurns

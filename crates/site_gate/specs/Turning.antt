@@ -1,5 +1,5 @@
 -- What an executor's turn was, by the entries that it left in the history (this product's own).
-use Rattle.std.specs.Prelude.{◌≡◌, ◌⊎◌, ℕ, Bool, true, false, List, [], ◌∷◌, ◌++◌, map}
+use Rattle.std.specs.Prelude.{◌≡◌, ◌⊎◌, ℕ, Bool, true, false, List, [], ◌∷◌, ◌++◌, map, Option}
 use Rattle.std.specs.List.{AllByRecursion as AllAre}
 use Rattle.program_lock.specs.Merge.{IsMergeOf}
 use Rattle.model_run.specs.declared.event.Event.{Event}
@@ -10,8 +10,8 @@ use Rattle.task_host.specs.declared.order.Order.{Order}
 use Rattle.agent_worker.specs.declared.worked.Worked.{Worked}
 use Rattle.agent_worker.specs.Acts.{Act, Called, Reported}
 use Rattle.agent_worker.specs.Causes.{IsCaused}
-use Rattle.agent_worker.specs.Gate.{Told, Claimed as ClaimedTask}
-use Rattle.agent_worker.specs.Working.{Deed, Claims, Serves, Pauses, Halts, IsWork, AreOf, WorkEnds, WorksOnHost, AllDelivered, OnHost, work_told, work_claims}
+use Rattle.agent_worker.specs.Gate.{Told, Claimed as ClaimedTask, Becomes}
+use Rattle.agent_worker.specs.Working.{Deed, Claims, Serves, Pauses, Halts, IsWork, AreOf, WorkEnds, WorksOnHost, AllDelivered, OnHost, work_calls, work_told, work_claims}
 use Rattle.site_state.specs.declared.ask.Entry.{Entry}
 use Rattle.site_gate.specs.Tales.{told_of, claimed_of}
 
@@ -78,11 +78,12 @@ pub record LaunchesClaimed (claimed : List ClaimedTask) (old now : List ℕ) : T
   pub added : now ≡ old ++ more
   pub part : IsPart more (tasks_of claimed)
 
--- An executor's turn: what it did, the latest first, is what its entries tell.
-pub record ExecutorTurn (number looks : ℕ) (honest : Type 0) (own : List Entry) (old now : OnHost) (worked : Worked) : Type 0 where
+-- An executor's turn: what it did, the latest first, is what its entries and its host's list of calls tell.
+pub record ExecutorTurn (number looks : ℕ) (honest : Type 0) (own : List Entry) (old_calls calls : Option (List Call)) (old now : OnHost) (worked : Worked) : Type 0 where
   pub past : List Deed
   pub lawful : IsWork looks past
   pub orders : AreOf number past
+  pub called : Becomes (work_calls past) old_calls calls
   pub told : told_of own ≡ work_told past []
   pub claimed : claimed_of own ≡ work_claims past []
   pub ends : WorkEnds past worked

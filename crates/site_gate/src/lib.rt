@@ -5,11 +5,9 @@
 #![tactic(auto)]
 
 mod gate;
-mod life;
 mod place;
 mod turn;
 
 pub use gate::SiteGate;
-pub use life::live;
 pub use place::Place;
 pub use turn::take_turn;

@@ -54,7 +54,7 @@ pub fn take_turn<
     ensures whole { (known pass.old).parts ≡ all_parts → (known pass.new).parts ≡ all_parts }
     ensures turn { IfOk result (λ worked. TakesTurn
         (λ old now. WorksAs H.honest H.faults (telling H.calls H.launches H.dirs H.output H.exited (λ tells. tells)) (λ tells. tells) A.left A.faults looks member.old member.new old now worked)
-        (Executed H.honest H.launches H.dirs H.output H.exited looks member.old member.new worked) (known pass.old) (known pass.new)) }
+        (Executed H.honest H.calls H.launches H.dirs H.output H.exited looks member.old member.new worked) (known pass.old) (known pass.new)) }
     ensures refused { IfErr result (λ _. (known pass.new ≡ known pass.old) × (member.new ≡ member.old)) }
 {
     let Ok(own) = program.split(rt, pass) else {

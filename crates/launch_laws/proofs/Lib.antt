@@ -1,0 +1,4 @@
+pub mod Lists
+pub mod TaskLaws
+pub mod FitLaws
+pub mod LifeLaws

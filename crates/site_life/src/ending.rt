@@ -1,0 +1,38 @@
+//! Whether there is another round.
+ghost use Rattle.std.specs.Prelude.{◌≡◌};
+ghost use Rattle.site_life.specs.Ending.{can_read, can_answer, goes_on};
+
+use agent_worker::Member;
+use site_state::Progress;
+
+/// Whether the answers of an operator among the members are neither at their end nor failed.
+fn can_answer<H, A>(members: &[Member<H, A>]) -> bool
+    ensures { result ≡ can_answer members.now }
+{
+    for member in members {
+        if can_read(member) {
+            return true;
+        }
+    }
+    false
+}
+
+/// Whether it is an operator whose answers are neither at their end nor failed.
+fn can_read<H, A>(member: &Member<H, A>) -> bool
+    ensures { result ≡ can_read member.now }
+{
+    match member {
+        Member::Executor { .. } => false,
+        Member::Operator { ended, failed, .. } => !(*ended || *failed),
+    }
+}
+
+/// Whether the members have another round behind one after which the build has come so far.
+pub(crate) fn goes_on<H, A>(come: Progress, members: &[Member<H, A>]) -> bool
+    ensures { result ≡ goes_on come members.now }
+{
+    if come.ended || come.stopped {
+        return false;
+    }
+    come.tasks > 0 || come.waiting > 0 && can_answer(members)
+}

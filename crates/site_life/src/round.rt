@@ -1,0 +1,58 @@
+//! A round of turns.
+ghost use Rattle.std.specs.Prelude.{◌≡◌, ◌<◌, ℕ};
+ghost use Rattle.program_lock.specs.Passes.{known, IsPassOf};
+ghost use Rattle.program_lock.specs.Views.{all_parts, handed_on};
+ghost use Rattle.site_life.specs.Passing.{TakesRound};
+ghost use Rattle.site_life.specs.Turns.{DidTurn};
+
+use agent_worker::Member;
+use jp_disk::Disk;
+use jp_io::Source;
+use program_lock::{Memory, Pass, Program};
+use saved_thread::SavedThread;
+use site_gate::{Place, take_turn};
+use site_state::SiteState;
+use std::alloc::{AllocGlobal, Global};
+use std::sync::Wait;
+use std::time::Clock;
+use task_host::Host;
+
+/// Gives each of the members a turn, in their order.
+///
+/// `TakesRound` says what each turn was, as of [`take_turn`], and which entries of them the pass has. It has all parts of the right
+/// to close before and behind it.
+///
+/// # Errors
+///
+/// `Memory` comes only where 18446744073709551615 passes are out; then the members before the one that had no turn have had theirs,
+/// and the others are as they were.
+pub fn take_round<
+    B: Place,
+    W: Wait + Clock + AllocGlobal,
+    D: Disk,
+    R: SavedThread + Drop,
+    H: Host,
+    A: Source,
+>(
+    rt: &W,
+    alloc: Global,
+    program: &Program<SiteState<D, R>>,
+    pass: &mut Pass<SiteState<D, R>>,
+    members: &mut [Member<H, A>],
+    looks: u32,
+) -> Result<(), Memory>
+    requires looks { 0 < looks }
+    requires belongs { IsPassOf program.now pass.old }
+    requires placed { pass.old.seat.table_id ≡ B.table }
+    requires shared { (n : ℕ) → B.share n ≡ handed_on all_parts }
+    requires whole { (known pass.old).parts ≡ all_parts }
+    ensures belongs { IsPassOf program.now pass.new }
+    ensures whole { (known pass.new).parts ≡ all_parts }
+    ensures round { TakesRound (DidTurn H.honest H.faults H.calls H.launches H.dirs H.output H.exited A.left A.faults looks)
+        members.old members.new (known pass.old) (known pass.new) result }
+{
+    for member in members.iter_mut() {
+        take_turn::<B, W, D, R, H, A>(rt, alloc, program, pass, member, looks)?;
+    }
+    Ok(())
+}

@@ -1,0 +1,176 @@
+-- What is told of a life on each disk.
+use Rattle.std.proofs.Common.{◌≡◌, ◌⊎◌, ◌∙◌, ◌≤◌, ◌+◌, ◌^◌, inl, inr, ℕ, ℤ, Bool, true, false, List, [], ◌∷◌, Option, Some, None, Result, Ok, Err, refl, sym, ap, subst, arith}
+use Rattle.std.specs.Prelude.{◌&&◌, nat_lt, if◌then◌else◌}
+use Rattle.std.specs.List.{AllZip, IsDistinct}
+use Rattle.std.proofs.Props.{props}
+use Rattle.std.proofs.Math.Logic.{∥∥₁_elim, ∥∥₁_map}
+use Rattle.device_faults.specs.Faults.{CountsFault, Rose}
+use Rattle.program_lock.specs.declared.program.Memory.{Memory}
+use Rattle.program_lock.specs.Legal.{Answers}
+use Rattle.task_host.specs.declared.call.Call.{Call}
+use Rattle.task_host.specs.declared.order.Stream.{Stream}
+use Rattle.agent_worker.specs.declared.fault.TakeFault.{TakeFault}
+use Rattle.agent_worker.specs.declared.fault.TakeFault.TheVariants as take
+use Rattle.agent_worker.specs.declared.member.Member.{Member}
+use Rattle.durable_build.specs.Standing.{Kept}
+use Rattle.script_run.specs.declared.rest.Rest.{Rest}
+use Rattle.script_run.specs.declared.rest.Rest.TheVariants.{Ended, Waits, AnswersFailed}
+use Rattle.settle_laws.specs.Stances.{Stance}
+use Rattle.site_state.specs.declared.ask.Ask.{Ask}
+use Rattle.site_state.specs.declared.ask.Entry.{Entry}
+use Rattle.site_state.specs.declared.ask.Progress.{Progress}
+use Rattle.site_state.specs.declared.ask.Reply.{Reply}
+use Rattle.site_state.specs.Facts.{Facts, IsSite}
+use Rattle.site_state.specs.Grants.{OpenRefuses}
+use Rattle.site_state.specs.Histories.{kept_fault}
+use Rattle.site_life.specs.Lives.{Life}
+use Rattle.site_life.specs.Ways.{Way}
+use Rattle.site_life.specs.Turns.{DidTurn}
+use Rattle.site_run.specs.Ending.{any_failed, ended_as, rest_of}
+
+-- Whether a count rose can be decided, so that what is merely known of it is so.
+rose_or_not : (before now : ℕ) → Rose before now ⊎ ¬ (Rose before now)
+rose_or_not before now = by (nat_lt before now) refl (nat_lt (now + 1) (2 ^ 64)) refl
+  where
+    by : (a : Bool) → nat_lt before now ≡ a → (b : Bool) → nat_lt (now + 1) (2 ^ 64) ≡ b → Rose before now ⊎ ¬ (Rose before now)
+    by true is b there = inl (inl (grind (arith, is)))
+    by false is false there = inl (inr (grind (arith, there)))
+    by false is true there = inr (λ rose. never is there rose)
+      where
+        never : nat_lt before now ≡ false → nat_lt (now + 1) (2 ^ 64) ≡ true → Rose before now → ⊥
+        never is there (inl less) = grind (arith, is, less)
+        never is there (inr last) = grind (arith, there, last)
+
+bottom_prop : (a b : ⊥) → a ≡ b
+bottom_prop a b = absurd a
+
+less_prop : (m n : ℕ) → IsProp (m ≤ n)
+less_prop m n = hlevel props
+
+same_prop : (m n : ℕ) → IsProp (m ≡ n)
+same_prop m n = hlevel props
+
+rose_known : (before now : ℕ) → ∥ Rose before now ∥₁ → Rose before now
+rose_known before now known = by (rose_or_not before now)
+  where
+    by : Rose before now ⊎ ¬ (Rose before now) → Rose before now
+    by (inl rose) = rose
+    by (inr never) = absurd (∥∥₁_elim known bottom_prop never)
+
+same_kept : (f g : TakeFault) → Some f ≡ Some g → f ≡ g
+same_kept f g e = cc
+
+abbrev failed : TakeFault → Result Rest TakeFault
+failed f = Err f
+
+abbrev rested : Rest → Result Rest TakeFault
+rested r = Ok r
+
+-- how a life ended, by the fault that is kept
+fault_of : {H A : Type 0} (members : List (Member H A)) (how : Result Progress Memory) (f : Option TakeFault) → ended_as f how members ≡ Err take.Disk → f ≡ Some take.Disk
+fault_of members how (Some f) is = ap Some (same f take.Disk is)
+  where
+    same : (f g : TakeFault) → failed f ≡ Err g → f ≡ g
+    same f g e = cc
+fault_of members (Ok come) None is = absurd (never (rest_of come members) is)
+  where
+    never : (r : Rest) → rested r ≡ Err take.Disk → ⊥
+    never r e = cc
+fault_of members (Err memory) None is = absurd (never is)
+  where
+    never : failed take.Memory ≡ Err take.Disk → ⊥
+    never e = cc
+
+disk_ended : {H A : Type 0} (members : List (Member H A)) (how : Result Progress Memory) (f : Option TakeFault) → f ≡ Some take.Disk → ended_as f how members ≡ Err take.Disk
+disk_ended members how f is = ap (λ (g : Option TakeFault). ended_as g how members) is
+
+waits_not : (b : Bool) → (if b then AnswersFailed else Waits) ≡ AnswersFailed → b ≡ true
+waits_not true is = refl
+waits_not false is = absurd (cc)
+
+both_true : (a b : Bool) → (a && b) ≡ true → b ≡ true
+both_true true b is = is
+both_true false b is = absurd (cc)
+
+rest_failed : (ended : Bool) (b : Bool) → (if ended then Ended else if b then AnswersFailed else Waits) ≡ AnswersFailed → b ≡ true
+rest_failed true b is = absurd (cc)
+rest_failed false b is = waits_not b is
+
+-- a life that rests since answers could not be read
+pub failed_so : {H A : Type 0} (members : List (Member H A)) (how : Result Progress Memory) (f : Option TakeFault) → ended_as f how members ≡ Ok AnswersFailed → any_failed members ≡ true
+failed_so members how (Some f) is = absurd (cc)
+failed_so members (Ok come) None is = both_true (nat_lt 0 come.waiting) (any_failed members) (rest_failed come.ended (nat_lt 0 come.waiting && any_failed members) (same (rest_of come members) AnswersFailed is))
+  where
+    same : (r q : Rest) → rested r ≡ Ok q → r ≡ q
+    same r q e = cc
+failed_so members (Err memory) None is = absurd (cc)
+
+module _ {D T : Type 0} (reads : D → Option (List ℕ)) (may_leave : D → List ℕ → Type 0) (clock : D → ℕ) (since : D → ℕ → List ℕ → Type 0) (faults : D → ℕ) (stance : T → Stance) where
+  -- the count of faults of the disk, over the opening and the life
+  pub disk_counts : {H A : Type 0} (durable opened kept : Kept D T) (made h : List Entry) (capacity : ℕ) (members : List (Member H A)) (how : Result Progress Memory) (ended : Result Rest TakeFault)
+      → Facts reads may_leave clock since faults stance durable opened made → kept_fault made ≡ None → ∥ IsSite reads may_leave clock since faults stance opened kept h capacity ∥₁ → ended ≡ ended_as (kept_fault h) how members
+      → CountsFault (faults durable.journal.disk) (faults kept.journal.disk) (ended ≡ Err take.Disk)
+  disk_counts durable opened kept made h capacity members how ended facts none site is =
+      let same : faults opened.journal.disk ≡ faults durable.journal.disk = facts.calm (λ disk. let bad : None ≡ Some take.Disk = sym none ∙ disk in absurd (cc)) in
+      let below : faults opened.journal.disk ≤ faults kept.journal.disk = ∥∥₁_elim site (less_prop (faults opened.journal.disk) (faults kept.journal.disk)) (λ s. s.facts.count) in
+      subst (λ (n : ℕ). CountsFault n (faults kept.journal.disk) (ended ≡ Err take.Disk)) same (record {
+        never_falls = below;
+        calm = λ other. ∥∥₁_elim site (same_prop (faults kept.journal.disk) (faults opened.journal.disk)) (λ s. s.facts.calm (λ disk. other (is ∙ disk_ended members how (kept_fault h) disk)));
+        failed = λ failed. rose_known (faults opened.journal.disk) (faults kept.journal.disk) (∥∥₁_map site (λ s. s.facts.rose (fault_of members how (kept_fault h) (sym is ∙ failed))));
+      })
+
+  -- and over an opening that was refused
+  pub opening_counts : (durable now : Kept D T) (made : List Entry) (fault : TakeFault) → OpenRefuses stance durable now made fault → Facts reads may_leave clock since faults stance durable now made → CountsFault (faults durable.journal.disk) (faults now.journal.disk) (fault ≡ take.Disk)
+  opening_counts durable now made fault (inl refuses) facts = record {
+    never_falls = facts.count;
+    calm = λ other. facts.calm (λ disk. other (same_kept fault take.Disk (sym refuses.1 ∙ disk)));
+    failed = λ is. facts.rose (refuses.1 ∙ ap Some is);
+  }
+  opening_counts durable now made fault (inr wants) facts = record {
+    never_falls = facts.count;
+    calm = λ other. ap (λ (n : Kept D T). faults n.journal.disk) wants.1;
+    failed = λ is. let bad : take.Memory ≡ take.Disk = sym wants.2 ∙ is in absurd (cc);
+  }
+
+  -- what is known of a state is known of it from its opening on
+  pub known_from : {B : Type 0} (value : B → Kept D T) (start base : B) (opened kept : Kept D T) (h : List Entry) (capacity : ℕ) → base ≡ start → value start ≡ opened
+      → ∥ IsSite reads may_leave clock since faults stance (value base) kept h capacity ∥₁ → ∥ IsSite reads may_leave clock since faults stance opened kept h capacity ∥₁
+  known_from value start base opened kept h capacity same is known = subst (λ (k : Kept D T). ∥ IsSite reads may_leave clock since faults stance k kept h capacity ∥₁) (ap value same ∙ is) known
+
+module _ {H A : Type 0} (honest : H → Type 0) (faults : H → ℕ) (calls : H → Option (List Call)) (launches dirs : H → List ℕ) (output : H → ℕ → Stream → List ℕ) (exited : H → ℕ → Option ℤ)
+    (left : A → Option (List ℕ)) (source_faults : A → ℕ) (looks : ℕ) {B : Type 0} (answers : Answers B Entry Ask Reply) where
+  no_ways : (ms : List (Member H A)) → AllZip (Way (DidTurn honest faults calls launches dirs output exited left source_faults looks) []) ms ms
+  no_ways [] = tt
+  no_ways (m ∷ ms) = (record { turns = []; chain = refl; did = tt; own = []; made = refl; others = []; part = (refl, refl) }, no_ways ms)
+
+  -- a life in which nothing was done
+  no_life : (memory : Memory) (base : B) (members : List (Member H A)) → Life honest faults calls launches dirs output exited left source_faults looks answers base base members members [] (Err memory)
+  unfolding IsDistinct
+  no_life memory base members = record {
+    base_stays = refl;
+    legal = ([], refl);
+    rounds = [];
+    last = [];
+    members = members;
+    before = [];
+    went_on = (refl, refl);
+    ends = (members, (refl, refl), refl);
+    turns = tt;
+    ways = no_ways members;
+    claimed_once = tt;
+    launched_once = tt;
+    told = tt;
+    explained = tt;
+    at_risk = tt;
+  }
+
+  pub nothing_done : (memory : Memory) (base b : B) (old now : List (Member H A)) (h : List Entry) → b ≡ base → now ≡ old → h ≡ [] → Life honest faults calls launches dirs output exited left source_faults looks answers base b old now h (Err memory)
+  nothing_done memory base b old now h same_base same none =
+      subst (λ (x : B). Life honest faults calls launches dirs output exited left source_faults looks answers base x old now h (Err memory)) (sym same_base)
+      (subst (λ (ms : List (Member H A)). Life honest faults calls launches dirs output exited left source_faults looks answers base base old ms h (Err memory)) (sym same)
+      (subst (λ (es : List Entry). Life honest faults calls launches dirs output exited left source_faults looks answers base base old old es (Err memory)) (sym none) (no_life memory base old)))
+
+  -- the base stays
+  pub same_start : (start base : B) (old now : List (Member H A)) (h : List Entry) (how : Result Progress Memory) → Life honest faults calls launches dirs output exited left source_faults looks answers start base old now h how
+      → Life honest faults calls launches dirs output exited left source_faults looks answers base base old now h how
+  same_start start base old now h how life = subst (λ (x : B). Life honest faults calls launches dirs output exited left source_faults looks answers x base old now h how) (sym life.base_stays) life

@@ -1,0 +1,207 @@
+-- Hosts that fit the events from before a life fit those at its end, by the turns of the life and its history.
+use Rattle.std.proofs.Common.{◌≡◌, inl, inr, ⊎_elim, ℕ, ℤ, Bool, true, false, List, [], ◌∷◌, ◌++◌, map, Option, Some, None, Result, Ok, Err, refl, sym, ap, subst}
+use Rattle.std.specs.Prelude.{nat_eq, if◌then◌else◌}
+use Rattle.std.specs.List.{AllByRecursion as AllAre, IsDistinct}
+use Rattle.program_lock.specs.declared.program.Memory.{Memory}
+use Rattle.program_lock.specs.Legal.{IsLegal}
+use Rattle.program_lock.specs.Merge.{IsMergeOf}
+use Rattle.program_lock.proofs.MergeLemmas.{IsMergeOf-nil}
+use Rattle.task_host.specs.declared.call.Call.{Call}
+use Rattle.task_host.specs.declared.order.Stream.{Stream}
+use Rattle.agent_worker.specs.declared.member.Member.{Member}
+use Rattle.agent_worker.specs.declared.member.Member.TheVariants.{Executor, Operator}
+use Rattle.agent_worker.specs.Gate.{Told, Claimed as ClaimedTask}
+use Rattle.agent_worker.specs.Serve.{tasks_at}
+use Rattle.agent_worker.specs.Working.{on_host}
+use Rattle.build_core.specs.Builds.{Parts}
+use Rattle.model_syntax.specs.Nodes.{Node}
+use Rattle.model_run.specs.declared.event.Event.{Event}
+use Rattle.model_run.specs.Below.{Small}
+use Rattle.model_run.specs.Fitting.{Some_of}
+use Rattle.model_run.specs.State.{Setting}
+use Rattle.model_run.specs.Terms.{term}
+use Rattle.model_run.specs.World.{world_in}
+use Rattle.settle_laws.specs.Stances.{Stance}
+use Rattle.site_state.specs.declared.ask.Entry.{Entry}
+use Rattle.site_state.specs.declared.ask.Entry.TheVariants.{Took, Claimed, Line, Failed}
+use Rattle.site_state.specs.declared.ask.Progress.{Progress}
+use Rattle.site_state.specs.Histories.{tooks}
+use Rattle.site_state.specs.Says.{Says}
+use Rattle.site_gate.specs.Tales.{asked_for, claimed_of, failed_of, is_grant, told_of}
+use Rattle.site_gate.specs.Turning.{tasks_of}
+use Rattle.site_life.proofs.LaunchLaws.{launches_differ}
+use Rattle.site_gate.proofs.PartLemmas.{all_append, all_first, all_map}
+use Rattle.site_gate.proofs.TaleLemmas.{claimed-append, told-append}
+use Rattle.site_life.specs.Lives.{Life, EndsWith}
+use Rattle.site_life.specs.Rounds.{turns_of}
+use Rattle.site_life.specs.Turns.{Turn, MadeOf, Launches, launches_of}
+use Rattle.launch_laws.specs.Fitting.{Fits}
+use Rattle.launch_laws.specs.ManyTurns.{AllTaken, InLife, IsOfLife, none as no_turn}
+use Rattle.launch_laws.proofs.Lists.{NoTwice, all_differ, none_twice}
+use Rattle.launch_laws.proofs.LifeLaws.{life_fits}
+use Rattle.site_run.specs.Serving.{AreHonest, AllFit, AreServed}
+use Rattle.site_run.proofs.MemberLemmas.{Steps, steps_of, steps_then, made_then, rounds_steps, claims_of_all, SaysSo, AllCame, all_came, all_served}
+
+-- what the entries of a history tell was taken in it
+pub told_taken : (h : List Entry) → AllAre (λ (t : Told). t.accepted ≡ true → Some_of (λ x. x ≡ t.event) (tooks h)) (told_of h)
+told_taken [] = tt
+told_taken (Took e ∷ h) = all_append (λ (t : Told). t.accepted ≡ true → Some_of (λ x. x ≡ t.event) (e ∷ tooks h)) (asked_for e true) (told_of h) (first (is_grant e))
+    (all_map (λ (t : Told). t.accepted ≡ true → Some_of (λ x. x ≡ t.event) (tooks h)) (λ (t : Told). t.accepted ≡ true → Some_of (λ x. x ≡ t.event) (e ∷ tooks h)) (told_of h) (λ t there is. inr (there is)) (told_taken h))
+  where
+    first : (grant : Bool) → AllAre (λ (t : Told). t.accepted ≡ true → Some_of (λ x. x ≡ t.event) (e ∷ tooks h)) (if grant then [] else record { event = e; accepted = true } ∷ [])
+    first true = tt
+    first false = (λ is. inl refl, tt)
+told_taken (Claimed executor task keep_out kept_log kept_out ∷ h) = told_taken h
+told_taken (Line line ∷ h) = told_taken h
+told_taken (Failed fault event ∷ h) = all_append (λ (t : Told). t.accepted ≡ true → Some_of (λ x. x ≡ t.event) (tooks h)) (failed_of event) (told_of h) (first event) (told_taken h)
+  where
+    by : (e : Event) (grant : Bool) → AllAre (λ (t : Told). t.accepted ≡ true → Some_of (λ x. x ≡ t.event) (tooks h)) (if grant then [] else record { event = e; accepted = false } ∷ [])
+    by e true = tt
+    by e false = (λ is. let bad : false ≡ true = is in absurd (cc), tt)
+
+    first : (event : Option Event) → AllAre (λ (t : Told). t.accepted ≡ true → Some_of (λ x. x ≡ t.event) (tooks h)) (failed_of event)
+    first None = tt
+    first (Some e) = by e (is_grant e)
+
+module _ (IsTold : Told → Type 0) (IsGiven : ClaimedTask → Type 0) where
+  -- what all entries tell each entry tells
+  TellsSo : Entry → Type 0
+  TellsSo x = AllAre IsTold (told_of (x ∷ [])) × AllAre IsGiven (claimed_of (x ∷ []))
+
+  front_of : {A : Type 0} (P : A → Type 0) (xs ys : List A) → AllAre P (xs ++ ys) → AllAre P xs
+  front_of P [] ys all = tt
+  front_of P (x ∷ xs) ys all = (all.0, front_of P xs ys all.1)
+
+  rest_of : {A : Type 0} (P : A → Type 0) (xs ys : List A) → AllAre P (xs ++ ys) → AllAre P ys
+  rest_of P [] ys all = all
+  rest_of P (x ∷ xs) ys all = rest_of P xs ys all.1
+
+  each_tells : (h : List Entry) → AllAre IsTold (told_of h) → AllAre IsGiven (claimed_of h) → AllAre TellsSo h
+  unfolding TellsSo
+  each_tells [] told given = tt
+  each_tells (x ∷ h) told given =
+      let t : AllAre IsTold (told_of (x ∷ []) ++ told_of h) = subst (AllAre IsTold) (told-append (x ∷ []) h) told in
+      let g : AllAre IsGiven (claimed_of (x ∷ []) ++ claimed_of h) = subst (AllAre IsGiven) (claimed-append (x ∷ []) h) given in
+      ((front_of IsTold (told_of (x ∷ [])) (told_of h) t, front_of IsGiven (claimed_of (x ∷ [])) (claimed_of h) g), each_tells h (rest_of IsTold (told_of (x ∷ [])) (told_of h) t) (rest_of IsGiven (claimed_of (x ∷ [])) (claimed_of h) g))
+
+  all_tell : (h : List Entry) → AllAre TellsSo h → AllAre IsTold (told_of h) × AllAre IsGiven (claimed_of h)
+  unfolding TellsSo
+  all_tell [] all = (tt, tt)
+  all_tell (x ∷ h) all =
+      let later = all_tell h all.1 in
+      (subst (AllAre IsTold) (sym (told-append (x ∷ []) h)) (all_append IsTold (told_of (x ∷ [])) (told_of h) all.0.0 later.0), subst (AllAre IsGiven) (sym (claimed-append (x ∷ []) h)) (all_append IsGiven (claimed_of (x ∷ [])) (claimed_of h) all.0.1 later.1))
+
+  swapped : (xs ys zs : List Entry) → IsMergeOf xs ys zs → IsMergeOf ys xs zs
+  swapped xs ys [] m = (m.1, m.0)
+  swapped xs ys (z ∷ zs) m = ⊎_elim
+      (λ (l : (us : List Entry) × (xs ≡ z ∷ us) × IsMergeOf us ys zs). inr (l.0, l.1, swapped l.0 ys zs l.2))
+      (λ (r : (vs : List Entry) × (ys ≡ z ∷ vs) × IsMergeOf xs vs zs). inl (r.0, r.1, swapped xs r.0 zs r.2))
+      m
+
+  made_all : {H A : Type 0} (before : List Entry) (turns : List (Turn H A)) (after : List Entry) → MadeOf before turns after → AllAre TellsSo after → AllAre TellsSo before × AllAre (SaysSo IsTold IsGiven) turns
+  made_all before [] after made all = (subst (AllAre TellsSo) (sym made) all, tt)
+  made_all before (turn ∷ turns) after made all =
+      let later = made_all made.0 turns after made.2 all in (
+        all_first TellsSo before turn.own made.0 made.1 later.0,
+        (all_tell turn.own (all_first TellsSo turn.own before made.0 (swapped before turn.own made.0 made.1) later.0), later.1),
+      )
+
+  -- what the whole history tells each turn tells
+  pub made_says : {H A : Type 0} (turns : List (Turn H A)) (h : List Entry) → MadeOf [] turns h → AllAre IsTold (told_of h) → AllAre IsGiven (claimed_of h) → AllAre (SaysSo IsTold IsGiven) turns
+  made_says turns h made told given = (made_all [] turns h made (each_tells h told given)).1
+
+-- A turn whose launches are its claims, each once: as that of an executor whose host is the list of its launches.
+abbrev ClaimTurn : Type 0
+ClaimTurn = Turn (List ℕ) (List ℕ)
+
+claim_turn : {H A : Type 0} → Turn H A → ClaimTurn
+claim_turn turn =
+    let claims : List ℕ = tasks_of (claimed_of turn.own) in
+    record { old = Executor 0 []; now = Executor 0 claims; worked = turn.worked; own = turn.own; said = turn.said; is_open = turn.is_open; launches = claims }
+
+claims_made : {H A : Type 0} (before : List Entry) (turns : List (Turn H A)) (after : List Entry) → MadeOf before turns after → MadeOf before (map claim_turn turns) after
+unfolding claim_turn
+claims_made before [] after made = made
+claims_made before (turn ∷ turns) after made = (made.0, made.1, claims_made made.0 turns after made.2)
+
+claims_launched : {H A : Type 0} (turns : List (Turn H A)) → AllAre (λ (t : ClaimTurn). Launches (λ (h : List ℕ). h) t.old t.now t.own t.launches) (map claim_turn turns)
+unfolding claim_turn
+claims_launched [] = tt
+claims_launched (turn ∷ turns) = ((refl, ([], IsMergeOf-nil (tasks_of (claimed_of turn.own)))), claims_launched turns)
+
+claims_are : {H A : Type 0} (turns : List (Turn H A)) → launches_of (map claim_turn turns) ≡ claims_of_all turns
+unfolding claim_turn
+claims_are [] = refl
+claims_are (turn ∷ turns) = ap (λ (l : List ℕ). tasks_of (claimed_of turn.own) ++ l) (claims_are turns)
+
+-- no task was claimed twice in them
+pub claims_once : {B T H A : Type 0} (stance : T → Stance) (opening : B → Parts T) (base : B) (turns : List (Turn H A)) (h : List Entry) → IsLegal (λ b history x y new. Says stance (opening b) history x y new) base h → MadeOf [] turns h → NoTwice (claims_of_all turns)
+claims_once stance opening base turns h legal made =
+    none_twice (claims_of_all turns) (subst (IsDistinct nat_eq) (claims_are turns) (launches_differ stance opening base (λ (h : List ℕ). h) (map claim_turn turns) h legal (claims_made [] turns h made) (claims_launched turns)))
+
+module _ {H A : Type 0} (honest : H → Type 0) (faults : H → ℕ) (calls : H → Option (List Call)) (launches dirs : H → List ℕ) (output : H → ℕ → Stream → List ℕ) (exited : H → ℕ → Option ℤ)
+    (left : A → Option (List ℕ)) (source_faults : A → ℕ) (looks : ℕ) where
+  module _ {B T : Type 0} (stance : T → Stance) (opening : B → Parts T) (start base : B) (old new : List (Member H A)) (h : List Entry) (how : Result Progress Memory)
+      (life : Life honest faults calls launches dirs output exited left source_faults looks (λ b history x y more. Says stance (opening b) history x y more) start base old new h how) where
+    abbrev pub all_turns : List (Turn H A)
+    all_turns = turns_of life.rounds ++ life.last
+
+    last_steps : (r : Result Progress Memory) → EndsWith (λ b history x y more. Says stance (opening b) history x y more) base life.last life.members life.before new h r → Steps life.members life.last new × MadeOf life.before life.last h
+    last_steps (Ok come) e = (steps_of life.last [] life.members new e.0, e.1)
+    last_steps (Err memory) e = (steps_of life.last e.0 life.members new e.1, e.2)
+
+    pub steps_all : Steps old all_turns new × MadeOf [] all_turns h
+    steps_all =
+        let first = rounds_steps (λ b history x y more. Says stance (opening b) history x y more) base h life.rounds old [] life.members life.before life.went_on in
+        let last = last_steps how life.ends in
+        (steps_then old (turns_of life.rounds) life.last life.members new first.0 last.0, made_then [] (turns_of life.rounds) life.last life.before h first.1 last.1)
+
+    once_all : NoTwice (claims_of_all all_turns)
+    once_all = claims_once stance opening base all_turns h life.legal steps_all.1
+
+    -- what became of the members, where the history tells this
+    pub came_all : (IsTold : Told → Type 0) (IsGiven : ClaimedTask → Type 0) → AllAre IsTold (told_of h) → AllAre IsGiven (claimed_of h)
+        → AllCame honest faults calls launches dirs output exited left source_faults looks IsTold IsGiven old new (claims_of_all all_turns)
+    came_all IsTold IsGiven told given =
+        all_came honest faults calls launches dirs output exited left source_faults looks IsTold IsGiven old all_turns new steps_all.0 life.turns (made_says IsTold IsGiven all_turns h steps_all.1 told given) once_all
+
+    all_so : {X : Type 0} (xs : List X) → AllAre (λ (x : X). Unit {0}) xs
+    all_so [] = tt
+    all_so (x ∷ xs) = (tt, all_so xs)
+
+    -- Executors keep their numbers, and what could not be read of the answers was counted.
+    pub life_serves : AreServed source_faults old new
+    life_serves = all_served honest faults calls launches dirs output exited left source_faults looks (λ (t : Told). Unit {0}) (λ (c : ClaimedTask). Unit {0}) old new (claims_of_all all_turns)
+        (came_all (λ (t : Told). Unit {0}) (λ (c : ClaimedTask). Unit {0}) (all_so (told_of h)) (all_so (claimed_of h)))
+
+  module _ (setting : Setting) (p : Node) (e : setting.script ≡ term 0 p) (small : Small setting) (begun : List Event) (started : (world_in setting begun).started ≡ true) where
+    -- events that the hosts do not see
+    pub fit_more : (taken : List Event) (members : List (Member H A)) → AllTaken setting begun taken → AllFit launches dirs setting begun members → AllFit launches dirs setting (begun ++ taken) members
+    unfolding IsDistinct
+    fit_more taken [] all fit = tt
+    fit_more taken (Executor number host ∷ members) all fit = (
+      life_fits setting p e small begun taken number 0 (on_host launches dirs output exited host) (on_host launches dirs output exited host) [] [] started all none_of no_turn fit.0,
+      fit_more taken members all fit.1,
+    )
+      where
+        none_of : IsOfLife setting begun taken [] []
+        none_of = record { taken_so = tt; given = tt; once = tt }
+    fit_more taken (Operator answers line ended failed ∷ members) all fit = fit_more taken members all fit
+
+    -- and those of a life
+    pub fit_life : (taken : List Event) → AllTaken setting begun taken → (os ms : List (Member H A)) (seen : List ℕ)
+        → AllCame honest faults calls launches dirs output exited left source_faults looks (λ (t : Told). t.accepted ≡ true → Some_of (λ x. x ≡ t.event) taken) (λ (c : ClaimedTask). InLife setting begun taken c.executor c.task) os ms seen
+        → AreHonest honest os → AllFit launches dirs setting begun os → AllFit launches dirs setting (begun ++ taken) ms
+    fit_life taken all [] [] seen c are fit = tt
+    fit_life taken all (Executor number host ∷ os) (Executor now next ∷ ms) seen c are fit =
+        let k = c.0.1 in (
+          subst (λ (n : ℕ). Fits setting (begun ++ taken) n (tasks_at (launches next) (dirs next))) (sym c.0.0)
+              (life_fits setting p e small begun taken number looks (on_host launches dirs output exited host) (on_host launches dirs output exited next) k.told k.claimed started all
+              (record { taken_so = k.are_told; given = k.are_given; once = all_differ (tasks_of k.claimed) k.once }) (k.turns are.0) fit.0),
+          fit_life taken all os ms seen c.1 are.1 fit.1,
+        )
+    fit_life taken all (Operator answers line ended failed ∷ os) (Operator next kept now_ended now_failed ∷ ms) seen c are fit = fit_life taken all os ms seen c.1 are fit
+    fit_life taken all (Executor number host ∷ os) (Operator next kept now_ended now_failed ∷ ms) seen c are fit = absurd c.0
+    fit_life taken all (Operator answers line ended failed ∷ os) (Executor now next ∷ ms) seen c are fit = absurd c.0
+    fit_life taken all [] (m ∷ ms) seen c are fit = absurd c
+    fit_life taken all (o ∷ os) [] seen c are fit = absurd c

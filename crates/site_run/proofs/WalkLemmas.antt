@@ -1,0 +1,482 @@
+-- What the history of a life tells: which events came and why, which claims were given, and how it was stopped.
+use Rattle.std.proofs.Common.{◌≡◌, ◌⊎◌, ◌∙◌, inl, inr, ℕ, Bool, true, false, List, [], ◌∷◌, ◌++◌, Option, Some, None, Result, Ok, Err, refl, sym, ap, subst, append_assoc, append-nil, arith, lit≤}
+use Rattle.std.specs.Prelude.{fold, IsSomeAnd, nat_eq, not, ◌&&◌, if◌then◌else◌}
+use Rattle.std.specs.List.{AllByRecursion as AllAre}
+use Rattle.std.proofs.lemmas.List.Sums.{fold-append}
+use Rattle.std.proofs.Math.Logic.{∥∥₁_elim, ∥∥₁_map, ∥∥₁_prop}
+use Rattle.agent_worker.specs.declared.fault.TakeFault.{TakeFault}
+use Rattle.agent_worker.specs.declared.fault.TakeFault.TheVariants.{Memory, Disk, Full, Stopped}
+use Rattle.agent_worker.specs.declared.gate.Claim.{Claim}
+use Rattle.agent_worker.specs.declared.gate.Claim.TheVariants as claim
+use Rattle.agent_worker.specs.declared.gate.Heard.{Heard}
+use Rattle.agent_worker.specs.declared.gate.Heard.TheVariants.{Decided, Skipped}
+use Rattle.agent_worker.specs.Gate.{Claimed as ClaimedTask}
+use Rattle.build_core.specs.Builds.{Parts, StandsFor, setting_in, standing_of}
+use Rattle.build_core.specs.Phases.{has_begun}
+use Rattle.build_requests.specs.Waiting.{input_of}
+use Rattle.durable_build.proofs.Cleared.{world_clears}
+use Rattle.durable_build.proofs.OpenLemmas.{begun_all}
+use Rattle.launch_laws.specs.ManyTurns.{InLife}
+use Rattle.model_run.specs.declared.event.Event.{Event}
+use Rattle.model_run.specs.declared.event.Event.TheVariants.{Start, Granted, Output, Exited, Lost, Decided as DecidedEvent}
+use Rattle.model_run.specs.declared.request.OpenRequest.{OpenRequest}
+use Rattle.model_run.specs.declared.request.Request.{Request}
+use Rattle.model_run.specs.declared.request.Request.TheVariants.{Node as NodeRequest, Task as TaskRequest, Input as InputRequest}
+use Rattle.model_run.specs.declared.taken.Taken.{Taken}
+use Rattle.model_run.specs.declared.taken.Taken.TheVariants.{Accepted, NotOpen, WrongPlace, Finished}
+use Rattle.model_run.specs.Below.{Small}
+use Rattle.model_run.specs.Terms.{term}
+use Rattle.model_syntax.specs.TreeNodes.{tree_node}
+use Rattle.model_run.proofs.DueLaws.{none_due as none_accepted}
+use Rattle.model_run.specs.Fitting.{Some_of}
+use Rattle.model_run.specs.Grants.{grant}
+use Rattle.model_run.specs.Requests.{IsTaskOf, RunsOn}
+use Rattle.model_run.specs.State.{Setting}
+use Rattle.model_run.specs.Taking.{Standing}
+use Rattle.model_run.specs.World as W
+use Rattle.program_lock.specs.Legal.{IsRun, IsLegal}
+use Rattle.script_run.specs.Standing.{IsProper}
+use Rattle.script_run.proofs.Turns.{decided, grant_accepted}
+use Rattle.settle_laws.specs.Stances.{Stance}
+use Rattle.store_laws.specs.Store.{grant_of}
+use Rattle.store_laws.proofs.Stories.{world-more}
+use Rattle.site_state.specs.declared.ask.Ask.{Ask}
+use Rattle.site_state.specs.declared.ask.Ask.TheVariants as ask
+use Rattle.site_state.specs.declared.ask.Reply.{Reply}
+use Rattle.site_state.specs.declared.ask.Reply.TheVariants as reply
+use Rattle.site_state.specs.declared.ask.Entry.{Entry}
+use Rattle.site_state.specs.declared.ask.Entry.TheVariants.{Took, Claimed, Line, Failed}
+use Rattle.site_state.specs.Claims.{ClaimSays, first_free, is_free, is_task_of}
+use Rattle.site_state.specs.Grants.{Grants, TakeSays, none_due, granted, refused, not_found}
+use Rattle.site_state.specs.Hearing as hearing
+use Rattle.site_state.specs.Hearing.{AnswerSays, IsSkipped}
+use Rattle.site_state.specs.Histories.{tooks, kept_fault, lines, is_claimed}
+use Rattle.site_state.specs.Says.{Answers, SaysAt, Says}
+use Rattle.site_state.specs.Showing.{answer_of, due, IsNext, IsSettled, IsShown}
+use Rattle.site_state.proofs.HistoryLaws.{tooks-append, kept_fault-append}
+use Rattle.site_state.proofs.WorldLaws.{same_standing, same_answer, same_due}
+use Rattle.site_gate.specs.Tales.{is_grant, claimed_of}
+use Rattle.site_gate.proofs.PartLemmas.{all_append, all_map}
+use Rattle.site_gate.proofs.TaleLemmas.{claimed-append, lines-append, grants_silent}
+use Rattle.saved_run.specs.Lives.{IsNext as ComesNext}
+use Rattle.site_run.specs.Going.{Decides, IsPassedOver, no_answer, nothing_open, Comes, by_grant, by_report, by_line, GoesBy, begins, takes, passes}
+
+all_front : {A : Type 0} (P : A → Type 0) (xs ys : List A) → AllAre P (xs ++ ys) → AllAre P xs
+all_front P [] ys all = tt
+all_front P (x ∷ xs) ys all = (all.0, all_front P xs ys all.1)
+
+all_behind : {A : Type 0} (P : A → Type 0) (xs ys : List A) → AllAre P (xs ++ ys) → AllAre P ys
+all_behind P [] ys all = all
+all_behind P (x ∷ xs) ys all = all_behind P xs ys all.1
+
+some_number : (a b : ℕ) → Some a ≡ Some b → a ≡ b
+some_number a b e = cc
+
+no_number : (a : ℕ) → None ≡ Some a → ⊥
+no_number a e = cc
+
+either_end : (b : Bool) → (b ≡ true) ⊎ (b ≡ false)
+either_end true = inl refl
+either_end false = inr refl
+
+some_or_none : (o : Option (ℕ × ℕ)) → (o ≡ None) ⊎ ((request : ℕ) × (executor : ℕ) × (o ≡ Some (request, executor)))
+some_or_none None = inl refl
+some_or_none (Some (request, executor)) = inr (request, executor, refl)
+
+same_number : (a b : ℕ) → nat_eq a b ≡ true → a ≡ b
+same_number a b is = grind (arith, is)
+
+no_pair : (p : ℕ × ℕ) → None ≡ Some p → ⊥
+no_pair p e = cc
+
+none_request : (r : OpenRequest) → None ≡ Some r → ⊥
+none_request r e = cc
+
+same_request : (q r : OpenRequest) → Some q ≡ Some r → q ≡ r
+same_request q r e = cc
+
+both_true : (a b : Bool) → (a && not b) ≡ true → a ≡ true
+both_true true b is = refl
+both_true false b is = absurd (cc)
+
+runs_on : (x : ℕ) (q : Request) → is_task_of x q ≡ true → RunsOn x q
+runs_on x (TaskRequest executor workspace folder env script status keep_out taken out) is = same_number executor x is
+runs_on x (NodeRequest label) is = absurd (cc)
+runs_on x (InputRequest id) is = absurd (cc)
+
+-- an event that explains itself as a grant, or is explained
+abbrev pub IsGrantOr : (Event → Type 0) → Event → Type 0
+IsGrantOr Reported e = (is_grant e ≡ true) ⊎ Reported e
+
+not_grant : (Reported : Event → Type 0) (e : Event) → is_grant e ≡ false → IsGrantOr Reported e → Reported e
+not_grant Reported e other (inl is) = let bad : true ≡ false = sym is ∙ other in absurd (cc)
+not_grant Reported e other (inr is) = is
+
+-- What a fault that stopped a life is of: `Memory` of no event; `Disk` and `Full` of the event that came next.
+abbrev pub IsFaultOf : Setting → List Event → TakeFault → Option Event → Type 0
+IsFaultOf setting events Memory of = of ≡ None
+IsFaultOf setting events Disk of = IsSomeAnd of (λ e. ComesNext setting events e × ((heard : List (List ℕ)) × Comes setting (λ x. Unit {0}) events e heard))
+IsFaultOf setting events (Full len add) of = IsSomeAnd of (ComesNext setting events)
+IsFaultOf setting events Stopped of = ⊥
+
+-- the first free task of an executor is one of its open tasks
+found_task : (h : List Entry) (x : ℕ) (rs : List OpenRequest) (r : OpenRequest) → first_free h x rs ≡ Some r → Some_of (λ q. (q.number ≡ r.number) × RunsOn x q.request) rs
+found_task h x [] r is = absurd (none_request r is)
+found_task h x (q ∷ qs) r is = on (found_task h x qs r) (is_free h x q) refl is
+  where
+    on : (first_free h x qs ≡ Some r → Some_of (λ k. (k.number ≡ r.number) × RunsOn x k.request) qs) → (b : Bool) → is_free h x q ≡ b → (if b then Some q else first_free h x qs) ≡ Some r → Some_of (λ k. (k.number ≡ r.number) × RunsOn x k.request) (q ∷ qs)
+    on later true free found = inl (ap (λ (k : OpenRequest). k.number) (same_request q r found), runs_on x q.request (both_true (is_task_of x q.request) (is_claimed q.number h) free))
+    on later false free found = inr (later found)
+
+module _ {T : Type 0} (stance : T → Stance) (setting : Setting) (proper : IsProper setting) where
+  pub of_tree : setting.script ≡ term 0 (tree_node proper.tree)
+  of_tree = ap (λ (s : Setting). s.script) proper.is
+
+  pub small : Small setting
+  small = subst Small (sym proper.is) (lit≤ tt)
+
+  -- the build stands for that of these events, which has begun
+  pub record ShowsAll (b : Parts T) (events : List Event) : Type 0 where
+    pub same : setting_in b ≡ setting
+    pub begun : (W.world_in setting events).started ≡ true
+    pub stands : StandsFor stance b (W.world_in setting events)
+
+  module _ (b : Parts T) (events : List Event) (all : ShowsAll b events) where
+    abbrev w : W.Build
+    w = W.world_in setting events
+
+    phase_begun : has_begun b.phase ≡ true
+    phase_begun = sym all.stands.started ∙ all.begun
+
+    standing_is : W.standing setting w ≡ standing_of b
+    standing_is = subst (λ (s : Setting). StandsFor stance b (W.world_in s events) → W.standing s (W.world_in s events) ≡ standing_of b) all.same
+        (λ at. same_standing stance b (W.world_in (setting_in b) events) phase_begun at) all.stands
+
+    pub requests_are : w.shared.requests ≡ b.shared.requests
+    requests_are = ap (λ (x : Standing). x.requests) standing_is
+
+    answer_is : (e : Event) → W.answer_to setting w e ≡ answer_of b e
+    answer_is e = subst (λ (s : Setting). StandsFor stance b (W.world_in s events) → W.answer_to s (W.world_in s events) e ≡ answer_of b e) all.same
+        (λ at. same_answer stance b (W.world_in (setting_in b) events) phase_begun at e) all.stands
+
+    due_is : W.next_grant setting w ≡ due b
+    due_is = subst (λ (s : Setting). StandsFor stance b (W.world_in s events) → W.next_grant s (W.world_in s events) ≡ due b) all.same
+        (λ at. same_due stance b (W.world_in (setting_in b) events) phase_begun at) all.stands
+
+    accepted_is : (e : Event) → answer_of b e ≡ Accepted → W.answer_to setting w e ≡ Accepted
+    accepted_is e is = answer_is e ∙ is
+
+    no_requests : w.ended ≡ true → w.shared.requests ≡ []
+    no_requests over = (world_clears setting events over).requests
+
+    -- no grant is due in the world of a settled build
+    pub settled_none : IsSettled b → W.next_grant setting w ≡ None
+    settled_none settled = by (some_or_none (W.next_grant setting w))
+      where
+        never : (request executor : ℕ) → W.next_grant setting w ≡ Some (request, executor) → (w.ended ≡ true) ⊎ (w.ended ≡ false) → ⊥
+        never request executor is (inl over) = no_pair (request, executor) (ap (λ (rs : List OpenRequest). grant setting.site w.shared.held rs) (sym (no_requests over)) ∙ is)
+        never request executor is (inr going) = settled request executor (sym due_is ∙ is) (sym (answer_is (Granted request executor)) ∙ grant_accepted setting proper events all.begun going request executor is)
+
+        by : (W.next_grant setting w ≡ None) ⊎ ((request : ℕ) × (executor : ℕ) × (W.next_grant setting w ≡ Some (request, executor))) → W.next_grant setting w ≡ None
+        by (inl none) = none
+        by (inr there) = absurd (never there.0 there.1 there.2 (either_end w.ended))
+
+    -- an accepted event of a settled build comes in its order
+    order_is : (e : Event) → IsSettled b → answer_of b e ≡ Accepted → W.next_grant setting w ≡ grant_of e
+    order_is (Start script agents) settled accepted = settled_none settled
+    order_is (Granted request executor) settled accepted = absurd (none_accepted setting (tree_node proper.tree) of_tree small events (settled_none settled) request executor (accepted_is (Granted request executor) accepted))
+    order_is (Output task stream place bytes) settled accepted = settled_none settled
+    order_is (Exited task code) settled accepted = settled_none settled
+    order_is (Lost task why) settled accepted = settled_none settled
+    order_is (DecidedEvent request proceed name) settled accepted = settled_none settled
+
+    -- the build behind an event
+    shows_next : (e : Event) (after : Parts T) → IsNext stance b e after → ShowsAll after (events ++ e ∷ [])
+    shows_next e after next = record {
+      same = next.setting ∙ all.same;
+      begun = begun_all setting events (e ∷ []) all.begun;
+      stands = subst (StandsFor stance after) (sym (world-more setting W.unbegun events e))
+          (subst (λ (s : Setting). StandsFor stance b (W.world_in s events) → StandsFor stance after (W.after_one s (W.world_in s events) e)) all.same (λ at. next.stands (W.world_in (setting_in b) events) at) all.stands);
+    }
+
+    comes_next : (e : Event) → IsSettled b → answer_of b e ≡ Accepted → ComesNext setting events e
+    comes_next e settled accepted = record { accepted = accepted_is e accepted; due = order_is e settled accepted }
+
+    -- an event that was asked for
+    asked_comes : (Reported : Event → Type 0) (e : Event) → W.next_grant setting w ≡ grant_of e → IsGrantOr Reported e → Comes setting Reported events e []
+    asked_comes Reported (Start script agents) order is = by_report (Start script agents) order (not_grant Reported (Start script agents) refl is)
+    asked_comes Reported (Granted request executor) order is = by_grant request executor order
+    asked_comes Reported (Output task stream place bytes) order is = by_report (Output task stream place bytes) order (not_grant Reported (Output task stream place bytes) refl is)
+    asked_comes Reported (Exited task code) order is = by_report (Exited task code) order (not_grant Reported (Exited task code) refl is)
+    asked_comes Reported (Lost task why) order is = by_report (Lost task why) order (not_grant Reported (Lost task why) refl is)
+    asked_comes Reported (DecidedEvent request proceed name) order is = by_report (DecidedEvent request proceed name) order (not_grant Reported (DecidedEvent request proceed name) refl is)
+
+    -- an answer line
+    line_decides : (line : List ℕ) (request : ℕ) (e : Event) → hearing.Decides b line request e → Decides w line e
+    line_decides line request e d = record { request = request; answer = d.answer; open_now = ap (input_of d.answer.id) requests_are ∙ d.open_now }
+
+    line_comes : (Reported : Event → Type 0) (line : List ℕ) (request : ℕ) (e : Event) → IsSettled b → hearing.Decides b line request e → Comes setting Reported events e (line ∷ [])
+    line_comes Reported line request e settled d = by_line line e (settled_none settled) (line_decides line request e d)
+
+    line_passed : (line : List ℕ) → IsSkipped b line → IsPassedOver w line
+    line_passed line (hearing.no_answer none) = no_answer none
+    line_passed line (hearing.nothing_open proceed id name answers none) = nothing_open proceed id name answers (ap (input_of id) requests_are ∙ none)
+    line_passed line (hearing.not_accepted request e d never) = absurd (by (either_end w.ended))
+      where
+        found : input_of d.answer.id w.shared.requests ≡ Some request
+        found = ap (input_of d.answer.id) requests_are ∙ d.open_now
+
+        by : (w.ended ≡ true) ⊎ (w.ended ≡ false) → ⊥
+        by (inl over) = no_number request (ap (input_of d.answer.id) (sym (no_requests over)) ∙ found)
+        by (inr going) = never (subst (λ (x : Event). answer_of b x ≡ Accepted) (sym d.answer.is)
+            (sym (answer_is (DecidedEvent request d.answer.proceed d.answer.name)) ∙ decided setting proper events all.begun going d.answer.id request d.answer.proceed d.answer.name found))
+
+  -- what of a build at the opening is known of one that the history shows
+  pub shows_shown : (opening b : Parts T) (before events : List Event) → ShowsAll opening before → IsShown stance opening events b → ShowsAll b (before ++ events)
+  shows_shown opening b before events all shown = record {
+    same = shown.setting ∙ all.same;
+    begun = begun_all setting before events all.begun;
+    stands = subst (StandsFor stance b) (sym (fold-append (W.after_one setting) W.unbegun before events))
+        (subst (λ (s : Setting). StandsFor stance opening (W.world_in s before) → StandsFor stance b (fold (W.after_one s) (W.world_in s before) events)) all.same (λ at. shown.stands (W.world_in (setting_in opening) before) at) all.stands);
+  }
+
+  module _ (Reported : Event → Type 0) (before : List Event) where
+    abbrev Goes : List Event → List (List ℕ) → Type 0
+    Goes events lines = GoesBy setting Reported before events lines
+
+    same_goes : (es fs : List Event) (ls ms : List (List ℕ)) → es ≡ fs → ls ≡ ms → Goes es ls → Goes fs ms
+    same_goes es fs ls ms events lines g = subst (λ (x : List Event). Goes x ms) events (subst (λ (l : List (List ℕ)). Goes es l) lines g)
+
+    -- the grants behind an event
+    pub grants_go : {b : Parts T} {entries : List Entry} → Grants stance b entries → (es : List Event) (ls : List (List ℕ)) → ShowsAll b es → Goes es ls → Goes (es ++ tooks entries) (ls ++ lines entries)
+    grants_go (none_due settled) es ls all g = same_goes es (es ++ []) ls (ls ++ []) (sym (append-nil es)) (sym (append-nil ls)) g
+    grants_go {b} (granted {after = after} {entries = entries} request executor is next more) es ls all g =
+        let e : Event = Granted request executor in
+        let one : Goes (es ++ e ∷ []) (ls ++ []) = takes e g (by_grant request executor (due_is b es all ∙ is)) (accepted_is b es all e next.accepted) in
+        same_goes ((es ++ e ∷ []) ++ tooks entries) (es ++ e ∷ tooks entries) ((ls ++ []) ++ lines entries) (ls ++ lines entries) (append_assoc es (e ∷ []) (tooks entries)) (ap (λ (l : List (List ℕ)). l ++ lines entries) (append-nil ls))
+        (grants_go more (es ++ e ∷ []) (ls ++ []) (shows_next b es all e after next) one)
+    grants_go {b} (refused request executor Memory is may) es ls all g = same_goes es (es ++ []) ls (ls ++ []) (sym (append-nil es)) (sym (append-nil ls)) g
+    grants_go {b} (refused request executor Disk is may) es ls all g = same_goes es (es ++ []) ls (ls ++ []) (sym (append-nil es)) (sym (append-nil ls)) g
+    grants_go {b} (refused request executor (Full len add) is may) es ls all g = same_goes es (es ++ []) ls (ls ++ []) (sym (append-nil es)) (sym (append-nil ls)) g
+    grants_go {b} (refused request executor Stopped is may) es ls all g = absurd may
+    grants_go not_found es ls all g = same_goes es (es ++ []) ls (ls ++ []) (sym (append-nil es)) (sym (append-nil ls)) g
+
+    -- How a history was stopped: by its last entry, the first that tells a fault.
+    pub record StoppedBy (h : List Entry) : Type 0 where
+      pub front : List Entry
+      pub fault : TakeFault
+      pub event : Option Event
+      pub is : h ≡ front ++ Failed fault event ∷ []
+      pub none : kept_fault front ≡ None
+      pub of : IsFaultOf setting (before ++ tooks front) fault event
+
+    -- where it stands: it goes on, or a fault stopped it
+    abbrev pub Stops : List Entry → Type 0
+    Stops h = (kept_fault h ≡ None) ⊎ StoppedBy h
+
+    still_none : (h new : List Entry) → kept_fault h ≡ None → kept_fault new ≡ None → kept_fault (h ++ new) ≡ None
+    still_none h new none more = kept_fault-append h new none ∙ more
+
+    stops_here : (h : List Entry) (fault : TakeFault) (event : Option Event) → kept_fault h ≡ None → IsFaultOf setting (before ++ tooks h) fault event → Stops (h ++ Failed fault event ∷ [])
+    stops_here h fault event none of = inr (record { front = h; fault = fault; event = event; is = refl; none = none; of = of })
+
+    same_stops : (h k : List Entry) → h ≡ k → Stops h → Stops k
+    same_stops h k is s = subst Stops is s
+
+    events_then : (h : List Entry) (es new : List Entry) → before ++ tooks (h ++ es) ≡ (before ++ tooks h) ++ tooks es
+    events_then h es new = ap (λ (xs : List Event). before ++ xs) (tooks-append h es) ∙ sym (append_assoc before (tooks h) (tooks es))
+
+    -- the grants behind what has happened so far
+    pub grants_stop : {b : Parts T} {entries : List Entry} → Grants stance b entries → (h : List Entry) → kept_fault h ≡ None → ShowsAll b (before ++ tooks h) → Stops (h ++ entries)
+    grants_stop (none_due settled) h none all = inl (still_none h [] none refl)
+    grants_stop {b} (granted {after = after} {entries = entries} request executor is next more) h none all =
+        let e : Event = Granted request executor in
+        let h' : List Entry = h ++ Took e ∷ [] in
+        same_stops (h' ++ entries) (h ++ Took e ∷ entries) (append_assoc h (Took e ∷ []) entries)
+        (grants_stop more h' (still_none h (Took e ∷ []) none refl) (subst (ShowsAll after) (sym (events_then h (Took e ∷ []) entries)) (shows_next b (before ++ tooks h) all e after next)))
+    grants_stop {b} (refused request executor Memory is may) h none all = stops_here h Memory None none refl
+    grants_stop {b} (refused request executor Disk is may) h none all =
+        let e : Event = Granted request executor in
+        let due_so : W.next_grant setting (W.world_in setting (before ++ tooks h)) ≡ Some (request, executor) = due_is b (before ++ tooks h) all ∙ is in
+        stops_here h Disk (Some e) none (record { accepted = accepted_is b (before ++ tooks h) all e may; due = due_so }, ([], by_grant request executor due_so))
+    grants_stop {b} (refused request executor (Full len add) is may) h none all =
+        let e : Event = Granted request executor in
+        stops_here h (Full len add) (Some e) none (record { accepted = accepted_is b (before ++ tooks h) all e may.0; due = due_is b (before ++ tooks h) all ∙ is })
+    grants_stop {b} (refused request executor Stopped is may) h none all = absurd may
+    grants_stop not_found h none all = stops_here h Memory None none refl
+
+    abbrev GivenIn : List Event → ClaimedTask → Type 0
+    GivenIn taken c = InLife setting before taken c.executor c.task
+
+    -- What a history tells so far.
+    pub record At (h : List Entry) : Type 0 where
+      pub goes : Goes (before ++ tooks h) (lines h)
+      pub stops : Stops h
+      pub given : AllAre (GivenIn (tooks h)) (claimed_of h)
+
+    given_more : (taken more : List Event) (c : ClaimedTask) → GivenIn taken c → GivenIn (taken ++ more) c
+    given_more taken more c g = record { front = g.front; rest = g.rest ++ more; is = ap (λ (es : List Event). es ++ more) g.is ∙ append_assoc g.front g.rest more; has_begun = g.has_begun; task_of = g.task_of }
+
+    given_then : (h new : List Entry) → AllAre (GivenIn (tooks h)) (claimed_of h) → AllAre (GivenIn (tooks h ++ tooks new)) (claimed_of new) → AllAre (GivenIn (tooks (h ++ new))) (claimed_of (h ++ new))
+    given_then h new old more =
+        subst (λ (es : List Event). AllAre (GivenIn es) (claimed_of (h ++ new))) (sym (tooks-append h new))
+        (subst (AllAre (GivenIn (tooks h ++ tooks new))) (sym (claimed-append h new))
+        (all_append (GivenIn (tooks h ++ tooks new)) (claimed_of h) (claimed_of new) (all_map (GivenIn (tooks h)) (GivenIn (tooks h ++ tooks new)) (claimed_of h) (given_more (tooks h) (tooks new)) old) more))
+
+    -- a step that tells of this
+    at_then : (h new : List Entry) → At h → Goes ((before ++ tooks h) ++ tooks new) (lines h ++ lines new) → Stops (h ++ new) → AllAre (GivenIn (tooks h ++ tooks new)) (claimed_of new) → At (h ++ new)
+    at_then h new at goes stops given = record {
+      goes = same_goes ((before ++ tooks h) ++ tooks new) (before ++ tooks (h ++ new)) (lines h ++ lines new) (lines (h ++ new)) (sym (events_then h new [])) (sym (lines-append h new)) goes;
+      stops = stops;
+      given = given_then h new at.given given;
+    }
+
+    -- an ask that adds nothing
+    at_same : (h new : List Entry) → At h → new ≡ [] → At (h ++ new)
+    at_same h new at is = subst (λ (es : List Entry). At (h ++ es)) (sym is) (subst At (sym (append-nil h)) at)
+
+    -- a fault alone
+    at_failed : (h new : List Entry) (fault : TakeFault) (event : Option Event) → At h → kept_fault h ≡ None → new ≡ Failed fault event ∷ [] → IsFaultOf setting (before ++ tooks h) fault event → At (h ++ new)
+    at_failed h new fault event at none is of = subst (λ (es : List Entry). At (h ++ es)) (sym is)
+        (at_then h (Failed fault event ∷ []) at (same_goes (before ++ tooks h) ((before ++ tooks h) ++ []) (lines h) (lines h ++ []) (sym (append-nil (before ++ tooks h))) (sym (append-nil (lines h))) at.goes)
+        (stops_here h fault event none of) tt)
+
+    module _ (h : List Entry) (at : At h) (none : kept_fault h ≡ None) (b : Parts T) (all : ShowsAll b (before ++ tooks h)) where
+      abbrev now : List Event
+      now = before ++ tooks h
+
+      -- an event that was taken, with the grants behind it, and the line that was heard for it
+      took_at : (e : Event) (after : Parts T) (entries : List Entry) (heard : List (List ℕ)) (front : List Entry) → tooks front ≡ [] → lines front ≡ heard → claimed_of front ≡ [] → kept_fault front ≡ None
+          → IsNext stance b e after → Grants stance after entries → Comes setting Reported now e heard → claimed_of entries ≡ [] → At (h ++ (front ++ Took e ∷ entries))
+      took_at e after entries heard front no_events its_lines no_claims no_faults next grants comes none_claimed =
+          let mid : List Entry = h ++ (front ++ Took e ∷ []) in
+          let new : List Entry = front ++ Took e ∷ entries in
+          let events : tooks new ≡ e ∷ tooks entries = tooks-append front (Took e ∷ entries) ∙ ap (λ (es : List Event). es ++ e ∷ tooks entries) no_events in
+          let one_event : tooks (front ++ Took e ∷ []) ≡ e ∷ [] = tooks-append front (Took e ∷ []) ∙ ap (λ (es : List Event). es ++ e ∷ []) no_events in
+          let said : lines new ≡ heard ++ lines entries = lines-append front (Took e ∷ entries) ∙ ap (λ (l : List (List ℕ)). l ++ lines entries) its_lines in
+          let claims : claimed_of new ≡ [] = claimed-append front (Took e ∷ entries) ∙ ap (λ (l : List ClaimedTask). l ++ claimed_of entries) no_claims ∙ none_claimed in
+          let shown : ShowsAll after (now ++ e ∷ []) = shows_next b now all e after next in
+          let one : Goes (now ++ e ∷ []) (lines h ++ heard) = takes e at.goes comes (accepted_is b now all e next.accepted) in
+          let more : Goes ((now ++ e ∷ []) ++ tooks entries) ((lines h ++ heard) ++ lines entries) = grants_go grants (now ++ e ∷ []) (lines h ++ heard) shown one in
+          let mid_none : kept_fault mid ≡ None = still_none h (front ++ Took e ∷ []) none (kept_fault-append front (Took e ∷ []) no_faults) in
+          let mid_shown : ShowsAll after (before ++ tooks mid) = subst (ShowsAll after) (ap (λ (es : List Event). now ++ es) (sym one_event) ∙ sym (events_then h (front ++ Took e ∷ []) [])) shown in
+          let order : mid ++ entries ≡ h ++ new = append_assoc h (front ++ Took e ∷ []) entries ∙ ap (λ (es : List Entry). h ++ es) (append_assoc front (Took e ∷ []) entries) in
+          at_then h new at
+          (same_goes ((now ++ e ∷ []) ++ tooks entries) (now ++ tooks new) ((lines h ++ heard) ++ lines entries) (lines h ++ lines new)
+          (append_assoc now (e ∷ []) (tooks entries) ∙ ap (λ (es : List Event). now ++ es) (sym events)) (append_assoc (lines h) heard (lines entries) ∙ ap (λ (l : List (List ℕ)). lines h ++ l) (sym said)) more)
+          (same_stops (mid ++ entries) (h ++ new) order (grants_stop grants mid mid_none mid_shown))
+          (subst (AllAre (GivenIn (tooks h ++ tooks new))) (sym claims) tt)
+
+      -- The table: what each ask makes of it.
+      take_at : (e : Event) (r : Result Taken TakeFault) (new : List Entry) → IsSettled b → TakeSays stance b e r new → AllAre (IsGrantOr Reported) (tooks new) → At (h ++ new)
+      take_at e (Ok Accepted) new settled says explained =
+          let entries : List Entry = says.1 in
+          let here : IsGrantOr Reported e = (subst (λ (es : List Entry). AllAre (IsGrantOr Reported) (tooks es)) says.4 explained).0 in
+          subst (λ (es : List Entry). At (h ++ es)) (sym says.4)
+          (took_at e says.0 entries [] [] refl refl refl refl says.2 says.3 (asked_comes b now all Reported e (order_is b now all e settled says.2.accepted) here) (grants_silent says.3).claimed)
+      take_at e (Ok NotOpen) new settled says explained = at_same h new at says.1
+      take_at e (Ok (WrongPlace kept)) new settled says explained = at_same h new at says.1
+      take_at e (Ok Finished) new settled says explained = at_same h new at says.1
+      take_at e (Err Memory) new settled says explained = at_failed h new Memory None at none says.1 refl
+      take_at e (Err Disk) new settled says explained = at_failed h new Disk (Some e) at none says.1 (comes_next b now all e settled says.0, ([], asked_comes b now all (λ x. Unit {0}) e (order_is b now all e settled says.0) (inr tt)))
+      take_at e (Err (Full len add)) new settled says explained = at_failed h new (Full len add) (Some e) at none says.1 (comes_next b now all e settled says.0.0)
+      take_at e (Err Stopped) new settled says explained = absurd says.0
+
+      answer_at : (line : List ℕ) (r : Result Heard TakeFault) (new : List Entry) → IsSettled b → AnswerSays stance b line r new → At (h ++ new)
+      answer_at line (Ok (Decided request)) new settled says =
+          let taken = says.3 in
+          subst (λ (es : List Entry). At (h ++ es)) (sym (says.4 ∙ ap (λ (es : List Entry). Line line ∷ es) taken.4))
+          (took_at says.0 taken.0 taken.1 (line ∷ []) (Line line ∷ []) refl refl refl refl taken.2 taken.3 (line_comes b now all Reported line request says.0 settled says.2) (grants_silent taken.3).claimed)
+      answer_at line (Ok Skipped) new settled says = subst (λ (es : List Entry). At (h ++ es)) (sym says.1)
+          (at_then h (Line line ∷ []) at (same_goes now (now ++ []) (lines h ++ line ∷ []) (lines h ++ line ∷ []) (sym (append-nil now)) refl (passes line at.goes (settled_none b now all settled) (line_passed b now all line says.0)))
+          (inl (still_none h (Line line ∷ []) none refl)) tt)
+      answer_at line (Err Memory) new settled says = at_failed h new Memory None at none says refl
+      answer_at line (Err Disk) new settled says =
+          at_failed h new Disk (Some says.1) at none says.3.1 (comes_next b now all says.1 settled says.3.0, (line ∷ [], line_comes b now all (λ x. Unit {0}) line says.0 says.1 settled says.2))
+      answer_at line (Err (Full len add)) new settled says = at_failed h new (Full len add) (Some says.1) at none says.3.1 (comes_next b now all says.1 settled says.3.0.0)
+      answer_at line (Err Stopped) new settled says = absurd says.3.0
+
+      claim_at : (x : ℕ) (c : Claim) (new : List Entry) → ClaimSays b.shared.requests h x c new → At (h ++ new)
+      claim_at x (claim.Order order) new says =
+          let task : Some_of (λ q. (q.number ≡ says.0.number) × RunsOn x q.request) b.shared.requests = found_task h x b.shared.requests says.0 says.1 in
+          let there : IsTaskOf x says.0.number (W.world_in setting now).shared = subst (λ (rs : List OpenRequest). Some_of (λ q. (q.number ≡ says.0.number) × RunsOn x q.request) rs) (sym (requests_are b now all)) task in
+          let entry : Entry = Claimed x says.0.number order.keep_out order.kept_log order.kept_out in
+          subst (λ (es : List Entry). At (h ++ es)) (sym says.3)
+          (at_then h (entry ∷ []) at (same_goes now (now ++ []) (lines h) (lines h ++ []) (sym (append-nil now)) (sym (append-nil (lines h))) at.goes) (inl (still_none h (entry ∷ []) none refl))
+          (record { front = tooks h; rest = []; is = refl; has_begun = all.begun; task_of = there }, tt))
+      claim_at x (claim.Idle busy) new says = at_same h new at says.3
+      claim_at x claim.Rest new says = at_same h new at says.2
+      claim_at x claim.Stopped new says = absurd says
+      claim_at x claim.Memory new says = at_same h new at says
+
+    module _ (opening : Parts T) (opened : ShowsAll opening before) where
+      shown_all : (h : List Entry) (b : Parts T) → IsShown stance opening (tooks h) b → ShowsAll b (before ++ tooks h)
+      shown_all h b shown = shows_shown opening b before (tooks h) opened shown
+
+      answers_at : (h : List Entry) (at : At h) (none : kept_fault h ≡ None) (a : Ask) (r : Reply) (new : List Entry) → Answers stance opening h a r new → AllAre (IsGrantOr Reported) (tooks new) → ∥ At (h ++ new) ∥₁
+      answers_at h at none (ask.Take e) (reply.Taken r) new says explained = ∥∥₁_map says.1 (λ shown. take_at h at none says.0 (shown_all h says.0 shown) e r new says.2.0 says.2.1 explained)
+      answers_at h at none (ask.Take e) (reply.Claimed c) new says explained = absurd says
+      answers_at h at none (ask.Take e) (reply.Inputs i) new says explained = absurd says
+      answers_at h at none (ask.Take e) (reply.Heard r) new says explained = absurd says
+      answers_at h at none (ask.Take e) (reply.Progress p) new says explained = absurd says
+      answers_at h at none (ask.Take e) reply.Halted new says explained = absurd says
+      answers_at h at none (ask.Claim x) (reply.Taken r) new says explained = absurd says
+      answers_at h at none (ask.Claim x) (reply.Claimed c) new says explained = ∥∥₁_map says.1 (λ shown. claim_at h at none says.0 (shown_all h says.0 shown) x c new says.2)
+      answers_at h at none (ask.Claim x) (reply.Inputs i) new says explained = absurd says
+      answers_at h at none (ask.Claim x) (reply.Heard r) new says explained = absurd says
+      answers_at h at none (ask.Claim x) (reply.Progress p) new says explained = absurd says
+      answers_at h at none (ask.Claim x) reply.Halted new says explained = absurd says
+      answers_at h at none ask.Inputs (reply.Taken r) new says explained = absurd says
+      answers_at h at none ask.Inputs (reply.Claimed c) new says explained = absurd says
+      answers_at h at none ask.Inputs (reply.Inputs i) new says explained = ∣ at_same h new at says.1 ∣₁
+      answers_at h at none ask.Inputs (reply.Heard r) new says explained = absurd says
+      answers_at h at none ask.Inputs (reply.Progress p) new says explained = absurd says
+      answers_at h at none ask.Inputs reply.Halted new says explained = absurd says
+      answers_at h at none (ask.Answer line) (reply.Taken r) new says explained = absurd says
+      answers_at h at none (ask.Answer line) (reply.Claimed c) new says explained = absurd says
+      answers_at h at none (ask.Answer line) (reply.Inputs i) new says explained = absurd says
+      answers_at h at none (ask.Answer line) (reply.Heard r) new says explained = ∥∥₁_map says.1 (λ shown. answer_at h at none says.0 (shown_all h says.0 shown) line r new says.2.0 says.2.1)
+      answers_at h at none (ask.Answer line) (reply.Progress p) new says explained = absurd says
+      answers_at h at none (ask.Answer line) reply.Halted new says explained = absurd says
+      answers_at h at none ask.Look (reply.Taken r) new says explained = absurd says
+      answers_at h at none ask.Look (reply.Claimed c) new says explained = absurd says
+      answers_at h at none ask.Look (reply.Inputs i) new says explained = absurd says
+      answers_at h at none ask.Look (reply.Heard r) new says explained = absurd says
+      answers_at h at none ask.Look (reply.Progress p) new says explained = ∣ at_same h new at says.1 ∣₁
+      answers_at h at none ask.Look reply.Halted new says explained = absurd says
+      answers_at h at none ask.Halt (reply.Taken r) new says explained = absurd says
+      answers_at h at none ask.Halt (reply.Claimed c) new says explained = absurd says
+      answers_at h at none ask.Halt (reply.Inputs i) new says explained = absurd says
+      answers_at h at none ask.Halt (reply.Heard r) new says explained = absurd says
+      answers_at h at none ask.Halt (reply.Progress p) new says explained = absurd says
+      answers_at h at none ask.Halt reply.Halted new says explained = ∣ at_failed h new Memory None at none says refl ∣₁
+
+      says_at : (h : List Entry) (at : At h) (f : Option TakeFault) → kept_fault h ≡ f → (a : Ask) (r : Reply) (new : List Entry) → SaysAt stance opening h f a r new → AllAre (IsGrantOr Reported) (tooks new) → ∥ At (h ++ new) ∥₁
+      says_at h at (Some f) is a r new says explained = ∣ at_same h new at says.1 ∣₁
+      says_at h at None is a r new says explained = answers_at h at is a r new says explained
+
+      -- all entries of these asks
+      abbrev added : List (Ask × Reply × List Entry) → List Entry
+      added [] = []
+      added (x ∷ xs) = x.2 ++ added xs
+
+      module _ {B : Type 0} (build_of : B → Parts T) (base : B) (is : build_of base ≡ opening) where
+        run_adds : (h : List Entry) (asked : List (Ask × Reply × List Entry)) (to : List Entry) → IsRun (λ b history x y new. Says stance (build_of b) history x y new) base h asked to → h ++ added asked ≡ to
+        run_adds h [] to run = append-nil h ∙ run
+        run_adds h (x ∷ xs) to run = sym (append_assoc h x.2 (added xs)) ∙ run_adds (h ++ x.2) xs to run.1
+
+        run_at : (h : List Entry) (asked : List (Ask × Reply × List Entry)) (to : List Entry) → IsRun (λ b history x y new. Says stance (build_of b) history x y new) base h asked to
+            → AllAre (IsGrantOr Reported) (tooks (added asked)) → ∥ At h ∥₁ → ∥ At to ∥₁
+        run_at h [] to run explained at = subst (λ (es : List Entry). ∥ At es ∥₁) run at
+        run_at h (x ∷ xs) to run explained at =
+            let both : AllAre (IsGrantOr Reported) (tooks x.2 ++ tooks (added xs)) = subst (AllAre (IsGrantOr Reported)) (tooks-append x.2 (added xs)) explained in
+            let says : Says stance opening h x.0 x.1 x.2 = subst (λ (b : Parts T). Says stance b h x.0 x.1 x.2) is run.0 in
+            run_at (h ++ x.2) xs to run.1 (all_behind (IsGrantOr Reported) (tooks x.2) (tooks (added xs)) both)
+            (∥∥₁_elim at ∥∥₁_prop (λ here. says_at h here (kept_fault h) refl x.0 x.1 x.2 says (all_front (IsGrantOr Reported) (tooks x.2) (tooks (added xs)) both)))
+
+        at_first : At []
+        at_first = record { goes = same_goes before (before ++ []) [] [] (sym (append-nil before)) refl begins; stops = inl refl; given = tt }
+
+        -- A legal history tells this at its end, where each event in it that is no grant was reported so.
+        pub legal_at : (h : List Entry) → IsLegal (λ b history x y new. Says stance (build_of b) history x y new) base h → AllAre (IsGrantOr Reported) (tooks h) → ∥ At h ∥₁
+        legal_at h legal explained = run_at [] legal.0 h legal.1 (subst (λ (es : List Entry). AllAre (IsGrantOr Reported) (tooks es)) (sym (run_adds [] legal.0 h legal.1)) explained) ∣ at_first ∣₁

@@ -1,0 +1,280 @@
+-- A life with hosts, from its opening to its end.
+use Rattle.std.proofs.Common.{◌≡◌, ◌⊎◌, ◌∙◌, ◌≤◌, inl, inr, ℕ, ℤ, true, List, [], ◌∷◌, ◌++◌, Option, Some, None, Result, Ok, Err, refl, sym, ap, subst, append-nil}
+use Rattle.std.specs.Prelude.{IfOk, IfSome}
+use Rattle.std.specs.List.{AllByRecursion as AllAre}
+use Rattle.std.proofs.lemmas.List.{append_cancel_left}
+use Rattle.std.proofs.Math.Logic.{∥∥₁_elim, ∥∥₁_map, ∥∥₁_prop}
+use Rattle.device_faults.specs.Faults.{CountsFault, Rose}
+use Rattle.program_lock.specs.declared.program.Memory.{Memory as NoMemory}
+use Rattle.task_host.specs.declared.call.Call.{Call}
+use Rattle.task_host.specs.declared.order.Stream.{Stream}
+use Rattle.agent_worker.specs.declared.fault.TakeFault.{TakeFault}
+use Rattle.agent_worker.specs.declared.fault.TakeFault.TheVariants.{Memory, Disk, Full, Stopped}
+use Rattle.agent_worker.specs.declared.member.Member.{Member}
+use Rattle.build_core.specs.Builds.{Parts}
+use Rattle.durable_build.specs.Standing.{Kept}
+use Rattle.launch_laws.specs.ManyTurns.{AllTaken, InLife}
+use Rattle.model_run.specs.declared.event.Event.{Event}
+use Rattle.model_run.specs.declared.event.Event.TheVariants.{Start, Granted, Output, Exited, Lost, Decided}
+use Rattle.model_run.specs.Fitting.{Some_of}
+use Rattle.model_run.specs.State.{Setting}
+use Rattle.model_run.specs.World as W
+use Rattle.script_run.specs.declared.rest.Rest.{Rest}
+use Rattle.settle_laws.specs.Stances.{Stance}
+use Rattle.saved_run.specs.Lives.{IsNext as ComesNext, Lasts, Fails}
+use Rattle.site_state.specs.declared.ask.Ask.TheVariants.{Look}
+use Rattle.site_state.specs.declared.ask.Entry.{Entry}
+use Rattle.site_state.specs.declared.ask.Entry.TheVariants.{Failed}
+use Rattle.site_state.specs.declared.ask.Progress.{Progress}
+use Rattle.site_state.specs.declared.ask.Reply.TheVariants as reply
+use Rattle.site_state.specs.Facts.{Facts, IsSite}
+use Rattle.site_state.specs.Grants.{Grants, OpenRefuses, granted, none_due, not_found, refused}
+use Rattle.site_state.specs.Histories.{at_risk, tooks, kept_fault, lines, pending}
+use Rattle.site_state.specs.Says.{Answers as AnswersOf, SaysAt, Says}
+use Rattle.site_state.proofs.HistoryLaws.{kept_fault-append, no_fault, pending-append, tooks-append}
+use Rattle.site_gate.specs.Tales.{is_grant}
+use Rattle.site_gate.proofs.TaleLemmas.{grants_silent}
+use Rattle.site_life.specs.Lives.{Life, EndsWith}
+use Rattle.site_life.specs.Rounds.{turns_of}
+use Rattle.site_life.specs.Turns.{Turn}
+use Rattle.site_run.specs.Ending.{RestsWith, ended_as, rest_of}
+use Rattle.site_run.specs.Going.{Comes, by_grant, by_report, by_line, GoesBy, begins}
+use Rattle.site_run.specs.Lives.{BreaksBehind, EndsBehind, Ends, IsReported, IsRisked, OpeningBreaks}
+use Rattle.site_run.specs.Serving.{AreHonest, AllFit}
+use Rattle.site_run.proofs.WalkLemmas.{ShowsAll, shows_shown, grants_go, grants_stop, legal_at, At, StoppedBy, IsFaultOf, IsGrantOr, of_tree, small}
+use Rattle.site_run.proofs.StoreLemmas.{lasts_on, fails_on, wants, wants_on, risked_of}
+use Rattle.site_run.proofs.EndLemmas.{rests_so, goes_then, goes_taken}
+use Rattle.site_run.proofs.FitLemmas.{told_taken, came_all, fit_more, fit_life}
+use Rattle.model_syntax.specs.TreeNodes.{tree_node}
+
+no_event : (e : Event) → None ≡ Some e → ⊥
+no_event e is = cc
+
+same_event : (x e : Event) → Some x ≡ Some e → x ≡ e
+same_event x e is = cc
+
+same_fault : (f g : TakeFault) → Some f ≡ Some g → f ≡ g
+same_fault f g is = cc
+
+tooks_front : (front : List Entry) (f : TakeFault) (event : Option Event) → tooks (front ++ Failed f event ∷ []) ≡ tooks front
+tooks_front front f event = tooks-append front (Failed f event ∷ []) ∙ append-nil (tooks front)
+
+-- a fault that is noted last is the one that is kept
+pub kept_last : (front : List Entry) (fault : TakeFault) (event : Option Event) → kept_fault front ≡ None → kept_fault (front ++ Failed fault event ∷ []) ≡ Some fault
+kept_last front fault event none = kept_fault-append front (Failed fault event ∷ []) none
+
+-- why the event came that a fault kept from the disk, where it is explained
+module _ (setting : Setting) (Risked : Event → Type 0) (events : List Event) where
+  granted_comes : (e : Event) → is_grant e ≡ true → ComesNext setting events e → Comes setting Risked events e []
+  granted_comes (Granted request executor) is next = by_grant request executor next.due
+  granted_comes (Start script agents) is next = absurd (cc)
+  granted_comes (Output task stream place bytes) is next = absurd (cc)
+  granted_comes (Exited task code) is next = absurd (cc)
+  granted_comes (Lost task why) is next = absurd (cc)
+  granted_comes (Decided request proceed name) is next = absurd (cc)
+
+  risked_comes : (e : Event) (heard : List (List ℕ)) → ComesNext setting events e → Comes setting (λ x. Unit {0}) events e heard → IsGrantOr Risked e → (line : List (List ℕ)) × Comes setting Risked events e line
+  risked_comes e heard next (by_grant request executor is) why = ([], by_grant request executor is)
+  risked_comes e heard next (by_report x none r) (inl grant) = ([], granted_comes x grant next)
+  risked_comes e heard next (by_report x none r) (inr risk) = ([], by_report x none risk)
+  risked_comes e heard next (by_line line x none d) why = (line ∷ [], by_line line x none d)
+
+  caused_by : (fault : TakeFault) (event : Option Event) → IsFaultOf setting events fault event → ((e : Event) → risked_of fault event ≡ Some e → IsGrantOr Risked e)
+      → IfSome (risked_of fault event) (λ e. (line : List (List ℕ)) × Comes setting Risked events e line)
+  caused_by Memory event of why = tt
+  caused_by Disk None of why = tt
+  caused_by Disk (Some e) of why = risked_comes e of.1.0 of.0 of.1.1 (why e refl)
+  caused_by (Full len add) event of why = tt
+  caused_by Stopped event of why = tt
+
+risk_in : (fault : TakeFault) (event : Option Event) (e : Event) → risked_of fault event ≡ Some e → at_risk fault event ≡ e ∷ []
+risk_in Memory event e is = absurd (no_event e is)
+risk_in Disk None e is = absurd (no_event e is)
+risk_in Disk (Some x) e is = ap (λ (y : Event). y ∷ []) (same_event x e is)
+risk_in (Full len add) event e is = absurd (no_event e is)
+risk_in Stopped event e is = absurd (no_event e is)
+
+-- what is explained of all that is pending is explained of the event at risk
+at_risk_is : (P : Event → Type 0) (h front : List Entry) (fault : TakeFault) (event : Option Event) → h ≡ front ++ Failed fault event ∷ [] → kept_fault front ≡ None → AllAre P (pending h) → (e : Event) → risked_of fault event ≡ Some e → P e
+at_risk_is P h front fault event is none all e risked =
+    (subst (AllAre P) (ap pending is ∙ pending-append front (Failed fault event ∷ []) none ∙ risk_in fault event e risked) all).0
+
+-- of grants, only a grant is at risk
+grants_risk : {T : Type 0} {stance : T → Stance} {b : Parts T} {es : List Entry} → Grants stance b es → AllAre (IsGrantOr (λ e. ⊥)) (pending es)
+grants_risk (none_due settled) = tt
+grants_risk (granted request executor is next more) = grants_risk more
+grants_risk (refused request executor Memory is may) = tt
+grants_risk (refused request executor Disk is may) = (inl refl, tt)
+grants_risk (refused request executor (Full len add) is may) = tt
+grants_risk (refused request executor Stopped is may) = tt
+grants_risk not_found = tt
+
+-- a life that broke off so, with why the event at risk came
+breaks_with : {D T : Type 0} (reads : D → Option (List ℕ)) (may_leave : D → List ℕ → Type 0) (clock : D → ℕ) (since : D → ℕ → List ℕ → Type 0) (stance : T → Stance) (setting : Setting) (entry : Option (List ℕ)) (origin : D) (before : List Event)
+    (Risked : Event → Type 0) (now : List Event) (fault : TakeFault) (kept : Kept D T) (risk : Option Event) → (f : Fails reads may_leave clock since stance setting entry origin before now fault kept) × (f.risked ≡ risk)
+    → IfSome risk (λ e. (heard : List (List ℕ)) × Comes setting Risked now e heard) → BreaksBehind reads may_leave clock since stance setting entry origin before Risked now fault kept
+breaks_with reads may_leave clock since stance setting entry origin before Risked now fault kept risk f caused =
+    record { fails = f.0; caused = subst (λ (r : Option Event). IfSome r (λ e. (heard : List (List ℕ)) × Comes setting Risked now e heard)) (sym f.1) caused }
+
+-- the counts of faults of a disk, by what was kept
+pub counts_kept : (first last : ℕ) (kept : Option TakeFault) (Fails : Type 0) → first ≤ last → (kept ≡ Some Disk → Rose first last) → (¬ (kept ≡ Some Disk) → last ≡ first) → (Fails → kept ≡ Some Disk) → (kept ≡ Some Disk → Fails) → CountsFault first last Fails
+counts_kept first last kept Fails below rose calm so is = record { never_falls = below; calm = λ other. calm (λ disk. other (is disk)); failed = λ failed. rose (so failed) }
+
+module _ {D T : Type 0} (reads : D → Option (List ℕ)) (may_leave : D → List ℕ → Type 0) (clock : D → ℕ) (since : D → ℕ → List ℕ → Type 0) (disk_faults : D → ℕ) (stance : T → Stance)
+    (told_image : (d : D) → IfSome (reads d) (may_leave d)) where
+  module _ (setting : Setting) (entry : Option (List ℕ)) (origin : D) (before events : List Event) (durable : Kept D T) (lasts : Lasts reads may_leave clock since stance setting entry origin before events durable) where
+    abbrev shown_first : ShowsAll stance setting lasts.goes.proper durable.build events
+    shown_first = record { same = lasts.goes.same; begun = lasts.goes.begun; stands = lasts.goes.stands }
+
+    -- Memory was wanted before any grant that a stop had left out.
+    pub opening_wants : (disk : D) → disk ≡ durable.journal.disk → OpeningBreaks reads may_leave clock since stance setting entry origin before events Memory disk
+    opening_wants disk same = record {
+      now = events;
+      goes = begins;
+      kept = durable;
+      same = same;
+      breaks = breaks_with reads may_leave clock since stance setting entry origin before (λ e. ⊥) events Memory durable None (wants reads may_leave clock since stance setting entry origin before events durable lasts) tt;
+    }
+
+    module _ (made : List Entry) (grants : Grants stance durable.build made) where
+      -- the events behind the grants that a stop had left out
+      abbrev begun : List Event
+      begun = events ++ tooks made
+
+      goes_made : GoesBy setting (λ e. ⊥) events begun []
+      goes_made = subst (GoesBy setting (λ e. ⊥) events begun) (grants_silent grants).heard (grants_go stance setting lasts.goes.proper (λ e. ⊥) events grants events [] shown_first begins)
+
+      -- The opening of a life that was refused.
+      pub opening_breaks : (k : Kept D T) (fault : TakeFault) (disk : D) → Facts reads may_leave clock since disk_faults stance durable k made → kept_fault made ≡ Some fault → disk ≡ k.journal.disk
+          → OpeningBreaks reads may_leave clock since stance setting entry origin before events fault disk
+      opening_breaks k fault disk facts kept same = by (grants_stop stance setting lasts.goes.proper (λ e. ⊥) events grants [] refl (subst (ShowsAll stance setting lasts.goes.proper durable.build) (sym (append-nil events)) shown_first))
+        where
+          by : (kept_fault made ≡ None) ⊎ StoppedBy stance setting lasts.goes.proper (λ e. ⊥) events made → OpeningBreaks reads may_leave clock since stance setting entry origin before events fault disk
+          by (inl none) = absurd (no_fault fault (sym kept ∙ none))
+          by (inr s) =
+              let here : s.fault ≡ fault = same_fault s.fault fault (sym (kept_last s.front s.fault s.event s.none) ∙ ap kept_fault (sym s.is) ∙ kept) in
+              let now_is : events ++ tooks s.front ≡ begun = ap (λ (es : List Event). events ++ es) (sym (tooks_front s.front s.fault s.event) ∙ ap tooks (sym s.is)) in
+              let of : IsFaultOf setting begun s.fault s.event = subst (λ (es : List Event). IsFaultOf setting es s.fault s.event) now_is s.of in
+              let fails = fails_on reads may_leave clock since disk_faults stance setting entry origin before events durable k made lasts facts s.front s.fault s.event s.is s.none (told_image k.journal.disk) of in
+              subst (λ (f : TakeFault). OpeningBreaks reads may_leave clock since stance setting entry origin before events f disk) here (record {
+                now = begun;
+                goes = goes_made;
+                kept = k;
+                same = same;
+                breaks = breaks_with reads may_leave clock since stance setting entry origin before (λ e. ⊥) begun s.fault k (risked_of s.fault s.event) fails (caused_by setting (λ e. ⊥) begun s.fault s.event of (at_risk_is (IsGrantOr (λ e. ⊥)) made s.front s.fault s.event s.is s.none (grants_risk grants)));
+              })
+
+      module _ (opened : Kept D T) (facts : Facts reads may_leave clock since disk_faults stance durable opened made) (none : kept_fault made ≡ None) where
+        lasts_opened : Lasts reads may_leave clock since stance setting entry origin before begun opened
+        lasts_opened = lasts_on reads may_leave clock since disk_faults stance setting entry origin before events durable opened made lasts facts none
+
+        shown_opened : ShowsAll stance setting lasts.goes.proper opened.build begun
+        shown_opened = shows_shown stance setting lasts.goes.proper durable.build opened.build events (tooks made) shown_first (facts.shown none)
+
+        module _ {H A : Type 0} (honest : H → Type 0) (faults : H → ℕ) (calls : H → Option (List Call)) (launches dirs : H → List ℕ) (output : H → ℕ → Stream → List ℕ) (exited : H → ℕ → Option ℤ)
+            (left : A → Option (List ℕ)) (source_faults : A → ℕ) (looks : ℕ) {B : Type 0} (opening : B → Parts T) (start base : B) (old new : List (Member H A)) (h : List Entry) (how : Result Progress NoMemory)
+            (life : Life honest faults calls launches dirs output exited left source_faults looks (λ b history x y more. Says stance (opening b) history x y more) start base old new h how)
+            (is_base : opening base ≡ opened.build) (kept : Kept D T) (capacity : ℕ) where
+          abbrev turns : List (Turn H A)
+          turns = turns_of life.rounds ++ life.last
+
+          abbrev Reported : Event → Type 0
+          Reported = IsReported reads may_leave clock since stance honest faults calls launches dirs output exited left source_faults looks turns
+
+          abbrev Risked : Event → Type 0
+          Risked = IsRisked reads may_leave clock since stance honest faults calls launches dirs output exited left source_faults looks turns
+
+          abbrev now : List Event
+          now = begun ++ tooks h
+
+          told : ∥ At stance setting lasts.goes.proper Reported begun h ∥₁
+          told = legal_at stance setting lasts.goes.proper Reported begun opened.build shown_opened opening base is_base h life.legal life.explained
+
+          module _ (at : At stance setting lasts.goes.proper Reported begun h) (site : Facts reads may_leave clock since disk_faults stance opened kept h) where
+            goes_all : GoesBy setting Reported events now (lines h)
+            goes_all = goes_then setting (λ e. ⊥) Reported events begun now [] (lines h) (λ x never. absurd never) goes_made at.goes
+
+            started : (W.world_in setting events).started ≡ true
+            started = lasts.goes.begun
+
+            fits_all : AreHonest honest old → AllFit launches dirs setting events old → AllFit launches dirs setting now new
+            fits_all are fit =
+                let p = tree_node lasts.goes.proper.tree in
+                let e = of_tree stance setting lasts.goes.proper in
+                let s = small stance setting lasts.goes.proper in
+                let begun_first : (W.world_in setting begun).started ≡ true = shown_opened.begun in
+                let first = goes_taken setting (λ e. ⊥) events begun [] lasts.goes.begun goes_made in
+                let then = goes_taken setting Reported begun now (lines h) begun_first at.goes in
+                let taken_first : AllTaken setting events (tooks made) = subst (AllTaken setting events) (append_cancel_left events first.0 (tooks made) (sym first.1)) first.2 in
+                let taken_then : AllTaken setting begun (tooks h) = subst (AllTaken setting begun) (append_cancel_left begun then.0 (tooks h) (sym then.1)) then.2 in
+                let fit_begun : AllFit launches dirs setting begun old = fit_more honest faults calls launches dirs output exited left source_faults looks setting p e s events lasts.goes.begun (tooks made) old taken_first fit in
+                fit_life honest faults calls launches dirs output exited left source_faults looks setting p e s begun begun_first (tooks h) taken_then old new _
+                (came_all honest faults calls launches dirs output exited left source_faults looks stance opening start base old new h how life (λ (t : _). t.accepted ≡ true → Some_of (λ x. x ≡ t.event) (tooks h))
+                (λ (c : _). InLife setting begun (tooks h) c.executor c.task) (told_taken h) at.given)
+                are fit_begun
+
+            -- it was stopped by a fault
+            breaks_so : (s : StoppedBy stance setting lasts.goes.proper Reported begun h) → BreaksBehind reads may_leave clock since stance setting entry origin before Risked now s.fault kept
+            breaks_so s =
+                let now_is : begun ++ tooks s.front ≡ now = ap (λ (es : List Event). begun ++ es) (sym (tooks_front s.front s.fault s.event) ∙ ap tooks (sym s.is)) in
+                let of : IsFaultOf setting now s.fault s.event = subst (λ (es : List Event). IsFaultOf setting es s.fault s.event) now_is s.of in
+                breaks_with reads may_leave clock since stance setting entry origin before Risked now s.fault kept (risked_of s.fault s.event)
+                (fails_on reads may_leave clock since disk_faults stance setting entry origin before begun opened kept h lasts_opened site s.front s.fault s.event s.is s.none (told_image kept.journal.disk) of)
+                (caused_by setting Risked now s.fault s.event of (at_risk_is (IsGrantOr Risked) h s.front s.fault s.event s.is s.none life.at_risk))
+
+            -- it rests, or memory was wanted
+            rests_or_wants : kept_fault h ≡ None → (r : Result Progress NoMemory) → IfOk r (λ come. RestsWith (rest_of come new) setting (W.world_in setting now) new)
+                → EndsBehind reads may_leave clock since stance setting entry origin before Risked now new kept (ended_as None r new)
+            rests_or_wants calm (Ok come) rests = record {
+              lasts = lasts_on reads may_leave clock since disk_faults stance setting entry origin before begun opened kept h lasts_opened site calm;
+              rests = rests;
+            }
+            rests_or_wants calm (Err memory) rests =
+                breaks_with reads may_leave clock since stance setting entry origin before Risked now Memory kept None
+                (wants_on reads may_leave clock since disk_faults stance setting entry origin before begun opened kept h lasts_opened site calm) tt
+
+            ends_by : (kept_fault h ≡ None) ⊎ StoppedBy stance setting lasts.goes.proper Reported begun h → (kept_fault h ≡ None → IfOk how (λ come. RestsWith (rest_of come new) setting (W.world_in setting now) new))
+                → EndsBehind reads may_leave clock since stance setting entry origin before Risked now new kept (ended_as (kept_fault h) how new)
+            ends_by (inl calm) rests = subst (λ (f : Option TakeFault). EndsBehind reads may_leave clock since stance setting entry origin before Risked now new kept (ended_as f how new)) (sym calm) (rests_or_wants calm how (rests calm))
+            ends_by (inr s) rests =
+                subst (λ (f : Option TakeFault). EndsBehind reads may_leave clock since stance setting entry origin before Risked now new kept (ended_as f how new)) (sym (ap kept_fault s.is ∙ kept_last s.front s.fault s.event s.none)) (breaks_so s)
+
+            ends_so : (ended : Result Rest TakeFault) → ended ≡ ended_as (kept_fault h) how new → (kept_fault h ≡ None → IfOk how (λ come. RestsWith (rest_of come new) setting (W.world_in setting now) new))
+                → Ends reads may_leave clock since stance honest faults calls launches dirs output exited left source_faults looks turns setting entry origin before events old new h kept ended
+            ends_so ended is rests = record {
+              now = now;
+              goes = goes_all;
+              ends = subst (EndsBehind reads may_leave clock since stance setting entry origin before Risked now new kept) (sym is) (ends_by at.stops rests);
+              fits = fits_all;
+            }
+
+          -- what the last look said, of a state that no fault stopped
+          look_rests : IsSite reads may_leave clock since disk_faults stance opened kept h capacity → kept_fault h ≡ None → (r : Result Progress NoMemory)
+              → EndsWith (λ b history x y more. Says stance (opening b) history x y more) base life.last life.members life.before new h r → ∥ IfOk r (λ come. RestsWith (rest_of come new) setting (W.world_in setting now) new) ∥₁
+          look_rests site calm (Err memory) ends = ∣ tt ∣₁
+          look_rests site calm (Ok come) ends =
+              let says : AnswersOf stance opened.build h Look (reply.Progress come) [] =
+              subst (λ (f : Option TakeFault). SaysAt stance opened.build h f Look (reply.Progress come) []) calm (subst (λ (b : Parts T). Says stance b h Look (reply.Progress come) []) is_base ends.2) in
+              ∥∥₁_map says.0.1 (λ shown. rests_so stance setting lasts.goes.proper now says.0.0 kept.build new come (shows_shown stance setting lasts.goes.proper opened.build says.0.0 begun (tooks h) shown_opened shown)
+              (shows_shown stance setting lasts.goes.proper opened.build kept.build begun (tooks h) shown_opened (site.facts.shown calm)) (site.settled calm) says.0.2 ends.3)
+
+          -- A life, by what its members did and by what is known of the state behind it.
+          pub life_ends : ∥ IsSite reads may_leave clock since disk_faults stance opened kept h capacity ∥₁ → (ended : Result Rest TakeFault) → ended ≡ ended_as (kept_fault h) how new
+              → ∥ Ends reads may_leave clock since stance honest faults calls launches dirs output exited left source_faults looks turns setting entry origin before events old new h kept ended ∥₁
+          life_ends known ended is = ∥∥₁_elim known ∥∥₁_prop (λ site. ∥∥₁_elim told ∥∥₁_prop (λ at. by site at (calm_or_not (kept_fault h))))
+            where
+              calm_or_not : (f : Option TakeFault) → (f ≡ None) ⊎ (f ≡ None → ⊥)
+              calm_or_not None = inl refl
+              calm_or_not (Some f) = inr (λ none. no_fault f none)
+
+              by : IsSite reads may_leave clock since disk_faults stance opened kept h capacity → At stance setting lasts.goes.proper Reported begun h → (kept_fault h ≡ None) ⊎ (kept_fault h ≡ None → ⊥)
+                  → ∥ Ends reads may_leave clock since stance honest faults calls launches dirs output exited left source_faults looks turns setting entry origin before events old new h kept ended ∥₁
+              by site at (inl calm) = ∥∥₁_map (look_rests site calm how life.ends) (λ rests. ends_so at site.facts ended is (λ none. rests))
+              by site at (inr fault) = ∣ ends_so at site.facts ended is (λ none. absurd (fault none)) ∣₁
+
+    -- An opening that was refused, either way.
+    pub opening_refused : (made : List Entry) (k : Kept D T) (fault : TakeFault) (disk : D) → OpenRefuses stance durable k made fault → Facts reads may_leave clock since disk_faults stance durable k made → disk ≡ k.journal.disk
+        → OpeningBreaks reads may_leave clock since stance setting entry origin before events fault disk
+    opening_refused made k fault disk (inl refuses) facts same = opening_breaks made refuses.0 k fault disk facts refuses.1 same
+    opening_refused made k fault disk (inr wants) facts same =
+        subst (λ (f : TakeFault). OpeningBreaks reads may_leave clock since stance setting entry origin before events f disk) (sym wants.2) (opening_wants disk (same ∙ ap (λ (n : Kept D T). n.journal.disk) wants.1))

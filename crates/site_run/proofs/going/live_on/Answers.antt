@@ -1,0 +1,22 @@
+use Rattle.std.proofs.Common.{◌∙◌, Err, sym, ap}
+use Rattle.site_state.specs.Histories.{kept_fault}
+use Rattle.site_run.specs.Ending.{ended_as}
+use Rattle.site_run.proofs.CloseLemmas.{nothing_done}
+use Rattle.site_run.proofs.going.live_on.Goals as goal
+
+pub returns-in-Ok : goal.returns-in-Ok
+returns-in-Ok g c = record { lives = (_, c.in-Ok.ensures.lives, c.ended_of.ensures) }
+
+pub returns-in-Err : goal.returns-in-Err
+returns-in-Err g c =
+    let H = g.H.Host in
+    let A = g.A.Source in
+    let back = c.in-Err.ensures.back in
+    let none = ap (λ s. s.history.items) back.0 ∙ c.requires.fresh in
+    record {
+      lives = (
+        Err c.in-Err.field-0-0,
+        nothing_done H.honest H.faults H.calls H.launches H.dirs H.output H.exited A.left A.faults c.args.looks _ c.in-Err.field-0-0 _ _ c.args.members.now c.live.new.members _ (ap (λ s. s.base) back.0) back.1 none,
+        sym (ap (λ h. ended_as (kept_fault h) (Err c.in-Err.field-0-0) c.live.new.members) none),
+      );
+    }

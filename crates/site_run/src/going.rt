@@ -1,0 +1,129 @@
+//! A life with hosts.
+ghost use Rattle.std.specs.Prelude.{◌≡◌, ◌<◌, ℕ, Option, List, [], false, true, Result, Ok, Err, IfOk, IfErr, MatchResult};
+ghost use Rattle.device_faults.specs.Faults.{CountsFault};
+ghost use Rattle.build_core.specs.Phases.{has_begun};
+ghost use Rattle.model_run.specs.declared.event.Event.{Event as AnEvent};
+ghost use Rattle.model_run.specs.State.{Setting};
+ghost use Rattle.saved_run.specs.Lives.{Lasts};
+ghost use Rattle.program_lock.specs.declared.program.Memory.{Memory as NoMemory};
+ghost use Rattle.site_state.specs.declared.ask.Progress.{Progress as Come};
+ghost use Rattle.site_state.specs.Histories.{kept_fault};
+ghost use Rattle.site_state.specs.Says.{Says};
+ghost use Rattle.site_life.specs.Lives.{Life};
+ghost use Rattle.site_run.specs.Ending.{any_failed, ended_as};
+ghost use Rattle.site_run.specs.Lives.{LivesOn, OpeningBreaks};
+ghost use Rattle.site_run.specs.Serving.{AreServed};
+
+use crate::resting::rest_of;
+use agent_worker::Member;
+use durable_build::{DurableBuild, TakeFault};
+use jp_disk::Disk;
+use jp_io::Source;
+use program_lock::Memory;
+use saved_thread::SavedThread;
+use script_run::Rest;
+use site_life::live;
+use site_state::{Progress, SiteState};
+use std::alloc::{AllocGlobal, Global};
+use std::sync::Wait;
+use std::time::Clock;
+use task_host::Host;
+
+/// A life that has come to its end.
+#[derive(Drop)]
+pub struct Lived<D: Disk, R: SavedThread + Drop> {
+    /// The state that it leaves. Where it broke off it is open what its build is.
+    pub site: SiteState<D, R>,
+    /// Why it rests, or the fault that stopped it.
+    pub ended: Result<Rest, TakeFault>,
+}
+
+/// Goes on with a saved build that has begun: makes the grants that a stop left out, and lets the members work on it until it has
+/// ended or nobody can go on.
+///
+/// The members have rounds of turns, each member one turn a round, in their order. Another round follows while the build has
+/// neither ended nor been stopped by a fault, and a task is open, or an input is open while an operator's answers are neither at
+/// their end nor failed. So a life rests where the build has ended (`Ended`); where no task is open, and no input is open or all
+/// answers were read to their end (`Waits`); and where no task is open, and an input whose answers could not be read
+/// (`AnswersFailed`).
+///
+/// `looks`, at least 1, is as for [`agent_worker::work`]. It may wait for ever.
+///
+/// # Errors
+///
+/// A fault that stops the life is told beside the state, as [`DurableBuild::take`] answers it: `Disk` only where the disk's count
+/// of faults rose, which it does at no other fault; `Full` with the numbers of the record of the event that came next; `Memory`
+/// where memory was refused. `Stopped` does not come. Where one of the grants that a stop left out is refused so, the disk alone
+/// is handed back, and no member has had a turn.
+pub fn go_on<W: Wait + Clock + AllocGlobal, D: Disk, R: SavedThread + Drop, H: Host, A: Source>(
+    rt: &W,
+    alloc: Global,
+    durable: DurableBuild<D, R>,
+    members: &mut [Member<H, A>],
+    looks: u32,
+) -> Result<Lived<D, R>, (TakeFault, D)>
+    requires looks { 0 < looks }
+    requires running { durable.stopped ≡ false }
+    requires begun { has_begun durable.build.phase ≡ true }
+    ensures lives { IfOk result (λ l. LivesOn D.reads D.may_leave D.clock D.may_have_left_since R.stance
+        H.honest H.faults H.calls H.launches H.dirs H.output H.exited A.left A.faults looks
+        (λ base history ask reply new. Says R.stance base.value.build history ask reply new)
+        durable members.old members.new l.site.base l.site.history.items l.site.durable l.ended) }
+    ensures refused { IfErr result (λ e. (setting : Setting) (entry : Option (List ℕ)) (origin : D) (before events : List AnEvent)
+        → Lasts D.reads D.may_leave D.clock D.may_have_left_since R.stance setting entry origin before events durable
+        → OpeningBreaks D.reads D.may_leave D.clock D.may_have_left_since R.stance setting entry origin before events e.0 e.1) }
+    ensures back { IfErr result (λ e. members.new ≡ members.old) }
+    ensures served { IfOk result (λ l. AreServed A.faults members.old members.new) }
+    ensures failed { IfOk result (λ l. l.ended ≡ Ok Rest.AnswersFailed → any_failed members.new ≡ true) }
+    ensures disk { MatchResult result
+        (λ l. CountsFault (D.faults durable.journal.disk) (D.faults l.site.durable.journal.disk) (l.ended ≡ Err TakeFault.Disk))
+        (λ e. CountsFault (D.faults durable.journal.disk) (D.faults e.1) (e.0 ≡ TakeFault.Disk)) }
+{
+    match SiteState::open(alloc, durable) {
+        Ok(site) => Ok(live_on(rt, alloc, site, members, looks)),
+        Err(refused) => Err(refused),
+    }
+}
+
+/// Lets the members work on a state that was opened, and says how that ended.
+fn live_on<W: Wait + Clock + AllocGlobal, D: Disk, R: SavedThread + Drop, H: Host, A: Source>(
+    rt: &W,
+    alloc: Global,
+    site: SiteState<D, R>,
+    members: &mut [Member<H, A>],
+    looks: u32,
+) -> Lived<D, R>
+    requires looks { 0 < looks }
+    requires fresh { site.history.items ≡ [] }
+    ensures lives { (how : Result Come NoMemory) × Life H.honest H.faults H.calls H.launches H.dirs H.output H.exited A.left A.faults looks
+        (λ base history ask reply new. Says R.stance base.value.build history ask reply new) site.base result.site.base members.old members.new result.site.history.items how
+        × (result.ended ≡ ended_as (kept_fault result.site.history.items) how members.new) }
+{
+    match live(rt, alloc, site, members, looks) {
+        Ok((site, how)) => Lived {
+            ended: ended_of(&site, how, members),
+            site,
+        },
+        Err((Memory, site)) => Lived {
+            site,
+            ended: Err(TakeFault::Memory),
+        },
+    }
+}
+
+/// How a life has ended: by the fault that is kept, for want of memory, or at rest.
+fn ended_of<D: Disk, R: SavedThread + Drop, H, A>(
+    site: &SiteState<D, R>,
+    how: Result<Progress, Memory>,
+    members: &[Member<H, A>],
+) -> Result<Rest, TakeFault>
+    ensures { result ≡ ended_as (kept_fault site.now.history.items) how members.now }
+{
+    if let Some(fault) = site.fault() {
+        return Err(fault);
+    }
+    match how {
+        Ok(come) => Ok(rest_of(come, members)),
+        Err(Memory) => Err(TakeFault::Memory),
+    }
+}

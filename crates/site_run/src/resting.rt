@@ -1,0 +1,42 @@
+//! Why a life rests.
+ghost use Rattle.std.specs.Prelude.{◌≡◌};
+ghost use Rattle.site_run.specs.Ending.{any_failed, has_failed, rest_of};
+
+use agent_worker::Member;
+use script_run::Rest;
+use site_state::Progress;
+
+/// Whether it is an operator whose answers could not be read.
+fn has_failed<H, A>(member: &Member<H, A>) -> bool
+    ensures { result ≡ has_failed member.now }
+{
+    match member {
+        Member::Executor { .. } => false,
+        Member::Operator { failed, .. } => *failed,
+    }
+}
+
+/// Whether the answers of an operator among them could not be read.
+fn any_failed<H, A>(members: &[Member<H, A>]) -> bool
+    ensures { result ≡ any_failed members.now }
+{
+    for member in members {
+        if has_failed(member) {
+            return true;
+        }
+    }
+    false
+}
+
+/// Why a build rests that has come so far, where no fault stopped it and no other round follows.
+pub fn rest_of<H, A>(come: Progress, members: &[Member<H, A>]) -> Rest
+    ensures { result ≡ rest_of come members.now }
+{
+    if come.ended {
+        return Rest::Ended;
+    }
+    if come.waiting > 0 && any_failed(members) {
+        return Rest::AnswersFailed;
+    }
+    Rest::Waits
+}
