@@ -29,7 +29,7 @@ WORKS = [
     ("findAll", lambda n: f"(1..{n}).findAll {{ it > 1 }}\n", lambda n: list(filter(lambda it: it > 1, range(1, n + 1))), (4_096, 65_536)),
     ("for over a list", lambda n: f"def n = 0\nfor (x in 1..{n}) {{ n++ }}\n", lambda n: count_each(range(1, n + 1)), (4_096, 65_536)),
     ("for over a text", lambda n: f"{doubled(n)}def n = 0\nfor (c in t) {{ n++ }}\n", lambda n: count_each("x" * n), (4_096, 65_536)),
-    ("recursion, calls", lambda n: f"def f(n) {{ n == 1 ? 1 : f(n - 1) + 1 }}\n{n // 1000}.times {{ f(1000) }}\n", lambda n: recur(n // 1000), (5_000, 50_000)),
+    ("recursion, calls", lambda n: f"def f(n) {{ n == 1 ? 1 : f(n - 1) + 1 }}\n{n // 1024}.times {{ f(1023) }}\n", lambda n: recur(n // 1024), (5_120, 51_200)),
     ("text with an expression", lambda n: f"for (i in 1..{n}) {{ \"a${{i}}b\" }}\n", lambda n: [f"a{i}b" for i in range(1, n + 1)], (4_096, 65_536)),
     ("text and text", lambda n: f"def t = ''\nfor (i in 1..{n}) {{ t = t + 'x' }}\n", None, (2_000, 20_000)),
     ("functions at the top", functions, None, (1_000, 10_000)),
@@ -67,7 +67,7 @@ def recur(times):
 
     sys.setrecursionlimit(5_000)
     for _ in range(times):
-        f(1_000)
+        f(1_023)
 
 
 def best_of(program, script, runs):
