@@ -33,6 +33,7 @@ fn each_command_is_found_with_its_folder_and_other_words_are_none(
         let words = words_of(rt.alloc(), words)?;
         let found = command_in(&words);
         assert_eq!(rt; found.map(|found| found.0), command);
+        assert_eq!(rt; found.map(|found| found.1), command.map(|_| "demo"));
     }
     Ok(())
 }
