@@ -12,6 +12,8 @@ use Rattle.settle_laws.specs.Stances.{Stance}
 use Rattle.build_core.specs.Builds.{StandsFor}
 use Rattle.script_run.specs.declared.rest.Rest.{Rest}
 use Rattle.script_run.specs.declared.rest.Rest.TheVariants.{Ended, Waits, AnswersFailed}
+use Rattle.script_run.specs.Rests.{LeftOver, nothing, of_line, RestsFor}
+use Rattle.agent_worker.specs.declared.operator.LineEnd.TheVariants.{Failed}
 use Rattle.saved_run.specs.declared.life.Life.{Life}
 use Rattle.build_images.specs.Images.{image_in}
 use Rattle.durable_build.specs.Standing.{Kept}
@@ -42,13 +44,20 @@ at_some : (o : Option Event) (e : Event) (P : Event → Type 0) → o ≡ Some e
 at_some o e P is all = subst (λ (x : Option Event). IfSome x P) is all
 
 module _ {D T : Type 0} (reads : D → Option (List ℕ)) (may_leave : D → List ℕ → Type 0) (clock : D → ℕ) (since : D → ℕ → List ℕ → Type 0) (stance : T → Stance) (setting : Setting) (entry : Option (List ℕ)) (origin : D) (before : List Event) (first now : Option (List ℕ)) (life : Life D T) where
-  made_so_far : (part : List ℕ) (events : List Event) → SoFar reads may_leave clock since stance setting entry origin before first now part events life
+  -- what was read behind the lines of a life that rests
+  rests_over : (events : List Event) (more : Bool) (part : List ℕ) (rest : Rest) → RestsFor rest setting (world_in setting events) more part → LeftOver setting (world_in setting events) more part
+  rests_over events more part Ended rests = subst (LeftOver setting (world_in setting events) more) (sym rests.1) nothing
+  rests_over events more part Waits rests = subst (LeftOver setting (world_in setting events) more) (sym rests.3) nothing
+  rests_over events more part AnswersFailed rests = of_line part Failed rests.1 rests.2 rests.3
+
+  made_so_far : (part : List ℕ) (events : List Event) → LeftOver setting (world_in setting events) life.has_answers part → SoFar reads may_leave clock since stance setting entry origin before first now part events life
       → Made reads may_leave clock since setting entry origin before first now life.durable.journal.disk events None life.has_answers part
-  made_so_far part events so = record {
+  made_so_far part events over so = record {
     read = so.read;
     goes = so.goes;
     answers = so.answers;
     at_end = so.at_end;
+    left_over = over;
     next = tt;
     moments = so.lasts.moments;
     images = λ known image left. inl (saved_image reads may_leave clock since stance setting events life.durable image so.lasts.goes.same (so.lasts.saves known) left);
@@ -61,6 +70,7 @@ module _ {D T : Type 0} (reads : D → Option (List ℕ)) (may_leave : D → Lis
     goes = b.goes;
     answers = b.answers;
     at_end = b.at_end;
+    left_over = b.left_over;
     next = next;
     moments = λ known. subst (λ (o : Option Event). AtEachMoment clock since origin life.durable.journal.disk (Survives setting before b.events o)) is (b.fails.moments known);
     images = λ known. subst (λ (o : Option Event). (image : List ℕ) → may_leave life.durable.journal.disk image → Stores setting b.events image ⊎ IsSomeAnd o (λ e. Stores setting (b.events ++ e ∷ []) image)) is (b.fails.images known);
@@ -68,7 +78,7 @@ module _ {D T : Type 0} (reads : D → Option (List ℕ)) (may_leave : D → Lis
 
   rests_so : (rest : Rest) → ¬ (rest ≡ AnswersFailed) → (t : Turned reads may_leave clock since stance setting entry origin before first now (Some rest) life)
       → Rests reads may_leave clock since setting entry origin before first now life.durable.journal.disk t.events
-  rests_so rest other t = record { rest = rest; more = life.has_answers; part = t.part; made = made_so_far t.part t.events t.so_far; rests = t.turns; read_on = other }
+  rests_so rest other t = record { rest = rest; more = life.has_answers; part = t.part; made = made_so_far t.part t.events (rests_over t.events life.has_answers t.part rest t.turns) t.so_far; rests = t.turns; read_on = other }
 
   module _ (a b x y : ℕ) (old new : Option (List ℕ)) (c d : ℕ) where
     abbrev Ends : ℕ → Type 0
@@ -110,7 +120,7 @@ module _ {D T : Type 0} (reads : D → Option (List ℕ)) (may_leave : D → Lis
         → TellsEnd (StandsFor stance life.durable.build) old new c d ended status → (ended ≡ Ok AnswersFailed → Rose x y) → (ended ≡ Err take.Disk → Rose a b) → Ends status
     finishes (Ok Ended) status t wrote answers disk = finishes_rested Ended status (λ e. absurd (cc)) t wrote
     finishes (Ok Waits) status t wrote answers disk = finishes_rested Waits status (λ e. absurd (cc)) t wrote
-    finishes (Ok AnswersFailed) status t wrote answers disk = subst Ends (sym wrote.0) (by_break (answers_failed (made_so_far t.part t.events t.so_far) t.turns (answers refl)) wrote.1)
+    finishes (Ok AnswersFailed) status t wrote answers disk = subst Ends (sym wrote.0) (by_break (answers_failed (made_so_far t.part t.events (rests_over t.events life.has_answers t.part AnswersFailed t.turns) t.so_far) t.turns (answers refl)) wrote.1)
     finishes (Err f) status k wrote answers disk = finishes_broken f wrote.0 status k wrote.1 (λ e. disk (ap Err e)) wrote.2 wrote.3
 
 -- the two sizes of a journal that is full, of some event

@@ -1,5 +1,5 @@
 -- How a command that shows a build ends, put together, and the cause of each status.
-use Rattle.std.proofs.Common.{◌≡◌, ◌⊎◌, ◌<◌, ◌∙◌, ℕ, List, [], Option, None, Some, IfSome, inl, inr, refl, sym, subst, arith}
+use Rattle.std.proofs.Common.{◌≡◌, ◌⊎◌, ◌<◌, ◌∙◌, ℕ, List, [], Option, None, Some, IfSome, inl, inr, refl, sym, subst, ⊎_elim, arith}
 use Rattle.device_faults.specs.Faults.{Rose}
 use Rattle.journal_core.specs.Records.{Has}
 use Rattle.model_run.specs.World.{Build}
@@ -89,7 +89,7 @@ module _ (text_of : Build → List ℕ) (stored : Option (List ℕ)) (before aft
   -- A status with its cause, before the text is written.
   data Outcome (c d : ℕ) (status : ℕ) : Type 0 where
     as_shown : status ≡ 0 → after ≡ before → IfSome stored HasBuild → Outcome c d status
-    as_cut : status ≡ 7 → Rose c d → IfSome stored HasBuild → Outcome c d status
+    as_cut : status ≡ 7 → after ≡ before → Rose c d → IfSome stored HasBuild → Outcome c d status
     as_refused : status ≡ 9 → after ≡ before → IfSome stored HasNone → Outcome c d status
     as_failed : status ≡ 5 → Rose before after → Outcome c d status
     as_wanting : status ≡ 8 → Outcome c d status
@@ -104,6 +104,14 @@ module _ (text_of : Build → List ℕ) (stored : Option (List ℕ)) (before aft
   has_build (not_told (damaged at calm fails)) e = absurd (omega (arith, e))
   has_build (not_told (disk_failed rose)) e = absurd (omega (arith, e))
   has_build (not_told (no_memory calm)) e = absurd (omega (arith, e))
+
+  -- and the disk counted no fault
+  shown_calm : {n : ℕ} {text : List ℕ} → Decides text_of stored before after n text → n ≡ 0 → after ≡ before
+  shown_calm (shown calm is) e = calm
+  shown_calm (not_told (no_build calm none)) e = calm
+  shown_calm (not_told (damaged at calm fails)) e = calm
+  shown_calm (not_told (disk_failed rose)) e = absurd (omega (arith, e))
+  shown_calm (not_told (no_memory calm)) e = calm
 
   module _ {c d : ℕ} (status : ℕ) where
     decided : {n : ℕ} {text : List ℕ} → Decides text_of stored before after n text → status ≡ n → Outcome c d status
@@ -123,14 +131,14 @@ module _ (text_of : Build → List ℕ) (stored : Option (List ℕ)) (before aft
 
   outcome : {old new : Option (List ℕ)} {c d : ℕ} (status : ℕ) → Shows text_of stored before after old new c d status → Outcome c d status
   outcome status (build decides (whole appends calm)) = decided status decides refl
-  outcome status (build decides (cut part rose)) = as_cut refl rose (has_build decides refl)
+  outcome status (build decides (cut part rose)) = as_cut refl (shown_calm decides refl) rose (has_build decides refl)
   outcome status (refusal decides some wrote) = decided status decides refl
 
   module _ {c d : ℕ} (status : ℕ) where
     known : Outcome c d status → (status ≡ 0) ⊎ (status ≡ 5) ⊎ (status ≡ 7) ⊎ (status ≡ 8) ⊎ (status ≡ 9)
     known (as_shown e calm is) = inl e
     known (as_failed e rose) = inr (inl e)
-    known (as_cut e rose is) = inr (inr (inl e))
+    known (as_cut e calm rose is) = inr (inr (inl e))
     known (as_wanting e) = inr (inr (inr (inl e)))
     known (as_refused e calm is) = inr (inr (inr (inr e)))
 
@@ -138,40 +146,47 @@ module _ (text_of : Build → List ℕ) (stored : Option (List ℕ)) (before aft
     refused_only (as_refused e calm is) nine = is
     refused_only (as_shown e calm is) nine = absurd (omega (arith, e, nine))
     refused_only (as_failed e rose) nine = absurd (omega (arith, e, nine))
-    refused_only (as_cut e rose is) nine = absurd (omega (arith, e, nine))
+    refused_only (as_cut e calm rose is) nine = absurd (omega (arith, e, nine))
     refused_only (as_wanting e) nine = absurd (omega (arith, e, nine))
 
     failed_only : Outcome c d status → status ≡ 5 → Rose before after
     failed_only (as_failed e rose) five = rose
     failed_only (as_refused e calm is) five = absurd (omega (arith, e, five))
     failed_only (as_shown e calm is) five = absurd (omega (arith, e, five))
-    failed_only (as_cut e rose is) five = absurd (omega (arith, e, five))
+    failed_only (as_cut e calm rose is) five = absurd (omega (arith, e, five))
     failed_only (as_wanting e) five = absurd (omega (arith, e, five))
 
     cut_only : Outcome c d status → status ≡ 7 → Rose c d
-    cut_only (as_cut e rose is) seven = rose
+    cut_only (as_cut e calm rose is) seven = rose
     cut_only (as_refused e calm is) seven = absurd (omega (arith, e, seven))
     cut_only (as_shown e calm is) seven = absurd (omega (arith, e, seven))
     cut_only (as_failed e rose) seven = absurd (omega (arith, e, seven))
     cut_only (as_wanting e) seven = absurd (omega (arith, e, seven))
 
-    shown_only : Outcome c d status → status ≡ 0 → IfSome stored HasBuild
-    shown_only (as_shown e calm is) zero = is
-    shown_only (as_cut e rose is) zero = absurd (omega (arith, e, zero))
-    shown_only (as_refused e calm is) zero = absurd (omega (arith, e, zero))
-    shown_only (as_failed e rose) zero = absurd (omega (arith, e, zero))
-    shown_only (as_wanting e) zero = absurd (omega (arith, e, zero))
+    shown_only : Outcome c d status → (status ≡ 0) ⊎ (status ≡ 7) → IfSome stored HasBuild
+    shown_only (as_shown e calm is) so = is
+    shown_only (as_cut e calm rose is) so = is
+    shown_only (as_refused e calm is) so = absurd (⊎_elim (λ zero. omega (arith, e, zero)) (λ seven. omega (arith, e, seven)) so)
+    shown_only (as_failed e rose) so = absurd (⊎_elim (λ zero. omega (arith, e, zero)) (λ seven. omega (arith, e, seven)) so)
+    shown_only (as_wanting e) so = absurd (⊎_elim (λ zero. omega (arith, e, zero)) (λ seven. omega (arith, e, seven)) so)
+
+    calm_only : Outcome c d status → (status ≡ 0) ⊎ (status ≡ 7) → after ≡ before
+    calm_only (as_shown e calm is) so = calm
+    calm_only (as_cut e calm rose is) so = calm
+    calm_only (as_refused e calm is) so = calm
+    calm_only (as_failed e rose) so = absurd (⊎_elim (λ zero. omega (arith, e, zero)) (λ seven. omega (arith, e, seven)) so)
+    calm_only (as_wanting e) so = absurd (⊎_elim (λ zero. omega (arith, e, zero)) (λ seven. omega (arith, e, seven)) so)
 
     refused_always : Outcome c d status → ¬ (Rose before after) → (file : List ℕ) → stored ≡ Some file → HasNone file → (status ≡ 9) ⊎ (status ≡ 8)
     refused_always (as_shown e calm is) cd file at none = absurd (both file (here HasBuild stored file at is) none)
-    refused_always (as_cut e rose is) cd file at none = absurd (both file (here HasBuild stored file at is) none)
+    refused_always (as_cut e calm rose is) cd file at none = absurd (both file (here HasBuild stored file at is) none)
     refused_always (as_refused e calm is) cd file at none = inl e
     refused_always (as_failed e rose) cd file at none = absurd (cd rose)
     refused_always (as_wanting e) cd file at none = inr e
 
     shown_always : Outcome c d status → ¬ (Rose before after) → ¬ (Rose c d) → (file : List ℕ) → stored ≡ Some file → HasBuild file → (status ≡ 0) ⊎ (status ≡ 8)
     shown_always (as_shown e calm is) cd cs file at has = inl e
-    shown_always (as_cut e rose is) cd cs file at has = absurd (cs rose)
+    shown_always (as_cut e calm rose is) cd cs file at has = absurd (cs rose)
     shown_always (as_refused e calm is) cd cs file at has = absurd (both file has (here HasNone stored file at is))
     shown_always (as_failed e rose) cd cs file at has = absurd (cd rose)
     shown_always (as_wanting e) cd cs file at has = inr e
@@ -187,5 +202,6 @@ causes_of {text_of} {stored} {before} {after} {status = status} s =
       refused = refused_only text_of stored before after status o;
       refuses = refused_always text_of stored before after status o;
       shown = shown_only text_of stored before after status o;
+      calm = calm_only text_of stored before after status o;
       shows = shown_always text_of stored before after status o;
     }

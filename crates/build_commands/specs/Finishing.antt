@@ -11,7 +11,7 @@ use Rattle.run_command.specs.Statuses.{world_status, HasLog}
 use Rattle.run_command.specs.Texts.{read_failed_text}
 use Rattle.script_run.specs.declared.rest.Rest.{Rest}
 use Rattle.script_run.specs.declared.rest.Rest.TheVariants.{AnswersFailed}
-use Rattle.script_run.specs.Rests.{RestsFor}
+use Rattle.script_run.specs.Rests.{LeftOver, RestsFor}
 use Rattle.saved_run.specs.Going.{GoesOn}
 use Rattle.durable_build.specs.Taking.{added}
 use Rattle.saved_run.specs.Lives.{image_after, IsCaused, IsNext}
@@ -38,7 +38,7 @@ pub record IsFull (setting : Setting) (left entry stored : Option (List ℕ)) (e
   pub length_is : IsSome entry → IfSome stored (λ file. len ≡ journal_length file)
 
 module _ {D : Type 0} (reads : D → Option (List ℕ)) (may_leave : D → List ℕ → Type 0) (clock : D → ℕ) (since : D → ℕ → List ℕ → Type 0) (setting : Setting) (entry : Option (List ℕ)) (origin : D) (before : List Event) (left now : Option (List ℕ)) (disk : D) where
-  -- What a life has taken, by what was read of the answers: these events; perhaps, where the disk failed, the next one is on it too. Where the disk
+  -- What a life has taken, by what was read of the answers: these events; what was read behind their lines is nothing, or bytes of one line; perhaps, where the disk failed, the next one is on it too. Where the disk
   -- told its bytes, which `entry` is, a crash since `origin`, over which there were the events from before, leaves a front of them; one now leaves
   -- all of them; or, both, them and that one.
   pub record Made (events : List Event) (risked : Option Event) (more : Bool) (part : List ℕ) : Type 0 where
@@ -46,6 +46,7 @@ module _ {D : Type 0} (reads : D → Option (List ℕ)) (may_leave : D → List 
     pub goes : GoesOn setting before events read more
     pub answers : Consumes left now (read ++ part)
     pub at_end : more ≡ false → IsAtEnd now
+    pub left_over : LeftOver setting (world_in setting events) more part
     pub next : IfSome risked (ComesNext setting now events part)
     pub moments : IsSome entry → AtEachMoment clock since origin disk (Survives setting before events risked)
     pub images : IsSome entry → (image : List ℕ) → may_leave disk image → Stores setting events image ⊎ IsSomeAnd risked (λ e. Stores setting (events ++ e ∷ []) image)

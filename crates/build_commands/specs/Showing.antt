@@ -71,6 +71,8 @@ pub record Causes (stored : Option (List ℕ)) (before after sink_before sink_af
   -- 9 only where the store has no build, and there always, where the disk did not fail, but for want of memory
   pub refused : status ≡ 9 → IfSome stored HasNone
   pub refuses : ¬ (Rose before after) → (file : List ℕ) → stored ≡ Some file → HasNone file → (status ≡ 9) ⊎ (status ≡ 8)
-  -- 0 only where it has one; and there always, where no device failed, but for want of memory
-  pub shown : status ≡ 0 → IfSome stored HasBuild
+  -- 0 and 7 only where it has one; and there always 0, where no device failed, but for want of memory
+  pub shown : (status ≡ 0) ⊎ (status ≡ 7) → IfSome stored HasBuild
+  -- where a text was shown, whole or its beginning, the disk counted no fault
+  pub calm : (status ≡ 0) ⊎ (status ≡ 7) → after ≡ before
   pub shows : ¬ (Rose before after) → ¬ (Rose sink_before sink_after) → (file : List ℕ) → stored ≡ Some file → HasBuild file → (status ≡ 0) ⊎ (status ≡ 8)

@@ -24,7 +24,7 @@ use std::sync::Wait;
 ///
 /// | status | comes | text |
 /// |---|---|---|
-/// | 14 | only where the record of the next event does not fit into the store | the two sizes |
+/// | 14 | only where the record of the next event does not fit into the store | the length of its journal, and what the record would add |
 /// | 5 | only where the disk counted a fault | `controller: disk failed` |
 /// | 6 | only where an input is open and the answers counted a fault | `controller: read failed` |
 /// | 7 | only where the sink counted a fault | a part of the log, from its beginning |

@@ -38,8 +38,8 @@ pub struct Plan {
 /// # Errors
 ///
 /// `ReadFailed` only where a source counted a fault; else `AgentsRefused` exactly where the agents file has a fault; else `TooLong` and
-/// `ScriptRefused` exactly where the script is too long, or has a fault. Want of memory comes before each of them, and no other
-/// refusal comes.
+/// `ScriptRefused` exactly where the script is too long, or has a fault. Want of memory may come in place of each of them but
+/// `ReadFailed`, and no other refusal comes.
 pub fn read_plan<S: Source>(alloc: Global, script: &mut S, agents: &mut S) -> Result<Plan, Refusal>
     ensures plans { Plans (taken_from S.left S.faults script.old script.new) (taken_from S.left S.faults agents.old agents.new) result }
     ensures most_script { TakesAtMost (script_limit + 1) (S.left script.old) (S.left script.new) }

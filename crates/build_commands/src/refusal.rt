@@ -25,7 +25,8 @@ pub enum Refusal {
     DiskFailed,
     /// There was no memory.
     OutOfMemory,
-    /// The record of the next event does not fit into the store, and this text tells the two sizes.
+    /// The record of the next event does not fit into the store, and this text tells the length of its journal, and what the record would
+    /// add.
     Full(String),
     /// The store has a record, or the beginning of one.
     HasBuild,

@@ -6,3 +6,4 @@ mod ResumeLemmas
 mod ShowLemmas
 mod CheckLemmas
 mod HeadlineLemmas
+mod Reading

@@ -1,7 +1,6 @@
 -- What a build that went on has come to, from how its life finished.
-use Rattle.std.proofs.Common.{true, ◌≡◌, ◌⊎◌, ◌+◌, ℕ, Bool, false, List, [], ◌∷◌, ◌++◌, Option, None, Some, inl, inr, refl, sym, ap, ◌∙◌, subst, append-nil, append_assoc, ⊎_elim}
+use Rattle.std.proofs.Common.{true, ◌≡◌, ◌⊎◌, ◌+◌, ℕ, Bool, List, [], ◌∷◌, ◌++◌, Option, None, Some, inl, inr, refl, sym, ap, ◌∙◌, subst, append-nil, append_assoc, ⊎_elim}
 use Rattle.std.specs.Prelude.{IfSome, IsSome, IsSomeAnd}
-use Rattle.std.specs.Io.KnownBytes.{IsAtEnd}
 use Rattle.device_faults.specs.Faults.{Rose}
 use Rattle.jp_disk.specs.Moments.{AtEachMoment}
 use Rattle.jp_disk.proofs.MomentLemmas.{if_told}
@@ -59,8 +58,8 @@ module _ {D : Type 0} (reads : D → Option (List ℕ)) (may_leave : D → List 
   abbrev FinishesSo : ℕ → Type 0
   FinishesSo n = Finishes reads may_leave clock since setting (reads c.disk) origin before c.answers.left c.answers.rest c.now (faults origin) (faults c.now) c.answers.before c.answers.after c.old c.new c.sink_before c.sink_after n
 
-  abbrev StopsSo : List Event → List ℕ → ℕ → Type 0
-  StopsSo events part n = Stops reads may_leave clock since faults setting events part c n
+  abbrev StopsSo : List Event → List ℕ → Bool → ℕ → Type 0
+  StopsSo events part more n = Stops reads may_leave clock since faults setting events part more c n
 
   -- its log was shown, and none of its events is open
   abbrev ShownSo : List Event → Option Event → ℕ → Type 0
@@ -80,7 +79,7 @@ module _ {D : Type 0} (reads : D → Option (List ℕ)) (may_leave : D → List 
     pub shown : ShownSo taken risked n
 
   takes_of : {events : List Event} {risked : Option Event} {more : Bool} {part : List ℕ} → MadeSo events risked more part → Takes setting before events c
-  takes_of {more = more} {part = part} made = record { read = made.read; part = part; more = more; goes = made.goes; answers = made.answers; at_end = made.at_end }
+  takes_of {more = more} {part = part} made = record { read = made.read; part = part; more = more; goes = made.goes; answers = made.answers; at_end = made.at_end; left_over = made.left_over }
 
   of_made : {events : List Event} {risked : Option Event} {more : Bool} {part : List ℕ} (n : ℕ) → (¬ (Rose (faults c.disk) (faults c.now)) → risked ≡ None) → ShownSo events risked n → MadeSo events risked more part → Gone n
   unfolding takes_of
@@ -122,24 +121,26 @@ module _ {D : Type 0} (reads : D → Option (List ℕ)) (may_leave : D → List 
   stored : {events : List Event} {more : Bool} {part : List ℕ} → MadeSo events None more part → IsSome (reads c.disk) → IfSome (reads c.now) (Stores setting events)
   stored {events = events} made known = where_told (reads c.now) (Stores setting events) (λ file told. durable made known file (if_told (λ f. may_leave c.now f) told (told_image c.now)))
 
-  rest_done : (events : List Event) (r : Rest) (more : Bool) (part : List ℕ) → ¬ (r ≡ why.AnswersFailed) → RestsFor r setting (world_in setting events) more part → (more ≡ false → IsAtEnd c.answers.rest)
-      → ((world_in setting events).ended ≡ true) ⊎ IsIdle setting events c.answers
-  rest_done events why.Ended more part other rests at_end = inl rests.0
-  rest_done events why.Waits more part other rests at_end = inr (record { going = rests.0; granted = rests.1; heard = ⊎_elim (λ none. inl none) (λ done. inr (at_end done)) rests.2 })
-  rest_done events why.AnswersFailed more part other rests at_end = absurd (other refl)
+  rest_done : (events : List Event) (r : Rest) (more : Bool) (part : List ℕ) → ¬ (r ≡ why.AnswersFailed) → RestsFor r setting (world_in setting events) more part
+      → (((world_in setting events).ended ≡ true) ⊎ IsIdle setting events more) × (part ≡ [])
+  rest_done events why.Ended more part other rests = (inl rests.0, rests.1)
+  rest_done events why.Waits more part other rests = (inr (record { going = rests.0; granted = rests.1; heard = rests.2 }), rests.3)
+  rest_done events why.AnswersFailed more part other rests = absurd (other refl)
 
-  done_so : {events : List Event} → RestsSo events → ((world_in setting events).ended ≡ true) ⊎ IsIdle setting events c.answers
-  done_so {events = events} rests = rest_done events rests.rest rests.more rests.part rests.read_on rests.rests rests.made.at_end
+  done_so : {events : List Event} (rests : RestsSo events) → (((world_in setting events).ended ≡ true) ⊎ IsIdle setting events rests.more) × (rests.part ≡ [])
+  done_so {events = events} rests = rest_done events rests.rest rests.more rests.part rests.read_on rests.rests
 
   -- one that rests has its log
   rests_delivered : {events : List Event} {n : ℕ} → RestsSo events
       → writing.Writes c.old c.new c.sink_before c.sink_after (world_in setting events).shared.log (world_status (world_in setting events)) n → n ≡ c.status → (more : List Event) × Delivers reads may_leave setting before (before ++ more) c
+  unfolding takes_of
   rests_delivered {events = events} rests writes is =
       let so = goes_more rests.made.goes in (
         so.0,
         subst (λ (es : List Event). Delivers reads may_leave setting before es c) so.1 (record {
           takes = takes_of rests.made;
-          rests = done_so rests;
+          rests = (done_so rests).0;
+          no_more = (done_so rests).1;
           log = subst (λ (m : ℕ). writing.Writes c.old c.new c.sink_before c.sink_after (world_in setting events).shared.log (world_status (world_in setting events)) m) is writes;
           stores = stored rests.made;
           durable = durable rests.made;
@@ -154,9 +155,9 @@ module _ {D : Type 0} (reads : D → Option (List ℕ)) (may_leave : D → List 
   finish_delivers finishes run = delivers finishes refl run
 
   -- why it stopped
-  rest_stops : (events : List Event) (part : List ℕ) → ((world_in setting events).ended ≡ true) ⊎ IsIdle setting events c.answers → StopsSo events part (world_status (world_in setting events))
-  rest_stops events part (inl done) = ended done
-  rest_stops events part (inr idle) = subst (StopsSo events part) (sym (going_status (world_in setting events) idle.going)) (waits idle)
+  rest_stops : (events : List Event) (part : List ℕ) (more : Bool) → part ≡ [] → ((world_in setting events).ended ≡ true) ⊎ IsIdle setting events more → StopsSo events part more (world_status (world_in setting events))
+  rest_stops events part more none (inl done) = ended done none
+  rest_stops events part more none (inr idle) = subst (StopsSo events part more) (sym (going_status (world_in setting events) idle.going)) (waits idle none)
 
   -- what a crash leaves then, and with 5 perhaps the next event too
   abbrev ImagesSo : List Event → List ℕ → ℕ → Type 0
@@ -169,9 +170,9 @@ module _ {D : Type 0} (reads : D → Option (List ℕ)) (may_leave : D → List 
     is : events ≡ before ++ more
     takes : Takes setting before events c
     images : ImagesSo events takes.part n
-    stops : StopsSo events takes.part n
+    stops : StopsSo events takes.part takes.more n
 
-  went_so : {events : List Event} {risked : Option Event} {more : Bool} {part : List ℕ} (n : ℕ) → MadeSo events risked more part → ImagesSo events part n → StopsSo events part n → Went n
+  went_so : {events : List Event} {risked : Option Event} {more : Bool} {part : List ℕ} (n : ℕ) → MadeSo events risked more part → ImagesSo events part n → StopsSo events part more n → Went n
   unfolding takes_of
   went_so {events = events} n made images stops =
       let so = goes_more made.goes in
@@ -188,7 +189,7 @@ module _ {D : Type 0} (reads : D → Option (List ℕ)) (may_leave : D → List 
       one (Some e) next (inr with_it) = inr (five, e, next, with_it)
 
   breaks_went : {n : ℕ} {text : List ℕ} → BreaksSo n text → Tells text c → Went n
-  breaks_went (finish.answers_failed made rests rose) tells = went_so 6 made (λ known image left. inl (durable made known image left)) (unheard rests.0 rests.1 rose)
+  breaks_went (finish.answers_failed made rests rose) tells = went_so 6 made (λ known image left. inl (durable made known image left)) (unheard rests.0 rests.1 rests.2 rests.3 rose)
   breaks_went (finish.disk_failed made going rose) tells = went_so 5 made (risked_images 5 refl made) (disk_failed going (rose_here rose))
   breaks_went (finish.full len add made going is) tells = went_so 14 made (λ known image left. inl (durable made known image left)) (full len add going is tells)
   breaks_went (finish.no_memory made going) tells = went_so 8 made (λ known image left. inl (durable made known image left)) (no_memory going)
@@ -196,25 +197,27 @@ module _ {D : Type 0} (reads : D → Option (List ℕ)) (may_leave : D → List 
   went : {n : ℕ} → FinishesSo n → Went n
   went {n = n} (finish.by_rest {events = events} rests writes) =
       let part = rests.part in
+      let more = rests.more in
+      let done = done_so rests in
       went_so n rests.made (λ known image left. inl (durable rests.made known image left))
-      (⊎_elim (λ is. subst (StopsSo events part) (sym is) (rest_stops events part (done_so rests))) (λ failed. subst (StopsSo events part) (sym failed.0) (cut (done_so rests) failed.1)) (written writes))
+      (⊎_elim (λ is. subst (StopsSo events part more) (sym is) (rest_stops events part more done.1 done.0)) (λ failed. subst (StopsSo events part more) (sym failed.0) (cut done.0 done.1 failed.1)) (written writes))
   went (finish.by_break breaks tells) = breaks_went breaks tells
 
   -- the same of the events from before and more
-  went_on : (events more : List Event) → events ≡ before ++ more → (takes : Takes setting before events c) → ImagesSo events takes.part c.status → StopsSo events takes.part c.status → WentOn reads may_leave clock since faults setting before c
+  went_on : (events more : List Event) → events ≡ before ++ more → (takes : Takes setting before events c) → ImagesSo events takes.part c.status → StopsSo events takes.part takes.more c.status → WentOn reads may_leave clock since faults setting before c
   went_on events more is takes images stops =
-      let moved : (t : Takes setting before (before ++ more) c) × ImagesSo (before ++ more) t.part c.status × StopsSo (before ++ more) t.part c.status =
-      subst (λ (es : List Event). (t : Takes setting before es c) × ImagesSo es t.part c.status × StopsSo es t.part c.status) is (takes, images, stops) in
+      let moved : (t : Takes setting before (before ++ more) c) × ImagesSo (before ++ more) t.part c.status × StopsSo (before ++ more) t.part t.more c.status =
+      subst (λ (es : List Event). (t : Takes setting before es c) × ImagesSo es t.part c.status × StopsSo es t.part t.more c.status) is (takes, images, stops) in
       record { more = more; takes = moved.0; images = moved.1; stops = moved.2 }
 
   pub finish_went : FinishesSo c.status → WentOn reads may_leave clock since faults setting before c
   finish_went finishes = let so = went finishes in went_on so.events so.more so.is so.takes so.images so.stops
 
-  stops_worked : {events : List Event} {part : List ℕ} {n : ℕ} → StopsSo events part n → AllCalm reads may_leave clock since faults c → HasWorked n
-  stops_worked {events = events} (ended done) calm = inl (world_log (world_in setting events))
-  stops_worked (waits idle) calm = inl (inr refl)
-  stops_worked (cut done rose) calm = absurd (calm.sink rose)
-  stops_worked (unheard going listens failed) calm = absurd (calm.answers failed)
+  stops_worked : {events : List Event} {part : List ℕ} {more : Bool} {n : ℕ} → StopsSo events part more n → AllCalm reads may_leave clock since faults c → HasWorked n
+  stops_worked {events = events} (ended done none) calm = inl (world_log (world_in setting events))
+  stops_worked (waits idle none) calm = inl (inr refl)
+  stops_worked (cut done none rose) calm = absurd (calm.sink rose)
+  stops_worked (unheard going listens on plain failed) calm = absurd (calm.answers failed)
   stops_worked (disk_failed going rose) calm = absurd (calm.disk rose)
   stops_worked (full len add going is tells) calm = inr (inr refl)
   stops_worked (no_memory going) calm = inr (inl refl)

@@ -20,8 +20,8 @@ use Rattle.controller.specs.FirstFault.{TellsFault}
 use Rattle.controller.specs.Output.{Delivers, Says}
 use Rattle.controller.proofs.CallLemmas.{unrun, untold}
 use Rattle.controller.proofs.LifeLemmas.{gone, finish_delivers, finish_went, finish_worked}
-use Rattle.controller.proofs.RunLemmas.{reports_untold, reports_answers, reports_disk, reports_sink, reports_build, reports_usage}
-use Rattle.controller.proofs.TextLemmas.{reports_say, not_told_says}
+use Rattle.controller.proofs.RunLemmas.{reports_untold, reports_answers, reports_disk, reports_sink, reports_build, reports_calm, reports_usage}
+use Rattle.controller.proofs.TextLemmas.{reports_say, not_told_says, says_unrun}
 
 -- a store does not have a build and none
 both : (file : List ℕ) → HasBuild file → HasNone file → ⊥
@@ -51,11 +51,14 @@ not_told_disk (showing.damaged at calm fails) five = absurd (omega (arith, five)
 not_told_disk (showing.disk_failed rose) five = rose
 not_told_disk (showing.no_memory calm) five = absurd (omega (arith, five))
 
-not_told_always : {stored : Option (List ℕ)} {a b n : ℕ} {text : List ℕ} → NotTold stored a b n text → ¬ (Rose a b) → (n ≡ 9) ⊎ (n ≡ 8)
-not_told_always (showing.no_build calm none) quiet = inl refl
-not_told_always (showing.damaged at calm fails) quiet = inl refl
-not_told_always (showing.disk_failed rose) quiet = absurd (quiet rose)
-not_told_always (showing.no_memory calm) quiet = inr refl
+not_told_always : {stored : Option (List ℕ)} {a b n : ℕ} {text : List ℕ} → NotTold stored a b n text → (n ≡ 9) ⊎ (n ≡ 8) ⊎ (n ≡ 5)
+not_told_always (showing.no_build calm none) = inl refl
+not_told_always (showing.damaged at calm fails) = inl refl
+not_told_always (showing.disk_failed rose) = inr (inr refl)
+not_told_always (showing.no_memory calm) = inr (inl refl)
+
+not_told_unrun : {stored : Option (List ℕ)} {a b n : ℕ} {text : List ℕ} → NotTold stored a b n text → HasRun n → ⊥
+not_told_unrun why run = says_unrun (not_told_says why) run
 
 module _ {D : Type 0} (reads : D → Option (List ℕ)) (may_leave : D → List ℕ → Type 0) (clock : D → ℕ) (since : D → ℕ → List ℕ → Type 0) (faults : D → ℕ) (told_image : (d : D) → IfSome (reads d) (λ file. may_leave d file)) (c : Call D) where
   abbrev ReopensSo : ℕ → Type 0
@@ -97,9 +100,13 @@ module _ {D : Type 0} (reads : D → Option (List ℕ)) (may_leave : D → List 
   resume_unread (resume.unopened unread same why tells) nine = unread
   resume_unread (resume.goes_on has reports) nine = absurd (reports_build reports nine)
 
-  finds_none : {n : ℕ} → ReopensSo n → ¬ (Rose (faults c.disk) (faults c.now)) → (file : List ℕ) → reads c.disk ≡ Some file → HasNone file → (n ≡ 9) ⊎ (n ≡ 8)
-  finds_none (resume.unopened unread same why tells) quiet file told is = not_told_always why quiet
-  finds_none (resume.goes_on has reports) quiet file told is = absurd (both file (if_told HasBuild told has) is)
+  finds_none : {n : ℕ} → ReopensSo n → (file : List ℕ) → reads c.disk ≡ Some file → HasNone file → ((n ≡ 9) ⊎ (n ≡ 8) ⊎ (n ≡ 5)) × IsUntouched reads may_leave clock since c.disk c.now × IsUnread c.answers
+  finds_none (resume.unopened unread same why tells) file told is = (not_told_always why, same, unread)
+  finds_none (resume.goes_on has reports) file told is = absurd (both file (if_told HasBuild told has) is)
+
+  shown_calm : {n : ℕ} → ReopensSo n → HasRun n → faults c.now ≡ faults c.disk
+  shown_calm (resume.unopened unread same why tells) run = absurd (not_told_unrun why run)
+  shown_calm (resume.goes_on has reports) run = reports_calm reports run
 
   -- over a consistent one
   module _ (setting : Setting) (events : List Event) where
@@ -161,6 +168,7 @@ module _ {D : Type 0} (reads : D → Option (List ℕ)) (may_leave : D → List 
       sink = sink_failed by.reopens;
       no_build = none by.reopens;
       finds_none = finds_none by.reopens;
+      calm = shown_calm by.reopens;
       went_on = λ setting events finds. went setting events (here setting events finds) refl;
       works = λ calm setting events finds some. works setting events (here setting events finds) refl calm some;
     }

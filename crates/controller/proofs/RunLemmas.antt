@@ -4,6 +4,7 @@ use Rattle.std.specs.Prelude.{IfSome, IsSome, IsSomeAnd, is_some}
 use Rattle.std.specs.Io.KnownBytes.{IsAtEnd}
 use Rattle.build_commands.specs.Texts.{full_text, has_build_text}
 use Rattle.device_faults.specs.Faults.{Rose, CountsFault}
+use Rattle.jp_disk.specs.Images.{IsOnlyImage}
 use Rattle.jp_disk.specs.Moments.{AtEachMoment}
 use Rattle.jp_disk.proofs.MomentLemmas.{runs_on, at_each_weaker, starts}
 use Rattle.journal_core.specs.Answers.{IsStarted}
@@ -163,6 +164,14 @@ module _ {a b x y d e : ℕ} {old new : Option (List ℕ)} where
   reports_usage (report.full len event image quiet long tells) two = omega (arith, two)
   reports_usage (report.no_memory quiet tells) two = omega (arith, two)
 
+-- where a log was shown the disk counted no fault
+pub reports_calm : {a b x y d e : ℕ} {old new : Option (List ℕ)} {n : ℕ} → Reports a b x y old new d e n → HasRun n → b ≡ a
+reports_calm (report.rested quiet log writes) run = quiet.0
+reports_calm (report.answers_failed calm rose tells) run = calm
+reports_calm (report.disk_failed rose calm tells) run = absurd (unrun 5 5 refl refl run)
+reports_calm (report.full len event image quiet long tells) run = quiet.0
+reports_calm (report.no_memory quiet tells) run = quiet.0
+
 -- the status of a build that was not begun
 begin_untold : {f : BeginFault} {n : ℕ} {text : List ℕ} → BeginSays f n text → TellsFault n → ⊥
 begin_untold begin.has_build is = untold 9 9 refl (λ e. omega (arith, e)) (λ e. omega (arith, e)) is
@@ -303,7 +312,7 @@ module _ {D T : Type 0} (reads : D → Option (List ℕ)) (may_leave : D → Lis
 
     unbegun_leaves : (file : List ℕ) (f : BeginFault) → (HasRun c.status → ⊥) → CountsFault (faults c.disk) (faults c.now) (f ≡ fault.Take take.Disk)
         → BeginRefuses reads may_leave clock since stance (script_setting tree site) (StartEvent s a) file c.disk f c.now → Leaves file
-    unbegun_leaves file fault.HasBuild unrun counts refuses = inr (inl refuses.2)
+    unbegun_leaves file fault.HasBuild unrun counts refuses = inr (inl refuses.3)
     unbegun_leaves file (fault.Take (take.Full len add)) unrun counts refuses = failed_leaves file (take.Full len add) unrun counts refuses.1
     unbegun_leaves file (fault.Take take.Memory) unrun counts refuses = ⊎_elim (λ stays. inl stays) (⊎_elim (λ keeps. inr (inl keeps)) (λ fails. failed_leaves file take.Memory unrun counts fails)) refuses.1
     unbegun_leaves file (fault.Take take.Disk) unrun counts refuses = ⊎_elim (λ stays. inl stays) (⊎_elim (λ keeps. inr (inl keeps)) (λ fails. failed_leaves file take.Disk unrun counts fails)) refuses.1
@@ -408,29 +417,29 @@ module _ {D T : Type 0} (reads : D → Option (List ℕ)) (may_leave : D → Lis
   sinks (begin.built give (begin.unbegun unread says counts sizes refuses tells)) seven = absurd ((begin_other says).1 seven)
   sinks (begin.built give (begin.begun started same reports finishes over)) seven = reports_sink reports seven
 
-  started_by : (setting : Setting) (start : Event) (file : List ℕ) (f : BeginFault) → f ≡ fault.HasBuild → BeginRefuses reads may_leave clock since stance setting start file c.disk f c.now → IsStarted file × (reads c.now ≡ Some file)
-  started_by setting start file fault.HasBuild is refuses = (refuses.0, refuses.1)
+  started_by : (setting : Setting) (start : Event) (file : List ℕ) (f : BeginFault) → f ≡ fault.HasBuild → BeginRefuses reads may_leave clock since stance setting start file c.disk f c.now → IsStarted file × (reads c.now ≡ Some file) × IsOnlyImage file (may_leave c.now)
+  started_by setting start file fault.HasBuild is refuses = (refuses.0, refuses.1, refuses.2)
   started_by setting start file (fault.Take f) is refuses = absurd (cc)
 
-  builds_found : {n : ℕ} → RunsSo n → n ≡ 9 → Tells has_build_text c × ((file : List ℕ) → reads c.disk ≡ Some file → IsStarted file × (reads c.now ≡ Some file))
+  builds_found : {n : ℕ} → RunsSo n → n ≡ 9 → Tells has_build_text c × ((file : List ℕ) → reads c.disk ≡ Some file → IsStarted file × (reads c.now ≡ Some file) × IsOnlyImage file (may_leave c.now))
   builds_found (begin.refused refused same unread tells) nine = absurd ((files_other c refused).2 nine)
   builds_found (begin.built {s = s} {a = a} {tree = tree} {site = site} give (begin.unbegun {fault = f} unread says counts sizes refuses tells)) nine =
       (subst (λ (text : List ℕ). Tells text c) (begin_text says nine) tells, λ file told. started_by (script_setting tree site) (StartEvent s a) file f (begin_nine says nine) (refuses file told))
   builds_found (begin.built give (begin.begun started same reports finishes over)) nine = absurd (reports_build reports nine)
 
   -- where no device failed
-  unbegun_finds : {n : ℕ} {text : List ℕ} {f : BeginFault} (setting : Setting) (start : Event) (file : List ℕ) → BeginSays f n text → CountsFault (faults c.disk) (faults c.now) (f ≡ fault.Take take.Disk)
-      → BeginRefuses reads may_leave clock since stance setting start file c.disk f c.now → ¬ (Rose (faults c.disk) (faults c.now)) → IsStarted file → (n ≡ 9) ⊎ (n ≡ 8)
-  unbegun_finds setting start file begin.has_build counts refuses calm is = inl refl
-  unbegun_finds setting start file begin.disk_failed counts refuses calm is = absurd (calm (counts.failed refl))
-  unbegun_finds setting start file (begin.full len add) counts refuses calm is = absurd (refuses.1.fresh is)
-  unbegun_finds setting start file (begin.no_memory other) counts refuses calm is = inr refl
+  unbegun_finds : {n : ℕ} {text : List ℕ} {f : BeginFault} (setting : Setting) (start : Event) (file : List ℕ) → BeginSays f n text
+      → BeginRefuses reads may_leave clock since stance setting start file c.disk f c.now → IsStarted file → (n ≡ 9) ⊎ (n ≡ 8) ⊎ (n ≡ 5)
+  unbegun_finds setting start file begin.has_build refuses is = inl refl
+  unbegun_finds setting start file begin.disk_failed refuses is = inr (inr refl)
+  unbegun_finds setting start file (begin.full len add) refuses is = absurd (refuses.1.fresh is)
+  unbegun_finds setting start file (begin.no_memory other) refuses is = inr (inl refl)
 
-  finds : {n : ℕ} → RunsSo n → AreRead c → ¬ (Rose (faults c.disk) (faults c.now)) → (file : List ℕ) → reads c.disk ≡ Some file → IsStarted file → OfFiles c.script c.agents (λ script agents. HasSite agents → ¬ (IsRefused script) → (n ≡ 9) ⊎ (n ≡ 8))
-  finds (begin.refused refused same unread tells) read calm file told is = λ script agents at_s at_a site sound. inr (files_want c refused read script agents at_s at_a site sound)
-  finds (begin.built {s = s} {a = a} {tree = tree} {site = site} give (begin.unbegun unread says counts sizes refuses tells)) read calm file told is =
-      λ script agents at_s at_a has sound. unbegun_finds (script_setting tree site) (StartEvent s a) file says counts (refuses file told) calm is
-  finds (begin.built give (begin.begun started same reports finishes over)) read calm file told is = absurd ((over file told).fresh is)
+  finds : {n : ℕ} → RunsSo n → AreRead c → (file : List ℕ) → reads c.disk ≡ Some file → IsStarted file → OfFiles c.script c.agents (λ script agents. HasSite agents → ¬ (IsRefused script) → (n ≡ 9) ⊎ (n ≡ 8) ⊎ (n ≡ 5))
+  finds (begin.refused refused same unread tells) read file told is = λ script agents at_s at_a site sound. inr (inl (files_want c refused read script agents at_s at_a site sound))
+  finds (begin.built {s = s} {a = a} {tree = tree} {site = site} give (begin.unbegun unread says counts sizes refuses tells)) read file told is =
+      λ script agents at_s at_a has sound. unbegun_finds (script_setting tree site) (StartEvent s a) file says (refuses file told) is
+  finds (begin.built give (begin.begun started same reports finishes over)) read file told is = absurd ((over file told).fresh is)
 
   unbegun_works : {n : ℕ} {text : List ℕ} {f : BeginFault} (setting : Setting) (start : Event) (file : List ℕ) → BeginSays f n text → CountsFault (faults c.disk) (faults c.now) (f ≡ fault.Take take.Disk)
       → BeginRefuses reads may_leave clock since stance setting start file c.disk f c.now → ¬ (Rose (faults c.disk) (faults c.now)) → ¬ (IsStarted file) → HasWorked n
@@ -491,7 +500,7 @@ module _ {D T : Type 0} (reads : D → Option (List ℕ)) (may_leave : D → Lis
 
     unbegun_image : (file : List ℕ) (f : BeginFault) (image : List ℕ) → (f ≡ fault.Take take.Disk → c.status ≡ 5) → BeginRefuses reads may_leave clock since stance (script_setting tree site) (StartEvent s a) file c.disk f c.now → may_leave c.now image → UntakenSo file image
     unbegun_image file fault.HasBuild image five refuses left =
-        let keeps = refuses.2 in
+        let keeps = refuses.3 in
         inr (inl (keeps.from_then.each image (counts_now c.now (clock keeps.synced) image keeps.from_then.later left)))
     unbegun_image file (fault.Take (take.Full len add)) image five refuses left = failed_image file (take.Full len add) image (λ e. five (ap (λ (x : TakeFault). fault.Take x) e)) refuses.1 left
     unbegun_image file (fault.Take take.Memory) image five refuses left = either_image file take.Memory image (λ e. five (ap (λ (x : TakeFault). fault.Take x) e)) refuses.1 left
@@ -524,6 +533,12 @@ module _ {D T : Type 0} (reads : D → Option (List ℕ)) (may_leave : D → Lis
         }),
       )
 
+  -- a log was shown over a disk that counted no fault
+  shown_calm : {n : ℕ} → RunsSo n → HasRun n → faults c.now ≡ faults c.disk
+  shown_calm (begin.refused refused same unread tells) run = absurd (says_unrun (files_say refused) run)
+  shown_calm (begin.built give (begin.unbegun unread says counts sizes refuses tells)) run = absurd (begin_unrun says run)
+  shown_calm (begin.built give (begin.begun started same reports finishes over)) run = reports_calm reports run
+
   -- a source of a file that counted a fault is told
   unread_told : {n : ℕ} → RunsSo n → ¬ (AreCalm c.script c.agents) → (n ≡ 6) × (c.now ≡ c.disk) × IsUnread c.answers
   unread_told (begin.refused refused same unread tells) other = (files_uncalm c refused other, same, unread)
@@ -537,6 +552,7 @@ module _ {D T : Type 0} (reads : D → Option (List ℕ)) (may_leave : D → Lis
     sink = sinks runs;
     has_build = builds_found runs;
     finds_build = finds runs;
+    calm = shown_calm runs;
     went_on = went_on runs refl;
     works = works runs refl;
   }

@@ -7,6 +7,7 @@ use Rattle.command_words.specs.Words.{Gives}
 use Rattle.model_run.specs.declared.event.Event.{Event}
 use Rattle.model_run.specs.State.{Setting}
 use Rattle.model_run.specs.World.{next_grant, world_in}
+use Rattle.script_run.specs.Rests.{LeftOver}
 use Rattle.saved_run.specs.Going.{GoesOn}
 use Rattle.saved_run.specs.Saved.{Stores}
 use Rattle.run_command.specs.Inputs.{Input, HasFailed}
@@ -61,8 +62,8 @@ pub record Finds {D : Type 0} (reads : D → Option (List ℕ)) (setting : Setti
   pub told : reads c.disk ≡ Some file
   pub stores : Stores setting events file
 
--- A life went on from the events before to these: by the grants that were due and by the lines that were read of the answers; behind these lines a part
--- of one may have been read.
+-- A life went on from the events before to these: by the grants that were due and by the lines that were read of the answers, all of them heard. Behind these
+-- lines nothing was read, or bytes of one line, while the build listens. `more` says whether the answers may have more.
 pub record Takes {D : Type 0} (setting : Setting) (before events : List Event) (c : Call D) : Type 0 where
   pub read : List ℕ
   pub part : List ℕ
@@ -70,12 +71,13 @@ pub record Takes {D : Type 0} (setting : Setting) (before events : List Event) (
   pub goes : GoesOn setting before events read more
   pub answers : Consumes c.answers.left c.answers.rest (read ++ part)
   pub at_end : more ≡ false → IsAtEnd c.answers.rest
+  pub left_over : LeftOver setting (world_in setting events) more part
 
 -- nobody goes on with the build: no grant is due, and no input is open or the answers were read to their end
-pub record IsIdle (setting : Setting) (events : List Event) (answers : Input) : Type 0 where
+pub record IsIdle (setting : Setting) (events : List Event) (more : Bool) : Type 0 where
   pub going : (world_in setting events).ended ≡ false
   pub granted : next_grant setting (world_in setting events) ≡ None
-  pub heard : (waiting_inputs (world_in setting events).shared.requests ≡ 0) ⊎ IsAtEnd answers.rest
+  pub heard : (waiting_inputs (world_in setting events).shared.requests ≡ 0) ⊎ (more ≡ false)
 
 -- how to use the program
 abbrev pub usage_text : List ℕ

@@ -1,9 +1,11 @@
 -- When each status of a call comes: the table of statuses in docs/USING.md (this product's own).
-use Rattle.std.specs.Prelude.{◌≡◌, ◌⊎◌, ◌↔◌, ◌+◌, ◌<◌, ◌^◌, ℕ, true, false, List, [], ◌∷◌, ◌++◌, Option, Some, IsSome}
+use Rattle.std.specs.Prelude.{◌≡◌, ◌⊎◌, ◌↔◌, ◌+◌, ◌<◌, ◌^◌, ℕ, Bool, true, false, List, [], ◌∷◌, ◌++◌, Option, Some, IsSome}
 use Rattle.command_words.specs.declared.command.Command.{Command}
 use Rattle.command_words.specs.declared.command.Command.TheVariants.{Run, Resume, Log, Graph, Check}
 use Rattle.command_words.specs.Words.{IsCommand}
 use Rattle.device_faults.specs.Faults.{Rose}
+use Rattle.jp_disk.specs.Images.{IsOnlyImage}
+use Rattle.agent_worker.specs.AnswerBytes.{NoNewline}
 use Rattle.journal_core.specs.Answers.{IsStarted}
 use Rattle.journal_core.specs.Records.{records}
 use Rattle.model_run.specs.declared.event.Event.{Event}
@@ -17,7 +19,7 @@ use Rattle.saved_run.specs.Lives.{image_after}
 use Rattle.saved_run.specs.Saved.{Stores}
 use Rattle.run_command.specs.Files.{HasSite, IsRefused, OfFiles}
 use Rattle.run_command.specs.Inputs.{HasFailed, IsUnread}
-use Rattle.run_command.specs.Statuses.{HasLog, world_status}
+use Rattle.run_command.specs.Statuses.{HasLog, HasRun, world_status}
 use Rattle.build_commands.specs.Finishing.{ComesNext, IsFull}
 use Rattle.build_commands.specs.Plans.{AreCalm}
 use Rattle.build_commands.specs.Resuming.{IsUntouched}
@@ -37,17 +39,17 @@ module _ {D : Type 0} (reads : D → Option (List ℕ)) (may_leave : D → List 
   abbrev pub SinkFailed : Call D → Type 0
   SinkFailed c = Rose c.sink_before c.sink_after
 
-  -- With which status a call stops whose build has these events, with this part of the answers read behind them. Where it has ended or waits, the status is 7
-  -- where the sink failed.
-  pub data Stops (setting : Setting) (events : List Event) (part : List ℕ) (c : Call D) : ℕ → Type 0 where
-    ended : (world_in setting events).ended ≡ true → Stops setting events part c (world_status (world_in setting events))
-    waits : IsIdle setting events c.answers → Stops setting events part c 3
-    cut : ((world_in setting events).ended ≡ true) ⊎ IsIdle setting events c.answers → SinkFailed c → Stops setting events part c 7
-    unheard : (world_in setting events).ended ≡ false → Listens setting (world_in setting events) → HasFailed c.answers → Stops setting events part c 6
-    disk_failed : (world_in setting events).ended ≡ false → DiskFailed c → Stops setting events part c 5
+  -- With which status a call stops whose build has these events, with this part of the answers read behind their lines, and perhaps more to come. Where it has
+  -- ended or waits, nothing was read behind them, and the status is 7 where the sink failed.
+  pub data Stops (setting : Setting) (events : List Event) (part : List ℕ) (more : Bool) (c : Call D) : ℕ → Type 0 where
+    ended : (world_in setting events).ended ≡ true → part ≡ [] → Stops setting events part more c (world_status (world_in setting events))
+    waits : IsIdle setting events more → part ≡ [] → Stops setting events part more c 3
+    cut : ((world_in setting events).ended ≡ true) ⊎ IsIdle setting events more → part ≡ [] → SinkFailed c → Stops setting events part more c 7
+    unheard : (world_in setting events).ended ≡ false → Listens setting (world_in setting events) → more ≡ true → NoNewline part → HasFailed c.answers → Stops setting events part more c 6
+    disk_failed : (world_in setting events).ended ≡ false → DiskFailed c → Stops setting events part more c 5
     -- the text tells the length of the store's journal, and what the record of the next event would add
-    full : (len add : ℕ) → (world_in setting events).ended ≡ false → IsFull setting c.answers.rest (reads c.disk) (reads c.now) events part len add → Tells (full_text len add) c → Stops setting events part c 14
-    no_memory : (world_in setting events).ended ≡ false → Stops setting events part c 8
+    full : (len add : ℕ) → (world_in setting events).ended ≡ false → IsFull setting c.answers.rest (reads c.disk) (reads c.now) events part len add → Tells (full_text len add) c → Stops setting events part more c 14
+    no_memory : (world_in setting events).ended ≡ false → Stops setting events part more c 8
 
   -- The build went on from these events, to these ones. Where the disk told its bytes, a crash leaves just these then, or with 5 the next one too.
   pub record WentOn (setting : Setting) (before : List Event) (c : Call D) : Type 0 where
@@ -55,7 +57,7 @@ module _ {D : Type 0} (reads : D → Option (List ℕ)) (may_leave : D → List 
     pub takes : Takes setting before (before ++ more) c
     pub images : IsSome (reads c.disk) → (image : List ℕ) → may_leave c.now image
         → Stores setting (before ++ more) image ⊎ ((c.status ≡ 5) × (event : Event) × ComesNext setting c.answers.rest (before ++ more) takes.part event × Stores setting ((before ++ more) ++ event ∷ []) image)
-    pub stops : Stops setting (before ++ more) takes.part c c.status
+    pub stops : Stops setting (before ++ more) takes.part takes.more c c.status
 
   -- no device counted a fault
   pub record AllCalm (c : Call D) : Type 0 where
@@ -107,11 +109,13 @@ module _ {D : Type 0} (reads : D → Option (List ℕ)) (may_leave : D → List 
     pub unread : TellsUnread c
     pub disk : c.status ≡ 5 → DiskFailed c
     pub sink : c.status ≡ 7 → SinkFailed c
-    -- 9 only where the store has a record or the beginning of one, and then no byte of it changes; and there always, where both files can be built and the
-    -- disk did not fail, but for want of memory
-    pub has_build : c.status ≡ 9 → Tells has_build_text c × ((file : List ℕ) → reads c.disk ≡ Some file → IsStarted file × (reads c.now ≡ Some file))
-    pub finds_build : AreRead c → ¬ (DiskFailed c) → (file : List ℕ) → reads c.disk ≡ Some file → IsStarted file
-        → OfFiles c.script c.agents (λ script agents. HasSite agents → ¬ (IsRefused script) → (c.status ≡ 9) ⊎ (c.status ≡ 8))
+    -- 9 only where the store has a record or the beginning of one, and then no byte of it changes, in a crash neither; and there always, where both files can be
+    -- built, but for a failing disk and want of memory
+    pub has_build : c.status ≡ 9 → Tells has_build_text c × ((file : List ℕ) → reads c.disk ≡ Some file → IsStarted file × (reads c.now ≡ Some file) × IsOnlyImage file (may_leave c.now))
+    pub finds_build : AreRead c → (file : List ℕ) → reads c.disk ≡ Some file → IsStarted file
+        → OfFiles c.script c.agents (λ script agents. HasSite agents → ¬ (IsRefused script) → (c.status ≡ 9) ⊎ (c.status ≡ 8) ⊎ (c.status ≡ 5))
+    -- where a log was shown, whole or its beginning, the disk counted no fault
+    pub calm : HasRun c.status → faults c.now ≡ faults c.disk
     -- a build was not begun, or went on until it had ended, or nobody or nothing let it go on
     pub went_on : LeavesAll c ⊎ WithFiles c (λ script agents. Unbegun c script agents ⊎ RunWentOn c script agents)
     -- over a store without a record, and files that can be built, where no device failed: the status of a build
@@ -121,9 +125,11 @@ module _ {D : Type 0} (reads : D → Option (List ℕ)) (may_leave : D → List 
     pub answers : c.status ≡ 6 → HasFailed c.answers
     pub disk : c.status ≡ 5 → DiskFailed c
     pub sink : c.status ≡ 7 → SinkFailed c
-    -- 9 only where the store has no record, or is damaged, with the text of that, and there always, where the disk did not fail, but for want of memory
+    -- 9 only where the store has no record, or is damaged, with the text of that, and there always, but for a failing disk and want of memory; and whichever of
+    -- the three comes, nothing is read or written there
     pub no_build : c.status ≡ 9 → (text : List ℕ) × NotTold (reads c.disk) (faults c.disk) (faults c.now) c.status text × Tells text c
-    pub finds_none : ¬ (DiskFailed c) → (file : List ℕ) → reads c.disk ≡ Some file → HasNone file → (c.status ≡ 9) ⊎ (c.status ≡ 8)
+    pub finds_none : (file : List ℕ) → reads c.disk ≡ Some file → HasNone file → ((c.status ≡ 9) ⊎ (c.status ≡ 8) ⊎ (c.status ≡ 5)) × IsUntouched reads may_leave clock since c.disk c.now × IsUnread c.answers
+    pub calm : HasRun c.status → faults c.now ≡ faults c.disk
     -- a build that was opened went on, until it had ended, or nobody or nothing let it go on
     pub went_on : (setting : Setting) (events : List Event) → Finds reads setting events c → Unopened c ⊎ WentOn setting events c
     pub works : AllCalm c → (setting : Setting) (events : List Event) → Finds reads setting events c → ¬ (events ≡ []) → HasWorked c.status

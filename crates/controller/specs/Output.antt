@@ -38,12 +38,13 @@ pub data Says : ℕ → List ℕ → Type 0 where
   full : (len add : ℕ) → 2 ^ 30 < len + add → Says 14 (store.full_text len add)
 
 module _ {D : Type 0} (reads : D → Option (List ℕ)) (may_leave : D → List ℕ → Type 0) where
-  -- The build went on from the events before to these, until it had ended or nobody went on with it; and the log of their world was written, with the status of
+  -- The build went on from the events before to these, until it had ended or nobody went on with it, and no more of the answers was read than its lines; and the log of their world was written, with the status of
   -- that world, or the front of the log, and then with 7. Where the disk told its bytes, all these events are durable: a read gives a consistent store of just
   -- them, and so does a crash.
   pub record Delivers (setting : Setting) (before events : List Event) (c : Call D) : Type 0 where
     pub takes : Takes setting before events c
-    pub rests : ((world_in setting events).ended ≡ true) ⊎ IsIdle setting events c.answers
+    pub rests : ((world_in setting events).ended ≡ true) ⊎ IsIdle setting events takes.more
+    pub no_more : takes.part ≡ []
     pub log : Writes (world_in setting events).shared.log (world_status (world_in setting events)) c
     pub stores : IsSome (reads c.disk) → IfSome (reads c.now) (Stores setting events)
     pub durable : IsSome (reads c.disk) → (image : List ℕ) → may_leave c.now image → Stores setting events image

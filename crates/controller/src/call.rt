@@ -39,7 +39,7 @@ pub struct Ended<D, A> {
 /// | status | comes | text |
 /// |---|---|---|
 /// | 2 | exactly where the words are no command | how to use the program |
-/// | 6 | only where a source counted a fault | `controller: read failed` |
+/// | 6 | of `run` and `check`, where the source of a file counted a fault; of `run` and `resume`, only where that of the answers did while an input was open | `controller: read failed` |
 /// | 13 | of `run` and `check`, exactly where the agents file has a fault | its path and kind |
 /// | 4 | of `run` and `check`, exactly where the script has a fault or is too long | the place of its first fault |
 /// | 9 | of `run`, exactly where it finds a record, or the beginning of one | `program.dat: already has a build` |
@@ -51,7 +51,8 @@ pub struct Ended<D, A> {
 /// | 3 | only where no grant is due, and no input is open or the answers were read to their end | the log so far |
 /// | 8 | want of memory | `controller: out of memory` |
 ///
-/// Each status yields to those above it, and all but 2 to want of memory.
+/// Each status yields to those above it, 9 and 14 also to a 5 that ended the call first, and all but 2 and the 6 of a file to want of
+/// memory.
 ///
 /// What is said of the bytes of a source, the sink or the disk holds where it tells them. Of a disk that tells nothing, as a real
 /// file, it still holds that `run` writes the log of the build that it has begun, with the status of that build. It may wait for

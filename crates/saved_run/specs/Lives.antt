@@ -1,6 +1,7 @@
 -- What holds of a life, and how it comes to rest or breaks off (this product's own).
 use Rattle.std.specs.Prelude.{◌≡◌, ◌⊎◌, ◌+◌, ◌<◌, ◌^◌, ℕ, Bool, true, false, List, [], ◌∷◌, ◌++◌, Option, Some, None, Result, IfSome, IsSome, IsSomeAnd, MatchResult}
 use Rattle.std.specs.Io.KnownBytes.{Consumes, IsAtEnd}
+use Rattle.jp_disk.specs.Images.{IsOnlyImage}
 use Rattle.jp_disk.specs.Moments.{AtEachMoment}
 use Rattle.journal_core.specs.Answers.{IsStarted}
 use Rattle.journal_core.specs.Moments.{SinceSync}
@@ -186,7 +187,7 @@ module _ {D T : Type 0} (reads : D → Option (List ℕ)) (may_leave : D → Lis
   -- A build was not begun. Either a crash leaves what it might have left before; or, since a moment at which the file was durable, what has
   -- the records of the file; or the take of the `Start` failed, as it did where its record did not fit.
   abbrev pub BeginRefuses : Setting → Event → List ℕ → D → BeginFault → D → Type 0
-  BeginRefuses setting start file disk HasBuild now = IsStarted file × (reads now ≡ Some file) × SinceSync clock since may_leave file disk now (λ image. records image ≡ records file)
+  BeginRefuses setting start file disk HasBuild now = IsStarted file × (reads now ≡ Some file) × IsOnlyImage file (may_leave now) × SinceSync clock since may_leave file disk now (λ image. records image ≡ records file)
   BeginRefuses setting start file disk (Take (Full at add)) now = StartFaults setting start (Full at add) × StartFails setting start file disk now (Full at add)
   BeginRefuses setting start file disk (Take fault) now =
       StartFaults setting start fault × (AtEachMoment clock since disk now (may_leave disk) ⊎ (SinceSync clock since may_leave file disk now (λ image. records image ≡ records file) ⊎ StartFails setting start file disk now fault))

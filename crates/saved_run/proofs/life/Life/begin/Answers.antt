@@ -20,7 +20,7 @@ returns-in-Err-HasRecord-default-clause-begun g c = λ file told.
     let D = g.D.Disk in
     let e = c.in-Err-HasRecord-default in
     let refused = subst (λ (f : CreateFault). CreateRefuses D.reads D.may_leave file e.disk f) e.field-0-0-is (e.ensures.created file told) in
-    (refused.0, refused.1, since_started e.field-0-0 e.field-0-0-is (e.ensures.any_moment file told))
+    (refused.0, refused.1, refused.2, since_started e.field-0-0 e.field-0-0-is (e.ensures.any_moment file told))
 
 pub returns-in-Err-Disk-default-clause-begun : goal.returns-in-Err-Disk-default-clause-begun
 returns-in-Err-Disk-default-clause-begun g c = λ file told. (tt, since_either (c.in-Err-Disk-default.ensures.any_moment file told))
