@@ -4,8 +4,6 @@ ghost use Rattle.std.specs.Prelude.{◌≡◌, true};
 ghost use Rattle.record_form.specs.Ordered.{IsInOrder};
 ghost use Rattle.build_core.specs.Phases.{has_begun};
 
-use crate::run::agents_of;
-use crate::trial::Trial;
 use agents_file::read_agents;
 use build_core::Build;
 use build_images::{RestoreRefusal, image_of, restored};
@@ -19,6 +17,7 @@ use model_text::Bytes;
 use record_form::Measured;
 use saved_thread::SavedThread;
 use std::alloc::{AllocError, Global};
+use trial_text::Trial;
 
 /// The most bytes that an image has.
 const LONGEST: u64 = 4_294_967_295;
@@ -106,7 +105,7 @@ pub fn build_in<R: SavedThread + Drop>(
     let image = read_image(alloc, bytes)?;
     match (
         parse(alloc, &trial.script),
-        read_agents(alloc, agents_of(trial).as_bytes()),
+        read_agents(alloc, trial.agents().as_bytes()),
     ) {
         (Ok(tree), Ok(site)) => {
             let code = number(alloc, tree)?;

@@ -12,7 +12,6 @@ mod orders;
 mod requests;
 mod run;
 mod shown;
-mod trial;
 
 use cps_machine::MachineThread;
 use run::run_trial;

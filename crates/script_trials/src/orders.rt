@@ -4,6 +4,7 @@ use crate::shown::Shown;
 use model_run::{Event, Stream, Why};
 use model_text::{Bytes, Text};
 use std::alloc::{AllocError, Global};
+use trial_text::{number_of, split_word};
 
 /// What a line of a trial asks for.
 #[derive(Drop)]
@@ -26,7 +27,7 @@ pub enum Order {
 
 /// Reads an order. `AllocError` where the memory was refused.
 pub fn read_order(alloc: Global, line: &str) -> Result<Order, AllocError> {
-    let (word, rest) = line.split_once(" ").unwrap_or((line, ""));
+    let (word, rest) = split_word(line);
     match word {
         "agents" => Ok(Order::Agents),
         "tail" => Ok(Order::Tail),
@@ -42,12 +43,12 @@ pub fn read_order(alloc: Global, line: &str) -> Result<Order, AllocError> {
 
 /// Reads what is to be shown of an image. `AllocError` where the memory was refused.
 fn read_shown(alloc: Global, line: &str) -> Result<Order, AllocError> {
-    let (word, rest) = line.split_once(" ").unwrap_or((line, ""));
+    let (word, rest) = split_word(line);
     Ok(match word {
         "bytes" => Order::Image(Shown::Bytes),
         "longer" => Order::Image(Shown::Longer),
         "number" => {
-            let (place, number) = rest.split_once(" ").unwrap_or((rest, ""));
+            let (place, number) = split_word(rest);
             Order::Image(Shown::Number {
                 place: number_of(place) as usize,
                 number: number_of(number),
@@ -68,14 +69,14 @@ fn each_of(event: Option<Event>) -> Order {
 
 /// Reads the line of an event. `None` where its word is none of an event. `AllocError` where the memory was refused.
 fn read_line(alloc: Global, line: &str) -> Result<Option<Event>, AllocError> {
-    let (word, rest) = line.split_once(" ").unwrap_or((line, ""));
+    let (word, rest) = split_word(line);
     read_event(alloc, word, rest)
 }
 
 /// Reads an event: its word, the number of a request or a task, and what is known besides. `None` where the word is none of an
 /// event. `AllocError` where the memory was refused.
 fn read_event(alloc: Global, word: &str, rest: &str) -> Result<Option<Event>, AllocError> {
-    let (first, behind) = rest.split_once(" ").unwrap_or((rest, ""));
+    let (first, behind) = split_word(rest);
     let number = number_of(first);
     Ok(Some(match word {
         "start" => start(alloc),
@@ -107,11 +108,6 @@ pub fn start(alloc: Global) -> Event {
     }
 }
 
-/// A number of decimal digits; 0 where it is none.
-fn number_of(digits: &str) -> u32 {
-    digits.parse::<u32>().unwrap_or(0)
-}
-
 /// Why a task is lost: `gone`, or any other word where it was not started.
 fn why_of(word: &str) -> Why {
     if word == "gone" {
@@ -133,7 +129,7 @@ fn decided(alloc: Global, request: u32, proceed: bool, name: &str) -> Result<Eve
 /// Output of a task: the place of its first byte, and its bytes, in which `\n` is a newline. `AllocError` where the memory was
 /// refused.
 fn output(alloc: Global, task: u32, stream: Stream, rest: &str) -> Result<Event, AllocError> {
-    let (from, text) = rest.split_once(" ").unwrap_or((rest, ""));
+    let (from, text) = split_word(rest);
     let mut bytes = Vec::new(alloc);
     for (at, line) in text.split("\\n").enumerate() {
         if at > 0 {

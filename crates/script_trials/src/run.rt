@@ -6,7 +6,6 @@ use crate::images::{build_in, image_bytes};
 use crate::orders::{Order, read_order, start};
 use crate::requests::write_requests;
 use crate::shown::write_shown;
-use crate::trial::{Trial, read_trial};
 use agents_file::read_agents;
 use build_core::Build;
 use cps_code::number;
@@ -15,9 +14,7 @@ use model_run::{Event, Taken};
 use saved_thread::SavedThread;
 use script_thread::ScriptThread;
 use std::alloc::{AllocError, Global};
-
-/// The agents file of a trial that has none of its own.
-const ONE_EXECUTOR: &str = r#"{"job":"demo","agents":[{"name":"m","root":"/w","executors":1}]}"#;
+use trial_text::{Trial, read_trial};
 
 /// How many bytes of a long log are written.
 const TAIL: usize = 100;
@@ -66,7 +63,7 @@ fn outcome<R: SavedThread + Drop>(
     let mut out = Vec::new(alloc);
     match (
         parse(alloc, &trial.script),
-        read_agents(alloc, agents_of(trial).as_bytes()),
+        read_agents(alloc, trial.agents().as_bytes()),
     ) {
         (Ok(tree), Ok(site)) => {
             let mut build: Build<R> = Build::new(alloc, number(alloc, tree)?, site)?;
@@ -76,16 +73,6 @@ fn outcome<R: SavedThread + Drop>(
         _ => out.extend_from_slice(b"a fault in the script or in the agents file\n")?,
     }
     Ok(out)
-}
-
-/// The agents file of a trial.
-pub fn agents_of<'a>(trial: &Trial<'a>) -> &'a str {
-    for line in trial.orders.iter() {
-        if let Some(agents) = line.strip_prefix("agents ") {
-            return agents;
-        }
-    }
-    ONE_EXECUTOR
 }
 
 /// Begins the build, and does what the orders say. `AllocError` where the memory was refused.

@@ -1,11 +1,11 @@
 //! What a trial shows of the image of its build, as text.
 
 use crate::images::{Refusal, build_in, image_bytes};
-use crate::trial::Trial;
 use build_core::Build;
 use model_run::Event;
 use saved_thread::SavedThread;
 use std::alloc::{AllocError, Global};
+use trial_text::Trial;
 
 /// How many bytes a line has, two digits each.
 const LINE: usize = 50;

@@ -1,6 +1,7 @@
 #!/usr/bin/env python3
-"""The stores that trials are given, as docs/FORMATS.md spells them, by the independent writer of form_trials: a line `> store ..` for each
-trial of them, and the places that the others tell. What the images hold was worked out by hand from docs/LANGUAGE.md and WORLD.md."""
+"""The stores that trials are given, as docs/FORMATS.md spells them, by the independent writer of form_trials: a line
+`> store ..` for each trial of them, and the places that the others tell. What the images hold was worked out by hand
+from docs/LANGUAGE.md and WORLD.md."""
 import os
 import sys
 
@@ -32,8 +33,8 @@ def store(*payloads):
 
 
 def set_image(value):
-    """SET_SCRIPT, which waits for its input, where `x` has this value. The nodes of the script: 1, 2 and 3 the assignment, its name and
-    its value, 4 the statement of `input`, 5 the call. The cells: `x`, and the text `go?`."""
+    """SET_SCRIPT, which waits for its input, where `x` has this value. The nodes of the script: 1, 2 and 3 the
+    assignment, its name and its value, 4 the statement of `input`, 5 the call. The cells: `x`, and the text `go?`."""
     return image(2, 1, 0, 0, [name(b"x", 0)], [u8(0) + whole(value), a_text(b"go?")],
                  [node(0, b""), node(1, b"input", 2)], BEGUN + ASKED, [an_input(1)], [],
                  [thread(0, NONE, 3, u8(0) + u32(1), OUTSIDE, [frame(0, 0, 1, [], []), frame(43, 5, 1, [], [])])])
@@ -57,7 +58,8 @@ def approved(who):
 BEGIN = record(start(INPUT_SCRIPT), INPUT)
 # It waits again, as its log does not tell.
 WAITS = record(decided(1, 1, b"ann"), asked_image(0))
-# A record between the first and the last that is so long that the event of `an` fits behind the last one, and that of `ann` does not.
+# A record between the first and the last that is so long that the event of `an` fits behind the last one, and that of
+# `ann` does not.
 MOST = 1 << 30
 GATE = len(store(BEGIN)) - 1
 ROOM = MOST - len(store(BEGIN, b"", WAITS)) - 5 - len(approved(b"an"))

@@ -55,7 +55,8 @@ pub fn call<R: SavedThread + Drop, W: Wait + AllocGlobal>(
     Ok(call_with::<R, W, MemoryDisk>(rt, words, streams, disk))
 }
 
-/// Calls the controller with a command over a folder whose store is stretched. `AllocError` where the memory was refused.
+/// Calls the controller with a command over a folder whose store is stretched. `AllocError` where the memory was
+/// refused.
 pub fn call_stretched<R: SavedThread + Drop, W: Wait + AllocGlobal>(
     rt: &W,
     folder: &Folder<'_>,

@@ -1,22 +1,28 @@
-//! Gives commands to the controller, one behind the other on one folder, over a disk and streams in memory, and writes what
-//! each of them wrote and its status: on the trials of the file `stdin` beside this folder it has to write just what stands in
-//! `stdout`.
+//! Gives commands to the controller, one behind the other on one folder, over a disk and streams in memory, and
+//! writes what each of them wrote and its status: on the trials of the file `stdin` beside this folder it has to
+//! write just what stands in `stdout`.
 //!
-//! A body that always answers that there is no memory meets every contract. So what the commands do with ample memory is
-//! shown here, with devices that fail, and with machines that stop. What is wanted does not come from the program: it was
-//! worked out by hand from the rules that `docs/` states, and `data/stores.py` spells the stores that are given.
+//! A body that always answers that there is no memory meets every contract. So what the commands do with ample memory
+//! is shown here, with devices that fail, and with machines that stop. What is wanted does not come from the program:
+//! it was worked out by hand from the rules that `docs/` states, and `data/stores.py` spells the stores that are
+//! given.
 //!
 //! | order | what happens |
 //! |---|---|
 //! | `agents FILE` | the folder has this agents file, from the beginning |
-//! | `run`, `resume`, `log`, `graph`, `check`, each with answer lines | the controller does this; ` \| ` stands between two answer lines |
+//! | `run`, `resume`, `log`, `graph`, `check` | the controller does this, with the answer lines behind the word |
 //! | `words WORDS` | the controller is called with these words |
-//! | `fail DEVICE CALL` | this call of `script`, `agents`, `answers`, `out` or `disk` fails at the next command |
-//! | `store BYTES` | the folder has a store of these bytes, with two digits of base 16 each |
+//! | `fail DEVICE CALL` | this call of a device fails at the next of these |
+//! | `store BYTES` | the folder has a store of these bytes, of two digits each |
 //! | `cut NUMBER` | the store loses this many bytes at its end |
-//! | `stops WAYS STEP COMMAND ; ANSWERS` | the command is stopped at each call of the disk in turn, and gone on with |
-//! | `stretch PLACE ZEROS COMMAND` | the controller does this over the store with so many zeros put in at this place; what it writes there is not kept |
-//! | `fails WAYS STEP COMMAND ; ANSWERS` | the same, where that call of the disk alone fails |
+//! | `crashes WAYS STEP COMMAND ; ANSWERS` | the machine crashes behind a command, and a `resume` has these answers |
+//! | `stops WAYS STEP COMMAND ; ANSWERS` | also behind one that is stopped at each call of the disk in turn |
+//! | `fails WAYS STEP COMMAND ; ANSWERS` | also behind one of which each call of the disk fails in turn |
+//! | `stretch PLACE ZEROS COMMAND` | the controller does this over the store with so many zeros at this place |
+//!
+//! Between two answer lines stands ` | `. The devices are `script`, `agents`, `answers`, `out` and `disk`. The
+//! machine crashes in this many ways, whose choices are so far apart (`MemoryDisk::crash`); the first of them loses
+//! nothing.
 #![tactic(auto)]
 
 mod call;

@@ -1,10 +1,11 @@
 //! What the lines of a trial ask for.
 
-use trial_text::{number_of, split_word};
+use trial_text::split_word;
 
 /// Which call fails.
 #[derive(Clone, Copy)]
 pub struct Fault {
+    /// The device that is called.
     pub device: Device,
     /// The number of the call; the first one of a device is number 1.
     pub call: u64,
@@ -13,10 +14,15 @@ pub struct Fault {
 /// Of which device a call fails.
 #[derive(Clone, Copy, PartialEq, Eq)]
 pub enum Device {
+    /// The script.
     Script,
+    /// The agents file.
     Agents,
+    /// The answer lines.
     Answers,
+    /// The output.
     Out,
+    /// The disk.
     Disk,
     /// The disk, and each call of it behind that one too.
     Machine,
@@ -31,11 +37,12 @@ pub struct Command<'a> {
     pub answers: &'a str,
 }
 
-/// A life that ends at any call of the disk, and the one behind it.
+/// A life behind which the machine crashes, and the next one.
 #[derive(Clone, Copy)]
 pub struct Lives<'a> {
-    /// `Disk` where one call fails, `Machine` where all do from there on.
-    pub device: Device,
+    /// Where the first life ends at each call of the disk in turn: `Disk` where one call fails, `Machine` where all
+    /// do from there on.
+    pub device: Option<Device>,
     /// In how many ways the machine crashes then.
     pub ways: u32,
     /// How far apart the choices of these crashes are.
@@ -53,6 +60,7 @@ pub struct Stretch<'a> {
     pub at: u32,
     /// How many zeros.
     pub zeros: u32,
+    /// What is done.
     pub command: Command<'a>,
 }
 
@@ -69,30 +77,49 @@ pub enum Order<'a> {
     Store(&'a str),
     /// The store loses so many bytes at its end.
     Cut(u32),
-    /// A command is ended at each call of the disk, and gone on with.
+    /// The machine crashes behind a command, which is gone on with.
     Lives(Lives<'a>),
     /// The controller is called over a stretched store.
     Stretch(Stretch<'a>),
-    /// None of these.
-    Unknown,
 }
 
-/// Reads an order.
-pub fn read_order(line: &str) -> Order<'_> {
+/// Reads an order. `None` where the line is none.
+pub fn read_order(line: &str) -> Option<Order<'_>> {
     if let Some(command) = read_command(line) {
-        return Order::Call(command);
+        return Some(Order::Call(command));
     }
     let (word, rest) = split_word(line);
     match word {
-        "agents" => Order::Agents,
-        "fail" => read_fault(rest),
-        "store" => Order::Store(rest),
-        "cut" => Order::Cut(number_of(rest)),
-        "stops" => read_lives(Device::Machine, rest),
-        "fails" => read_lives(Device::Disk, rest),
-        "stretch" => read_stretch(rest),
-        _ => Order::Unknown,
+        "agents" => Some(Order::Agents),
+        "fail" => Some(Order::Fail(read_fault(rest)?)),
+        "store" if are_bytes(rest) => Some(Order::Store(rest)),
+        "cut" => Some(Order::Cut(read_number(rest)?)),
+        "crashes" => Some(Order::Lives(read_lives(None, rest)?)),
+        "stops" => Some(Order::Lives(read_lives(Some(Device::Machine), rest)?)),
+        "fails" => Some(Order::Lives(read_lives(Some(Device::Disk), rest)?)),
+        "stretch" => Some(Order::Stretch(read_stretch(rest)?)),
+        _ => None,
     }
+}
+
+/// Reads a number of decimal digits below 4294967296.
+fn read_number(digits: &str) -> Option<u32> {
+    digits.parse::<u32>().ok()
+}
+
+/// The byte of two digits of base 16.
+pub fn read_byte(digits: &str) -> Option<u8> {
+    u8::from_str_radix(digits, 16).ok()
+}
+
+/// Whether there are bytes, of two digits of base 16 each, with a blank between two of them.
+fn are_bytes(digits: &str) -> bool {
+    for byte in digits.split(" ") {
+        if read_byte(byte).is_none() {
+            return false;
+        }
+    }
+    true
 }
 
 /// Reads a command. `None` where the line is none.
@@ -116,7 +143,7 @@ fn read_command(line: &str) -> Option<Command<'_>> {
 }
 
 /// Reads which call of which device fails.
-fn read_fault(line: &str) -> Order<'_> {
+fn read_fault(line: &str) -> Option<Fault> {
     let (word, call) = split_word(line);
     let device = match word {
         "script" => Device::Script,
@@ -124,42 +151,34 @@ fn read_fault(line: &str) -> Order<'_> {
         "answers" => Device::Answers,
         "out" => Device::Out,
         "disk" => Device::Disk,
-        _ => return Order::Unknown,
+        _ => return None,
     };
-    Order::Fail(Fault {
+    let call = u64::from(read_number(call)?);
+    Some(Fault { device, call })
+}
+
+/// Reads two lives: in how many ways the machine crashes between them, how far apart their choices are, the command
+/// of the first, and behind ` ; ` the answers of the second.
+fn read_lives(device: Option<Device>, line: &str) -> Option<Lives<'_>> {
+    let (ways, behind) = split_word(line);
+    let (step, behind) = split_word(behind);
+    let (first, answers) = behind.split_once(" ; ")?;
+    Some(Lives {
         device,
-        call: u64::from(number_of(call)),
+        ways: read_number(ways)?,
+        step: read_number(step)?,
+        first: read_command(first)?,
+        answers,
     })
 }
 
-/// Reads two lives: in how many ways the machine crashes between them, how far apart their choices are, the command of the
-/// first, and behind ` ; ` the answers of the second.
-fn read_lives(device: Device, line: &str) -> Order<'_> {
-    let (ways, behind) = split_word(line);
-    let (step, behind) = split_word(behind);
-    let (first, answers) = behind.split_once(" ; ").unwrap_or((behind, ""));
-    match read_command(first) {
-        Some(first) => Order::Lives(Lives {
-            device,
-            ways: number_of(ways),
-            step: number_of(step),
-            first,
-            answers,
-        }),
-        None => Order::Unknown,
-    }
-}
-
 /// Reads a command over a stretched store: where zeros are put in, how many, and the command.
-fn read_stretch(line: &str) -> Order<'_> {
+fn read_stretch(line: &str) -> Option<Stretch<'_>> {
     let (at, behind) = split_word(line);
     let (zeros, command) = split_word(behind);
-    match read_command(command) {
-        Some(command) => Order::Stretch(Stretch {
-            at: number_of(at),
-            zeros: number_of(zeros),
-            command,
-        }),
-        None => Order::Unknown,
-    }
+    Some(Stretch {
+        at: read_number(at)?,
+        zeros: read_number(zeros)?,
+        command: read_command(command)?,
+    })
 }

@@ -2,8 +2,8 @@
 
 use crate::call::{Folder, call, call_stretched};
 use crate::lives::write_lives;
-use crate::orders::{Command, Fault, Order, read_order};
-use crate::told::{write_called, write_line};
+use crate::orders::{Command, Fault, Order, Stretch, read_byte, read_order};
+use crate::told::{write_called, write_line, write_order};
 use saved_thread::SavedThread;
 use std::alloc::{AllocError, Global};
 use std::sync::Wait;
@@ -47,7 +47,8 @@ fn do_orders<R: SavedThread + Drop, W: Wait + AllocGlobal>(
     Ok(out)
 }
 
-/// Does what an order says. `AllocError` where the memory was refused.
+/// Does what an order says. What fails at the next command fails at a command of its own alone. `AllocError` where
+/// the memory was refused.
 fn do_order<R: SavedThread + Drop, W: Wait + AllocGlobal>(
     rt: &W,
     place: &mut Place<'_>,
@@ -55,24 +56,38 @@ fn do_order<R: SavedThread + Drop, W: Wait + AllocGlobal>(
     out: &mut Vec<u8>,
 ) -> Result<(), AllocError> {
     match read_order(line) {
-        Order::Agents => Ok(()),
-        Order::Call(command) => do_command::<R, W>(rt, place, &command, line, out),
-        Order::Fail(fault) => {
+        Some(Order::Agents) => Ok(()),
+        Some(Order::Call(command)) => do_command::<R, W>(rt, place, &command, line, out),
+        Some(Order::Fail(fault)) => {
             place.fault = Some(fault);
             Ok(())
         }
-        Order::Store(digits) => read_store(rt.alloc(), digits, &mut place.folder.store),
-        Order::Cut(bytes) => {
+        Some(Order::Store(digits)) => read_store(rt.alloc(), digits, &mut place.folder.store),
+        Some(Order::Cut(bytes)) => {
             cut(&mut place.folder.store, bytes as usize);
             Ok(())
         }
-        Order::Lives(lives) => write_lives::<R, W>(rt, &place.folder, &lives, line, out),
-        Order::Stretch(stretch) => {
-            let called = call_stretched::<R, W>(rt, &place.folder, &stretch)?;
-            write_called(rt.alloc(), line, called, out)
+        Some(Order::Lives(lives)) if place.fault.is_none() => {
+            write_lives::<R, W>(rt, &place.folder, &lives, line, out)
         }
-        Order::Unknown => write_line(out, "an unknown order"),
+        Some(Order::Stretch(stretch)) if place.fault.is_none() => {
+            do_stretched::<R, W>(rt, &place.folder, &stretch, line, out)
+        }
+        _ => write_line(out, "an unknown order"),
     }
+}
+
+/// Calls the controller over a store that is stretched. `AllocError` where the memory was refused.
+fn do_stretched<R: SavedThread + Drop, W: Wait + AllocGlobal>(
+    rt: &W,
+    folder: &Folder<'_>,
+    stretch: &Stretch<'_>,
+    line: &str,
+    out: &mut Vec<u8>,
+) -> Result<(), AllocError> {
+    let called = call_stretched::<R, W>(rt, folder, stretch)?;
+    write_order(rt.alloc(), line, out)?;
+    write_called(rt.alloc(), called, out)
 }
 
 /// Calls the controller, and leaves its store in the folder. `AllocError` where the memory was refused.
@@ -86,15 +101,16 @@ fn do_command<R: SavedThread + Drop, W: Wait + AllocGlobal>(
     let called = call::<R, W>(rt, &place.folder, command, place.fault)?;
     place.fault = None;
     place.folder.store = Vec::from_slice(rt.alloc(), called.disk.bytes())?;
-    write_called(rt.alloc(), line, called, out)
+    write_order(rt.alloc(), line, out)?;
+    write_called(rt.alloc(), called, out)
 }
 
-/// Reads the bytes of a store, two digits of base 16 each, with a blank between two of them. `AllocError` where the memory
-/// was refused.
+/// Reads the bytes of a store, two digits of base 16 each, with a blank between two of them. `AllocError` where the
+/// memory was refused.
 fn read_store(alloc: Global, digits: &str, store: &mut Vec<u8>) -> Result<(), AllocError> {
     *store = Vec::new(alloc);
     for byte in digits.split(" ") {
-        store.push(u8::from_str_radix(byte, 16).unwrap_or(0))?;
+        store.push(read_byte(byte).unwrap_or(0))?;
     }
     Ok(())
 }

@@ -4,8 +4,8 @@ ghost use Rattle.std.specs.Prelude.{⊤, None};
 use device_faults::Failed;
 use jp_disk::Disk;
 
-/// A disk that reads as a store with zeros put in at a place. Of what is written it keeps how long the file is then, and it
-/// tells nothing of its bytes, as one over a real file does. No call of it fails.
+/// A disk that reads as a store with zeros put in at a place. Of what is written it keeps how long the file is then,
+/// and it tells nothing of its bytes, as one over a real file does. No call of it fails.
 #[derive(Drop)]
 pub struct StretchedDisk {
     store: Vec<u8>,

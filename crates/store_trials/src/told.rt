@@ -4,15 +4,18 @@ use crate::call::Called;
 use jp_io::{MemorySource, Source};
 use std::alloc::{AllocError, Global};
 
-/// Writes an order, what the controller wrote, its status, and how many bytes of the answers were not read, where there are
-/// some. `AllocError` where the memory was refused.
+/// Writes an order. `AllocError` where the memory was refused.
+pub fn write_order(alloc: Global, line: &str, out: &mut Vec<u8>) -> Result<(), AllocError> {
+    write_line(out, &format!(in alloc; "$ {line}")?)
+}
+
+/// Writes what the controller wrote, its status, and how many bytes of the answers were not read, where there are some.
+/// `AllocError` where the memory was refused.
 pub fn write_called<D: Drop>(
     alloc: Global,
-    line: &str,
     called: Called<D>,
     out: &mut Vec<u8>,
 ) -> Result<(), AllocError> {
-    write_line(out, &format!(in alloc; "$ {line}")?)?;
     out.extend_from_slice(called.out.bytes())?;
     write_line(out, &ending(alloc, called.status, unread(called.answers))?)
 }
@@ -32,9 +35,13 @@ fn ending(alloc: Global, status: u8, unread: usize) -> Result<String, AllocError
     format!(in alloc; "status {status}, {unread} bytes of the answers were not read")
 }
 
-/// How many bytes of the answers were not read; of many, 100.
+/// How many bytes of the answers were not read; of more than 1,000 these.
 fn unread(answers: MemorySource) -> usize {
     let mut answers = answers;
-    let mut bytes = [0; 100];
-    answers.read(&mut bytes).unwrap_or(0)
+    let mut bytes = [0; 1000];
+    match answers.read(&mut bytes) {
+        Ok(count) => count,
+        // The call that was to fail: the next one does not.
+        Err(_) => answers.read(&mut bytes).unwrap_or(0),
+    }
 }
