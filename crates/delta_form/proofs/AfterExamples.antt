@@ -26,6 +26,9 @@ variable letter cell = record { name = letter ∷ []; cell = cell }
 abbrev task : ℕ → List ℕ → OpenRequest
 task taken out = record { number = 2; thread = 0; request = request.Task 0 [] [] [] [] false true taken out }
 
+abbrev asked : ℕ → OpenRequest
+asked number = record { number = number; thread = 0; request = request.Input (103 ∷ []) }
+
 abbrev frame : ℕ → ImageFrame
 frame node = record { kind = 0; node = node; at = 0; env = []; values = [] }
 
@@ -124,3 +127,28 @@ new_thread = refl
 
 new_keeps : after image (record nothing { threads = kept 1 1 ∷ [] }) ≡ None
 new_keeps = refl
+
+-- a thread that has ended does not stand and is not written too
+ended : option_map (λ i. i.threads) (after image (record nothing { ended_threads = 0 ∷ [] })) ≡ Some []
+ended = refl
+
+ended_and_written : after image (record nothing { ended_threads = 0 ∷ []; threads = kept 0 1 ∷ [] }) ≡ None
+ended_and_written = refl
+
+-- what is no task does not grow, and a new request is put where the numbers rise
+no_task : after (record image { requests = asked 2 ∷ [] }) (record nothing { requests = written.Grown 2 9 [] ∷ [] }) ≡ None
+no_task = refl
+
+put_between : option_map (λ i. i.requests) (after (record image { requests = asked 1 ∷ asked 5 ∷ [] }) (record nothing { requests = written.Whole (asked 3) ∷ [] })) ≡ Some (asked 1 ∷ asked 3 ∷ asked 5 ∷ [])
+put_between = refl
+
+-- the new log stands behind the old one
+logged : option_map (λ i. i.log) (after image (record nothing { log = 2 ∷ 3 ∷ [] })) ≡ Some (1 ∷ 2 ∷ 3 ∷ [])
+logged = refl
+
+-- lists that do not rise fit no image
+same_twice : after image (record nothing { cells = cell 1 ∷ cell 1 ∷ [] }) ≡ None
+same_twice = refl
+
+falling : after image (record nothing { bindings = variable 100 1 ∷ variable 98 1 ∷ [] }) ≡ None
+falling = refl

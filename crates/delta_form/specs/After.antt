@@ -1,6 +1,6 @@
 -- The image that a delta makes of an image (this product's own; docs/FORMATS.md, "Records of changes"). Each part of the
 -- image is replaced, or changed at some of its keys, or gets more behind it; where a part is undefined, so is the whole.
-use Rattle.std.specs.Prelude.{◌+◌, ℕ, Bool, not, nat_eq, nat_le, nat_lt, if◌then◌else◌, List, [], ◌∷◌, ◌++◌, length, map, take, Option, Some, None, slice_set}
+use Rattle.std.specs.Prelude.{◌+◌, ℕ, Bool, not, ◌&&◌, nat_eq, nat_le, nat_lt, if◌then◌else◌, List, [], ◌∷◌, ◌++◌, length, map, take, Option, Some, None, slice_set}
 use Rattle.std.specs.List.{list_all, list_any}
 use Rattle.std.specs.Option.{option_map}
 use Rattle.std.specs.Ordering.{nat_cmp, on}
@@ -16,7 +16,7 @@ use Rattle.image_form.specs.declared.image.Image.{Image}
 use Rattle.image_form.specs.declared.image.ImageFrame.{ImageFrame}
 use Rattle.image_form.specs.declared.image.ImageThread.{ImageThread}
 use Rattle.delta_form.specs.Applying.{◌>>=◌, in_turn}
-use Rattle.delta_form.specs.Changes.{Changing, EachBelow, by_number, changed}
+use Rattle.delta_form.specs.Changes.{Changing, EachBelow, by_number, changed, rising}
 use Rattle.delta_form.specs.Deltas.{new_node_parts}
 use Rattle.delta_form.specs.Numbers.{written_number}
 use Rattle.delta_form.specs.declared.delta.NumberedCell.{NumberedCell}
@@ -96,9 +96,9 @@ requests_after closed requests stood = renewed (λ r. r.number) written_number r
 abbrev pub threads_after : List ℕ → List WrittenThread → List ImageThread → Option (List ImageThread)
 threads_after ended threads stood = renewed (λ t. t.number) (λ w. w.number) thread_changes ended threads stood
 
--- The image after the changes.
-abbrev pub after : Image → Delta → Option Image
-after i d =
+-- The image with the changes made.
+abbrev pub with_changes : Image → Delta → Option Image
+with_changes i d =
     changed binding_changes d.bindings i.bindings >>= λ bindings.
     in_turn put_cell d.cells i.cells >>= λ cells.
     in_turn put_node d.nodes i.nodes >>= λ nodes.
@@ -118,7 +118,18 @@ after i d =
       threads = threads;
     })
 
--- The lists of a delta that are made with keys rise. All that are read do.
+-- each list of the delta rises that has names or numbers
+abbrev pub in_order : Delta → Bool
+in_order d =
+    rising (on (λ b. b.name) (slice_cmp nat_cmp)) d.bindings && rising (on (λ c. c.number) nat_cmp) d.cells && rising nat_cmp d.closed_requests
+    && rising (on written_number nat_cmp) d.requests && rising (on (λ h. h.executor) nat_cmp) d.held && rising nat_cmp d.ended_threads
+    && rising (on (λ w. w.number) nat_cmp) d.threads
+
+-- The image after the changes. A delta whose lists do not rise has none.
+abbrev pub after : Image → Delta → Option Image
+after i d = if in_order d then with_changes i d else None
+
+-- the lists that are changed key by key, and the numbers of those that are gone, rise
 pub record IsInOrder (delta : Delta) : Type 0 where
   pub bindings : EachBelow (on (λ b. b.name) (slice_cmp nat_cmp)) delta.bindings
   pub closed_requests : EachBelow nat_cmp delta.closed_requests

@@ -1,7 +1,7 @@
 -- Lists by rising keys, changed at some of the keys.
-use Rattle.std.specs.Prelude.{◌≡◌, ℕ, Bool, List, [], ◌∷◌, ◌++◌, Option, Some, None, if◌then◌else◌}
+use Rattle.std.specs.Prelude.{◌≡◌, ℕ, Bool, true, ◌&&◌, List, [], ◌∷◌, ◌++◌, Option, Some, None, if◌then◌else◌}
 use Rattle.std.specs.declared.cmp.Ordering.{Ordering}
-use Rattle.std.specs.Ordering.{nat_cmp}
+use Rattle.std.specs.Ordering.{is_lt, nat_cmp}
 use Rattle.std.specs.Option.{ForSome, option_map, option_to_list}
 use Rattle.std.specs.declared.cmp.Ordering.TheVariants.{Less, Equal, Greater}
 use Rattle.delta_form.specs.Applying.{in_turn}
@@ -47,6 +47,12 @@ abbrev pub EachBelow : {C : Type 0} → (C → C → Ordering) → List C → Ty
 EachBelow order [] = Unit {0}
 EachBelow order (c ∷ []) = Unit {0}
 EachBelow order (c ∷ d ∷ ds) = (order c d ≡ Less) × EachBelow order (d ∷ ds)
+
+-- the same, as a test
+abbrev pub rising : {C : Type 0} → (C → C → Ordering) → List C → Bool
+rising order [] = true
+rising order (c ∷ []) = true
+rising order (c ∷ d ∷ ds) = is_lt (order c d) && rising order (d ∷ ds)
 
 -- Keys are in an order, and what a change makes has its key.
 pub record Keyed {C X : Type 0} (how : Changing C X) : Type 0 where

@@ -23,8 +23,8 @@ pub(crate) trait Change<T>: Drop + Sized {
     fn compare(&self, item: &T) -> Ordering
         ensures { result ≡ changing.compare item.now self.now };
 
-    /// What stands at the key then, or that nothing does, by what stood there. `Fault` where the change is not defined
-    /// on it, `Memory` where there is none.
+    /// What stands at the key then, or that nothing does, by what stood there. `Fault` where the change is not
+    /// defined on it, `Memory` where there is none.
     fn make(self, stood: Option<T>) -> Result<Option<T>, DeltaRefusal>
         ensures { Applies result (changing.made self stood) };
 

@@ -8,6 +8,7 @@ use model_values::{Binding, Cell};
 pub struct NumberedCell {
     /// Its number; the first cell has 0.
     pub number: u32,
+    /// The cell as it is now.
     pub cell: Cell,
 }
 
@@ -17,6 +18,7 @@ pub type NumberedCells = Sequence<NumberedCell>;
 /// A flow node that is new. Its number is told by how many stand before it.
 #[derive(Drop)]
 pub struct NewNode {
+    /// What it stands for.
     pub kind: NodeKind,
     /// The step's name or the body's label, and empty for all other kinds and a body without a label.
     pub name: Text,

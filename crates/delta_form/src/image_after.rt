@@ -1,22 +1,37 @@
 //! The image after the changes.
 
 ghost use Rattle.delta_form.specs.Applying.{Applies};
-ghost use Rattle.delta_form.specs.After.{IsInOrder, after};
+ghost use Rattle.delta_form.specs.After.{IsInOrder, after, with_changes};
 
 use crate::merge::changed;
+use crate::order::is_in_order;
 use crate::put::{appended, put_all};
 use crate::renewed::renewed;
 use crate::{Delta, DeltaRefusal};
 use image_form::Image;
 use std::alloc::Global;
 
-/// The image after these changes. `Fault` where they are none of this image: a new variable's name stood before, a cell
-/// lies behind a gap, a flow node's number would be 4,294,967,296, a request is both closed and written, or a thread
-/// both ended and written, a number that is to stand does not, a request that grew is no task, or a thread keeps more
-/// frames than it had. `Memory` where there is none.
+/// The image after these changes. `Memory` where there is none, and `Fault` exactly where they do not fit the image:
+///
+/// - names or numbers of a list of the delta do not rise;
+/// - a variable with the name of a new one stood before;
+/// - a cell lies behind a gap, or a flow node would get the number 4,294,967,296;
+/// - a request is both closed and written, or a thread both ended and written;
+/// - a number that is to stand does not, or what grew is no task;
+/// - a thread keeps more frames than it had.
 pub fn apply(alloc: Global, image: Image, delta: Delta) -> Result<Image, DeltaRefusal>
-    requires { IsInOrder delta }
     ensures { Applies result (after image delta) }
+{
+    if is_in_order(&delta) {
+        with_changes(alloc, image, delta)
+    } else {
+        Err(DeltaRefusal::Fault)
+    }
+}
+
+fn with_changes(alloc: Global, image: Image, delta: Delta) -> Result<Image, DeltaRefusal>
+    requires { IsInOrder delta }
+    ensures { Applies result (with_changes image delta) }
 {
     let bindings = changed(alloc, image.bindings, delta.bindings)?;
     let cells = put_all(image.cells, delta.cells)?;

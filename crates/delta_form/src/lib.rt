@@ -1,9 +1,9 @@
 //! Records of changes: what changed of a build from one image to the next, as bytes and back, and the next image.
 //!
 //! A delta has one spelling. [`read_delta`] gives the delta that some bytes spell, all of them, or the first place at
-//! which their form breaks; [`write_delta`] gives the spelling. [`apply`] makes the image after the changes, or tells that
-//! they are none of the image. `docs/FORMATS.md` has the form byte by byte, `specs/Deltas` has it as definitions, and
-//! `specs/After` has what the changes make.
+//! which their form breaks; [`write_delta`] gives the spelling. [`apply`] makes the image after the changes, or tells
+//! that they do not fit the image. `docs/FORMATS.md` has the form byte by byte, `specs/Deltas` has it as definitions,
+//! and `specs/After` has what the changes make.
 //!
 //! ```text
 //! let bytes = write_delta(alloc, &delta)?;
@@ -19,9 +19,11 @@ mod image_after;
 mod items;
 mod merge;
 mod numbered;
+mod order;
 mod put;
 mod refusal;
 mod renewed;
+mod sizes;
 mod wholes;
 
 pub use delta::{

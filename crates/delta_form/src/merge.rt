@@ -12,8 +12,8 @@ use model_text::Sequence;
 use std::alloc::{AllocError, Global};
 use std::collections::VecDeque;
 
-/// The items with the changes made. `Fault` where one is not defined on what stands at its key, `Memory` where there is
-/// none.
+/// The items with the changes made. `Fault` where one is not defined on what stands at its key, `Memory` where there
+/// is none.
 pub(crate) fn changed<T: Drop, C: Change<T>>(
     alloc: Global,
     items: Sequence<T>,

@@ -10,7 +10,7 @@ use std::alloc::{AllocError, AllocFailed};
 pub enum DeltaRefusal {
     /// The memory was refused. It says nothing of the delta.
     Memory,
-    /// The delta is none of this image.
+    /// The delta does not fit the image.
     Fault,
 }
 

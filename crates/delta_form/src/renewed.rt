@@ -14,7 +14,8 @@ use model_text::{Ids, Sequence};
 use std::alloc::Global;
 
 /// The items without those with these numbers, and with the changes made. `Fault` where one of the numbers does not
-/// stand, or is that of a change, or a change is not defined on what stands at its number; `Memory` where there is none.
+/// stand, or is that of a change, or a change is not defined on what stands at its number; `Memory` where there is
+/// none.
 pub(crate) fn renewed<T: Numbered + Drop, C: Numbered + Change<T>>(
     alloc: Global,
     items: Sequence<T>,

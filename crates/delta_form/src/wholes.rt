@@ -5,7 +5,6 @@ ghost use Rattle.field_form.specs.Reading.{Gives};
 ghost use Rattle.field_form.specs.Forms.{Spells, Written, whole_of};
 ghost use Rattle.image_form.specs.Images.{result_form};
 ghost use Rattle.delta_form.specs.Deltas.{CanBeWritten, delta_form, delta_lawful, delta_parts, first_form, other_form};
-ghost use Rattle.delta_form.specs.After.{IsInOrder};
 ghost use Rattle.delta_form.specs.declared.delta.Delta.{Delta as Change};
 
 use crate::{
@@ -33,13 +32,12 @@ pub fn read_delta(alloc: Global, bytes: &[u8]) -> Result<Delta, FormRefusal>
     ensures place { Gives result (whole_of delta_form bytes.now) }
     // What was read can be written.
     ensures writable { IfOk result CanBeWritten }
-    // What was read can be applied.
-    ensures in_order { IfOk result IsInOrder }
 {
     read_whole(alloc, bytes)
 }
 
-/// The spelling of the delta. `Memory` where there is none.
+/// The spelling of the delta, whose lists and texts have fewer than 4,294,967,296 items or bytes, whose names and
+/// numbers rise, and of which no thread is ready to go on. `Memory` where there is none.
 pub fn write_delta(alloc: Global, delta: &Delta) -> Result<Bytes, Memory>
     requires { CanBeWritten delta.now }
     ensures { IfOk result (λ bytes. Spells delta_form delta.now bytes) }

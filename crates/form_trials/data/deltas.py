@@ -57,9 +57,9 @@ GROWN = delta(3, log=b"+ true", requests=[grown(2, 6, b"ok")], held=[u32(0, 9, 1
 # The build ends.
 OVER = delta(3, 1, 4, 1, nodes=[node(6, b"", 4)], closed=[2], ended_threads=[0])
 
-# What is none of the image INPUT: cell 5 alone, a second variable `a`, an input closed and written, an input that grew,
+# What does not fit the image INPUT: cell 5 alone, a second variable `a`, an input closed and written, an input that grew,
 # a request closed that is not open, three frames kept of two, a new thread that keeps one, a thread ended and written.
-NONE_OF_IT = {
+MISFITS = {
     "A_GAP": delta(cells=[cell(5, NULL)]),
     "TWICE": delta(bindings=[name(b"a", 0)]),
     "CLOSED_AND_WRITTEN": delta(closed=[1], requests=[an_input(1)]),
@@ -77,11 +77,14 @@ UNRISEN = {
     "CELLS": FRONT + rows() + u32(2) + cell(3, NULL) + u32(3),
     "CLOSED": FRONT + rows() + rows() + rows() + text(b"") + u32(2) + u32(4, 4),
     "REQUESTS": FRONT + rows() + rows() + rows() + text(b"") + rows() + u32(2) + grown(4, 0, b"") + u8(0) + u32(3),
+    "HELD": FRONT + rows() + rows() + rows() + text(b"") + rows() + rows() + u32(2) + u32(7, 1, 1) + u32(7),
     "ENDED": FRONT + rows() + rows() + rows() + text(b"") + rows() + rows() + rows() + u32(2) + u32(1, 0),
+    "THREADS": (FRONT + rows() + rows() + rows() + text(b"") + rows() + rows() + rows() + rows() + u32(2)
+                + thread(1, 3, 1, 0) + u32(0)),
 }
 
 if __name__ == "__main__":
-    ROWS = {"NOTHING": NOTHING, "DECIDED": DECIDED, "GROWN": GROWN, "OVER": OVER, **NONE_OF_IT, **UNRISEN}
+    ROWS = {"NOTHING": NOTHING, "DECIDED": DECIDED, "GROWN": GROWN, "OVER": OVER, **MISFITS, **UNRISEN}
     for word, row in ROWS.items():
         print(f'const {word}: &[u8] = b"\\')
         for start in range(0, len(row), 25):

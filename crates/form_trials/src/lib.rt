@@ -18,6 +18,8 @@ mod images; // image_form
 #[cfg(test)]
 mod names; // script_names
 #[cfg(test)]
+mod payloads; // delta_records
+#[cfg(test)]
 mod records; // record_form
 #[cfg(test)]
 mod rows; // frame_rows
