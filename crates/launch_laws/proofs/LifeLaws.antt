@@ -1,5 +1,5 @@
 -- Turns of an executor in one life, as one work; and a host that fits at the beginning of a life fits at its end.
-use Rattle.std.proofs.Common.{◌≡◌, ◌⊎◌, ◌∙◌, inl, inr, ℕ, ℤ, Bool, true, false, List, [], ◌∷◌, ◌++◌, map, Result, Ok, refl, sym, ap, subst, append_assoc, append-nil, arith}
+use Rattle.std.proofs.Common.{◌≡◌, ◌⊎◌, ◌∙◌, inl, inr, ℕ, ℤ, Bool, true, false, List, [], ◌∷◌, ◌++◌, map, None, Result, Ok, refl, sym, ap, subst, append_assoc, append-nil, arith}
 use Rattle.std.specs.Prelude.{nat_eq}
 use Rattle.std.specs.List.{AllByRecursion as AllAre, IsDistinct}
 use Rattle.device_faults.specs.declared.faults.Failed.{Failed}
@@ -19,9 +19,10 @@ use Rattle.agent_worker.specs.declared.gate.Claim.TheVariants as claim
 use Rattle.agent_worker.specs.Acts.{Act, Called, Reported, with_told}
 use Rattle.agent_worker.specs.Gate.{Told, told_at, told_as, is_told, added_if, Claimed, claimed_as, claimed_in}
 use Rattle.agent_worker.specs.Serving.{ExitTaken, exited}
+use Rattle.agent_worker.specs.Serve.{Tasks}
 use Rattle.agent_worker.specs.Working.{Deed, Claims, Serves, Pauses, Halts, OnHost, WorksOnHost, IsWork, AreOf, work_told, work_claims}
 use Rattle.world_laws.proofs.Places.{some_front, some_behind}
-use Rattle.launch_laws.specs.Fitting.{Among, AllFit, AreApart, ExecutorHost, Fits, all_launches}
+use Rattle.launch_laws.specs.Fitting.{Among, AllFit, AreApart, ExecutorHost, Fits, WasTask, all_launches}
 use Rattle.launch_laws.specs.ManyTurns.{AllTaken, InLife, IsOfLife, Turns, none, more}
 use Rattle.launch_laws.proofs.Lists.{NoTwice, none_twice, all_differ, among_either, twice_append, twice_front, twice_new}
 use Rattle.launch_laws.proofs.TaskLaws.{exited_over, one_executor}
@@ -175,6 +176,17 @@ module _ (setting : Setting) (p : Node) (e : setting.script ≡ term 0 p) (small
       looks start told claimed now turns (none_twice (tasks_in claimed) of_life.once) (λ c there. there) (λ t there. there) in
       fits_works setting begun taken executor p e small started start now l.past fits l.known l.on_host
 
+  -- Events that a host does not see leave it fitting.
+  pub fits_more : (begun taken : List Event) (executor : ℕ) (host : Tasks) → (world_in setting begun).started ≡ true → AllTaken setting begun taken → Fits setting begun executor host → Fits setting (begun ++ taken) executor host
+  unfolding IsDistinct
+  fits_more begun taken executor host started all fits =
+      let here : OnHost = record { tasks = host; output = λ task stream. []; exited = λ task. None } in
+      life_fits begun taken executor 0 here here [] [] started all (record { taken_so = tt; given = tt; once = tt }) none fits
+
+  pub all_fit_more : (begun taken : List Event) (hosts : List ExecutorHost) → (world_in setting begun).started ≡ true → AllTaken setting begun taken → AllFit setting begun hosts → AllFit setting (begun ++ taken) hosts
+  all_fit_more begun taken [] started all fit = tt
+  all_fit_more begun taken (host ∷ hosts) started all fit = (fits_more begun taken host.number host.tasks started all fit.0, all_fit_more begun taken hosts started all fit.1)
+
   -- no task is launched on two hosts
   apart_from : (events : List Event) (a : ExecutorHost) (hosts : List ExecutorHost) → AllAre (λ y. nat_eq a.number y ≡ false) (map (λ h. h.number) hosts) → Fits setting events a.number a.tasks → AllFit setting events hosts
       → (t : ℕ) → Among t a.tasks.launches → Among t (all_launches hosts) → ⊥
@@ -197,3 +209,26 @@ module _ (setting : Setting) (p : Node) (e : setting.script ≡ term 0 p) (small
   -- Over all hosts no task is launched twice.
   pub no_task_twice : (events : List Event) (hosts : List ExecutorHost) → AllFit setting events hosts → AreApart hosts → IsDistinct nat_eq (all_launches hosts)
   no_task_twice events hosts all apart = all_differ (all_launches hosts) (none_on_two events hosts all apart)
+
+-- A host that has launched nothing fits all events, and no other fits a build that has taken none.
+pub none_fits : (setting : Setting) (events : List Event) (executor : ℕ) (host : Tasks) → host.launches ≡ [] → Fits setting events executor host
+unfolding IsDistinct
+none_fits setting events executor host nothing = record {
+  was = λ task there. absurd (subst (Among task) nothing there);
+  once = subst (IsDistinct nat_eq) (sym nothing) tt;
+  folder = λ task there. absurd (subst (Among task) nothing there);
+}
+
+pub none_yet : (setting : Setting) (executor : ℕ) (host : Tasks) → Fits setting [] executor host → host.launches ≡ []
+none_yet setting executor host fits = by host.launches refl
+  where
+    no_front : (front rest : List Event) → [] ≡ front ++ rest → front ≡ []
+    no_front [] rest is = refl
+    no_front (e ∷ front) rest is = absurd (cc)
+
+    never : (task : ℕ) → WasTask setting [] executor task → ⊥
+    never task was = let bad : false ≡ true = subst (λ (es : List Event). (world_in setting es).started ≡ true) (no_front was.front was.rest was.is) was.begun in absurd (cc)
+
+    by : (launches : List ℕ) → host.launches ≡ launches → launches ≡ []
+    by [] is = refl
+    by (t ∷ ts) is = absurd (never t (fits.was t (subst (Among t) (sym is) (inl refl))))

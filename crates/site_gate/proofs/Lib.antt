@@ -3,4 +3,5 @@ pub mod TaleLemmas
 pub mod ClaimLaws
 pub mod AskLemmas
 pub mod TurnLaws
+pub mod SayLemmas
 pub mod TurnsLemmas

@@ -18,6 +18,10 @@ use Rattle.agent_worker.specs.Working.{telling}
 use Rattle.site_state.specs.declared.ask.Entry.{Entry}
 use Rattle.site_gate.specs.Tales.{tells_of}
 use Rattle.site_gate.specs.Turns.{TakesTurn, Executed}
+use Rattle.settle_laws.specs.Stances.{Stance}
+use Rattle.build_core.specs.Builds.{Parts}
+use Rattle.site_gate.specs.Saying.{SaidSo}
+use Rattle.site_gate.proofs.SayLemmas.{stays}
 use Rattle.site_gate.proofs.TurnLaws.{executor_turn}
 
 module _ {H A : Type 0} (honest : H → Type 0) (faults : H → ℕ) (calls : H → Option (List Call)) (launches dirs : H → List ℕ) (output : H → ℕ → Stream → List ℕ) (exit : H → ℕ → Option ℤ)
@@ -33,7 +37,7 @@ module _ {H A : Type 0} (honest : H → Type 0) (faults : H → ℕ) (calls : H 
   works_by tells (Executor number host) (Operator next kept now_ended now_failed) g g' worked w = absurd w
   works_by tells (Operator answers line ended failed) (Executor now next) g g' worked w = absurd w
 
-  executed : (m m' : Member H A) (own : List Entry) (said : Said) (is_open : Bool) (worked : Worked) → Work m m' worked (tells_of [] Nothing false) (tells_of own said is_open)
+  pub executed : (m m' : Member H A) (own : List Entry) (said : Said) (is_open : Bool) (worked : Worked) → Work m m' worked (tells_of [] Nothing false) (tells_of own said is_open)
       → Executed honest calls launches dirs output exit looks m m' worked own
   executed (Executor number host) (Executor now next) own said is_open worked w = executor_turn calls launches dirs output exit number looks (honest host) own said is_open host next worked w.3
   executed (Operator answers line ended failed) (Operator next kept now_ended now_failed) own said is_open worked w = tt
@@ -41,10 +45,10 @@ module _ {H A : Type 0} (honest : H → Type 0) (faults : H → ℕ) (calls : H 
   executed (Operator answers line ended failed) (Executor now next) own said is_open worked w = absurd w
 
   -- A pass was split off, work was done through it, and it was taken in again.
-  pub did_turn : {B : Type 0} (v u new other w : Known Entry B) (m m' : Member H A) (said : Said) (is_open : Bool) (worked : Worked) (old now : GateTells) → Splits v u new → Joins u other w
-      → old ≡ tells_of (entries_of new.numbers new.seen) Nothing false → now ≡ tells_of (entries_of other.numbers other.seen) said is_open → Work m m' worked old now
-      → TakesTurn (Work m m' worked) (Executed honest calls launches dirs output exit looks m m' worked) v w
-  did_turn v u new other w m m' said is_open worked old now s j from_new to_other did =
+  pub did_turn : {B T : Type 0} (stance : T → Stance) (opening : B → Parts T) (v u new other w : Known Entry B) (m m' : Member H A) (said : Said) (is_open : Bool) (worked : Worked) (old now : GateTells) → Splits v u new → Joins u other w
+      → old ≡ tells_of (entries_of new.numbers new.seen) Nothing false → now ≡ tells_of (entries_of other.numbers other.seen) said is_open → Work m m' worked old now → ∥ SaidSo stance opening other said ∥₁
+      → TakesTurn (Work m m' worked) (Executed honest calls launches dirs output exit looks m m' worked) (λ (s : Said). ∥ SaidSo stance opening w s ∥₁) v w
+  did_turn stance opening v u new other w m m' said is_open worked old now s j from_new to_other did so =
       let works : Work m m' worked (tells_of (entries_of new.numbers new.seen) Nothing false) (tells_of (entries_of other.numbers other.seen) said is_open) =
       subst (λ (t : GateTells). Work m m' worked t (tells_of (entries_of other.numbers other.seen) said is_open)) from_new (subst (Work m m' worked old) to_other did) in
       let own = entries_of other.numbers other.seen in
@@ -61,4 +65,5 @@ module _ {H A : Type 0} (honest : H → Type 0) (faults : H → ℕ) (calls : H 
         is_open = is_open;
         worked = from_none;
         executed = executed m m' own said is_open worked from_none;
+        said_so = stays stance opening other w (ap (λ k. k.base) j.now ∙ sym j.base) j.theirs.0 j.theirs.1 said so;
       }

@@ -1,4 +1,5 @@
 pub mod Tales
+pub mod Saying
 pub mod Asking
 pub mod Turning
 pub mod Turns

@@ -17,7 +17,7 @@ use Rattle.site_gate.specs.Tales.{tells_of}
 use Rattle.site_gate.specs.Turning.{ExecutorTurn}
 
 -- A turn: of the entries that the pass has after it, those of the turn are the ones of a gate that was new; all others it had.
-pub record TakesTurn {B : Type 0} (works : GateTells → GateTells → Type 0) (did : List Entry → Type 0) (v w : Known Entry B) : Type 0 where
+pub record TakesTurn {B : Type 0} (works : GateTells → GateTells → Type 0) (did : List Entry → Type 0) (so : Said → Type 0) (v w : Known Entry B) : Type 0 where
   pub base_stays : w.base ≡ v.base
   -- it has seen all that it had seen, and more
   pub begins : (more : List (ℕ × Entry)) × (v.seen ++ more ≡ w.seen)
@@ -27,6 +27,8 @@ pub record TakesTurn {B : Type 0} (works : GateTells → GateTells → Type 0) (
   pub is_open : Bool
   pub worked : works (tells_of [] Nothing false) (tells_of own said is_open)
   pub executed : did own
+  -- what its gate said last was so
+  pub said_so : so said
 
 module _ {H A : Type 0} where
   -- what an executor did; of the operator its work says all

@@ -1,5 +1,9 @@
 //! The gate of one member.
-ghost use Rattle.std.specs.Prelude.{◌≡◌, [], ◌++◌, List, true, false, if◌then◌else◌};
+ghost use Rattle.std.specs.Prelude.{◌≡◌, ◌⊎◌, [], ◌++◌, List, Ok, Err, true, false, if◌then◌else◌};
+ghost use Rattle.model_run.specs.declared.taken.Taken.TheVariants.{NotOpen};
+ghost use Rattle.agent_worker.specs.declared.fault.TakeFault.TheVariants.{Memory};
+ghost use Rattle.site_state.specs.declared.ask.Ask.TheVariants as asks;
+ghost use Rattle.site_gate.specs.Saying.{WasSaid, SaidSo};
 ghost use Rattle.program_lock.specs.Passes.{known, own_entries, IsPassOf};
 ghost use Rattle.agent_worker.specs.Gate.{Told, added_if, is_told, told_as, IsToldOf, heard_of};
 ghost use Rattle.site_state.specs.Histories.{lines};
@@ -35,6 +39,7 @@ pub struct SiteGate<'a, W: Wait, D: Disk, R: SavedThread + Drop, B: Place> {
     pub ghost belongs: { IsPassOf program.now pass },
     pub ghost placed: { pass.seat.table_id ≡ B.table },
     pub ghost shared: { (known pass).parts ≡ B.share (known pass).number },
+    pub ghost said_so: { ∥ SaidSo R.stance (λ base. base.value.build) (known pass) said ∥₁ },
 }
 
 /// Whether it is a grant.
@@ -134,6 +139,7 @@ impl<'a, W: Wait, D: Disk, R: SavedThread + Drop, B: Place> SiteGate<'a, W, D, R
     /// Asks the state.
     fn ask(&mut self, ask: Ask) -> Reply
         ensures asked { Asked R.stance ask result (own_entries self.old.pass) (own_entries self.new.pass) }
+        ensures replied { WasSaid R.stance (λ base. base.value.build) (known self.new.pass) ask result }
         ensures said { self.new.said ≡ self.old.said }
         ensures is_open { self.new.is_open ≡ self.old.is_open }
     {
@@ -142,6 +148,7 @@ impl<'a, W: Wait, D: Disk, R: SavedThread + Drop, B: Place> SiteGate<'a, W, D, R
 
     /// Asks it to take an event, where that is no grant.
     fn take(&mut self, event: Event) -> Result<Taken, TakeFault>
+        ensures replied { ((is_grant event ≡ true) × (result ≡ Ok NotOpen)) ⊎ WasSaid R.stance (λ base. base.value.build) (known self.new.pass) (asks.Take event) (says.Taken result) }
         ensures told { told_of (own_entries self.new.pass) ≡ added_if (is_told result) (told_as event result) (told_of (own_entries self.old.pass)) }
         ensures claimed { claimed_of (own_entries self.new.pass) ≡ claimed_of (own_entries self.old.pass) }
         ensures lines { lines (own_entries self.new.pass) ≡ lines (own_entries self.old.pass) }
@@ -155,6 +162,7 @@ impl<'a, W: Wait, D: Disk, R: SavedThread + Drop, B: Place> SiteGate<'a, W, D, R
 
     /// Asks it to hear an answer line.
     fn hear(&mut self, line: &[u8]) -> Result<Heard, TakeFault>
+        ensures replied { (result ≡ Err Memory) ⊎ WasSaid R.stance (λ base. base.value.build) (known self.new.pass) (asks.Answer line.now) (says.Heard result) }
         ensures told { (more : List Told) × IsToldOf line.now result more × (told_of (own_entries self.new.pass) ≡ told_of (own_entries self.old.pass) ++ more) }
         ensures claimed { claimed_of (own_entries self.new.pass) ≡ claimed_of (own_entries self.old.pass) }
         ensures lines { lines (own_entries self.new.pass) ≡ lines (own_entries self.old.pass) ++ heard_of line.now result }

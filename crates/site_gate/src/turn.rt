@@ -4,6 +4,7 @@ ghost use Rattle.program_lock.specs.Passes.{known, IsPassOf};
 ghost use Rattle.program_lock.specs.Views.{all_parts, handed_on};
 ghost use Rattle.agent_worker.specs.MemberWork.{WorksAs};
 ghost use Rattle.agent_worker.specs.Working.{telling};
+ghost use Rattle.site_gate.specs.Saying.{SaidSo};
 ghost use Rattle.site_gate.specs.Turns.{TakesTurn, Executed};
 
 use crate::gate::SiteGate;
@@ -30,7 +31,7 @@ use task_host::Host;
 ///
 /// # Errors
 ///
-/// `Memory` comes only where 18446744073709551615 passes are out; then nothing was done.
+/// `Memory` comes for want of a further pass; then nothing was done.
 pub fn take_turn<
     B: Place,
     W: Wait + Clock + AllocGlobal,
@@ -54,7 +55,8 @@ pub fn take_turn<
     ensures whole { (known pass.old).parts ≡ all_parts → (known pass.new).parts ≡ all_parts }
     ensures turn { IfOk result (λ worked. TakesTurn
         (λ old now. WorksAs H.honest H.faults (telling H.calls H.launches H.dirs H.output H.exited (λ tells. tells)) (λ tells. tells) A.left A.faults looks member.old member.new old now worked)
-        (Executed H.honest H.calls H.launches H.dirs H.output H.exited looks member.old member.new worked) (known pass.old) (known pass.new)) }
+        (Executed H.honest H.calls H.launches H.dirs H.output H.exited looks member.old member.new worked)
+        (λ said. ∥ SaidSo R.stance (λ base. base.value.build) (known pass.new) said ∥₁) (known pass.old) (known pass.new)) }
     ensures refused { IfErr result (λ _. (known pass.new ≡ known pass.old) × (member.new ≡ member.old)) }
 {
     let Ok(own) = program.split(rt, pass) else {

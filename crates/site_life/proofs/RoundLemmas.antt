@@ -8,6 +8,7 @@ use Rattle.program_lock.specs.declared.view.Known.{Known}
 use Rattle.program_lock.specs.History.{entries_of}
 use Rattle.task_host.specs.declared.call.Call.{Call}
 use Rattle.task_host.specs.declared.order.Stream.{Stream}
+use Rattle.agent_worker.specs.declared.gate.Said.{Said}
 use Rattle.agent_worker.specs.declared.member.Member.{Member}
 use Rattle.agent_worker.specs.declared.member.Member.TheVariants.{Executor, Operator}
 use Rattle.agent_worker.specs.declared.worked.Worked.{Worked}
@@ -83,15 +84,15 @@ module _ {H A : Type 0} (honest : H → Type 0) (faults : H → ℕ) (calls : H 
   abbrev Works : Member H A → Member H A → Worked → GateTells → GateTells → Type 0
   Works m n worked from to = Work honest faults calls launches dirs output exited left source_faults looks m n worked from to
 
-  launched_in : (m n : Member H A) (worked : Worked) (own : List Entry) → Executed honest calls launches dirs output exited looks m n worked own → (more : List ℕ) × Launches launches m n own more
+  pub launched_in : (m n : Member H A) (worked : Worked) (own : List Entry) → Executed honest calls launches dirs output exited looks m n worked own → (more : List ℕ) × Launches launches m n own more
   launched_in (Executor number host) (Executor now next) worked own e = (e.launched.more, (e.launched.added, e.launched.part))
   launched_in (Operator answers line ended failed) (Operator next kept now_ended now_failed) worked own e = ([], refl)
   launched_in (Executor number host) (Operator next kept now_ended now_failed) worked own e = absurd e
   launched_in (Operator answers line ended failed) (Executor now next) worked own e = absurd e
 
   -- the turn of the next member
-  pub turn_taken : {B : Type 0} (old items : List (Member H A)) (i : ℕ) (v w u : Known Entry B) (m n d : Member H A) (worked : Worked) → i < length items → m ≡ slice_index_or items i d
-      → TakesTurn (Works m n worked) (Executed honest calls launches dirs output exited looks m n worked) w u → TurnsSoFar Did old items i v w → TurnsSoFar Did old (slice_set items i n) (i + 1) v u
+  pub turn_taken : {B : Type 0} {so : Said → Type 0} (old items : List (Member H A)) (i : ℕ) (v w u : Known Entry B) (m n d : Member H A) (worked : Worked) → i < length items → m ≡ slice_index_or items i d
+      → TakesTurn (Works m n worked) (Executed honest calls launches dirs output exited looks m n worked) so w u → TurnsSoFar Did old items i v w → TurnsSoFar Did old (slice_set items i n) (i + 1) v u
   turn_taken old items i v w u m n d worked inside is t s =
       let added = launched_in m n worked t.own t.executed in
       one_turn Did old v items i w u (record { old = m; now = n; worked = worked; own = t.own; said = t.said; is_open = t.is_open; launches = added.0 }) d inside is

@@ -24,7 +24,7 @@ use task_host::Host;
 ///
 /// # Errors
 ///
-/// `Memory` comes only where 18446744073709551615 passes are out; then the members before the one that had no turn have had theirs,
+/// `Memory` comes for want of a further pass; then the members before the one that had no turn have had theirs,
 /// and the others are as they were.
 pub fn take_round<
     B: Place,

@@ -96,14 +96,17 @@ rest_failed : (ended : Bool) (b : Bool) → (if ended then Ended else if b then 
 rest_failed true b is = absurd (cc)
 rest_failed false b is = waits_not b is
 
--- a life that rests since answers could not be read
-pub failed_so : {H A : Type 0} (members : List (Member H A)) (how : Result Progress Memory) (f : Option TakeFault) → ended_as f how members ≡ Ok AnswersFailed → any_failed members ≡ true
-failed_so members how (Some f) is = absurd (cc)
-failed_so members (Ok come) None is = both_true (nat_lt 0 come.waiting) (any_failed members) (rest_failed come.ended (nat_lt 0 come.waiting && any_failed members) (same (rest_of come members) AnswersFailed is))
+ended_failed : {H A : Type 0} (members : List (Member H A)) (how : Result Progress Memory) (f : Option TakeFault) → ended_as f how members ≡ Ok AnswersFailed → any_failed members ≡ true
+ended_failed members how (Some f) is = absurd (cc)
+ended_failed members (Ok come) None is = both_true (nat_lt 0 come.waiting) (any_failed members) (rest_failed come.ended (nat_lt 0 come.waiting && any_failed members) (same (rest_of come members) AnswersFailed is))
   where
     same : (r q : Rest) → rested r ≡ Ok q → r ≡ q
     same r q e = cc
-failed_so members (Err memory) None is = absurd (cc)
+ended_failed members (Err memory) None is = absurd (cc)
+
+-- a life that rests since answers could not be read
+pub failed_so : {H A : Type 0} (members : List (Member H A)) (how : Result Progress Memory) (f : Option TakeFault) (ended : Result Rest TakeFault) → ended ≡ ended_as f how members → ended ≡ Ok AnswersFailed → any_failed members ≡ true
+failed_so members how f ended is failed = ended_failed members how f (sym is ∙ failed)
 
 module _ {D T : Type 0} (reads : D → Option (List ℕ)) (may_leave : D → List ℕ → Type 0) (clock : D → ℕ) (since : D → ℕ → List ℕ → Type 0) (faults : D → ℕ) (stance : T → Stance) where
   -- the count of faults of the disk, over the opening and the life

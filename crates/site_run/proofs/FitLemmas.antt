@@ -35,12 +35,14 @@ use Rattle.site_gate.proofs.TaleLemmas.{claimed-append, told-append}
 use Rattle.site_life.specs.Lives.{Life, EndsWith}
 use Rattle.site_life.specs.Rounds.{turns_of}
 use Rattle.site_life.specs.Turns.{Turn, MadeOf, Launches, launches_of}
-use Rattle.launch_laws.specs.Fitting.{Fits}
-use Rattle.launch_laws.specs.ManyTurns.{AllTaken, InLife, IsOfLife, none as no_turn}
+use Rattle.launch_laws.specs.Fitting.{AreApart, ExecutorHost, Fits, all_launches}
+use Rattle.launch_laws.specs.ManyTurns.{AllTaken, InLife}
 use Rattle.launch_laws.proofs.Lists.{NoTwice, all_differ, none_twice}
-use Rattle.launch_laws.proofs.LifeLaws.{life_fits}
-use Rattle.site_run.specs.Serving.{AreHonest, AllFit, AreServed}
-use Rattle.site_run.proofs.MemberLemmas.{Steps, steps_of, steps_then, made_then, rounds_steps, claims_of_all, SaysSo, AllCame, all_came, all_served}
+use Rattle.launch_laws.proofs.LifeLaws.{life_fits, no_task_twice}
+use Rattle.site_run.specs.Serving.{AreHonest, AllFit, AreServed, hosts_of}
+use Rattle.site_life.proofs.MadeLemmas.{made_join}
+use Rattle.site_run.proofs.WalkLemmas.{all_behind, all_front}
+use Rattle.site_run.proofs.MemberLemmas.{Steps, steps_of, steps_then, rounds_steps, claims_of_all, SaysSo, AllCame, all_came, all_served}
 
 -- what the entries of a history tell was taken in it
 pub told_taken : (h : List Entry) → AllAre (λ (t : Told). t.accepted ≡ true → Some_of (λ x. x ≡ t.event) (tooks h)) (told_of h)
@@ -68,21 +70,13 @@ module _ (IsTold : Told → Type 0) (IsGiven : ClaimedTask → Type 0) where
   TellsSo : Entry → Type 0
   TellsSo x = AllAre IsTold (told_of (x ∷ [])) × AllAre IsGiven (claimed_of (x ∷ []))
 
-  front_of : {A : Type 0} (P : A → Type 0) (xs ys : List A) → AllAre P (xs ++ ys) → AllAre P xs
-  front_of P [] ys all = tt
-  front_of P (x ∷ xs) ys all = (all.0, front_of P xs ys all.1)
-
-  rest_of : {A : Type 0} (P : A → Type 0) (xs ys : List A) → AllAre P (xs ++ ys) → AllAre P ys
-  rest_of P [] ys all = all
-  rest_of P (x ∷ xs) ys all = rest_of P xs ys all.1
-
   each_tells : (h : List Entry) → AllAre IsTold (told_of h) → AllAre IsGiven (claimed_of h) → AllAre TellsSo h
   unfolding TellsSo
   each_tells [] told given = tt
   each_tells (x ∷ h) told given =
       let t : AllAre IsTold (told_of (x ∷ []) ++ told_of h) = subst (AllAre IsTold) (told-append (x ∷ []) h) told in
       let g : AllAre IsGiven (claimed_of (x ∷ []) ++ claimed_of h) = subst (AllAre IsGiven) (claimed-append (x ∷ []) h) given in
-      ((front_of IsTold (told_of (x ∷ [])) (told_of h) t, front_of IsGiven (claimed_of (x ∷ [])) (claimed_of h) g), each_tells h (rest_of IsTold (told_of (x ∷ [])) (told_of h) t) (rest_of IsGiven (claimed_of (x ∷ [])) (claimed_of h) g))
+      ((all_front IsTold (told_of (x ∷ [])) (told_of h) t, all_front IsGiven (claimed_of (x ∷ [])) (claimed_of h) g), each_tells h (all_behind IsTold (told_of (x ∷ [])) (told_of h) t) (all_behind IsGiven (claimed_of (x ∷ [])) (claimed_of h) g))
 
   all_tell : (h : List Entry) → AllAre TellsSo h → AllAre IsTold (told_of h) × AllAre IsGiven (claimed_of h)
   unfolding TellsSo
@@ -109,6 +103,9 @@ module _ (IsTold : Told → Type 0) (IsGiven : ClaimedTask → Type 0) where
   -- what the whole history tells each turn tells
   pub made_says : {H A : Type 0} (turns : List (Turn H A)) (h : List Entry) → MadeOf [] turns h → AllAre IsTold (told_of h) → AllAre IsGiven (claimed_of h) → AllAre (SaysSo IsTold IsGiven) turns
   made_says turns h made told given = (made_all [] turns h made (each_tells h told given)).1
+
+cons_same : {a b : ℕ} {xs ys : List ℕ} → a ≡ b → xs ≡ ys → a ∷ xs ≡ b ∷ ys
+cons_same one two = cc
 
 -- A turn whose launches are its claims, each once: as that of an executor whose host is the list of its launches.
 abbrev ClaimTurn : Type 0
@@ -154,7 +151,7 @@ module _ {H A : Type 0} (honest : H → Type 0) (faults : H → ℕ) (calls : H 
     steps_all =
         let first = rounds_steps (λ b history x y more. Says stance (opening b) history x y more) base h life.rounds old [] life.members life.before life.went_on in
         let last = last_steps how life.ends in
-        (steps_then old (turns_of life.rounds) life.last life.members new first.0 last.0, made_then [] (turns_of life.rounds) life.last life.before h first.1 last.1)
+        (steps_then old (turns_of life.rounds) life.last life.members new first.0 last.0, made_join (turns_of life.rounds) life.last [] life.before h first.1 last.1)
 
     once_all : NoTwice (claims_of_all all_turns)
     once_all = claims_once stance opening base all_turns h life.legal steps_all.1
@@ -170,25 +167,27 @@ module _ {H A : Type 0} (honest : H → Type 0) (faults : H → ℕ) (calls : H 
     all_so (x ∷ xs) = (tt, all_so xs)
 
     -- Executors keep their numbers, and what could not be read of the answers was counted.
-    pub life_serves : AreServed source_faults old new
+    pub life_serves : AreServed honest faults calls left source_faults old new
     life_serves = all_served honest faults calls launches dirs output exited left source_faults looks (λ (t : Told). Unit {0}) (λ (c : ClaimedTask). Unit {0}) old new (claims_of_all all_turns)
         (came_all (λ (t : Told). Unit {0}) (λ (c : ClaimedTask). Unit {0}) (all_so (told_of h)) (all_so (claimed_of h)))
 
-  module _ (setting : Setting) (p : Node) (e : setting.script ≡ term 0 p) (small : Small setting) (begun : List Event) (started : (world_in setting begun).started ≡ true) where
-    -- events that the hosts do not see
-    pub fit_more : (taken : List Event) (members : List (Member H A)) → AllTaken setting begun taken → AllFit launches dirs setting begun members → AllFit launches dirs setting (begun ++ taken) members
-    unfolding IsDistinct
-    fit_more taken [] all fit = tt
-    fit_more taken (Executor number host ∷ members) all fit = (
-      life_fits setting p e small begun taken number 0 (on_host launches dirs output exited host) (on_host launches dirs output exited host) [] [] started all none_of no_turn fit.0,
-      fit_more taken members all fit.1,
-    )
-      where
-        none_of : IsOfLife setting begun taken [] []
-        none_of = record { taken_so = tt; given = tt; once = tt }
-    fit_more taken (Operator answers line ended failed ∷ members) all fit = fit_more taken members all fit
+  -- executors keep their numbers
+  same_numbers : (os ms : List (Member H A)) → AreServed honest faults calls left source_faults os ms → map (λ (x : ExecutorHost). x.number) (hosts_of launches dirs ms) ≡ map (λ (x : ExecutorHost). x.number) (hosts_of launches dirs os)
+  same_numbers [] [] c = refl
+  same_numbers (Executor number host ∷ os) (Executor now next ∷ ms) c = cons_same c.0.0 (same_numbers os ms c.1)
+  same_numbers (Operator answers line ended failed ∷ os) (Operator next kept now_ended now_failed ∷ ms) c = same_numbers os ms c.1
+  same_numbers (Executor number host ∷ os) (Operator next kept now_ended now_failed ∷ ms) c = absurd c
+  same_numbers (Operator answers line ended failed ∷ os) (Executor now next ∷ ms) c = absurd c
+  same_numbers [] (m ∷ ms) c = absurd c
+  same_numbers (o ∷ os) [] c = absurd c
 
-    -- and those of a life
+  -- over all hosts no task was launched twice
+  pub once_fit : (setting : Setting) (p : Node) (e : setting.script ≡ term 0 p) (small : Small setting) (now : List Event) (old new : List (Member H A)) → AreServed honest faults calls left source_faults old new → AllFit launches dirs setting now new
+      → AreApart (hosts_of launches dirs old) → IsDistinct nat_eq (all_launches (hosts_of launches dirs new))
+  once_fit setting p e small now old new served fit apart = no_task_twice setting p e small now (hosts_of launches dirs new) fit (subst (IsDistinct nat_eq) (sym (same_numbers old new served)) apart)
+
+  module _ (setting : Setting) (p : Node) (e : setting.script ≡ term 0 p) (small : Small setting) (begun : List Event) (started : (world_in setting begun).started ≡ true) where
+    -- the events of a life
     pub fit_life : (taken : List Event) → AllTaken setting begun taken → (os ms : List (Member H A)) (seen : List ℕ)
         → AllCame honest faults calls launches dirs output exited left source_faults looks (λ (t : Told). t.accepted ≡ true → Some_of (λ x. x ≡ t.event) taken) (λ (c : ClaimedTask). InLife setting begun taken c.executor c.task) os ms seen
         → AreHonest honest os → AllFit launches dirs setting begun os → AllFit launches dirs setting (begun ++ taken) ms

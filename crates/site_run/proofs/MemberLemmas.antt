@@ -1,5 +1,6 @@
 -- What became of each member in a life, by its turns.
-use Rattle.std.proofs.Common.{◌≡◌, ◌⊎◌, ◌≤◌, ◌∙◌, inl, inr, ℕ, ℤ, Bool, true, false, List, [], ◌∷◌, ◌++◌, map, Option, refl, sym, ap, subst, append_assoc, append-nil, arith}
+use Rattle.std.specs.Prelude.{◌||◌, ◌↔◌}
+use Rattle.std.proofs.Common.{◌≡◌, ◌⊎◌, ◌≤◌, ◌∙◌, inl, inr, ℕ, ℤ, Bool, true, false, List, [], ◌∷◌, ◌++◌, map, Option, Some, None, refl, sym, ap, subst, append_assoc, append-nil, arith}
 use Rattle.std.specs.List.{AllByRecursion as AllAre}
 use Rattle.device_faults.specs.Faults.{CountsFault, Rose}
 use Rattle.jp_disk.proofs.MomentLemmas.{rose_later}
@@ -12,21 +13,28 @@ use Rattle.agent_worker.specs.declared.worked.Worked.{Worked}
 use Rattle.agent_worker.specs.declared.worked.Worked.TheVariants as worked
 use Rattle.agent_worker.specs.declared.gate.Said.{Said}
 use Rattle.agent_worker.specs.declared.gate.Said.TheVariants.{Nothing}
-use Rattle.agent_worker.specs.Gate.{Told, Claimed as ClaimedTask}
-use Rattle.agent_worker.specs.Working.{AreOf, on_host}
+use Rattle.agent_worker.specs.Gate.{Becomes, Told, Claimed as ClaimedTask}
+use Rattle.task_host.specs.declared.call.Call.TheVariants as call
+use Rattle.agent_worker.specs.Acts.{Act, Called, Reported, with_calls}
+use Rattle.agent_worker.specs.Working.{Deed, Claims, Serves, Pauses, Halts, AreOf, on_host, work_calls}
 use Rattle.site_state.specs.declared.ask.Ask.{Ask}
 use Rattle.site_state.specs.declared.ask.Entry.{Entry}
 use Rattle.site_state.specs.declared.ask.Reply.{Reply}
 use Rattle.site_gate.specs.Tales.{claimed_of, told_of, tells_of}
 use Rattle.site_gate.specs.Turning.{tasks_of}
 use Rattle.site_gate.specs.Turns.{Executed}
+use Rattle.site_gate.proofs.ClaimLaws.{tasks-append}
+use Rattle.site_life.proofs.MadeLemmas.{made_join}
 use Rattle.site_gate.proofs.PartLemmas.{all_append}
 use Rattle.site_life.specs.Rounds.{Round, AreTurnsOf, RoundsFrom, turns_of}
 use Rattle.site_life.specs.Turns.{Turn, MadeOf, DidTurn, Work}
 use Rattle.launch_laws.specs.Fitting.{Among}
 use Rattle.launch_laws.specs.ManyTurns.{Turns, none as no_turn, more as another_turn}
 use Rattle.launch_laws.proofs.Lists.{NoTwice, among_either, twice_append, twice_front}
-use Rattle.site_run.specs.Serving.{AreServed}
+use Rattle.agent_worker.specs.Operating.{has_ended, read_in}
+use Rattle.std.specs.Io.KnownBytes.{IsAtEnd}
+use Rattle.std.proofs.KnownBytes.{Consumes-nil, Consumes-trans}
+use Rattle.site_run.specs.Serving.{AreServed, HostStays, ReadOn}
 use Rattle.world_laws.proofs.Places.{some_front, some_behind}
 
 -- no number stands twice in the second of two lists, or in both
@@ -38,10 +46,6 @@ not_in_both : (xs ys : List ℕ) → NoTwice (xs ++ ys) → (n : ℕ) → Among 
 not_in_both [] ys once n here there = here
 not_in_both (x ∷ xs) ys once n (inl same) there = once.0 (subst (λ (m : ℕ). Among m (xs ++ ys)) (sym same) (some_behind (λ m. m ≡ n) xs ys there))
 not_in_both (x ∷ xs) ys once n (inr here) there = not_in_both xs ys once.1 n here there
-
-tasks-append : (xs ys : List ClaimedTask) → tasks_of (xs ++ ys) ≡ tasks_of xs ++ tasks_of ys
-tasks-append [] ys = refl
-tasks-append (c ∷ xs) ys = ap (λ (l : List ℕ). c.task ∷ l) (tasks-append xs ys)
 
 module _ {H A : Type 0} where
   -- Members that become others, one at a turn.
@@ -69,22 +73,51 @@ module _ {H A : Type 0} where
   steps_then ms [] more ns ks one two = subst (λ (l : List (Member H A)). Steps l more ks) (sym one) two
   steps_then ms (turn ∷ turns) more ns ks one two = (one.0, one.1, one.2, steps_then (one.0 ++ turn.now ∷ one.1) turns more ns ks one.3 two)
 
-  pub made_then : (before : List Entry) (turns more : List (Turn H A)) (mid after : List Entry) → MadeOf before turns mid → MadeOf mid more after → MadeOf before (turns ++ more) after
-  made_then before [] more mid after one two = subst (λ (es : List Entry). MadeOf es more after) (sym one) two
-  made_then before (turn ∷ turns) more mid after one two = (one.0, one.1, made_then one.0 turns more mid after one.2 two)
-
   module _ {B : Type 0} (answers : Answers B Entry Ask Reply) (base : B) (history : List Entry) where
     pub rounds_steps : (rounds : List (Round H A)) (old : List (Member H A)) (before : List Entry) (now : List (Member H A)) (after : List Entry) → RoundsFrom answers base history rounds old before now after
         → Steps old (turns_of rounds) now × MadeOf before (turns_of rounds) after
     rounds_steps [] old before now after r = (sym r.0, sym r.1)
     rounds_steps (round ∷ rounds) old before now after r =
         let later = rounds_steps rounds r.0 r.1 now after r.6 in
-        (steps_then old round.turns (turns_of rounds) r.0 now (steps_of round.turns [] old r.0 r.2) later.0, made_then before round.turns (turns_of rounds) r.1 after r.3 later.1)
+        (steps_then old round.turns (turns_of rounds) r.0 now (steps_of round.turns [] old r.0 r.2) later.0, made_join round.turns (turns_of rounds) before r.1 after r.3 later.1)
 
   -- all claims of these turns
   abbrev pub claims_of_all : List (Turn H A) → List ℕ
   claims_of_all [] = []
   claims_of_all (turn ∷ turns) = tasks_of (claimed_of turn.own) ++ claims_of_all turns
+
+-- a work adds its calls behind those that a host told
+acts_added : (acts : List Act) (old : List Call) → with_calls acts old ≡ old ++ with_calls acts []
+acts_added [] old = sym (append-nil old)
+acts_added (Called c ∷ acts) old = ap (λ (l : List Call). l ++ c ∷ []) (acts_added acts old) ∙ append_assoc old (with_calls acts []) (c ∷ [])
+acts_added (Reported e answer ∷ acts) old = acts_added acts old
+
+calls_added : (past : List Deed) (old : List Call) → work_calls past old ≡ old ++ work_calls past []
+calls_added [] old = sym (append-nil old)
+calls_added (Claims claim ∷ past) old = calls_added past old
+calls_added (Serves order acts answer ∷ past) old =
+    acts_added acts (work_calls past old) ∙ ap (λ (l : List Call). l ++ with_calls acts []) (calls_added past old) ∙ append_assoc old (work_calls past []) (with_calls acts [])
+    ∙ ap (λ (l : List Call). old ++ l) (sym (acts_added acts (work_calls past [])))
+calls_added (Pauses ∷ past) old = ap (λ (l : List Call). l ++ call.Pause ∷ []) (calls_added past old) ∙ append_assoc old (work_calls past []) (call.Pause ∷ [])
+calls_added (Halts ∷ past) old = calls_added past old
+
+told_before : (past : List Deed) (old now : Option (List Call)) → Becomes (work_calls past) old now → (list : List Call) → now ≡ Some list → (before : List Call) × (more : List Call) × (old ≡ Some before) × (list ≡ before ++ more)
+told_before past old None becomes list is = absurd (cc)
+told_before past None (Some now) becomes list is = absurd becomes
+told_before past (Some before) (Some now) becomes list is = (before, work_calls past [], refl, same_list list now is ∙ becomes ∙ calls_added past before)
+  where
+    same_list : (xs ys : List Call) → Some ys ≡ Some xs → xs ≡ ys
+    same_list xs ys e = cc
+
+stays_then : (h0 h1 h2 : Type 0) (f0 f1 f2 : ℕ) (c0 c1 c2 : Option (List Call)) → HostStays h0 h1 f0 f1 c0 c1 → (h2 ↔ h1) → f1 ≤ f2 → (past : List Deed) → Becomes (work_calls past) c1 c2 → HostStays h0 h2 f0 f2 c0 c2
+stays_then h0 h1 h2 f0 f1 f2 c0 c1 c2 stays same below past becomes = record {
+  honest_stays = (λ h. stays.honest_stays.0 (same.0 h), λ h. same.1 (stays.honest_stays.1 h));
+  never_falls = let a : f0 ≤ f1 = stays.never_falls in omega (arith, a, below);
+  called = λ list is.
+      let mid = told_before past c1 c2 becomes list is in
+      let first = stays.called mid.0 mid.2 in
+      (first.0, first.1 ++ mid.1, first.2, mid.3 ∙ ap (λ (l : List Call). l ++ mid.1) first.3 ∙ append_assoc first.0 first.1 mid.1);
+}
 
 -- what the entries of a turn say
 abbrev pub SaysSo : {H A : Type 0} → (Told → Type 0) → (ClaimedTask → Type 0) → Turn H A → Type 0
@@ -99,7 +132,7 @@ module _ {H A : Type 0} (honest : H → Type 0) (faults : H → ℕ) (calls : H 
   pub record CameOn (number : ℕ) (host next : H) (seen : List ℕ) : Type 0 where
     pub told : List Told
     pub claimed : List ClaimedTask
-    pub stays : honest host → honest next
+    pub stays : HostStays (honest host) (honest next) (faults host) (faults next) (calls host) (calls next)
     pub turns : honest host → Turns number looks (on_host launches dirs output exited host) told claimed (on_host launches dirs output exited next)
     pub are_told : AllAre IsTold told
     pub are_given : AllAre IsGiven claimed
@@ -108,16 +141,21 @@ module _ {H A : Type 0} (honest : H → Type 0) (faults : H → ℕ) (calls : H 
 
   abbrev pub CameTo : Member H A → Member H A → List ℕ → Type 0
   CameTo (Executor number host) (Executor now next) seen = (now ≡ number) × CameOn number host next seen
-  CameTo (Operator answers line ended failed) (Operator next kept now_ended now_failed) seen = failed ≡ false → CountsFault (source_faults answers) (source_faults next) (now_failed ≡ true)
+  CameTo (Operator answers line ended failed) (Operator next kept now_ended now_failed) seen = ReadOn (left answers) (left next) (source_faults answers) (source_faults next) ended now_ended failed now_failed
   CameTo (Executor number host) (Operator next kept now_ended now_failed) seen = ⊥
   CameTo (Operator answers line ended failed) (Executor now next) seen = ⊥
 
   came_start : (m : Member H A) → CameTo m m []
   came_start (Executor number host) = (
     refl,
-    record { told = []; claimed = []; stays = λ h. h; turns = λ h. no_turn; are_told = tt; are_given = tt; once = tt; among = λ n there. there },
+    record { told = []; claimed = []; stays = record { honest_stays = (λ h. h, λ h. h); never_falls = omega arith; called = λ list is. (list, [], is, sym (append-nil list)) }; turns = λ h. no_turn; are_told = tt; are_given = tt; once = tt; among = λ n there. there },
   )
-  came_start (Operator answers line ended failed) = λ calm. record { never_falls = omega arith; calm = λ _. refl; failed = λ is. let bad : false ≡ true = sym calm ∙ is in absurd (cc) }
+  came_start (Operator answers line ended failed) = record {
+    read = [];
+    answers = Consumes-nil (left answers);
+    at_end = λ not is. let bad : false ≡ true = sym not ∙ is in absurd (cc);
+    counts = λ calm. record { never_falls = omega arith; calm = λ _. refl; failed = λ is. let bad : false ≡ true = sym calm ∙ is in absurd (cc) };
+  }
 
   came_later : (o m : Member H A) (seen more : List ℕ) → CameTo o m seen → CameTo o m (seen ++ more)
   came_later (Executor number host) (Executor now next) seen more c = (
@@ -150,6 +188,11 @@ module _ {H A : Type 0} (honest : H → Type 0) (faults : H → ℕ) (calls : H 
     failed = λ failed. subst (λ (n : ℕ). Rose first n) (sym (two.calm never)) (one.failed (sym (calm never) ∙ failed));
   }
 
+  -- answers that are at their end stay so
+  end_then : (was has : Bool) (mid last : Option (List ℕ)) → (was ≡ true → IsAtEnd mid) → (was ≡ true → last ≡ mid) → (has ≡ true → IsAtEnd last) → (was || has) ≡ true → IsAtEnd last
+  end_then true has mid last before same now is = subst IsAtEnd (sym (same refl)) (before refl)
+  end_then false has mid last before same now is = now is
+
   said_failed : (w : Worked) → (w ≡ worked.AnswersFailed) ⊎ ¬ (w ≡ worked.AnswersFailed)
   said_failed worked.Rest = inr (λ e. cc)
   said_failed worked.Stopped = inr (λ e. cc)
@@ -167,14 +210,14 @@ module _ {H A : Type 0} (honest : H → Type 0) (faults : H → ℕ) (calls : H 
         record {
           told = k.told ++ told_of own;
           claimed = k.claimed ++ own_claims;
-          stays = λ h. works.1.1 (k.stays h);
+          stays = stays_then (honest host) (honest next) (honest last) (faults host) (faults next) (faults last) (calls host) (calls next) (calls last) k.stays works.1 works.2 executed.past executed.called;
           turns = λ h. another_turn (k.turns h) (record {
             past = executed.past;
             lawful = executed.lawful;
             orders = subst (λ (x : ℕ). AreOf x executed.past) c.0 executed.orders;
             tells = executed.told;
             claims = executed.claimed;
-            on_host = executed.on_host (k.stays h);
+            on_host = executed.on_host (k.stays.honest_stays.1 h);
           });
           are_told = all_append IsTold k.told (told_of own) k.are_told told;
           are_given = all_append IsGiven k.claimed own_claims k.are_given given;
@@ -187,7 +230,13 @@ module _ {H A : Type 0} (honest : H → Type 0) (faults : H → ℕ) (calls : H 
       by x (inl here) = some_front (λ m. m ≡ x) seen (tasks_of (claimed_of own)) (c.1.among x here)
       by x (inr there) = some_behind (λ m. m ≡ x) seen (tasks_of (claimed_of own)) there
   came_turn (Operator answers line ended failed) (Operator next kept now_ended now_failed) (Operator last held then_ended then_failed) w own said is_open seen works executed told given once apart c =
-      λ calm. counts_then (source_faults answers) (source_faults next) (source_faults last) now_failed then_failed (w ≡ worked.AnswersFailed) (c calm) works.1 works.2 works.3 (said_failed w)
+      let o = works.0 in
+      record {
+        read = c.read ++ read_in o.past;
+        answers = Consumes-trans (left answers) (left next) (left last) c.read (read_in o.past) c.answers o.read;
+        at_end = λ not is. end_then now_ended (has_ended o.past) (left next) (left last) (c.at_end not) (λ over. (o.over over).1) o.at_end (sym o.ended_so ∙ is);
+        counts = λ calm. counts_then (source_faults answers) (source_faults next) (source_faults last) now_failed then_failed (w ≡ worked.AnswersFailed) (c.counts calm) works.1 works.2 works.3 (said_failed w);
+      }
   came_turn (Executor number host) (Executor now next) (Operator last held then_ended then_failed) w own said is_open seen works executed told given once apart c = absurd works
   came_turn (Executor number host) (Operator next kept now_ended now_failed) n w own said is_open seen works executed told given once apart c = absurd c
   came_turn (Operator answers line ended failed) (Operator next kept now_ended now_failed) (Executor then last) w own said is_open seen works executed told given once apart c = absurd works
@@ -234,9 +283,9 @@ module _ {H A : Type 0} (honest : H → Type 0) (faults : H → ℕ) (calls : H 
   pub all_came : (old : List (Member H A)) (turns : List (Turn H A)) (new : List (Member H A)) → Steps old turns new → AllAre Did turns → AllAre (SaysSo IsTold IsGiven) turns → NoTwice (claims_of_all turns) → AllCame old new (claims_of_all turns)
   all_came old turns new steps did says once = all_steps old old turns new [] steps did says once (all_start old)
 
-  pub all_served : (os ms : List (Member H A)) (seen : List ℕ) → AllCame os ms seen → AreServed source_faults os ms
+  pub all_served : (os ms : List (Member H A)) (seen : List ℕ) → AllCame os ms seen → AreServed honest faults calls left source_faults os ms
   all_served [] [] seen c = tt
-  all_served (Executor number host ∷ os) (Executor now next ∷ ms) seen c = (c.0.0, all_served os ms seen c.1)
+  all_served (Executor number host ∷ os) (Executor now next ∷ ms) seen c = ((c.0.0, c.0.1.stays), all_served os ms seen c.1)
   all_served (Operator answers line ended failed ∷ os) (Operator next kept now_ended now_failed ∷ ms) seen c = (c.0, all_served os ms seen c.1)
   all_served (Executor number host ∷ os) (Operator next kept now_ended now_failed ∷ ms) seen c = absurd c.0
   all_served (Operator answers line ended failed ∷ os) (Executor now next ∷ ms) seen c = absurd c.0

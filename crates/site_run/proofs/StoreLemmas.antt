@@ -175,7 +175,7 @@ module _ {D T : Type 0} (reads : D → Option (List ℕ)) (may_leave : D → Lis
     });
   }
 
-  pub wants : (f : Fails reads may_leave clock since stance setting entry origin before es Memory kept) × (f.risked ≡ None)
+  pub wants : (f : Fails reads may_leave clock since stance setting entry origin before es Memory kept) × (f.refused ≡ None)
   unfolding wants_so
   wants = (wants_so, refl)
 
@@ -350,7 +350,8 @@ module _ {D T : Type 0} (reads : D → Option (List ℕ)) (may_leave : D → Lis
     is_of Memory ev of = tt
     is_of Disk None of = of
     is_of Disk (Some e) of = of.0
-    is_of (Full len add) ev of = of
+    is_of (Full len add) None of = of
+    is_of (Full len add) (Some e) of = of.0
     is_of Stopped ev of = absurd of
 
     sizes : (f : TakeFault) (ev : Option Event) → IsFaultOf setting now f ev → IsFull stance k1 f ev → ((w : W.Build) → StandsFor stance k0.build w → IsSized (setting_in k0.build) (fold (W.after_one (setting_in k0.build)) w (tooks front)) f ev)
@@ -402,10 +403,10 @@ module _ {D T : Type 0} (reads : D → Option (List ℕ)) (may_leave : D → Lis
           images = λ known. images_of known (risked_of fault event) risks;
         }
 
-    pub fails_on : IfSome (reads k1.journal.disk) (may_leave k1.journal.disk) → IsFaultOf setting now fault event → (f : Fails reads may_leave clock since stance setting entry origin before now fault k1) × (f.risked ≡ risked_of fault event)
+    pub fails_on : IfSome (reads k1.journal.disk) (may_leave k1.journal.disk) → IsFaultOf setting now fault event → (f : Fails reads may_leave clock since stance setting entry origin before now fault k1) × (f.refused ≡ event)
     unfolding fails_so
     fails_on told_image of = (fails_so told_image of, refl)
 
   -- Where memory was wanted and no fault is kept, nothing more was written.
-  pub wants_on : kept_fault h ≡ None → (f : Fails reads may_leave clock since stance setting entry origin before now Memory k1) × (f.risked ≡ None)
+  pub wants_on : kept_fault h ≡ None → (f : Fails reads may_leave clock since stance setting entry origin before now Memory k1) × (f.refused ≡ None)
   wants_on none = wants reads may_leave clock since stance setting entry origin before now k1 (lasts_on none)

@@ -61,11 +61,11 @@ use Rattle.site_gate.proofs.TaleLemmas.{claimed-append, lines-append, grants_sil
 use Rattle.saved_run.specs.Lives.{IsNext as ComesNext}
 use Rattle.site_run.specs.Going.{Decides, IsPassedOver, no_answer, nothing_open, Comes, by_grant, by_report, by_line, GoesBy, begins, takes, passes}
 
-all_front : {A : Type 0} (P : A → Type 0) (xs ys : List A) → AllAre P (xs ++ ys) → AllAre P xs
+pub all_front : {A : Type 0} (P : A → Type 0) (xs ys : List A) → AllAre P (xs ++ ys) → AllAre P xs
 all_front P [] ys all = tt
 all_front P (x ∷ xs) ys all = (all.0, all_front P xs ys all.1)
 
-all_behind : {A : Type 0} (P : A → Type 0) (xs ys : List A) → AllAre P (xs ++ ys) → AllAre P ys
+pub all_behind : {A : Type 0} (P : A → Type 0) (xs ys : List A) → AllAre P (xs ++ ys) → AllAre P ys
 all_behind P [] ys all = all
 all_behind P (x ∷ xs) ys all = all_behind P xs ys all.1
 
@@ -116,7 +116,7 @@ not_grant Reported e other (inr is) = is
 abbrev pub IsFaultOf : Setting → List Event → TakeFault → Option Event → Type 0
 IsFaultOf setting events Memory of = of ≡ None
 IsFaultOf setting events Disk of = IsSomeAnd of (λ e. ComesNext setting events e × ((heard : List (List ℕ)) × Comes setting (λ x. Unit {0}) events e heard))
-IsFaultOf setting events (Full len add) of = IsSomeAnd of (ComesNext setting events)
+IsFaultOf setting events (Full len add) of = IsSomeAnd of (λ e. ComesNext setting events e × ((heard : List (List ℕ)) × Comes setting (λ x. Unit {0}) events e heard))
 IsFaultOf setting events Stopped of = ⊥
 
 -- the first free task of an executor is one of its open tasks
@@ -301,7 +301,8 @@ module _ {T : Type 0} (stance : T → Stance) (setting : Setting) (proper : IsPr
         stops_here h Disk (Some e) none (record { accepted = accepted_is b (before ++ tooks h) all e may; due = due_so }, ([], by_grant request executor due_so))
     grants_stop {b} (refused request executor (Full len add) is may) h none all =
         let e : Event = Granted request executor in
-        stops_here h (Full len add) (Some e) none (record { accepted = accepted_is b (before ++ tooks h) all e may.0; due = due_is b (before ++ tooks h) all ∙ is })
+        let due_so : W.next_grant setting (W.world_in setting (before ++ tooks h)) ≡ Some (request, executor) = due_is b (before ++ tooks h) all ∙ is in
+        stops_here h (Full len add) (Some e) none (record { accepted = accepted_is b (before ++ tooks h) all e may.0; due = due_so }, ([], by_grant request executor due_so))
     grants_stop {b} (refused request executor Stopped is may) h none all = absurd may
     grants_stop not_found h none all = stops_here h Memory None none refl
 
@@ -379,7 +380,7 @@ module _ {T : Type 0} (stance : T → Stance) (setting : Setting) (proper : IsPr
       take_at e (Ok Finished) new settled says explained = at_same h new at says.1
       take_at e (Err Memory) new settled says explained = at_failed h new Memory None at none says.1 refl
       take_at e (Err Disk) new settled says explained = at_failed h new Disk (Some e) at none says.1 (comes_next b now all e settled says.0, ([], asked_comes b now all (λ x. Unit {0}) e (order_is b now all e settled says.0) (inr tt)))
-      take_at e (Err (Full len add)) new settled says explained = at_failed h new (Full len add) (Some e) at none says.1 (comes_next b now all e settled says.0.0)
+      take_at e (Err (Full len add)) new settled says explained = at_failed h new (Full len add) (Some e) at none says.1 (comes_next b now all e settled says.0.0, ([], asked_comes b now all (λ x. Unit {0}) e (order_is b now all e settled says.0.0) (inr tt)))
       take_at e (Err Stopped) new settled says explained = absurd says.0
 
       answer_at : (line : List ℕ) (r : Result Heard TakeFault) (new : List Entry) → IsSettled b → AnswerSays stance b line r new → At (h ++ new)
@@ -393,7 +394,8 @@ module _ {T : Type 0} (stance : T → Stance) (setting : Setting) (proper : IsPr
       answer_at line (Err Memory) new settled says = at_failed h new Memory None at none says refl
       answer_at line (Err Disk) new settled says =
           at_failed h new Disk (Some says.1) at none says.3.1 (comes_next b now all says.1 settled says.3.0, (line ∷ [], line_comes b now all (λ x. Unit {0}) line says.0 says.1 settled says.2))
-      answer_at line (Err (Full len add)) new settled says = at_failed h new (Full len add) (Some says.1) at none says.3.1 (comes_next b now all says.1 settled says.3.0.0)
+      answer_at line (Err (Full len add)) new settled says =
+          at_failed h new (Full len add) (Some says.1) at none says.3.1 (comes_next b now all says.1 settled says.3.0.0, (line ∷ [], line_comes b now all (λ x. Unit {0}) line says.0 says.1 settled says.2))
       answer_at line (Err Stopped) new settled says = absurd says.3.0
 
       claim_at : (x : ℕ) (c : Claim) (new : List Entry) → ClaimSays b.shared.requests h x c new → At (h ++ new)

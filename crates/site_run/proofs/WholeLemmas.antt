@@ -1,6 +1,6 @@
 -- A life with hosts, from its opening to its end.
-use Rattle.std.proofs.Common.{◌≡◌, ◌⊎◌, ◌∙◌, ◌≤◌, inl, inr, ℕ, ℤ, true, List, [], ◌∷◌, ◌++◌, Option, Some, None, Result, Ok, Err, refl, sym, ap, subst, append-nil}
-use Rattle.std.specs.Prelude.{IfOk, IfSome}
+use Rattle.std.proofs.Common.{◌≡◌, ◌⊎◌, ◌∙◌, ◌≤◌, inl, inr, ℕ, ℤ, Bool, true, false, List, [], ◌∷◌, ◌++◌, Option, Some, None, Result, Ok, Err, refl, sym, ap, subst, append-nil}
+use Rattle.std.specs.Prelude.{IfOk, IfSome, if◌then◌else◌}
 use Rattle.std.specs.List.{AllByRecursion as AllAre}
 use Rattle.std.proofs.lemmas.List.{append_cancel_left}
 use Rattle.std.proofs.Math.Logic.{∥∥₁_elim, ∥∥₁_map, ∥∥₁_prop}
@@ -11,8 +11,14 @@ use Rattle.task_host.specs.declared.order.Stream.{Stream}
 use Rattle.agent_worker.specs.declared.fault.TakeFault.{TakeFault}
 use Rattle.agent_worker.specs.declared.fault.TakeFault.TheVariants.{Memory, Disk, Full, Stopped}
 use Rattle.agent_worker.specs.declared.member.Member.{Member}
+use Rattle.agent_worker.specs.Gate.{Told, told_at}
 use Rattle.build_core.specs.Builds.{Parts}
 use Rattle.durable_build.specs.Standing.{Kept}
+use Rattle.durable_build.proofs.OpenLemmas.{begun_all}
+use Rattle.launch_laws.specs.Fitting as fitting
+use Rattle.launch_laws.specs.Fitting.{ExecutorHost}
+use Rattle.launch_laws.proofs.LifeLaws.{all_fit_more}
+use Rattle.model_run.specs.declared.taken.Taken.TheVariants.{Accepted}
 use Rattle.launch_laws.specs.ManyTurns.{AllTaken, InLife}
 use Rattle.model_run.specs.declared.event.Event.{Event}
 use Rattle.model_run.specs.declared.event.Event.TheVariants.{Start, Granted, Output, Exited, Lost, Decided}
@@ -29,29 +35,26 @@ use Rattle.site_state.specs.declared.ask.Progress.{Progress}
 use Rattle.site_state.specs.declared.ask.Reply.TheVariants as reply
 use Rattle.site_state.specs.Facts.{Facts, IsSite}
 use Rattle.site_state.specs.Grants.{Grants, OpenRefuses, granted, none_due, not_found, refused}
-use Rattle.site_state.specs.Histories.{at_risk, tooks, kept_fault, lines, pending}
+use Rattle.site_state.specs.Histories.{tooks, kept_fault, lines}
 use Rattle.site_state.specs.Says.{Answers as AnswersOf, SaysAt, Says}
-use Rattle.site_state.proofs.HistoryLaws.{kept_fault-append, no_fault, pending-append, tooks-append}
-use Rattle.site_gate.specs.Tales.{is_grant}
-use Rattle.site_gate.proofs.TaleLemmas.{grants_silent}
+use Rattle.site_state.proofs.HistoryLaws.{kept_fault-append, no_fault, tooks-append}
+use Rattle.site_gate.specs.Tales.{is_grant, told_of}
+use Rattle.site_gate.proofs.TaleLemmas.{grants_silent, told-append}
 use Rattle.site_life.specs.Lives.{Life, EndsWith}
 use Rattle.site_life.specs.Rounds.{turns_of}
 use Rattle.site_life.specs.Turns.{Turn}
 use Rattle.site_run.specs.Ending.{RestsWith, ended_as, rest_of}
 use Rattle.site_run.specs.Going.{Comes, by_grant, by_report, by_line, GoesBy, begins}
-use Rattle.site_run.specs.Lives.{BreaksBehind, EndsBehind, Ends, IsReported, IsRisked, OpeningBreaks}
-use Rattle.site_run.specs.Serving.{AreHonest, AllFit}
-use Rattle.site_run.proofs.WalkLemmas.{ShowsAll, shows_shown, grants_go, grants_stop, legal_at, At, StoppedBy, IsFaultOf, IsGrantOr, of_tree, small}
-use Rattle.site_run.proofs.StoreLemmas.{lasts_on, fails_on, wants, wants_on, risked_of}
+use Rattle.site_run.specs.Lives.{BreaksBehind, EndsBehind, Ends, IsReported, IsRefused, OpeningBreaks}
+use Rattle.site_run.specs.Serving.{AreHonest, AllFit, AreServed, hosts_of}
+use Rattle.site_run.proofs.WalkLemmas.{all_behind, ShowsAll, shows_shown, grants_go, grants_stop, legal_at, At, StoppedBy, IsFaultOf, IsGrantOr, of_tree, small}
+use Rattle.site_run.proofs.StoreLemmas.{lasts_on, fails_on, wants, wants_on}
 use Rattle.site_run.proofs.EndLemmas.{rests_so, goes_then, goes_taken}
-use Rattle.site_run.proofs.FitLemmas.{told_taken, came_all, fit_more, fit_life}
+use Rattle.site_run.proofs.FitLemmas.{told_taken, life_serves, once_fit, came_all, fit_life}
 use Rattle.model_syntax.specs.TreeNodes.{tree_node}
 
-no_event : (e : Event) → None ≡ Some e → ⊥
-no_event e is = cc
-
-same_event : (x e : Event) → Some x ≡ Some e → x ≡ e
-same_event x e is = cc
+some_none : (e : Event) → Some e ≡ None → ⊥
+some_none e is = cc
 
 same_fault : (f g : TakeFault) → Some f ≡ Some g → f ≡ g
 same_fault f g is = cc
@@ -63,9 +66,9 @@ tooks_front front f event = tooks-append front (Failed f event ∷ []) ∙ appen
 pub kept_last : (front : List Entry) (fault : TakeFault) (event : Option Event) → kept_fault front ≡ None → kept_fault (front ++ Failed fault event ∷ []) ≡ Some fault
 kept_last front fault event none = kept_fault-append front (Failed fault event ∷ []) none
 
--- why the event came that a fault kept from the disk, where it is explained
-module _ (setting : Setting) (Risked : Event → Type 0) (events : List Event) where
-  granted_comes : (e : Event) → is_grant e ≡ true → ComesNext setting events e → Comes setting Risked events e []
+-- why the event came that was not taken, where it is explained
+module _ (setting : Setting) (Refused : Event → Type 0) (events : List Event) where
+  granted_comes : (e : Event) → is_grant e ≡ true → ComesNext setting events e → Comes setting Refused events e []
   granted_comes (Granted request executor) is next = by_grant request executor next.due
   granted_comes (Start script agents) is next = absurd (cc)
   granted_comes (Output task stream place bytes) is next = absurd (cc)
@@ -73,48 +76,51 @@ module _ (setting : Setting) (Risked : Event → Type 0) (events : List Event) w
   granted_comes (Lost task why) is next = absurd (cc)
   granted_comes (Decided request proceed name) is next = absurd (cc)
 
-  risked_comes : (e : Event) (heard : List (List ℕ)) → ComesNext setting events e → Comes setting (λ x. Unit {0}) events e heard → IsGrantOr Risked e → (line : List (List ℕ)) × Comes setting Risked events e line
-  risked_comes e heard next (by_grant request executor is) why = ([], by_grant request executor is)
-  risked_comes e heard next (by_report x none r) (inl grant) = ([], granted_comes x grant next)
-  risked_comes e heard next (by_report x none r) (inr risk) = ([], by_report x none risk)
-  risked_comes e heard next (by_line line x none d) why = (line ∷ [], by_line line x none d)
+  refused_comes : (e : Event) (heard : List (List ℕ)) → ComesNext setting events e → Comes setting (λ x. Unit {0}) events e heard → IsGrantOr Refused e → IsGrantOr Refused e × ((line : List (List ℕ)) × Comes setting Refused events e line)
+  refused_comes e heard next (by_grant request executor is) why = (why, ([], by_grant request executor is))
+  refused_comes e heard next (by_report x none r) (inl grant) = (inl grant, ([], granted_comes x grant next))
+  refused_comes e heard next (by_report x none r) (inr told) = (inr told, ([], by_report x none told))
+  refused_comes e heard next (by_line line x none d) why = (why, (line ∷ [], by_line line x none d))
 
-  caused_by : (fault : TakeFault) (event : Option Event) → IsFaultOf setting events fault event → ((e : Event) → risked_of fault event ≡ Some e → IsGrantOr Risked e)
-      → IfSome (risked_of fault event) (λ e. (line : List (List ℕ)) × Comes setting Risked events e line)
-  caused_by Memory event of why = tt
-  caused_by Disk None of why = tt
-  caused_by Disk (Some e) of why = risked_comes e of.1.0 of.0 of.1.1 (why e refl)
-  caused_by (Full len add) event of why = tt
-  caused_by Stopped event of why = tt
+  caused_by : (fault : TakeFault) (event : Option Event) → IsFaultOf setting events fault event → ((e : Event) → event ≡ Some e → IsGrantOr Refused e) → IfSome event (λ e. IsGrantOr Refused e × ((line : List (List ℕ)) × Comes setting Refused events e line))
+  caused_by fault None of why = tt
+  caused_by Memory (Some e) of why = absurd (some_none e of)
+  caused_by Disk (Some e) of why = refused_comes e of.1.0 of.0 of.1.1 (why e refl)
+  caused_by (Full len add) (Some e) of why = refused_comes e of.1.0 of.0 of.1.1 (why e refl)
+  caused_by Stopped (Some e) of why = absurd of
 
-risk_in : (fault : TakeFault) (event : Option Event) (e : Event) → risked_of fault event ≡ Some e → at_risk fault event ≡ e ∷ []
-risk_in Memory event e is = absurd (no_event e is)
-risk_in Disk None e is = absurd (no_event e is)
-risk_in Disk (Some x) e is = ap (λ (y : Event). y ∷ []) (same_event x e is)
-risk_in (Full len add) event e is = absurd (no_event e is)
-risk_in Stopped event e is = absurd (no_event e is)
+-- the event of the fault that was noted last is told of, where it is no grant
+told_last : (P : Told → Type 0) (h front : List Entry) (fault : TakeFault) (e : Event) → h ≡ front ++ Failed fault (Some e) ∷ [] → AllAre P (told_of h) → (is_grant e ≡ true) ⊎ P (told_at e false)
+told_last P h front fault e is all = by (is_grant e) refl
+    (all_behind P (told_of front) (told_of (Failed fault (Some e) ∷ [])) (subst (AllAre P) (ap told_of is ∙ told-append front (Failed fault (Some e) ∷ [])) all))
+  where
+    by : (grant : Bool) → is_grant e ≡ grant → AllAre P ((if is_grant e then [] else told_at e false ∷ []) ++ []) → (is_grant e ≡ true) ⊎ P (told_at e false)
+    by true is one = inl is
+    by false is one = inr ((subst (λ (g : Bool). AllAre P ((if g then [] else told_at e false ∷ []) ++ [])) is one).0)
 
--- what is explained of all that is pending is explained of the event at risk
-at_risk_is : (P : Event → Type 0) (h front : List Entry) (fault : TakeFault) (event : Option Event) → h ≡ front ++ Failed fault event ∷ [] → kept_fault front ≡ None → AllAre P (pending h) → (e : Event) → risked_of fault event ≡ Some e → P e
-at_risk_is P h front fault event is none all e risked =
-    (subst (AllAre P) (ap pending is ∙ pending-append front (Failed fault event ∷ []) none ∙ risk_in fault event e risked) all).0
+same_last : (h front : List Entry) (fault : TakeFault) (event : Option Event) (e : Event) → event ≡ Some e → h ≡ front ++ Failed fault event ∷ [] → h ≡ front ++ Failed fault (Some e) ∷ []
+same_last h front fault event e some is = is ∙ ap (λ (o : Option Event). front ++ Failed fault o ∷ []) some
 
--- of grants, only a grant is at risk
-grants_risk : {T : Type 0} {stance : T → Stance} {b : Parts T} {es : List Entry} → Grants stance b es → AllAre (IsGrantOr (λ e. ⊥)) (pending es)
-grants_risk (none_due settled) = tt
-grants_risk (granted request executor is next more) = grants_risk more
-grants_risk (refused request executor Memory is may) = tt
-grants_risk (refused request executor Disk is may) = (inl refl, tt)
-grants_risk (refused request executor (Full len add) is may) = tt
-grants_risk (refused request executor Stopped is may) = tt
-grants_risk not_found = tt
+-- the events of grants are grants
+grants_are : {T : Type 0} {stance : T → Stance} {b : Parts T} {es : List Entry} → Grants stance b es → AllAre (λ e. is_grant e ≡ true) (tooks es)
+grants_are (none_due settled) = tt
+grants_are (granted request executor is next more) = (refl, grants_are more)
+grants_are (refused request executor Memory is may) = tt
+grants_are (refused request executor Disk is may) = tt
+grants_are (refused request executor (Full len add) is may) = tt
+grants_are (refused request executor Stopped is may) = tt
+grants_are not_found = tt
 
--- a life that broke off so, with why the event at risk came
+-- of grants, only a grant is refused
+grants_refused : {T : Type 0} {stance : T → Stance} {b : Parts T} {es : List Entry} → Grants stance b es → AllAre (λ (t : Told). ⊥) (told_of es)
+grants_refused g = subst (AllAre (λ (t : Told). ⊥)) (sym (grants_silent g).told) tt
+
+-- a life that broke off so, with why the event came that was not taken
 breaks_with : {D T : Type 0} (reads : D → Option (List ℕ)) (may_leave : D → List ℕ → Type 0) (clock : D → ℕ) (since : D → ℕ → List ℕ → Type 0) (stance : T → Stance) (setting : Setting) (entry : Option (List ℕ)) (origin : D) (before : List Event)
-    (Risked : Event → Type 0) (now : List Event) (fault : TakeFault) (kept : Kept D T) (risk : Option Event) → (f : Fails reads may_leave clock since stance setting entry origin before now fault kept) × (f.risked ≡ risk)
-    → IfSome risk (λ e. (heard : List (List ℕ)) × Comes setting Risked now e heard) → BreaksBehind reads may_leave clock since stance setting entry origin before Risked now fault kept
-breaks_with reads may_leave clock since stance setting entry origin before Risked now fault kept risk f caused =
-    record { fails = f.0; caused = subst (λ (r : Option Event). IfSome r (λ e. (heard : List (List ℕ)) × Comes setting Risked now e heard)) (sym f.1) caused }
+    (Refused : Event → Type 0) (now : List Event) (fault : TakeFault) (kept : Kept D T) (event : Option Event) → (f : Fails reads may_leave clock since stance setting entry origin before now fault kept) × (f.refused ≡ event)
+    → IfSome event (λ e. IsGrantOr Refused e × ((heard : List (List ℕ)) × Comes setting Refused now e heard)) → BreaksBehind reads may_leave clock since stance setting entry origin before Refused now fault kept
+breaks_with reads may_leave clock since stance setting entry origin before Refused now fault kept event f caused =
+    record { fails = f.0; caused = subst (λ (r : Option Event). IfSome r (λ e. IsGrantOr Refused e × ((heard : List (List ℕ)) × Comes setting Refused now e heard))) (sym f.1) caused }
 
 -- the counts of faults of a disk, by what was kept
 pub counts_kept : (first last : ℕ) (kept : Option TakeFault) (Fails : Type 0) → first ≤ last → (kept ≡ Some Disk → Rose first last) → (¬ (kept ≡ Some Disk) → last ≡ first) → (Fails → kept ≡ Some Disk) → (kept ≡ Some Disk → Fails) → CountsFault first last Fails
@@ -126,15 +132,41 @@ module _ {D T : Type 0} (reads : D → Option (List ℕ)) (may_leave : D → Lis
     abbrev shown_first : ShowsAll stance setting lasts.goes.proper durable.build events
     shown_first = record { same = lasts.goes.same; begun = lasts.goes.begun; stands = lasts.goes.stands }
 
+    -- hosts that fit the events fit them behind others that came, and with one more that is accepted
+    came_fit : (R : Event → Type 0) (now : List Event) (lines : List (List ℕ)) → GoesBy setting R events now lines → (hosts : List ExecutorHost) → fitting.AllFit setting events hosts → fitting.AllFit setting now hosts
+    came_fit R now lines goes hosts fit =
+        let taken = goes_taken setting R events now lines lasts.goes.begun goes in
+        subst (λ (es : List Event). fitting.AllFit setting es hosts) (sym taken.1)
+        (all_fit_more setting (tree_node lasts.goes.proper.tree) (of_tree stance setting lasts.goes.proper) (small stance setting lasts.goes.proper) events taken.0 hosts lasts.goes.begun taken.2 fit)
+
+    next_fit : (R : Event → Type 0) (now : List Event) (lines : List (List ℕ)) → GoesBy setting R events now lines → (hosts : List ExecutorHost) → fitting.AllFit setting now hosts → (e : Event) → W.answer_to setting (W.world_in setting now) e ≡ Accepted
+        → fitting.AllFit setting (now ++ e ∷ []) hosts
+    next_fit R now lines goes hosts fit e accepted =
+        let taken = goes_taken setting R events now lines lasts.goes.begun goes in
+        let started : (W.world_in setting now).started ≡ true = subst (λ (es : List Event). (W.world_in setting es).started ≡ true) (sym taken.1) (begun_all setting events taken.0 lasts.goes.begun) in
+        all_fit_more setting (tree_node lasts.goes.proper.tree) (of_tree stance setting lasts.goes.proper) (small stance setting lasts.goes.proper) now (e ∷ []) hosts started (record { begun = started; accepted = accepted }, tt) fit
+
+    -- an opening that broke off behind these grants
+    breaks_opening : (granted : List Event) (fault : TakeFault) (disk : D) (k : Kept D T) → AllAre (λ e. is_grant e ≡ true) granted → GoesBy setting (λ e. ⊥) events (events ++ granted) [] → disk ≡ k.journal.disk
+        → BreaksBehind reads may_leave clock since stance setting entry origin before (λ e. ⊥) (events ++ granted) fault k → OpeningBreaks reads may_leave clock since stance setting entry origin before events fault disk
+    breaks_opening made fault disk k are goes same breaks = record {
+      granted = made;
+      are_grants = are;
+      goes = goes;
+      kept = k;
+      same = same;
+      breaks = breaks;
+      fits = came_fit (λ e. ⊥) (events ++ made) [] goes;
+      fits_next = λ hosts fit e accepted. next_fit (λ e. ⊥) (events ++ made) [] goes hosts (came_fit (λ e. ⊥) (events ++ made) [] goes hosts fit) e accepted;
+    }
+
     -- Memory was wanted before any grant that a stop had left out.
     pub opening_wants : (disk : D) → disk ≡ durable.journal.disk → OpeningBreaks reads may_leave clock since stance setting entry origin before events Memory disk
-    opening_wants disk same = record {
-      now = events;
-      goes = begins;
-      kept = durable;
-      same = same;
-      breaks = breaks_with reads may_leave clock since stance setting entry origin before (λ e. ⊥) events Memory durable None (wants reads may_leave clock since stance setting entry origin before events durable lasts) tt;
-    }
+    opening_wants disk same =
+        let none : events ≡ events ++ [] = sym (append-nil events) in
+        breaks_opening [] Memory disk durable tt (subst (λ (es : List Event). GoesBy setting (λ e. ⊥) events es []) none begins) same
+        (subst (λ (es : List Event). BreaksBehind reads may_leave clock since stance setting entry origin before (λ e. ⊥) es Memory durable) none
+        (breaks_with reads may_leave clock since stance setting entry origin before (λ e. ⊥) events Memory durable None (wants reads may_leave clock since stance setting entry origin before events durable lasts) tt))
 
     module _ (made : List Entry) (grants : Grants stance durable.build made) where
       -- the events behind the grants that a stop had left out
@@ -156,13 +188,8 @@ module _ {D T : Type 0} (reads : D → Option (List ℕ)) (may_leave : D → Lis
               let now_is : events ++ tooks s.front ≡ begun = ap (λ (es : List Event). events ++ es) (sym (tooks_front s.front s.fault s.event) ∙ ap tooks (sym s.is)) in
               let of : IsFaultOf setting begun s.fault s.event = subst (λ (es : List Event). IsFaultOf setting es s.fault s.event) now_is s.of in
               let fails = fails_on reads may_leave clock since disk_faults stance setting entry origin before events durable k made lasts facts s.front s.fault s.event s.is s.none (told_image k.journal.disk) of in
-              subst (λ (f : TakeFault). OpeningBreaks reads may_leave clock since stance setting entry origin before events f disk) here (record {
-                now = begun;
-                goes = goes_made;
-                kept = k;
-                same = same;
-                breaks = breaks_with reads may_leave clock since stance setting entry origin before (λ e. ⊥) begun s.fault k (risked_of s.fault s.event) fails (caused_by setting (λ e. ⊥) begun s.fault s.event of (at_risk_is (IsGrantOr (λ e. ⊥)) made s.front s.fault s.event s.is s.none (grants_risk grants)));
-              })
+              subst (λ (f : TakeFault). OpeningBreaks reads may_leave clock since stance setting entry origin before events f disk) here (breaks_opening (tooks made) s.fault disk k (grants_are grants) goes_made same
+              (breaks_with reads may_leave clock since stance setting entry origin before (λ e. ⊥) begun s.fault k s.event fails (caused_by setting (λ e. ⊥) begun s.fault s.event of (λ e some. told_last (λ (t : Told). ⊥) made s.front s.fault e (same_last made s.front s.fault s.event e some s.is) (grants_refused grants)))))
 
       module _ (opened : Kept D T) (facts : Facts reads may_leave clock since disk_faults stance durable opened made) (none : kept_fault made ≡ None) where
         lasts_opened : Lasts reads may_leave clock since stance setting entry origin before begun opened
@@ -181,8 +208,8 @@ module _ {D T : Type 0} (reads : D → Option (List ℕ)) (may_leave : D → Lis
           abbrev Reported : Event → Type 0
           Reported = IsReported reads may_leave clock since stance honest faults calls launches dirs output exited left source_faults looks turns
 
-          abbrev Risked : Event → Type 0
-          Risked = IsRisked reads may_leave clock since stance honest faults calls launches dirs output exited left source_faults looks turns
+          abbrev Refused : Event → Type 0
+          Refused = IsRefused reads may_leave clock since stance honest faults calls launches dirs output exited left source_faults looks turns
 
           abbrev now : List Event
           now = begun ++ tooks h
@@ -203,49 +230,56 @@ module _ {D T : Type 0} (reads : D → Option (List ℕ)) (may_leave : D → Lis
                 let e = of_tree stance setting lasts.goes.proper in
                 let s = small stance setting lasts.goes.proper in
                 let begun_first : (W.world_in setting begun).started ≡ true = shown_opened.begun in
-                let first = goes_taken setting (λ e. ⊥) events begun [] lasts.goes.begun goes_made in
-                let then = goes_taken setting Reported begun now (lines h) begun_first at.goes in
-                let taken_first : AllTaken setting events (tooks made) = subst (AllTaken setting events) (append_cancel_left events first.0 (tooks made) (sym first.1)) first.2 in
-                let taken_then : AllTaken setting begun (tooks h) = subst (AllTaken setting begun) (append_cancel_left begun then.0 (tooks h) (sym then.1)) then.2 in
-                let fit_begun : AllFit launches dirs setting begun old = fit_more honest faults calls launches dirs output exited left source_faults looks setting p e s events lasts.goes.begun (tooks made) old taken_first fit in
+                let later = goes_taken setting Reported begun now (lines h) begun_first at.goes in
+                let taken_then : AllTaken setting begun (tooks h) = subst (AllTaken setting begun) (append_cancel_left begun later.0 (tooks h) (sym later.1)) later.2 in
+                let fit_begun : AllFit launches dirs setting begun old = came_fit (λ e. ⊥) begun [] goes_made (hosts_of launches dirs old) fit in
                 fit_life honest faults calls launches dirs output exited left source_faults looks setting p e s begun begun_first (tooks h) taken_then old new _
                 (came_all honest faults calls launches dirs output exited left source_faults looks stance opening start base old new h how life (λ (t : _). t.accepted ≡ true → Some_of (λ x. x ≡ t.event) (tooks h))
                 (λ (c : _). InLife setting begun (tooks h) c.executor c.task) (told_taken h) at.given)
                 are fit_begun
 
+            life_served : AreServed honest faults calls left source_faults old new
+            life_served = life_serves honest faults calls launches dirs output exited left source_faults looks stance opening start base old new h how life
+
             -- it was stopped by a fault
-            breaks_so : (s : StoppedBy stance setting lasts.goes.proper Reported begun h) → BreaksBehind reads may_leave clock since stance setting entry origin before Risked now s.fault kept
+            breaks_so : (s : StoppedBy stance setting lasts.goes.proper Reported begun h) → BreaksBehind reads may_leave clock since stance setting entry origin before Refused now s.fault kept
             breaks_so s =
                 let now_is : begun ++ tooks s.front ≡ now = ap (λ (es : List Event). begun ++ es) (sym (tooks_front s.front s.fault s.event) ∙ ap tooks (sym s.is)) in
                 let of : IsFaultOf setting now s.fault s.event = subst (λ (es : List Event). IsFaultOf setting es s.fault s.event) now_is s.of in
-                breaks_with reads may_leave clock since stance setting entry origin before Risked now s.fault kept (risked_of s.fault s.event)
+                breaks_with reads may_leave clock since stance setting entry origin before Refused now s.fault kept s.event
                 (fails_on reads may_leave clock since disk_faults stance setting entry origin before begun opened kept h lasts_opened site s.front s.fault s.event s.is s.none (told_image kept.journal.disk) of)
-                (caused_by setting Risked now s.fault s.event of (at_risk_is (IsGrantOr Risked) h s.front s.fault s.event s.is s.none life.at_risk))
+                (caused_by setting Refused now s.fault s.event of (λ e some. told_last _ h s.front s.fault e (same_last h s.front s.fault s.event e some s.is) life.told))
 
             -- it rests, or memory was wanted
             rests_or_wants : kept_fault h ≡ None → (r : Result Progress NoMemory) → IfOk r (λ come. RestsWith (rest_of come new) setting (W.world_in setting now) new)
-                → EndsBehind reads may_leave clock since stance setting entry origin before Risked now new kept (ended_as None r new)
+                → EndsBehind reads may_leave clock since stance setting entry origin before Refused now new kept (ended_as None r new)
             rests_or_wants calm (Ok come) rests = record {
               lasts = lasts_on reads may_leave clock since disk_faults stance setting entry origin before begun opened kept h lasts_opened site calm;
               rests = rests;
             }
             rests_or_wants calm (Err memory) rests =
-                breaks_with reads may_leave clock since stance setting entry origin before Risked now Memory kept None
+                breaks_with reads may_leave clock since stance setting entry origin before Refused now Memory kept None
                 (wants_on reads may_leave clock since disk_faults stance setting entry origin before begun opened kept h lasts_opened site calm) tt
 
             ends_by : (kept_fault h ≡ None) ⊎ StoppedBy stance setting lasts.goes.proper Reported begun h → (kept_fault h ≡ None → IfOk how (λ come. RestsWith (rest_of come new) setting (W.world_in setting now) new))
-                → EndsBehind reads may_leave clock since stance setting entry origin before Risked now new kept (ended_as (kept_fault h) how new)
-            ends_by (inl calm) rests = subst (λ (f : Option TakeFault). EndsBehind reads may_leave clock since stance setting entry origin before Risked now new kept (ended_as f how new)) (sym calm) (rests_or_wants calm how (rests calm))
+                → EndsBehind reads may_leave clock since stance setting entry origin before Refused now new kept (ended_as (kept_fault h) how new)
+            ends_by (inl calm) rests = subst (λ (f : Option TakeFault). EndsBehind reads may_leave clock since stance setting entry origin before Refused now new kept (ended_as f how new)) (sym calm) (rests_or_wants calm how (rests calm))
             ends_by (inr s) rests =
-                subst (λ (f : Option TakeFault). EndsBehind reads may_leave clock since stance setting entry origin before Risked now new kept (ended_as f how new)) (sym (ap kept_fault s.is ∙ kept_last s.front s.fault s.event s.none)) (breaks_so s)
+                subst (λ (f : Option TakeFault). EndsBehind reads may_leave clock since stance setting entry origin before Refused now new kept (ended_as f how new)) (sym (ap kept_fault s.is ∙ kept_last s.front s.fault s.event s.none)) (breaks_so s)
 
             ends_so : (ended : Result Rest TakeFault) → ended ≡ ended_as (kept_fault h) how new → (kept_fault h ≡ None → IfOk how (λ come. RestsWith (rest_of come new) setting (W.world_in setting now) new))
                 → Ends reads may_leave clock since stance honest faults calls launches dirs output exited left source_faults looks turns setting entry origin before events old new h kept ended
             ends_so ended is rests = record {
+              granted = tooks made;
+              are_grants = grants_are grants;
               now = now;
+              is = refl;
               goes = goes_all;
-              ends = subst (EndsBehind reads may_leave clock since stance setting entry origin before Risked now new kept) (sym is) (ends_by at.stops rests);
+              claims = at.given;
+              ends = subst (EndsBehind reads may_leave clock since stance setting entry origin before Refused now new kept) (sym is) (ends_by at.stops rests);
               fits = fits_all;
+              fits_next = λ are fit e accepted. next_fit Reported now (lines h) goes_all (hosts_of launches dirs new) (fits_all are fit) e accepted;
+              once = λ are fit apart. once_fit honest faults calls launches dirs output exited left source_faults looks setting (tree_node lasts.goes.proper.tree) (of_tree stance setting lasts.goes.proper) (small stance setting lasts.goes.proper) now old new life_served (fits_all are fit) apart;
             }
 
           -- what the last look said, of a state that no fault stopped

@@ -1,5 +1,5 @@
 -- How a life with hosts ended, and what it was (this product's own).
-use Rattle.std.specs.Prelude.{◌≡◌, ℕ, ℤ, true, false, List, [], ◌++◌, Option, IfSome, Result, Ok, Err}
+use Rattle.std.specs.Prelude.{◌≡◌, ◌⊎◌, ℕ, ℤ, nat_eq, true, false, List, [], ◌∷◌, ◌++◌, Option, None, IfSome, Result, Ok, Err}
 use Rattle.program_lock.specs.declared.program.Memory.{Memory}
 use Rattle.program_lock.specs.Legal.{Answers}
 use Rattle.task_host.specs.declared.call.Call.{Call}
@@ -8,8 +8,9 @@ use Rattle.agent_worker.specs.declared.fault.TakeFault.{TakeFault}
 use Rattle.agent_worker.specs.declared.member.Member.{Member}
 use Rattle.durable_build.specs.Standing.{Kept}
 use Rattle.model_run.specs.declared.event.Event.{Event}
+use Rattle.model_run.specs.declared.taken.Taken.TheVariants.{Accepted}
 use Rattle.model_run.specs.State.{Setting}
-use Rattle.model_run.specs.World.{world_in}
+use Rattle.model_run.specs.World.{answer_to, world_in}
 use Rattle.settle_laws.specs.Stances.{Stance}
 use Rattle.script_run.specs.declared.rest.Rest.{Rest}
 use Rattle.saved_run.specs.Lives.{Lasts, Fails}
@@ -17,13 +18,21 @@ use Rattle.site_state.specs.declared.ask.Ask.{Ask}
 use Rattle.site_state.specs.declared.ask.Entry.{Entry}
 use Rattle.site_state.specs.declared.ask.Progress.{Progress}
 use Rattle.site_state.specs.declared.ask.Reply.{Reply}
-use Rattle.site_state.specs.Histories.{lines}
+use Rattle.site_state.specs.Histories.{kept_fault, lines, tooks}
 use Rattle.site_life.specs.Lives.{Life}
 use Rattle.site_life.specs.Rounds.{turns_of}
 use Rattle.site_life.specs.Turns.{Turn, Explains, HoldsOfOne}
-use Rattle.site_run.specs.Ending.{RestsWith}
+use Rattle.site_run.specs.Ending.{RestsWith, ended_as}
 use Rattle.site_run.specs.Going.{Comes, GoesBy}
-use Rattle.site_run.specs.Serving.{AreHonest, AllFit}
+use Rattle.site_run.specs.Serving.{AreHonest, AllFit, hosts_of}
+use Rattle.launch_laws.specs.Fitting as fitting
+use Rattle.launch_laws.specs.Fitting.{AreApart, ExecutorHost, all_launches}
+use Rattle.std.specs.List.{AllByRecursion as AllAre, IsDistinct}
+use Rattle.agent_worker.specs.Gate.{Claimed as ClaimedTask}
+use Rattle.launch_laws.specs.ManyTurns.{InLife}
+use Rattle.site_gate.specs.Tales.{claimed_of, is_grant}
+use Rattle.site_state.specs.Facts.{Facts}
+use Rattle.site_state.specs.Grants.{Grants}
 
 module _ {D T : Type 0} (reads : D → Option (List ℕ)) (may_leave : D → List ℕ → Type 0) (clock : D → ℕ) (since : D → ℕ → List ℕ → Type 0) (stance : T → Stance) (setting : Setting) (entry : Option (List ℕ)) (origin : D) (before : List Event) where
   -- It rests behind these events for this reason: the store has them, and the build goes on from them.
@@ -31,23 +40,29 @@ module _ {D T : Type 0} (reads : D → Option (List ℕ)) (may_leave : D → Lis
     pub lasts : Lasts reads may_leave clock since stance setting entry origin before now kept
     pub rests : RestsWith rest setting (world_in setting now) members
 
-  -- It broke off behind these events by this fault. What the disk may have though its take failed came next.
-  pub record BreaksBehind (Risked : Event → Type 0) (now : List Event) (fault : TakeFault) (kept : Kept D T) : Type 0 where
+  -- It broke off behind these events by this fault. The event that was not taken came next, for this reason; and it is a grant of the build, or a
+  -- member asked for it.
+  pub record BreaksBehind (Refused : Event → Type 0) (now : List Event) (fault : TakeFault) (kept : Kept D T) : Type 0 where
     pub fails : Fails reads may_leave clock since stance setting entry origin before now fault kept
-    pub caused : IfSome fails.risked (λ e. (heard : List (List ℕ)) × Comes setting Risked now e heard)
+    pub caused : IfSome fails.refused (λ e. ((is_grant e ≡ true) ⊎ Refused e) × ((heard : List (List ℕ)) × Comes setting Refused now e heard))
 
   -- the one or the other
   abbrev pub EndsBehind : {H A : Type 0} → (Event → Type 0) → List Event → List (Member H A) → Kept D T → Result Rest TakeFault → Type 0
-  EndsBehind Risked now members kept (Ok rest) = RestsBehind now rest members kept
-  EndsBehind Risked now members kept (Err fault) = BreaksBehind Risked now fault kept
+  EndsBehind Refused now members kept (Ok rest) = RestsBehind now rest members kept
+  EndsBehind Refused now members kept (Err fault) = BreaksBehind Refused now fault kept
 
-  -- The opening of a life was refused: one of the grants that a stop had left out failed, or memory was wanted.
+  -- The opening of a life was refused: one of the grants that a stop had left out failed, or memory was wanted. Hosts that fitted the events fit
+  -- them still, behind the grants that were made, and with one event more that is accepted.
   pub record OpeningBreaks (events : List Event) (fault : TakeFault) (disk : D) : Type 0 where
-    pub now : List Event
-    pub goes : GoesBy setting (λ e. ⊥) events now []
+    pub granted : List Event
+    pub are_grants : AllAre (λ e. is_grant e ≡ true) granted
+    pub goes : GoesBy setting (λ e. ⊥) events (events ++ granted) []
     pub kept : Kept D T
     pub same : disk ≡ kept.journal.disk
-    pub breaks : BreaksBehind (λ e. ⊥) now fault kept
+    pub breaks : BreaksBehind (λ e. ⊥) (events ++ granted) fault kept
+    pub fits : (hosts : List ExecutorHost) → fitting.AllFit setting events hosts → fitting.AllFit setting (events ++ granted) hosts
+    pub fits_next : (hosts : List ExecutorHost) → fitting.AllFit setting events hosts → (e : Event) → answer_to setting (world_in setting (events ++ granted)) e ≡ Accepted
+        → fitting.AllFit setting ((events ++ granted) ++ e ∷ []) hosts
 
 module _ {D T H A : Type 0} (reads : D → Option (List ℕ)) (may_leave : D → List ℕ → Type 0) (clock : D → ℕ) (since : D → ℕ → List ℕ → Type 0) (stance : T → Stance)
     (honest : H → Type 0) (faults : H → ℕ) (calls : H → Option (List Call)) (launches dirs : H → List ℕ) (output : H → ℕ → Stream → List ℕ) (exited : H → ℕ → Option ℤ)
@@ -57,20 +72,32 @@ module _ {D T H A : Type 0} (reads : D → Option (List ℕ)) (may_leave : D →
   abbrev pub IsReported : List (Turn H A) → Event → Type 0
   IsReported turns e = HoldsOfOne (Explains honest faults calls launches dirs output exited left source_faults looks true e) turns
 
-  abbrev pub IsRisked : List (Turn H A) → Event → Type 0
-  IsRisked turns e = HoldsOfOne (Explains honest faults calls launches dirs output exited left source_faults looks false e) turns
+  abbrev pub IsRefused : List (Turn H A) → Event → Type 0
+  IsRefused turns e = HoldsOfOne (Explains honest faults calls launches dirs output exited left source_faults looks false e) turns
 
-  -- From a store of these events on: those at its end, how they came, how it ended, and that honest hosts which fitted the events fit them
-  -- still, so that no task was launched twice.
+  -- From these events on: those at its end, how they came, how it ended, and that honest hosts which fitted the events fit those, so that on the
+  -- hosts of different executors no task was launched twice, in this life and all before it.
   pub record Ends (turns : List (Turn H A)) (setting : Setting) (entry : Option (List ℕ)) (origin : D) (before events : List Event) (old new : List (Member H A)) (history : List Entry) (kept : Kept D T) (ended : Result Rest TakeFault) : Type 0 where
+    -- those at the end are those at the beginning, the grants that a stop had left out, and those of the history
+    pub granted : List Event
+    pub are_grants : AllAre (λ e. is_grant e ≡ true) granted
     pub now : List Event
+    pub is : now ≡ (events ++ granted) ++ tooks history
     pub goes : GoesBy setting (IsReported turns) events now (lines history)
-    pub ends : EndsBehind reads may_leave clock since stance setting entry origin before (IsRisked turns) now new kept ended
+    -- each task was claimed while it was open, for its executor
+    pub claims : AllAre (λ (c : ClaimedTask). InLife setting (events ++ granted) (tooks history) c.executor c.task) (claimed_of history)
+    pub ends : EndsBehind reads may_leave clock since stance setting entry origin before (IsRefused turns) now new kept ended
     pub fits : AreHonest honest old → AllFit launches dirs setting events old → AllFit launches dirs setting now new
+    -- and with one event more that is accepted, as that which the disk may have though its take failed
+    pub fits_next : AreHonest honest old → AllFit launches dirs setting events old → (e : Event) → answer_to setting (world_in setting now) e ≡ Accepted → AllFit launches dirs setting (now ++ e ∷ []) new
+    pub once : AreHonest honest old → AllFit launches dirs setting events old → AreApart (hosts_of launches dirs old) → IsDistinct nat_eq (all_launches (hosts_of launches dirs new))
 
-  -- A life over this build: what its members did, and what came of it, from whichever events the store had.
-  pub record LivesOn {B : Type 0} (answers : Answers B Entry Ask Reply) (durable : Kept D T) (old new : List (Member H A)) (base : B) (history : List Entry) (kept : Kept D T) (ended : Result Rest TakeFault) : Type 0 where
+  -- A life over this build: the state that was opened, behind the grants that a stop had left out, what its members did, and how that ended; and
+  -- what came of it, from whichever events the store had. `value` is the build at the base of the history.
+  pub record LivesOn {B : Type 0} (disk_faults : D → ℕ) (value : B → Kept D T) (answers : Answers B Entry Ask Reply) (durable : Kept D T) (old new : List (Member H A)) (base : B) (history : List Entry) (kept : Kept D T) (ended : Result Rest TakeFault) : Type 0 where
+    pub opened : (made : List Entry) × Grants stance durable.build made × (kept_fault made ≡ None) × Facts reads may_leave clock since disk_faults stance durable (value base) made
     pub how : Result Progress Memory
     pub life : Life honest faults calls launches dirs output exited left source_faults looks answers base base old new history how
+    pub told : ended ≡ ended_as (kept_fault history) how new
     pub comes : (setting : Setting) (entry : Option (List ℕ)) (origin : D) (before events : List Event) → Lasts reads may_leave clock since stance setting entry origin before events durable
         → ∥ Ends (turns_of life.rounds ++ life.last) setting entry origin before events old new history kept ended ∥₁

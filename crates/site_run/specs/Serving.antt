@@ -1,13 +1,30 @@
--- What a life makes of its members: hosts fit the events from before it and those at its end, and faults of the answers are counted (this
--- product's own).
-use Rattle.std.specs.Prelude.{◌≡◌, ℕ, true, false, List, [], ◌∷◌}
+-- What a life makes of its members: hosts fit the events from before it and those at its end, and the answers are read on (this product's own).
+use Rattle.std.specs.Prelude.{◌≡◌, ◌≤◌, ◌↔◌, ℕ, Bool, true, false, List, [], ◌∷◌, ◌++◌, Option, Some}
+use Rattle.std.specs.Io.KnownBytes.{Consumes, IsAtEnd}
 use Rattle.device_faults.specs.Faults.{CountsFault}
+use Rattle.task_host.specs.declared.call.Call.{Call}
 use Rattle.agent_worker.specs.declared.member.Member.{Member}
 use Rattle.agent_worker.specs.declared.member.Member.TheVariants.{Executor, Operator}
 use Rattle.agent_worker.specs.Serve.{tasks_at}
-use Rattle.launch_laws.specs.Fitting.{ExecutorHost, Fits}
+use Rattle.launch_laws.specs.Fitting as fitting
+use Rattle.launch_laws.specs.Fitting.{ExecutorHost}
 use Rattle.model_run.specs.declared.event.Event.{Event}
 use Rattle.model_run.specs.State.{Setting}
+
+-- What became of an operator's answers, by what they had left at the beginning and at the end and by its two marks: these bytes were read; it
+-- says that they are at their end only where they are; and that they could not be read exactly where their source counted a fault.
+pub record ReadOn (left next : Option (List ℕ)) (faults now_faults : ℕ) (ended now_ended failed now_failed : Bool) : Type 0 where
+  pub read : List ℕ
+  pub answers : Consumes left next read
+  pub at_end : ended ≡ false → now_ended ≡ true → IsAtEnd next
+  pub counts : failed ≡ false → CountsFault faults now_faults (now_failed ≡ true)
+
+-- What became of a host: it is honest where it was, its count of faults does not fall, and the calls that it tells, where it does, go on from
+-- those that it told.
+pub record HostStays (was_honest honest : Type 0) (faults now_faults : ℕ) (calls now_calls : Option (List Call)) : Type 0 where
+  pub honest_stays : honest ↔ was_honest
+  pub never_falls : faults ≤ now_faults
+  pub called : (list : List Call) → now_calls ≡ Some list → (before : List Call) × (more : List Call) × (calls ≡ Some before) × (list ≡ before ++ more)
 
 module _ {H A : Type 0} where
   -- the hosts of the executors among them are honest
@@ -16,23 +33,24 @@ module _ {H A : Type 0} where
   AreHonest honest (Executor number host ∷ members) = honest host × AreHonest honest members
   AreHonest honest (Operator answers line ended failed ∷ members) = AreHonest honest members
 
-  -- and fit these events
-  abbrev pub AllFit : (H → List ℕ) → (H → List ℕ) → Setting → List Event → List (Member H A) → Type 0
-  AllFit launches dirs setting events [] = Unit {0}
-  AllFit launches dirs setting events (Executor number host ∷ members) = Fits setting events number (tasks_at (launches host) (dirs host)) × AllFit launches dirs setting events members
-  AllFit launches dirs setting events (Operator answers line ended failed ∷ members) = AllFit launches dirs setting events members
-
   -- the hosts of the executors among them, with their numbers
   abbrev pub hosts_of : (H → List ℕ) → (H → List ℕ) → List (Member H A) → List ExecutorHost
   hosts_of launches dirs [] = []
   hosts_of launches dirs (Executor number host ∷ members) = record { number = number; tasks = tasks_at (launches host) (dirs host) } ∷ hosts_of launches dirs members
   hosts_of launches dirs (Operator answers line ended failed ∷ members) = hosts_of launches dirs members
 
-  -- Member by member: an executor stays one, of the same number; and of an operator whose answers could be read before, they could not be
-  -- read in the end exactly where their source counted a fault.
-  abbrev pub AreServed : (A → ℕ) → List (Member H A) → List (Member H A) → Type 0
-  AreServed faults [] [] = Unit {0}
-  AreServed faults (Executor number host ∷ old) (Executor now next ∷ new) = (now ≡ number) × AreServed faults old new
-  AreServed faults (Operator answers line ended failed ∷ old) (Operator next kept now_ended now_failed ∷ new) =
-      (failed ≡ false → CountsFault (faults answers) (faults next) (now_failed ≡ true)) × AreServed faults old new
-  AreServed faults old new = ⊥
+  -- they fit these events
+  abbrev pub AllFit : (H → List ℕ) → (H → List ℕ) → Setting → List Event → List (Member H A) → Type 0
+  AllFit launches dirs setting events members = fitting.AllFit setting events (hosts_of launches dirs members)
+
+  -- Member by member: an executor stays one, of the same number, and its host stays one; and an operator reads on.
+  abbrev pub AreServed : (H → Type 0) → (H → ℕ) → (H → Option (List Call)) → (A → Option (List ℕ)) → (A → ℕ) → List (Member H A) → List (Member H A) → Type 0
+  AreServed honest host_faults calls left faults [] [] = Unit {0}
+  AreServed honest host_faults calls left faults (Executor number host ∷ old) (Executor now next ∷ new) =
+      ((now ≡ number) × HostStays (honest host) (honest next) (host_faults host) (host_faults next) (calls host) (calls next)) × AreServed honest host_faults calls left faults old new
+  AreServed honest host_faults calls left faults (Operator answers line ended failed ∷ old) (Operator next kept now_ended now_failed ∷ new) =
+      ReadOn (left answers) (left next) (faults answers) (faults next) ended now_ended failed now_failed × AreServed honest host_faults calls left faults old new
+  AreServed honest host_faults calls left faults (Executor number host ∷ old) (Operator next kept now_ended now_failed ∷ new) = ⊥
+  AreServed honest host_faults calls left faults (Operator answers line ended failed ∷ old) (Executor now next ∷ new) = ⊥
+  AreServed honest host_faults calls left faults [] (member ∷ new) = ⊥
+  AreServed honest host_faults calls left faults (member ∷ old) [] = ⊥

@@ -7,6 +7,10 @@ ghost use Rattle.model_run.specs.State.{Setting};
 ghost use Rattle.saved_run.specs.Lives.{Lasts};
 ghost use Rattle.program_lock.specs.declared.program.Memory.{Memory as NoMemory};
 ghost use Rattle.site_state.specs.declared.ask.Progress.{Progress as Come};
+ghost use Rattle.durable_build.specs.Standing.{Kept};
+ghost use Rattle.site_state.specs.declared.ask.Entry.{Entry};
+ghost use Rattle.site_state.specs.Facts.{Facts};
+ghost use Rattle.site_state.specs.Grants.{OpenRefuses};
 ghost use Rattle.site_state.specs.Histories.{kept_fault};
 ghost use Rattle.site_state.specs.Says.{Says};
 ghost use Rattle.site_life.specs.Lives.{Life};
@@ -47,6 +51,7 @@ pub struct Lived<D: Disk, R: SavedThread + Drop> {
 /// answers were read to their end (`Waits`); and where no task is open, and an input whose answers could not be read
 /// (`AnswersFailed`).
 ///
+/// An open input can be answered by an operator among the members alone; without one a life rests though an input is open.
 /// `looks`, at least 1, is as for [`agent_worker::work`]. It may wait for ever.
 ///
 /// # Errors
@@ -67,13 +72,15 @@ pub fn go_on<W: Wait + Clock + AllocGlobal, D: Disk, R: SavedThread + Drop, H: H
     requires begun { has_begun durable.build.phase ≡ true }
     ensures lives { IfOk result (λ l. LivesOn D.reads D.may_leave D.clock D.may_have_left_since R.stance
         H.honest H.faults H.calls H.launches H.dirs H.output H.exited A.left A.faults looks
-        (λ base history ask reply new. Says R.stance base.value.build history ask reply new)
+        D.faults (λ base. base.value) (λ base history ask reply new. Says R.stance base.value.build history ask reply new)
         durable members.old members.new l.site.base l.site.history.items l.site.durable l.ended) }
-    ensures refused { IfErr result (λ e. (setting : Setting) (entry : Option (List ℕ)) (origin : D) (before events : List AnEvent)
+    ensures refused { IfErr result (λ e. (made : List Entry) × (now : Kept D R) × OpenRefuses R.stance durable now made e.0
+        × Facts D.reads D.may_leave D.clock D.may_have_left_since D.faults R.stance durable now made × (e.1 ≡ now.journal.disk)) }
+    ensures breaks { IfErr result (λ e. (setting : Setting) (entry : Option (List ℕ)) (origin : D) (before events : List AnEvent)
         → Lasts D.reads D.may_leave D.clock D.may_have_left_since R.stance setting entry origin before events durable
         → OpeningBreaks D.reads D.may_leave D.clock D.may_have_left_since R.stance setting entry origin before events e.0 e.1) }
     ensures back { IfErr result (λ e. members.new ≡ members.old) }
-    ensures served { IfOk result (λ l. AreServed A.faults members.old members.new) }
+    ensures served { IfOk result (λ l. AreServed H.honest H.faults H.calls A.left A.faults members.old members.new) }
     ensures failed { IfOk result (λ l. l.ended ≡ Ok Rest.AnswersFailed → any_failed members.new ≡ true) }
     ensures disk { MatchResult result
         (λ l. CountsFault (D.faults durable.journal.disk) (D.faults l.site.durable.journal.disk) (l.ended ≡ Err TakeFault.Disk))

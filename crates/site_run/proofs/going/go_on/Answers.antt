@@ -1,6 +1,8 @@
 use Rattle.std.proofs.Common.{◌≡◌, ◌∙◌, sym, ap, subst}
 use Rattle.device_faults.specs.Faults.{CountsFault}
 use Rattle.agent_worker.specs.declared.fault.TakeFault.TheVariants.{Disk}
+use Rattle.site_state.specs.Facts.{Facts}
+use Rattle.site_state.specs.Histories.{kept_fault}
 use Rattle.site_run.proofs.CloseLemmas.{disk_counts, failed_so, known_from, opening_counts, same_start}
 use Rattle.site_run.proofs.FitLemmas.{life_serves}
 use Rattle.site_run.proofs.WholeLemmas.{life_ends, opening_refused}
@@ -18,8 +20,10 @@ returns-in-Ok-clause-lives g c =
     let made = c.in-Ok.ensures.grants in
     let life = same_start H.honest H.faults H.calls H.launches H.dirs H.output H.exited A.left A.faults c.args.looks _ site.base l.site.base c.args.members.now c.live_on.new.members l.site.history.items e.0 e.1 in
     record {
+      opened = (made.0, made.1, made.2, subst (λ k. Facts D.reads D.may_leave D.clock D.may_have_left_since D.faults stance c.args.durable k made.0) (sym (ap (λ b. b.value) e.1.base_stays ∙ c.in-Ok.ensures.fresh.1)) made.3);
       how = e.0;
       life = life;
+      told = e.2;
       comes = λ setting entry origin before events lasts.
           life_ends D.reads D.may_leave D.clock D.may_have_left_since D.faults stance g.met.D.Disk.told_image setting entry origin before events c.args.durable lasts made.0 made.1 site.durable made.3 made.2
           H.honest H.faults H.calls H.launches H.dirs H.output H.exited A.left A.faults c.args.looks (λ b. b.value.build) l.site.base l.site.base c.args.members.now c.live_on.new.members l.site.history.items e.0 life
@@ -39,7 +43,7 @@ returns-in-Ok-clause-served g c =
 pub returns-in-Ok-clause-failed : goal.returns-in-Ok-clause-failed
 returns-in-Ok-clause-failed g c = λ is.
     let e = c.live_on.ensures.lives in
-    failed_so c.live_on.new.members e.0 _ (sym e.2 ∙ is)
+    failed_so c.live_on.new.members e.0 (kept_fault c.live_on.result.site.history.items) c.live_on.result.ended e.2 is
 
 pub returns-in-Ok-clause-disk : goal.returns-in-Ok-clause-disk
 returns-in-Ok-clause-disk g c =
@@ -52,8 +56,8 @@ returns-in-Ok-clause-disk g c =
     disk_counts D.reads D.may_leave D.clock D.may_have_left_since D.faults stance c.args.durable site.durable l.site.durable made.0 l.site.history.items _ c.live_on.new.members e.0 l.ended made.3 made.2
     (known_from D.reads D.may_leave D.clock D.may_have_left_since D.faults stance (λ b. b.value) site.base l.site.base site.durable l.site.durable l.site.history.items _ e.1.base_stays c.in-Ok.ensures.fresh.1 l.site.stands) e.2
 
-pub returns-in-Err-clause-refused : goal.returns-in-Err-clause-refused
-returns-in-Err-clause-refused g c = λ setting entry origin before events lasts.
+pub returns-in-Err-clause-breaks : goal.returns-in-Err-clause-breaks
+returns-in-Err-clause-breaks g c = λ setting entry origin before events lasts.
     let D = g.D.Disk in
     let e = c.in-Err.ensures.refused in
     opening_refused D.reads D.may_leave D.clock D.may_have_left_since D.faults g.R.ScriptThread.stance g.met.D.Disk.told_image setting entry origin before events c.args.durable lasts e.0 e.1 _ _ e.2 e.3 e.4

@@ -1,5 +1,9 @@
-use Rattle.std.proofs.Common.{◌≡◌, List, ℕ, ◌++◌, subst}
-use Rattle.program_lock.specs.Passes.{own_entries}
+use Rattle.std.proofs.Common.{◌≡◌, List, ℕ, ◌++◌, inr, subst}
+use Rattle.program_lock.specs.Passes.{known, own_entries}
+use Rattle.site_state.specs.declared.ask.Ask.TheVariants as asks
+use Rattle.site_state.specs.declared.ask.Reply.TheVariants as says
+use Rattle.site_gate.specs.Saying.{WasSaid}
+use Rattle.site_gate.proofs.SayLemmas.{as_reply}
 use Rattle.agent_worker.specs.Gate.{IsToldOf, heard_of}
 use Rattle.site_state.specs.Histories.{lines}
 use Rattle.site_gate.proofs.AskLemmas.{answer_replies, answer_adds, claims_same}
@@ -20,3 +24,7 @@ pub returns-in-Ok-clause-lines : goal.returns-in-Ok-clause-lines
 returns-in-Ok-clause-lines g c =
     let a = answer_adds c.in-Ok.line c.ask.result c.heard_of.result c.heard_of.ensures c.ask.ensures.asked in
     subst (λ (l : List ℕ). lines (own_entries c.ask.new.self.pass) ≡ lines (own_entries c.args.self.now.pass) ++ heard_of l c.heard_of.result) c.in-Ok.ensures a.2.heard_so
+
+pub returns-in-Ok-clause-replied : goal.returns-in-Ok-clause-replied
+returns-in-Ok-clause-replied g c = inr (subst (λ (l : List ℕ). WasSaid g.R.ScriptThread.stance (λ b. b.value.build) (known c.ask.new.self.pass) (asks.Answer l) (says.Heard c.heard_of.result)) c.in-Ok.ensures
+    (as_reply g.R.ScriptThread.stance (λ b. b.value.build) (known c.ask.new.self.pass) (asks.Answer c.in-Ok.line) c.ask.result (says.Heard c.heard_of.result) c.heard_of.ensures c.ask.ensures.replied))

@@ -1,0 +1,4 @@
+pub mod Sent
+pub mod ServeLemmas
+pub mod SeatLemmas
+pub mod RoundLemmas

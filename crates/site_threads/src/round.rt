@@ -1,0 +1,163 @@
+//! A round in threads.
+ghost use Rattle.std.specs.Prelude.{◌≡◌, ◌≤◌, ◌^◌, Some, None, length, map, IfOk, IfErr, MatchOption};
+ghost use Rattle.std.specs.List.{AllZip, AllByRecursion as AllAre};
+ghost use Rattle.program_lock.specs.Calls.{Splits, Joins};
+ghost use Rattle.program_lock.specs.Passes.{known};
+ghost use Rattle.program_lock.specs.Views.{all_parts};
+ghost use Rattle.site_life.specs.Passing.{TakesRound};
+ghost use Rattle.site_life.specs.Turns.{DidTurn};
+ghost use Rattle.site_threads.specs.Seats.{HandsOut, TakesIn};
+ghost use Rattle.site_threads.specs.Serving.{Serves};
+
+use crate::seat::Seat;
+use jp_disk::Disk;
+use jp_io::Source;
+use program_lock::{Memory, Pass, work_in_threads};
+use saved_thread::SavedThread;
+use site_state::SiteState;
+use std::alloc::AllocGlobal;
+use std::sync::Wait;
+use std::thread::Threads;
+use std::time::Clock;
+use task_host::Host;
+
+/// Splits a pass off for a seat.
+fn give<'a, W: Wait, D: Disk, R: SavedThread + Drop, H, A>(
+    pass: &mut Pass<SiteState<D, R>>,
+    seat: &mut Seat<'a, W, D, R, H, A>,
+) -> Result<(), Memory>
+    requires over { seat.old.program.now.table.shared.table_id ≡ pass.old.seat.table_id }
+    ensures same { pass.new.seat.table_id ≡ pass.old.seat.table_id }
+    ensures kept { (seat.new.member ≡ seat.old.member) × (seat.new.looks ≡ seat.old.looks) × (seat.new.program ≡ seat.old.program) }
+    ensures given { IfOk result (λ _. (p : _) × (seat.new.pass ≡ Some p) × Splits (known pass.old) (known pass.new) (known p)) }
+    ensures refused { IfErr result (λ _. (known pass.new ≡ known pass.old) × (seat.new.pass ≡ seat.old.pass)) }
+{
+    match seat.program.split(seat.rt, pass) {
+        Ok(own) => {
+            seat.pass = Some(own);
+            Ok(())
+        }
+        Err(memory) => Err(memory),
+    }
+}
+
+/// Takes in the pass of a seat, where it has one.
+fn take_back<'a, W: Wait, D: Disk, R: SavedThread + Drop, H, A>(
+    pass: &mut Pass<SiteState<D, R>>,
+    seat: &mut Seat<'a, W, D, R, H, A>,
+)
+    requires over { seat.old.program.now.table.shared.table_id ≡ pass.old.seat.table_id }
+    ensures same { pass.new.seat.table_id ≡ pass.old.seat.table_id }
+    ensures kept { (seat.new.member ≡ seat.old.member) × (seat.new.looks ≡ seat.old.looks) × (seat.new.program ≡ seat.old.program) }
+    ensures vacant { seat.new.pass ≡ None }
+    ensures taken { MatchOption seat.old.pass (known pass.new ≡ known pass.old) (λ p. Joins (known pass.old) (known p) (known pass.new)) }
+{
+    match seat.pass.take() {
+        Some(own) => seat.program.join(seat.rt, pass, own),
+        None => {}
+    }
+}
+
+/// Splits a pass off for each seat. Where one is refused, the seats before it have theirs.
+fn hand_out<'a, W: Wait, D: Disk, R: SavedThread + Drop, H, A>(
+    pass: &mut Pass<SiteState<D, R>>,
+    seats: &mut [Seat<'a, W, D, R, H, A>],
+) -> Result<(), Memory>
+    requires over { AllAre (λ program. program.now.table.shared.table_id ≡ pass.old.seat.table_id) (map (λ seat. seat.program) seats.old) }
+    requires enough { 2 ^ length seats.old ≤ (known pass.old).parts }
+    ensures same { pass.new.seat.table_id ≡ pass.old.seat.table_id }
+    ensures members { map (λ seat. seat.member) seats.new ≡ map (λ seat. seat.member) seats.old }
+    ensures looks { map (λ seat. seat.looks) seats.new ≡ map (λ seat. seat.looks) seats.old }
+    ensures programs { map (λ seat. seat.program) seats.new ≡ map (λ seat. seat.program) seats.old }
+    ensures out { HandsOut (map (λ seat. seat.pass) seats.old) (map (λ seat. seat.pass) seats.new) (known pass.old) (known pass.new) result }
+{
+    for seat in seats.iter_mut() {
+        match give(pass, seat) {
+            Ok(()) => {}
+            Err(memory) => return Err(memory),
+        }
+    }
+    Ok(())
+}
+
+/// Takes in the passes of all seats, in their order.
+fn take_in<'a, W: Wait, D: Disk, R: SavedThread + Drop, H, A>(
+    pass: &mut Pass<SiteState<D, R>>,
+    seats: &mut [Seat<'a, W, D, R, H, A>],
+)
+    requires over { AllAre (λ program. program.now.table.shared.table_id ≡ pass.old.seat.table_id) (map (λ seat. seat.program) seats.old) }
+    ensures same { pass.new.seat.table_id ≡ pass.old.seat.table_id }
+    ensures members { map (λ seat. seat.member) seats.new ≡ map (λ seat. seat.member) seats.old }
+    ensures looks { map (λ seat. seat.looks) seats.new ≡ map (λ seat. seat.looks) seats.old }
+    ensures programs { map (λ seat. seat.program) seats.new ≡ map (λ seat. seat.program) seats.old }
+    ensures vacant { AllAre (λ own. own ≡ None) (map (λ seat. seat.pass) seats.new) }
+    ensures taken { TakesIn (map (λ seat. seat.pass) seats.old) (known pass.old) (known pass.new) }
+{
+    for seat in seats.iter_mut() {
+        take_back(pass, seat);
+    }
+}
+
+/// All members with a pass work, each in a thread of its own as far as threads can be made.
+fn work_all<
+    'a,
+    T: Threads + Wait + Sync + Clock + AllocGlobal,
+    D: Disk + Send,
+    R: SavedThread + Drop + Send,
+    H: Host + Send,
+    A: Source + Send,
+>(rt: &T, seats: &mut [Seat<'a, T, D, R, H, A>])
+    ensures work { AllZip (λ a b. (b.program ≡ a.program) × (b.looks ≡ a.looks)
+        × Serves (DidTurn H.honest H.faults H.calls H.launches H.dirs H.output H.exited A.left A.faults a.looks) a.pass b.pass a.member b.member) seats.old seats.new }
+{
+    let threads = seats.len().max(1);
+    work_in_threads(rt, threads, seats);
+}
+
+/// Gives each of the members of these seats a turn, in a thread of its own as far as threads can be made; else they have their turns one
+/// after the other.
+///
+/// Each member has a pass of its own, which is split off before and taken in behind. `TakesRound` says what each turn was, as
+/// `take_round` of `site_life` does, and which entries of them the pass has. It has all parts of the right to close before and behind it.
+///
+/// # Errors
+///
+/// `Memory` comes for want of a further pass; then no member has had a turn.
+pub fn take_round_in_threads<
+    'a,
+    T: Threads + Wait + Sync + Clock + AllocGlobal,
+    D: Disk + Send,
+    R: SavedThread + Drop + Send,
+    H: Host + Send,
+    A: Source + Send,
+>(
+    rt: &T,
+    pass: &mut Pass<SiteState<D, R>>,
+    seats: &mut [Seat<'a, T, D, R, H, A>],
+    looks: u32,
+) -> Result<(), Memory>
+    requires over { AllAre (λ program. program.now.table.shared.table_id ≡ pass.old.seat.table_id) (map (λ seat. seat.program) seats.old) }
+    requires looks { AllAre (λ own. own ≡ looks) (map (λ seat. seat.looks) seats.old) }
+    requires vacant { AllAre (λ own. own ≡ None) (map (λ seat. seat.pass) seats.old) }
+    requires few { length seats.old ≤ 127 }
+    requires whole { (known pass.old).parts ≡ all_parts }
+    ensures same { pass.new.seat.table_id ≡ pass.old.seat.table_id }
+    ensures whole { (known pass.new).parts ≡ all_parts }
+    ensures vacant { AllAre (λ own. own ≡ None) (map (λ seat. seat.pass) seats.new) }
+    ensures looks { map (λ seat. seat.looks) seats.new ≡ map (λ seat. seat.looks) seats.old }
+    ensures programs { map (λ seat. seat.program) seats.new ≡ map (λ seat. seat.program) seats.old }
+    ensures round { TakesRound (DidTurn H.honest H.faults H.calls H.launches H.dirs H.output H.exited A.left A.faults looks)
+        (map (λ seat. seat.member) seats.old) (map (λ seat. seat.member) seats.new) (known pass.old) (known pass.new) result }
+{
+    match hand_out(pass, seats) {
+        Ok(()) => {
+            work_all(rt, seats);
+            take_in(pass, seats);
+            Ok(())
+        }
+        Err(memory) => {
+            take_in(pass, seats);
+            Err(memory)
+        }
+    }
+}
