@@ -77,10 +77,12 @@ fn are_of_two_agents(executors: &[Executor]) -> bool {
 }
 
 /// A file, the job, the looks and how many executors there are.
-const SITES: [(&str, &str, u32, usize); 4] = [
+const SITES: [(&str, &str, u32, usize); 6] = [
     (ONE_AGENT, "demo", 100000, 1),
     (TWO_AGENTS, "x.y", 5, 3),
     (r#"{"job":"demo","agents":[]}"#, "demo", 100000, 0),
+    (r#"{"job":1,"job":"a","agents":[]}"#, "a", 100000, 0),
+    (r#"{"j\u006fb":"a","agents":[]}"#, "a", 100000, 0),
     (
         r#"{"job":1,"j\u006fb":"\u0061","agents":[]}"#,
         "a",
