@@ -1,5 +1,5 @@
 -- How a life ends that a command lets go on, with its status and its text (this product's own).
-use Rattle.std.specs.Prelude.{◌≡◌, ◌⊎◌, ◌+◌, ◌<◌, ◌^◌, ℕ, Bool, false, List, [], ◌∷◌, ◌++◌, Option, None, IfSome, IsSome, IsSomeAnd, Result, Ok, Err}
+use Rattle.std.specs.Prelude.{◌≡◌, ◌⊎◌, ◌+◌, ◌<◌, ◌^◌, ℕ, Bool, false, List, [], ◌∷◌, ◌++◌, Option, None, true, IfSome, IsSome, IsSomeAnd, Result, Ok, Err}
 use Rattle.std.specs.Io.KnownBytes.{Consumes, IsAtEnd}
 use Rattle.device_faults.specs.Faults.{Rose}
 use Rattle.jp_disk.specs.Moments.{AtEachMoment}
@@ -22,54 +22,42 @@ use Rattle.build_commands.specs.Texts.{disk_failed_text, full_text, out_of_memor
 use Rattle.build_commands.specs.Writing as writing
 use Rattle.build_commands.specs.Writing.{Writes}
 
--- This event came next, and a life has a cause for it: it is the grant that is due, or the decision of this part of the answers, a whole line, behind which
--- they have this left.
-pub record ComesNext (setting : Setting) (left : Option (List ℕ)) (events : List Event) (part : List ℕ) (event : Event) : Type 0 where
-  pub is_next : IsNext setting events event
-  pub caused : IsCaused setting events left part event
+-- What a life is, is open here: which events it may have taken, why one comes next behind them, and behind which nobody goes on, or the answers could not be
+-- read.
+module _ {D : Type 0} (reads : D → Option (List ℕ)) (may_leave : D → List ℕ → Type 0) (clock : D → ℕ) (since : D → ℕ → List ℕ → Type 0)
+    (Takes : List Event → Type 0) (Comes : List Event → Event → Type 0) (Idles Unheard : List Event → Type 0) (setting : Setting) (entry : Option (List ℕ)) (origin : D) (before : List Event) (disk : D) where
+  -- This event came next, and there is a cause for it.
+  pub record ComesNext (events : List Event) (event : Event) : Type 0 where
+    pub is_next : IsNext setting events event
+    pub caused : Comes events event
 
--- The journal cannot take the record of the event that came next: these are the journal's length, and what the record would add. `entry` and `stored` are what
--- the disk told of its bytes at first and tells now.
-pub record IsFull (setting : Setting) (left entry stored : Option (List ℕ)) (events : List Event) (part : List ℕ) (len add : ℕ) : Type 0 where
-  pub event : Event
-  pub next : ComesNext setting left events part event
-  pub too_long : 2 ^ 30 < len + add
-  pub adds : add ≡ added event (image_after setting (events ++ event ∷ []))
-  pub length_is : IsSome entry → IfSome stored (λ file. len ≡ journal_length file)
-
-module _ {D : Type 0} (reads : D → Option (List ℕ)) (may_leave : D → List ℕ → Type 0) (clock : D → ℕ) (since : D → ℕ → List ℕ → Type 0) (setting : Setting) (entry : Option (List ℕ)) (origin : D) (before : List Event) (left now : Option (List ℕ)) (disk : D) where
-  -- What a life has taken, by what was read of the answers: these events; what was read behind their lines is nothing, or bytes of one line; perhaps, where the disk failed, the next one is on it too. Where the disk
-  -- told its bytes, which `entry` is, a crash since `origin`, over which there were the events from before, leaves a front of them; one now leaves
-  -- all of them; or, both, them and that one.
-  pub record Made (events : List Event) (risked : Option Event) (more : Bool) (part : List ℕ) : Type 0 where
-    pub read : List ℕ
-    pub goes : GoesOn setting before events read more
-    pub answers : Consumes left now (read ++ part)
-    pub at_end : more ≡ false → IsAtEnd now
-    pub left_over : LeftOver setting (world_in setting events) more part
-    pub next : IfSome risked (ComesNext setting now events part)
+  -- What a life has taken: these events; perhaps, where the disk failed, the next one is on it too. Where the disk told its bytes, which `entry` is, a crash
+  -- since `origin`, over which there were the events from before, leaves the first of them; one now leaves all of them; or, both, them and that one.
+  pub record Made (events : List Event) (risked : Option Event) : Type 0 where
+    pub takes : Takes events
+    pub next : IfSome risked (ComesNext events)
     pub moments : IsSome entry → AtEachMoment clock since origin disk (Survives setting before events risked)
     pub images : IsSome entry → (image : List ℕ) → may_leave disk image → Stores setting events image ⊎ IsSomeAnd risked (λ e. Stores setting (events ++ e ∷ []) image)
 
   -- The build has ended, or nobody goes on with it: its text is its log.
   pub record Rests (events : List Event) : Type 0 where
-    pub rest : Rest
-    pub more : Bool
-    pub part : List ℕ
-    pub made : Made events None more part
-    pub rests : RestsFor rest setting (world_in setting events) more part
-    pub read_on : ¬ (rest ≡ AnswersFailed)
+    pub made : Made events None
+    pub rests : ((world_in setting events).ended ≡ true) ⊎ Idles events
 
-  -- It has not ended, and cannot go on.
+  -- The journal cannot take the record of the event that came next: these are the journal's length, and what the record would add.
+  pub record IsFull (events : List Event) (len add : ℕ) : Type 0 where
+    pub event : Event
+    pub next : ComesNext events event
+    pub too_long : 2 ^ 30 < len + add
+    pub adds : add ≡ added event (image_after setting (events ++ event ∷ []))
+    pub length_is : IsSome entry → IfSome (reads disk) (λ file. len ≡ journal_length file)
+
+  -- It cannot go on.
   pub data Breaks (disk_before disk_after answers_before answers_after : ℕ) : ℕ → List ℕ → Type 0 where
-    answers_failed : {events : List Event} {more : Bool} {part : List ℕ} → Made events None more part → RestsFor AnswersFailed setting (world_in setting events) more part → Rose answers_before answers_after
-        → Breaks disk_before disk_after answers_before answers_after 6 read_failed_text
-    disk_failed : {events : List Event} {risked : Option Event} {more : Bool} {part : List ℕ} → Made events risked more part → (world_in setting events).ended ≡ false → Rose disk_before disk_after
-        → Breaks disk_before disk_after answers_before answers_after 5 disk_failed_text
-    full : {events : List Event} {more : Bool} {part : List ℕ} (len add : ℕ) → Made events None more part → (world_in setting events).ended ≡ false → IsFull setting now entry (reads disk) events part len add
-        → Breaks disk_before disk_after answers_before answers_after 14 (full_text len add)
-    no_memory : {events : List Event} {more : Bool} {part : List ℕ} → Made events None more part → (world_in setting events).ended ≡ false
-        → Breaks disk_before disk_after answers_before answers_after 8 out_of_memory_text
+    answers_failed : {events : List Event} → Made events None → Unheard events → Rose answers_before answers_after → Breaks disk_before disk_after answers_before answers_after 6 read_failed_text
+    disk_failed : {events : List Event} {risked : Option Event} → Made events risked → Rose disk_before disk_after → Breaks disk_before disk_after answers_before answers_after 5 disk_failed_text
+    full : {events : List Event} (len add : ℕ) → Made events None → IsFull events len add → Breaks disk_before disk_after answers_before answers_after 14 (full_text len add)
+    no_memory : {events : List Event} → Made events None → Breaks disk_before disk_after answers_before answers_after 8 out_of_memory_text
 
   -- What was written of it: the log of a build that rests, whole or its front, then with 7; or the text of what broke it off.
   pub data Finishes (disk_before disk_after answers_before answers_after : ℕ) (old new : Option (List ℕ)) (sink_before sink_after : ℕ) : ℕ → Type 0 where
@@ -86,8 +74,12 @@ pub record TellsRest (Stands : Build → Type 0) (old new : Option (List ℕ)) (
   pub wrote : Writes old new sink_before sink_after log ended status
   pub is : (w : Build) → Stands w → (log ≡ w.shared.log) × (ended ≡ world_status w)
 
+-- What was written of a build that broke off by this fault, and with which status.
+abbrev pub TellsBreak : Option (List ℕ) → Option (List ℕ) → ℕ → ℕ → TakeFault → ℕ → Type 0
+TellsBreak old new c d fault status = (refusal : Refusal) × SaysTake fault refusal × (status ≡ refusal_status refusal) × writing.Tells old new c d (refusal_text refusal)
+
 -- What was written of a build that has gone on, and with which status.
 abbrev pub TellsEnd : (Build → Type 0) → Option (List ℕ) → Option (List ℕ) → ℕ → ℕ → Result Rest TakeFault → ℕ → Type 0
 TellsEnd Stands old new c d (Ok AnswersFailed) status = (status ≡ 6) × writing.Tells old new c d read_failed_text
 TellsEnd Stands old new c d (Ok rest) status = TellsRest Stands old new c d status
-TellsEnd Stands old new c d (Err fault) status = (refusal : Refusal) × SaysTake fault refusal × (status ≡ refusal_status refusal) × writing.Tells old new c d (refusal_text refusal)
+TellsEnd Stands old new c d (Err fault) status = TellsBreak old new c d fault status

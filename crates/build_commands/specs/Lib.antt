@@ -3,6 +3,7 @@ pub mod Writing
 pub mod Refusals
 pub mod Showing
 pub mod Finishing
+pub mod Living
 pub mod Reporting
 pub mod Resuming
 pub mod Plans

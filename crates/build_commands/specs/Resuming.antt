@@ -1,11 +1,12 @@
 -- What `resume` does with a consistent store (this product's own).
-use Rattle.std.specs.Prelude.{◌≡◌, ℕ, List, [], Option, Some, IfSome}
+use Rattle.std.specs.Prelude.{◌≡◌, ℕ, ℤ, List, [], Option, Some, IfSome, max}
 use Rattle.device_faults.specs.Faults.{Rose}
 use Rattle.jp_disk.specs.Moments.{AtEachMoment}
 use Rattle.model_run.specs.declared.event.Event.{Event}
 use Rattle.model_run.specs.State.{Setting}
-use Rattle.run_command.specs.Inputs.{Input, IsUnread}
-use Rattle.build_commands.specs.Finishing.{Finishes}
+use Rattle.task_host.specs.declared.call.Call.{Call}
+use Rattle.task_host.specs.declared.order.Stream.{Stream}
+use Rattle.build_commands.specs.Living.{Finished}
 use Rattle.build_commands.specs.Reporting.{Reports}
 use Rattle.build_commands.specs.Showing.{HasBuild, NotTold}
 use Rattle.build_commands.specs.Texts.{disk_failed_text, no_build_text, out_of_memory_text}
@@ -22,19 +23,26 @@ pub record IsUntouched {D : Type 0} (reads : D → Option (List ℕ)) (may_leave
   pub same : (file : List ℕ) → reads old ≡ Some file → reads now ≡ Some file
   pub moments : AtEachMoment clock since old now (may_leave old)
 
-module _ {D : Type 0} (reads : D → Option (List ℕ)) (may_leave : D → List ℕ → Type 0) (clock : D → ℕ) (since : D → ℕ → List ℕ → Type 0) (faults : D → ℕ) where
-  module _ (setting : Setting) (events : List Event) (left now : Option (List ℕ)) (old disk : D) where
+-- a command that lets no build go on gives hosts and answers back as they were
+abbrev pub GivesBack : {H A : Type 0} → List H → List H → A → A → Type 0
+GivesBack hosts rest answers unread = (rest ≡ hosts) × (unread ≡ answers)
+
+module _ {D H A : Type 0} (reads : D → Option (List ℕ)) (may_leave : D → List ℕ → Type 0) (clock : D → ℕ) (since : D → ℕ → List ℕ → Type 0) (faults : D → ℕ)
+    (honest : H → Type 0) (host_faults : H → ℕ) (calls : H → Option (List Call)) (launches dirs : H → List ℕ) (output : H → ℕ → Stream → List ℕ) (exited : H → ℕ → Option ℤ)
+    (left : A → Option (List ℕ)) (source_faults : A → ℕ) (hosts rest : List H) (answers unread : A) where
+  module _ (setting : Setting) (events : List Event) (old disk : D) where
     -- The store was not opened, and nothing was written; or it was, at a moment up to which a crash leaves nothing new, and its build went on.
-    pub data Resumes (answers_before answers_after : ℕ) (written rest : Option (List ℕ)) (sink_before sink_after : ℕ) : ℕ → Type 0 where
-      refused : {status : ℕ} {text : List ℕ} → now ≡ left → IsUntouched reads may_leave clock since old disk → NotOpened events (faults old) (faults disk) status text → writing.Tells written rest sink_before sink_after text
-          → Resumes answers_before answers_after written rest sink_before sink_after status
+    pub data Resumes (written now : Option (List ℕ)) (sink_before sink_after : ℕ) : ℕ → Type 0 where
+      refused : {status : ℕ} {text : List ℕ} → GivesBack hosts rest answers unread → IsUntouched reads may_leave clock since old disk → NotOpened events (faults old) (faults disk) status text → writing.Tells written now sink_before sink_after text
+          → Resumes written now sink_before sink_after status
       went_on : {status : ℕ} (opened : D) → AtEachMoment clock since old opened (may_leave old) → faults opened ≡ faults old
-          → Finishes reads may_leave clock since setting (reads old) opened events left now disk (faults opened) (faults disk) answers_before answers_after written rest sink_before sink_after status
-          → Resumes answers_before answers_after written rest sink_before sink_after status
+          → ∥ Finished reads may_leave clock since honest host_faults calls launches dirs output exited left source_faults (max setting.site.looks 1) setting (reads old) opened events hosts rest answers unread disk
+          (faults opened) (faults disk) written now sink_before sink_after status ∥₁
+          → Resumes written now sink_before sink_after status
 
   -- What `resume` comes to over any store: it was not opened, no answer was read and nothing was written; or it was, and its build went on.
-  pub data Reopens (old disk : D) (answers : Input) (written rest : Option (List ℕ)) (sink_before sink_after : ℕ) : ℕ → Type 0 where
-    unopened : {status : ℕ} {text : List ℕ} → IsUnread answers → IsUntouched reads may_leave clock since old disk → NotTold (reads old) (faults old) (faults disk) status text → writing.Tells written rest sink_before sink_after text
-        → Reopens old disk answers written rest sink_before sink_after status
-    goes_on : {status : ℕ} → IfSome (reads old) HasBuild → Reports (faults old) (faults disk) answers.before answers.after written rest sink_before sink_after status
-        → Reopens old disk answers written rest sink_before sink_after status
+  pub data Reopens (old disk : D) (written now : Option (List ℕ)) (sink_before sink_after : ℕ) : ℕ → Type 0 where
+    unopened : {status : ℕ} {text : List ℕ} → GivesBack hosts rest answers unread → IsUntouched reads may_leave clock since old disk → NotTold (reads old) (faults old) (faults disk) status text → writing.Tells written now sink_before sink_after text
+        → Reopens old disk written now sink_before sink_after status
+    goes_on : {status : ℕ} → IfSome (reads old) HasBuild → Reports (faults old) (faults disk) (source_faults answers) (source_faults unread) written now sink_before sink_after status
+        → Reopens old disk written now sink_before sink_after status

@@ -1,24 +1,31 @@
 //! How a command ends that lets a life go on.
-ghost use Rattle.std.specs.Prelude.{◌≡◌, [], ℕ, List, Option};
+ghost use Rattle.std.specs.Prelude.{◌≡◌, ◌≤◌, ◌<◌, ◌+◌, false, true, max, ℕ, List, Option, reverse, vec_len, vec_capacity};
 ghost use Rattle.build_core.specs.Builds.{StandsFor};
+ghost use Rattle.build_core.specs.Phases.{has_begun};
 ghost use Rattle.model_run.specs.declared.event.Event.{Event as AnEvent};
+ghost use Rattle.model_run.specs.declared.site.Executor.{Executor as SiteExecutor};
 ghost use Rattle.model_run.specs.State.{Setting};
-ghost use Rattle.saved_run.specs.Lives.{SoFar};
+ghost use Rattle.saved_run.specs.Lives.{Lasts};
+ghost use Rattle.site_crew.specs.Crews.{IsCrew, members_of, others_of};
 ghost use Rattle.build_commands.specs.Reporting.{Reports};
-ghost use Rattle.build_commands.specs.Finishing.{Finishes, TellsEnd, TellsRest};
+ghost use Rattle.build_commands.specs.Finishing.{TellsEnd, TellsRest};
+ghost use Rattle.build_commands.specs.Living.{Finished};
 
-use crate::done::Done;
+use crate::done::Ran;
 use crate::refusal::{Refusal, tell, tell_text};
 use build_core::Build;
-use durable_build::TakeFault;
+use durable_build::{DurableBuild, TakeFault};
 use jp_disk::Disk;
 use jp_io::{Sink, Source};
 use run_command::build_status;
-use saved_run::Life;
 use saved_thread::SavedThread;
 use script_run::Rest;
+use site_crew::Crew;
+use site_run::{Lived, go_on};
 use std::alloc::Global;
 use std::sync::Wait;
+use std::time::Clock;
+use task_host::Host;
 
 /// Lets a life go on until its build has ended or nobody can, and writes its log.
 ///
@@ -32,26 +39,87 @@ use std::sync::Wait;
 /// | 3 | only where no grant is due, and no input is open or the answers were read to their end | the log so far |
 /// | 8 | want of memory | `controller: out of memory` |
 ///
-/// It may wait for ever, as the answers may.
-pub fn finish<D: Disk, R: SavedThread + Drop, W: Wait + AllocGlobal, A: Source, K: Sink>(
-    rt: &W,
-    life: Life<D, R>,
-    answers: &mut A,
-    out: &mut K,
-) -> Done<D>
-    ensures reports { Reports (D.faults life.durable.journal.disk) (D.faults result.disk) (A.faults answers.old) (A.faults answers.new) (K.written out.old) (K.written out.new) (K.faults out.old) (K.faults out.new) result.status }
-    ensures finishes { (setting : Setting) (entry : Option (List ℕ)) (origin : D) (before : List AnEvent) (first : Option (List ℕ)) (events : List AnEvent)
-        → SoFar D.reads D.may_leave D.clock D.may_have_left_since R.stance setting entry origin before first (A.left answers.old) [] events life
-        → Finishes D.reads D.may_leave D.clock D.may_have_left_since setting entry origin before first (A.left answers.new) result.disk
-        (D.faults life.durable.journal.disk) (D.faults result.disk) (A.faults answers.old) (A.faults answers.new)
-        (K.written out.old) (K.written out.new) (K.faults out.old) (K.faults out.new) result.status }
+/// It may wait for ever, as the answers and the tasks may.
+pub fn finish<
+    D: Disk,
+    R: SavedThread + Drop,
+    W: Wait + Clock + AllocGlobal,
+    H: Host + Drop,
+    A: Source + Drop,
+    K: Sink,
+>(rt: &W, durable: DurableBuild<D, R>, hosts: Vec<H>, answers: A, out: &mut K) -> Ran<D, H, A>
+    requires running { durable.stopped ≡ false }
+    requires begun { has_begun durable.build.phase ≡ true }
+    ensures reports { Reports (D.faults durable.journal.disk) (D.faults result.disk) (A.faults answers) (A.faults result.answers) (K.written out.old) (K.written out.new) (K.faults out.old) (K.faults out.new) result.status }
+    ensures finishes { (setting : Setting) (entry : Option (List ℕ)) (origin : D) (before : List AnEvent)
+        → Lasts D.reads D.may_leave D.clock D.may_have_left_since R.stance setting entry origin before before durable
+        → ∥ Finished D.reads D.may_leave D.clock D.may_have_left_since H.honest H.faults H.calls H.launches H.dirs H.output H.exited A.left A.faults (max setting.site.looks 1)
+        setting entry origin before hosts.items result.hosts.items answers result.answers result.disk (D.faults durable.journal.disk) (D.faults result.disk)
+        (K.written out.old) (K.written out.new) (K.faults out.old) (K.faults out.new) result.status ∥₁ }
 {
-    let mut life = life;
-    let ended = life.go_on(rt, answers);
-    let status = tell_end(rt.alloc(), out, life.build(), ended);
-    Done {
-        status,
-        disk: life.close(),
+    let alloc = rt.alloc();
+    let looks = durable.build().site().looks.max(1);
+    let executors = durable.build().site().executors.as_slice();
+    match Crew::gather(alloc, executors, hosts, answers) {
+        Ok(crew) => live(rt, durable, crew, looks, out),
+        Err((hosts, answers)) => {
+            let status = tell(out, &Refusal::OutOfMemory);
+            Ran {
+                status,
+                disk: durable.close(),
+                hosts,
+                answers,
+            }
+        }
+    }
+}
+
+/// The same with these members.
+fn live<
+    D: Disk,
+    R: SavedThread + Drop,
+    W: Wait + Clock + AllocGlobal,
+    H: Host + Drop,
+    A: Source + Drop,
+    K: Sink,
+>(rt: &W, durable: DurableBuild<D, R>, crew: Crew<H, A>, looks: u32, out: &mut K) -> Ran<D, H, A>
+    requires looks { 0 < looks }
+    requires running { durable.stopped ≡ false }
+    requires begun { has_begun durable.build.phase ≡ true }
+    requires crew { IsCrew crew.members.items }
+    requires room { vec_len crew.others + vec_len crew.members ≤ vec_capacity crew.others + 1 }
+    ensures reports { (executors : List SiteExecutor) (hosts : List H) (answers : A) → crew.members.items ≡ members_of executors hosts answers
+        → Reports (D.faults durable.journal.disk) (D.faults result.disk) (A.faults answers) (A.faults result.answers) (K.written out.old) (K.written out.new) (K.faults out.old) (K.faults out.new) result.status }
+    ensures finishes { (hosts : List H) (answers : A) (setting : Setting) (entry : Option (List ℕ)) (origin : D) (before : List AnEvent) → crew.members.items ≡ members_of setting.site.executors hosts answers
+        → crew.others.items ≡ reverse (others_of setting.site.executors hosts) → Lasts D.reads D.may_leave D.clock D.may_have_left_since R.stance setting entry origin before before durable
+        → ∥ Finished D.reads D.may_leave D.clock D.may_have_left_since H.honest H.faults H.calls H.launches H.dirs H.output H.exited A.left A.faults looks
+        setting entry origin before hosts result.hosts.items answers result.answers result.disk (D.faults durable.journal.disk) (D.faults result.disk)
+        (K.written out.old) (K.written out.new) (K.faults out.old) (K.faults out.new) result.status ∥₁ }
+{
+    let alloc = rt.alloc();
+    let mut crew = crew;
+    match go_on(rt, alloc, durable, crew.members.as_mut_slice(), looks) {
+        Ok(Lived { site, ended }) => {
+            let status = tell_end(alloc, out, site.build(), ended);
+            let (disk, _) = site.close();
+            let (hosts, answers) = crew.dismiss();
+            Ran {
+                status,
+                disk,
+                hosts,
+                answers,
+            }
+        }
+        Err((fault, disk)) => {
+            let status = tell(out, &Refusal::of_take(alloc, fault));
+            let (hosts, answers) = crew.dismiss();
+            Ran {
+                status,
+                disk,
+                hosts,
+                answers,
+            }
+        }
     }
 }
 

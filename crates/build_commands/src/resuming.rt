@@ -1,12 +1,12 @@
 //! The command that goes on with the build of a store.
+
 ghost use Rattle.std.specs.Prelude.{◌≡◌, ℕ, List, Some};
 ghost use Rattle.model_run.specs.declared.event.Event.{Event as AnEvent};
 ghost use Rattle.model_run.specs.State.{Setting};
 ghost use Rattle.saved_run.specs.Saved.{Stores};
-ghost use Rattle.run_command.specs.Inputs.{taken_from};
 ghost use Rattle.build_commands.specs.Resuming.{Reopens, Resumes};
 
-use crate::done::Done;
+use crate::done::Ran;
 use crate::finishing::finish;
 use crate::refusal::{Refusal, tell};
 use jp_disk::Disk;
@@ -14,6 +14,8 @@ use jp_io::{Sink, Source};
 use saved_run::Life;
 use saved_thread::SavedThread;
 use std::sync::Wait;
+use std::time::Clock;
+use task_host::Host;
 
 /// Goes on with the build of a store until it has ended or nobody can, and writes its log.
 ///
@@ -29,23 +31,31 @@ use std::sync::Wait;
 /// | 8 | want of memory | `controller: out of memory` |
 ///
 /// It may wait for ever, as the answers may.
-pub fn resume<D: Disk, R: SavedThread + Drop, W: Wait + AllocGlobal, A: Source, K: Sink>(
-    rt: &W,
-    disk: D,
-    answers: &mut A,
-    out: &mut K,
-) -> Done<D>
-    ensures reopens { Reopens D.reads D.may_leave D.clock D.may_have_left_since D.faults disk result.disk (taken_from A.left A.faults answers.old answers.new) (K.written out.old) (K.written out.new) (K.faults out.old) (K.faults out.new) result.status }
+pub fn resume<
+    D: Disk,
+    R: SavedThread + Drop,
+    W: Wait + Clock + AllocGlobal,
+    H: Host + Drop,
+    A: Source + Drop,
+    K: Sink,
+>(rt: &W, disk: D, hosts: Vec<H>, answers: A, out: &mut K) -> Ran<D, H, A>
+    ensures reopens { Reopens D.reads D.may_leave D.clock D.may_have_left_since D.faults H.honest H.faults H.calls H.launches H.dirs H.output H.exited A.left A.faults hosts.items result.hosts.items answers result.answers
+        disk result.disk (K.written out.old) (K.written out.new) (K.faults out.old) (K.faults out.new) result.status }
     ensures resumes { (file : List ℕ) → D.reads disk ≡ Some file → (setting : Setting) (events : List AnEvent) → Stores setting events file
-        → Resumes D.reads D.may_leave D.clock D.may_have_left_since D.faults setting events (A.left answers.old) (A.left answers.new) disk result.disk
-        (A.faults answers.old) (A.faults answers.new) (K.written out.old) (K.written out.new) (K.faults out.old) (K.faults out.new) result.status }
+        → Resumes D.reads D.may_leave D.clock D.may_have_left_since D.faults H.honest H.faults H.calls H.launches H.dirs H.output H.exited A.left A.faults hosts.items result.hosts.items answers result.answers
+        setting events disk result.disk (K.written out.old) (K.written out.new) (K.faults out.old) (K.faults out.new) result.status }
 {
     let alloc = rt.alloc();
     match Life::<D, R>::reopen(alloc, disk) {
-        Ok(life) => finish(rt, life, answers, out),
+        Ok(life) => finish(rt, life.into_durable(), hosts, answers, out),
         Err((fault, disk)) => {
             let status = tell(out, &Refusal::of_store(alloc, fault));
-            Done { status, disk }
+            Ran {
+                status,
+                disk,
+                hosts,
+                answers,
+            }
         }
     }
 }

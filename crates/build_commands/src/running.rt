@@ -1,11 +1,12 @@
 //! The command that begins the build of a script.
+
 ghost use Rattle.std.specs.Prelude.{◌+◌};
 ghost use Rattle.jp_io.specs.Whole.{TakesAtMost};
-ghost use Rattle.run_command.specs.Files.{script_limit, agents_limit, Builds};
+ghost use Rattle.run_command.specs.Files.{agents_limit, script_limit, Builds};
 ghost use Rattle.run_command.specs.Inputs.{taken_from};
 ghost use Rattle.build_commands.specs.Beginning.{Begins, Runs};
 
-use crate::done::Done;
+use crate::done::Ran;
 use crate::finishing::finish;
 use crate::plan::{Plan, read_plan};
 use crate::refusal::{Refusal, tell};
@@ -14,6 +15,8 @@ use jp_io::{Sink, Source};
 use saved_run::Life;
 use saved_thread::SavedThread;
 use std::sync::Wait;
+use std::time::Clock;
+use task_host::Host;
 
 /// Makes the store of the build of a script, goes on with the build until it has ended or nobody can, and writes its log.
 ///
@@ -32,39 +35,53 @@ use std::sync::Wait;
 ///
 /// The disk is called only where script and agents file are without a fault. Each of their sources is asked for at most one byte
 /// more than its file may have. It may wait for ever, as the answers may.
-pub fn run<D: Disk, R: SavedThread + Drop, W: Wait + AllocGlobal, S: Source, A: Source, K: Sink>(
+pub fn run<
+    D: Disk,
+    R: SavedThread + Drop,
+    W: Wait + Clock + AllocGlobal,
+    S: Source,
+    H: Host + Drop,
+    A: Source + Drop,
+    K: Sink,
+>(
     rt: &W,
     script: &mut S,
     agents: &mut S,
     disk: D,
-    answers: &mut A,
+    hosts: Vec<H>,
+    answers: A,
     out: &mut K,
-) -> Done<D>
-    ensures runs { Runs D.reads D.may_leave D.clock D.may_have_left_since R.stance D.faults disk result.disk (taken_from A.left A.faults answers.old answers.new)
-        (K.written out.old) (K.written out.new) (K.faults out.old) (K.faults out.new)
-        (taken_from S.left S.faults script.old script.new) (taken_from S.left S.faults agents.old agents.new) result.status }
+) -> Ran<D, H, A>
+    ensures runs { Runs D.reads D.may_leave D.clock D.may_have_left_since R.stance D.faults H.honest H.faults H.calls H.launches H.dirs H.output H.exited A.left A.faults disk result.disk hosts.items result.hosts.items answers result.answers
+        (K.written out.old) (K.written out.new) (K.faults out.old) (K.faults out.new) (taken_from S.left S.faults script.old script.new) (taken_from S.left S.faults agents.old agents.new) result.status }
     ensures most_script { TakesAtMost (script_limit + 1) (S.left script.old) (S.left script.new) }
     ensures most_agents { TakesAtMost (agents_limit + 1) (S.left agents.old) (S.left agents.new) }
 {
     match read_plan(rt.alloc(), script, agents) {
-        Ok(plan) => begin::<D, R, W, A, K>(rt, plan, disk, answers, out),
+        Ok(plan) => begin::<D, R, W, H, A, K>(rt, plan, disk, hosts, answers, out),
         Err(refusal) => {
             let status = tell(out, &refusal);
-            Done { status, disk }
+            Ran {
+                status,
+                disk,
+                hosts,
+                answers,
+            }
         }
     }
 }
 
 /// The same where script and agents file can be built.
-fn begin<D: Disk, R: SavedThread + Drop, W: Wait + AllocGlobal, A: Source, K: Sink>(
-    rt: &W,
-    plan: Plan,
-    disk: D,
-    answers: &mut A,
-    out: &mut K,
-) -> Done<D>
+fn begin<
+    D: Disk,
+    R: SavedThread + Drop,
+    W: Wait + Clock + AllocGlobal,
+    H: Host + Drop,
+    A: Source + Drop,
+    K: Sink,
+>(rt: &W, plan: Plan, disk: D, hosts: Vec<H>, answers: A, out: &mut K) -> Ran<D, H, A>
     requires builds { Builds plan.script plan.agents plan.tree plan.site }
-    ensures { Begins D.reads D.may_leave D.clock D.may_have_left_since R.stance D.faults disk result.disk (taken_from A.left A.faults answers.old answers.new)
+    ensures { Begins D.reads D.may_leave D.clock D.may_have_left_since R.stance D.faults H.honest H.faults H.calls H.launches H.dirs H.output H.exited A.left A.faults disk result.disk hosts.items result.hosts.items answers result.answers
         (K.written out.old) (K.written out.new) (K.faults out.old) (K.faults out.new) plan.script plan.agents plan.tree plan.site result.status }
 {
     let alloc = rt.alloc();
@@ -75,10 +92,15 @@ fn begin<D: Disk, R: SavedThread + Drop, W: Wait + AllocGlobal, A: Source, K: Si
         site,
     } = plan;
     match Life::<D, R>::begin(alloc, disk, tree, site, script, agents) {
-        Ok(life) => finish(rt, life, answers, out),
+        Ok(life) => finish(rt, life.into_durable(), hosts, answers, out),
         Err((fault, disk)) => {
             let status = tell(out, &Refusal::of_begin(alloc, fault));
-            Done { status, disk }
+            Ran {
+                status,
+                disk,
+                hosts,
+                answers,
+            }
         }
     }
 }

@@ -1,30 +1,27 @@
 //! The call that the program makes.
-ghost use Rattle.std.specs.Prelude.{◌≡◌, map, string_bytes};
-ghost use Rattle.run_command.specs.Inputs.{taken_from};
+ghost use Rattle.std.specs.Prelude.{◌≡◌};
 ghost use Rattle.build_commands.specs.Writing as writing;
-ghost use Rattle.controller.specs.Call.{call_of, usage_text};
-ghost use Rattle.controller.specs.Causes.{Causes};
-ghost use Rattle.controller.specs.Commands.{Does};
-ghost use Rattle.controller.specs.Crash.{Crash};
-ghost use Rattle.controller.specs.FirstFault.{FirstFault};
-ghost use Rattle.controller.specs.Output.{Output};
-ghost use Rattle.controller.specs.Reads.{Reads};
+ghost use Rattle.controller.specs.Call.{usage_text};
 
-use build_commands::{Done, check, graph, log, resume, run};
+use build_commands::{Done, Ran, check, graph, log, resume, run};
 use command_words::{Command, command_in};
 use jp_disk::Disk;
 use jp_io::{Sink, Source, write_all};
 use saved_thread::SavedThread;
 use std::alloc::Global;
 use std::sync::Wait;
+use std::time::Clock;
+use task_host::Host;
 
 /// How a call of the controller has ended.
 #[derive(Drop)]
-pub struct Ended<D, A> {
+pub struct Ended<D, H, A> {
     /// The exit status of the program.
     pub status: u8,
     /// The disk.
     pub disk: D,
+    /// The hosts, host i that of executor i.
+    pub hosts: Vec<H>,
     /// The answers, as far as they were not read.
     pub answers: A,
 }
@@ -39,7 +36,7 @@ pub struct Ended<D, A> {
 /// | status | comes | text |
 /// |---|---|---|
 /// | 2 | exactly where the words are no command | how to use the program |
-/// | 6 | of `run` and `check`, where the source of a file counted a fault; of `run` and `resume`, only where that of the answers did while an input was open | `controller: read failed` |
+/// | 6 | only where a source counted a fault | `controller: read failed` |
 /// | 13 | of `run` and `check`, exactly where the agents file has a fault | its path and kind |
 /// | 4 | of `run` and `check`, exactly where the script has a fault or is too long | the place of its first fault |
 /// | 9 | of `run`, exactly where it finds a record, or the beginning of one | `program.dat: already has a build` |
@@ -51,18 +48,18 @@ pub struct Ended<D, A> {
 /// | 3 | only where no grant is due, and no input is open or the answers were read to their end | the log so far |
 /// | 8 | want of memory | `controller: out of memory` |
 ///
-/// Each status yields to those above it, 9 and 14 also to a 5 that ended the call first, and all but 2 and the 6 of a file to want of
-/// memory.
+/// Each status yields to those above it, and all but 2 to want of memory.
 ///
 /// What is said of the bytes of a source, the sink or the disk holds where it tells them. Of a disk that tells nothing, as a real
 /// file, it still holds that `run` writes the log of the build that it has begun, with the status of that build. It may wait for
 /// ever, as the answers may.
 pub fn controller<
     R: SavedThread + Drop,
-    W: Wait + AllocGlobal,
+    W: Wait + Clock + AllocGlobal,
     D: Disk,
     S: Source,
-    A: Source,
+    H: Host + Drop,
+    A: Source + Drop,
     K: Sink,
 >(
     rt: &W,
@@ -71,67 +68,71 @@ pub fn controller<
     script: &mut S,
     agents: &mut S,
     disk: D,
+    hosts: Vec<H>,
     answers: A,
     out: &mut K,
-) -> Ended<D, A>
-    ensures output { Output D.reads D.may_leave (call_of (map string_bytes words.items) (taken_from S.left S.faults script.old script.new) (taken_from S.left S.faults agents.old agents.new)
-        (taken_from A.left A.faults answers result.answers) disk result.disk (K.written out.old) (K.written out.new) (K.faults out.old) (K.faults out.new) result.status) }
-    ensures crash { Crash D.reads D.may_leave D.clock D.may_have_left_since D.faults (call_of (map string_bytes words.items) (taken_from S.left S.faults script.old script.new) (taken_from S.left S.faults agents.old agents.new)
-        (taken_from A.left A.faults answers result.answers) disk result.disk (K.written out.old) (K.written out.new) (K.faults out.old) (K.faults out.new) result.status) }
-    ensures first_fault { FirstFault (call_of (map string_bytes words.items) (taken_from S.left S.faults script.old script.new) (taken_from S.left S.faults agents.old agents.new)
-        (taken_from A.left A.faults answers result.answers) disk result.disk (K.written out.old) (K.written out.new) (K.faults out.old) (K.faults out.new) result.status) }
-    ensures causes { Causes D.reads D.may_leave D.clock D.may_have_left_since D.faults (call_of (map string_bytes words.items) (taken_from S.left S.faults script.old script.new) (taken_from S.left S.faults agents.old agents.new)
-        (taken_from A.left A.faults answers result.answers) disk result.disk (K.written out.old) (K.written out.new) (K.faults out.old) (K.faults out.new) result.status) }
-    ensures reads { Reads (call_of (map string_bytes words.items) (taken_from S.left S.faults script.old script.new) (taken_from S.left S.faults agents.old agents.new)
-        (taken_from A.left A.faults answers result.answers) disk result.disk (K.written out.old) (K.written out.new) (K.faults out.old) (K.faults out.new) result.status) }
-{
-    let mut answers = answers;
-    let Done { status, disk } = do_command::<R, W, D, S, A, K>(
-        rt,
-        alloc,
-        &words,
-        script,
-        agents,
-        disk,
-        &mut answers,
-        out,
-    );
-    Ended {
-        status,
-        disk,
-        answers,
-    }
-}
-
-/// Does the command that the words give.
-fn do_command<R: SavedThread + Drop, W: Wait + AllocGlobal, D: Disk, S: Source, A: Source, K: Sink>(
-    rt: &W,
-    alloc: Global,
-    words: &[String],
-    script: &mut S,
-    agents: &mut S,
-    disk: D,
-    answers: &mut A,
-    out: &mut K,
-) -> Done<D>
-    ensures does { Does D.reads D.may_leave D.clock D.may_have_left_since R.stance D.faults (call_of (map string_bytes words.now) (taken_from S.left S.faults script.old script.new) (taken_from S.left S.faults agents.old agents.new)
-        (taken_from A.left A.faults answers.old answers.new) disk result.disk (K.written out.old) (K.written out.new) (K.faults out.old) (K.faults out.new) result.status) }
-{
-    match command_in(words) {
+) -> Ended<D, H, A> {
+    match command_in(&words) {
         Some((Command::Run, _)) => {
-            run::<D, R, W, S, A, K>(rt, script, agents, disk, answers, out)
+            let ran = run::<D, R, W, S, H, A, K>(rt, script, agents, disk, hosts, answers, out);
+            ended_by(ran)
         }
-        Some((Command::Resume, _)) => resume::<D, R, W, A, K>(rt, disk, answers, out),
-        Some((Command::Log, _)) => log::<D, R, K>(alloc, disk, out),
-        Some((Command::Graph, _)) => graph::<D, R, K>(alloc, disk, out),
+        Some((Command::Resume, _)) => {
+            let ran = resume::<D, R, W, H, A, K>(rt, disk, hosts, answers, out);
+            ended_by(ran)
+        }
+        Some((Command::Log, _)) => {
+            let Done { status, disk } = log::<D, R, K>(alloc, disk, out);
+            Ended {
+                status,
+                disk,
+                hosts,
+                answers,
+            }
+        }
+        Some((Command::Graph, _)) => {
+            let Done { status, disk } = graph::<D, R, K>(alloc, disk, out);
+            Ended {
+                status,
+                disk,
+                hosts,
+                answers,
+            }
+        }
         Some((Command::Check, _)) => {
             let status = check(alloc, script, agents, out);
-            Done { status, disk }
+            Ended {
+                status,
+                disk,
+                hosts,
+                answers,
+            }
         }
         None => {
             let status = tell_usage(out);
-            Done { status, disk }
+            Ended {
+                status,
+                disk,
+                hosts,
+                answers,
+            }
         }
+    }
+}
+
+/// How a call has ended whose command let a build go on.
+fn ended_by<D, H, A>(ran: Ran<D, H, A>) -> Ended<D, H, A> {
+    let Ran {
+        status,
+        disk,
+        hosts,
+        answers,
+    } = ran;
+    Ended {
+        status,
+        disk,
+        hosts,
+        answers,
     }
 }
 

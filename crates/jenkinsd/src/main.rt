@@ -14,12 +14,14 @@ use command_words::{Command, command_in};
 use controller::controller;
 use cps_machine::MachineThread;
 use jp_io::{LazyFile, StdSink, StdSource};
-use real_edge::{FileDisk, LockedDisk};
+use real_edge::{FileDisk, FolderHost, Life, LockedDisk};
 use std::alloc::{AllocError, Global};
 use std::fs::File;
 use std::io::ErrorKind;
 use std::process::ExitCode;
+use std::process::Processes;
 use std::rt::{Env, Files};
+use std::time::Clock;
 use std::{env, io};
 
 fn main(rt: HostRuntime) -> ExitCode {
@@ -33,26 +35,49 @@ fn main(rt: HostRuntime) -> ExitCode {
                 agents,
                 store,
                 lock,
+                life,
             } = call;
-            let mut script = StdSource::new(LazyFile::new(&rt, script));
-            let mut agents = StdSource::new(LazyFile::new(&rt, agents));
-            let answers = StdSource::new(rt.stdin());
-            let disk = disk_at(&rt, store, lock);
-            let ended = controller::<MachineThread, _, _, _, _, _>(
-                &rt,
-                alloc,
-                words,
-                &mut script,
-                &mut agents,
-                disk,
-                answers,
-                &mut out,
-            );
-            ended.status
+            match hosts_of(&rt, alloc, life) {
+                Ok(hosts) => {
+                    let mut script = StdSource::new(LazyFile::new(&rt, script));
+                    let mut agents = StdSource::new(LazyFile::new(&rt, agents));
+                    let answers = StdSource::new(rt.stdin());
+                    let disk = disk_at(&rt, store, lock);
+                    let ended = controller::<MachineThread, _, _, _, _, _, _>(
+                        &rt,
+                        alloc,
+                        words,
+                        &mut script,
+                        &mut agents,
+                        disk,
+                        hosts,
+                        answers,
+                        &mut out,
+                    );
+                    ended.status
+                }
+                Err(AllocError) => tell(&mut out, &Refusal::OutOfMemory),
+            }
         }
         Err(AllocError) => tell(&mut out, &Refusal::OutOfMemory),
     };
     ExitCode::from(status)
+}
+
+/// How many hosts there are: one for each executor that a site may have.
+const HOSTS: usize = 64;
+
+/// The hosts of this machine, in this life of the build.
+fn hosts_of<'a, R: Files + Env + AllocGlobal + Eprint + Clock + Processes>(
+    rt: &'a R,
+    alloc: Global,
+    life: Life,
+) -> Result<Vec<FolderHost<'a, R>>, AllocError> {
+    let mut hosts = Vec::new(alloc);
+    for _ in 0..HOSTS {
+        hosts.push(FolderHost::new(rt, life))?;
+    }
+    Ok(hosts)
 }
 
 /// The words of the command line, and the paths of the files in the folder that they name.
@@ -64,15 +89,18 @@ struct Call {
     store: String,
     /// The file that is locked, where the command writes the store.
     lock: Option<String>,
+    /// Which life of its build the program is, where the command lets one go on.
+    life: Life,
 }
 
 /// Reads the words, and puts together the paths that they ask for. Where the words are no command no file is opened.
 fn read_call<R: Env + AllocGlobal>(rt: &R, alloc: Global) -> Result<Call, AllocError> {
     let words = read_words(rt, alloc)?;
-    let (folder, writes) = match command_in(&words) {
-        Some((Command::Run | Command::Resume, folder)) => (folder, true),
-        Some((_, folder)) => (folder, false),
-        None => ("", false),
+    let (folder, writes, life) = match command_in(&words) {
+        Some((Command::Run, folder)) => (folder, true, Life::First),
+        Some((Command::Resume, folder)) => (folder, true, Life::Later),
+        Some((_, folder)) => (folder, false, Life::Later),
+        None => ("", false, Life::Later),
     };
     let script = format!(in alloc; "{folder}/Jenkinsfile")?;
     let agents = format!(in alloc; "{folder}/agents.json")?;
@@ -88,6 +116,7 @@ fn read_call<R: Env + AllocGlobal>(rt: &R, alloc: Global) -> Result<Call, AllocE
         agents,
         store,
         lock,
+        life,
     })
 }
 

@@ -317,6 +317,14 @@ impl<D: Disk, R: SavedThread + Drop> Life<D, R> {
         self.durable.build()
     }
 
+    /// The build over its disk, for a life with hosts.
+    pub fn into_durable(self) -> DurableBuild<D, R>
+        ensures { result ≡ self.durable }
+    {
+        let Life { durable, .. } = self;
+        durable
+    }
+
     /// The disk. It needs no memory.
     pub fn close(self) -> D
         ensures { result ≡ self.durable.journal.disk }

@@ -1,12 +1,13 @@
-use Rattle.std.proofs.Common.{[], ◌∷◌, ℕ, refl, sym, subst}
-use Rattle.model_run.specs.declared.event.Event.TheVariants.{Start as StartEvent}
-use Rattle.run_command.specs.Inputs.{taken_from}
-use Rattle.script_run.specs.Standing.{script_setting}
+use Rattle.std.proofs.Common.{◌≡◌, ◌∙◌, [], ◌∷◌, ℕ, refl, sym, ap, subst}
 use Rattle.std.specs.Prelude.{IsSome}
-use Rattle.saved_run.specs.Saved.{Saves}
+use Rattle.durable_build.specs.Standing.{Kept}
+use Rattle.journal_core.specs.Moments.{SinceSync}
+use Rattle.model_run.specs.declared.event.Event.TheVariants.{Start as StartEvent}
+use Rattle.script_run.specs.Standing.{script_setting}
+use Rattle.saved_run.specs.Lives.{Goes}
+use Rattle.saved_run.specs.Saved.{Saves, Survives}
 use Rattle.saved_run.proofs.LifeLemmas.{lasts_here}
-use Rattle.saved_run.proofs.TurnLemmas.{so_far_here}
-use Rattle.build_commands.specs.Beginning.{Begins, begun, unbegun}
+use Rattle.build_commands.specs.Beginning.{Begins, BeginsOver, begun, unbegun}
 use Rattle.build_commands.specs.Reporting.{Reports}
 use Rattle.build_commands.proofs.BeginLemmas.{begin_says, known_file, meant}
 use Rattle.build_commands.proofs.running.begin.Goals as goal
@@ -18,29 +19,35 @@ pub returns-in-Ok : goal.returns-in-Ok
 returns-in-Ok g c =
     let D = g.D.Disk in
     let A = g.A.Source in
+    let H = g.H.Host in
     let K = g.K.Sink in
+    let stance = g.R.ScriptThread.stance in
     let plan = c.args.plan in
     let setting = script_setting plan.tree plan.site in
     let first = StartEvent plan.script plan.agents ∷ [] in
     let life = c.in-Ok.life in
-    let started = life.durable.journal.disk in
-    let left = A.left c.args.answers.now in
-    let calm = c.in-Ok.ensures.cause.calm (λ e. e) in
+    let kept = c.into_durable.result in
+    let back = sym c.into_durable.ensures in
+    let started = kept.journal.disk in
+    let calm = ap (λ (k : Kept g.row.D.Denot g.row.R.Denot). D.faults k.journal.disk) c.into_durable.ensures ∙ c.in-Ok.ensures.cause.calm (λ e. e) in
     let entry = D.reads c.args.disk in
-    let saves : IsSome entry → Saves D.reads D.may_leave g.R.ScriptThread.stance life.durable first = λ known. let file = known_file entry known in (c.in-Ok.ensures.begun file.0 file.1).stands.saves in
-    let lasts = lasts_here D.reads D.may_leave D.clock D.may_have_left_since g.R.ScriptThread.stance g.met.D.Disk.only_now setting entry first life.durable c.in-Ok.ensures.made.goes saves in
+    let saves : IsSome entry → Saves D.reads D.may_leave stance kept first =
+    λ known. let file = known_file entry known in subst (λ (k : Kept g.row.D.Denot g.row.R.Denot). Saves D.reads D.may_leave stance k first) back (c.in-Ok.ensures.begun file.0 file.1).stands.saves in
+    let goes = subst (λ (k : Kept g.row.D.Denot g.row.R.Denot). Goes stance setting first k) back c.in-Ok.ensures.made.goes in
     begun started calm
-    (subst (λ (n : ℕ). Reports n (D.faults c.finish.result.disk) (A.faults c.args.answers.now) (A.faults c.finish.new.answers) (K.written c.args.out.now) (K.written c.finish.new.out) (K.faults c.args.out.now) (K.faults c.finish.new.out) c.finish.result.status) calm c.finish.ensures.reports)
-    (c.finish.ensures.finishes setting entry started first left first (so_far_here D.reads D.may_leave D.clock D.may_have_left_since g.R.ScriptThread.stance setting entry started first left life lasts c.in-Ok.ensures.fresh))
-    (λ file told. let made = c.in-Ok.ensures.begun file told in record { fresh = made.fresh; moments = made.moments })
+    (subst (λ (n : ℕ). Reports n (D.faults c.finish.result.disk) (A.faults c.args.answers) (A.faults c.finish.result.answers) (K.written c.args.out.now) (K.written c.finish.new.out) (K.faults c.args.out.now) (K.faults c.finish.new.out) c.finish.result.status) calm c.finish.ensures.reports)
+    (c.finish.ensures.finishes setting entry started first (lasts_here D.reads D.may_leave D.clock D.may_have_left_since stance g.met.D.Disk.only_now setting entry first kept goes saves))
+    (λ file told. subst (λ (k : Kept g.row.D.Denot g.row.R.Denot). BeginsOver D.reads D.may_leave D.clock D.may_have_left_since stance D.faults H.honest H.faults H.calls H.launches H.dirs H.output H.exited A.left A.faults c.args.disk c.finish.result.disk
+    c.args.hosts.items c.finish.result.hosts.items c.args.answers c.finish.result.answers (K.written c.args.out.now) (K.written c.finish.new.out) (K.faults c.args.out.now) (K.faults c.finish.new.out) plan.script plan.agents plan.tree plan.site file k.journal.disk) back
+    (let made = c.in-Ok.ensures.begun file told in record { fresh = made.fresh; moments = made.moments }))
 
 pub returns-in-Err : goal.returns-in-Err
 returns-in-Err g c =
     let D = g.D.Disk in
     let A = g.A.Source in
+    let H = g.H.Host in
     let K = g.K.Sink in
     let plan = c.args.plan in
-    let answers = taken_from A.left A.faults c.args.answers.now c.args.answers.now in
-    subst (λ (n : ℕ). Begins D.reads D.may_leave D.clock D.may_have_left_since g.R.ScriptThread.stance D.faults c.args.disk c.in-Err.disk answers (K.written c.args.out.now) (K.written c.tell-status.new.out) (K.faults c.args.out.now) (K.faults c.tell-status.new.out)
-    plan.script plan.agents plan.tree plan.site n) (sym c.tell-status.ensures.status)
-    (unbegun (record { rest = refl; faults = refl }) (begin_says c.in-Err.fault c.of_begin.result c.of_begin.ensures) c.in-Err.ensures.cause c.in-Err.ensures.faults c.in-Err.ensures.begun c.tell-status.ensures.text)
+    subst (λ (n : ℕ). Begins D.reads D.may_leave D.clock D.may_have_left_since g.R.ScriptThread.stance D.faults H.honest H.faults H.calls H.launches H.dirs H.output H.exited A.left A.faults c.args.disk c.in-Err.disk
+    c.args.hosts.items c.args.hosts.items c.args.answers c.args.answers (K.written c.args.out.now) (K.written c.tell-status.new.out) (K.faults c.args.out.now) (K.faults c.tell-status.new.out) plan.script plan.agents plan.tree plan.site n) (sym c.tell-status.ensures.status)
+    (unbegun (refl, refl) (begin_says c.in-Err.fault c.of_begin.result c.of_begin.ensures) c.in-Err.ensures.cause c.in-Err.ensures.faults c.in-Err.ensures.begun c.tell-status.ensures.text)
