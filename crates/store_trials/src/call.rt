@@ -8,6 +8,8 @@ use jp_io::{MemorySink, MemorySource};
 use saved_thread::SavedThread;
 use std::alloc::{AllocError, Global};
 use std::sync::Wait;
+use std::time::Clock;
+use task_host::MemoryHost;
 
 /// The files of a build's folder.
 #[derive(Drop)]
@@ -31,6 +33,8 @@ pub struct Called<D> {
     pub answers: MemorySource,
     /// What was written.
     pub out: MemorySink,
+    /// The hosts.
+    pub hosts: Vec<MemoryHost>,
 }
 
 /// The sources and the sink of a call.
@@ -43,21 +47,22 @@ struct Streams {
 }
 
 /// Calls the controller with a command over a folder. `AllocError` where the memory was refused.
-pub fn call<R: SavedThread + Drop, W: Wait + AllocGlobal>(
+pub fn call<R: SavedThread + Drop, W: Wait + Clock + AllocGlobal>(
     rt: &W,
     folder: &Folder<'_>,
     command: &Command<'_>,
     fault: Option<Fault>,
+    hosts: Vec<MemoryHost>,
 ) -> Result<Called<MemoryDisk>, AllocError> {
     let words = words_of(rt.alloc(), command.words)?;
     let streams = open_streams(rt.alloc(), folder, command.answers, fault)?;
     let disk = disk(rt.alloc(), &folder.store, fault)?;
-    Ok(call_with::<R, W, MemoryDisk>(rt, words, streams, disk))
+    Ok(call_with::<R, W, MemoryDisk>(rt, words, streams, disk, hosts))
 }
 
 /// Calls the controller with a command over a folder whose store is stretched. `AllocError` where the memory was
 /// refused.
-pub fn call_stretched<R: SavedThread + Drop, W: Wait + AllocGlobal>(
+pub fn call_stretched<R: SavedThread + Drop, W: Wait + Clock + AllocGlobal>(
     rt: &W,
     folder: &Folder<'_>,
     stretch: &Stretch<'_>,
@@ -66,15 +71,16 @@ pub fn call_stretched<R: SavedThread + Drop, W: Wait + AllocGlobal>(
     let streams = open_streams(rt.alloc(), folder, stretch.command.answers, None)?;
     let store = Vec::from_slice(rt.alloc(), &folder.store)?;
     let disk = StretchedDisk::new(store, u64::from(stretch.at), u64::from(stretch.zeros));
-    Ok(call_with::<R, W, StretchedDisk>(rt, words, streams, disk))
+    Ok(call_with::<R, W, StretchedDisk>(rt, words, streams, disk, Vec::new(rt.alloc())))
 }
 
 /// Calls the controller with these words over these devices.
-fn call_with<R: SavedThread + Drop, W: Wait + AllocGlobal, D: Disk>(
+fn call_with<R: SavedThread + Drop, W: Wait + Clock + AllocGlobal, D: Disk>(
     rt: &W,
     words: Vec<String>,
     streams: Streams,
     disk: D,
+    hosts: Vec<MemoryHost>,
 ) -> Called<D> {
     let Streams {
         mut script,
@@ -82,13 +88,14 @@ fn call_with<R: SavedThread + Drop, W: Wait + AllocGlobal, D: Disk>(
         answers,
         mut out,
     } = streams;
-    let ended = controller::<R, _, _, _, _, _>(
+    let ended = controller::<R, _, _, _, _, _, _>(
         rt,
         rt.alloc(),
         words,
         &mut script,
         &mut agents,
         disk,
+        hosts,
         answers,
         &mut out,
     );
@@ -97,6 +104,7 @@ fn call_with<R: SavedThread + Drop, W: Wait + AllocGlobal, D: Disk>(
         disk: ended.disk,
         answers: ended.answers,
         out,
+        hosts: ended.hosts,
     }
 }
 

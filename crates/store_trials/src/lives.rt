@@ -1,12 +1,15 @@
 //! Lives behind which the machine crashes, also such as end at any call of the disk, and the next ones.
 
 use crate::call::{Called, Folder, call};
+use crate::hosts::{Workshop, launched, make_hosts};
 use crate::orders::{Command, Device, Fault, Lives};
 use crate::told::{write_called, write_line, write_order};
 use jp_disk::MemoryDisk;
 use saved_thread::SavedThread;
 use std::alloc::{AllocError, Global};
 use std::sync::Wait;
+use std::time::Clock;
+use task_host::MemoryHost;
 
 /// The status of a command whose disk has failed.
 const DISK_FAILED: u8 = 5;
@@ -20,36 +23,52 @@ const NO_BUILD: &[u8] = b"program.dat: no build\n";
 /// Crashes in each way behind the first life, and where it is to end at each call of the disk in turn, also behind
 /// each of these; and lets the second life go on. Writes what the second comes to where nothing fails and nothing is
 /// lost, and where anything is otherwise. `AllocError` where the memory was refused.
-pub fn write_lives<R: SavedThread + Drop, W: Wait + AllocGlobal>(
+pub fn write_lives<R: SavedThread + Drop, W: Wait + Clock + AllocGlobal>(
     rt: &W,
     folder: &Folder<'_>,
+    workshop: &Workshop<'_>,
     lives: &Lives<'_>,
     line: &str,
     out: &mut Vec<u8>,
 ) -> Result<(), AllocError> {
     write_order(rt.alloc(), line, out)?;
-    let wanted = second::<R, W>(rt, folder, lives, None, 0)?;
-    crash_each::<R, W>(rt, folder, lives, None, &wanted, out)?;
+    let wanted = second::<R, W>(rt, folder, workshop, lives, None, 0)?;
+    crash_each::<R, W>(rt, folder, workshop, lives, None, &wanted, out)?;
     if let Some(device) = lives.device {
-        end_each::<R, W>(rt, folder, lives, device, &wanted, out)?;
+        end_each::<R, W>(rt, folder, workshop, lives, device, &wanted, out)?;
     }
     write_called(rt.alloc(), wanted, out)
 }
 
 /// Ends the first life at each call of the disk in turn, and crashes in each way. Writes how many calls there are,
 /// and where the second life is not as wanted. `AllocError` where the memory was refused.
-fn end_each<R: SavedThread + Drop, W: Wait + AllocGlobal>(
+fn end_each<R: SavedThread + Drop, W: Wait + Clock + AllocGlobal>(
     rt: &W,
     folder: &Folder<'_>,
+    workshop: &Workshop<'_>,
     lives: &Lives<'_>,
     device: Device,
     wanted: &Called<MemoryDisk>,
     out: &mut Vec<u8>,
 ) -> Result<(), AllocError> {
-    let first = call::<R, W>(rt, folder, &lives.first, None)?;
+    let first = call::<R, W>(
+        rt,
+        folder,
+        &lives.first,
+        None,
+        make_hosts(rt.alloc(), workshop)?,
+    )?;
     let calls = first.disk.calls().len() as u64;
     for call in 1..=calls {
-        end_at::<R, W>(rt, folder, lives, Fault { device, call }, wanted, out)?;
+        end_at::<R, W>(
+            rt,
+            folder,
+            workshop,
+            lives,
+            Fault { device, call },
+            wanted,
+            out,
+        )?;
     }
     write_line(
         out,
@@ -59,15 +78,22 @@ fn end_each<R: SavedThread + Drop, W: Wait + AllocGlobal>(
 
 /// Ends the first life at a call of the disk, and crashes in each way. Writes where the first does not tell it, and
 /// where the second is not as wanted. `AllocError` where the memory was refused.
-fn end_at<R: SavedThread + Drop, W: Wait + AllocGlobal>(
+fn end_at<R: SavedThread + Drop, W: Wait + Clock + AllocGlobal>(
     rt: &W,
     folder: &Folder<'_>,
+    workshop: &Workshop<'_>,
     lives: &Lives<'_>,
     fault: Fault,
     wanted: &Called<MemoryDisk>,
     out: &mut Vec<u8>,
 ) -> Result<(), AllocError> {
-    let first = call::<R, W>(rt, folder, &lives.first, Some(fault))?;
+    let first = call::<R, W>(
+        rt,
+        folder,
+        &lives.first,
+        Some(fault),
+        make_hosts(rt.alloc(), workshop)?,
+    )?;
     if !is_refusal(&first) {
         write_otherwise(
             rt.alloc(),
@@ -76,7 +102,7 @@ fn end_at<R: SavedThread + Drop, W: Wait + AllocGlobal>(
             out,
         )?;
     }
-    crash_each::<R, W>(rt, folder, lives, Some(fault), wanted, out)
+    crash_each::<R, W>(rt, folder, workshop, lives, Some(fault), wanted, out)
 }
 
 /// Whether a life says that its disk has failed.
@@ -101,9 +127,10 @@ fn write_otherwise(
 
 /// Crashes behind a first life with this fault in each way. Writes where the second is not as wanted. `AllocError`
 /// where the memory was refused.
-fn crash_each<R: SavedThread + Drop, W: Wait + AllocGlobal>(
+fn crash_each<R: SavedThread + Drop, W: Wait + Clock + AllocGlobal>(
     rt: &W,
     folder: &Folder<'_>,
+    workshop: &Workshop<'_>,
     lives: &Lives<'_>,
     fault: Option<Fault>,
     wanted: &Called<MemoryDisk>,
@@ -111,7 +138,10 @@ fn crash_each<R: SavedThread + Drop, W: Wait + AllocGlobal>(
 ) -> Result<(), AllocError> {
     for way in 0..lives.ways {
         let choice = u64::from(way) * u64::from(lives.step);
-        let ended = second::<R, W>(rt, folder, lives, fault, choice)?;
+        let ended = second::<R, W>(rt, folder, workshop, lives, fault, choice)?;
+        if launched(rt.alloc(), &ended.hosts)? != launched(rt.alloc(), &wanted.hosts)? {
+            write_otherwise(rt.alloc(), fault, "other tasks were launched", out)?;
+        }
         if !is_same(&ended, wanted) {
             write_otherwise(rt.alloc(), fault, "the second life is another", out)?;
         }
@@ -126,35 +156,43 @@ fn is_same(one: &Called<MemoryDisk>, other: &Called<MemoryDisk>) -> bool {
 
 /// What the second life comes to, behind a first one with this fault that is crashed by this choice. `AllocError`
 /// where the memory was refused.
-fn second<R: SavedThread + Drop, W: Wait + AllocGlobal>(
+fn second<R: SavedThread + Drop, W: Wait + Clock + AllocGlobal>(
     rt: &W,
     folder: &Folder<'_>,
+    workshop: &Workshop<'_>,
     lives: &Lives<'_>,
     fault: Option<Fault>,
     choice: u64,
 ) -> Result<Called<MemoryDisk>, AllocError> {
-    let first = call::<R, W>(rt, folder, &lives.first, fault)?;
+    let first = call::<R, W>(
+        rt,
+        folder,
+        &lives.first,
+        fault,
+        make_hosts(rt.alloc(), workshop)?,
+    )?;
     let left = first.disk.crash(choice);
     let behind = Folder {
         script: folder.script,
         agents: folder.agents,
         store: Vec::from_slice(rt.alloc(), left.bytes())?,
     };
-    gone_on::<R, W>(rt, &behind, lives.answers)
+    gone_on::<R, W>(rt, &behind, lives.answers, first.hosts)
 }
 
 /// What a build comes to that is gone on with; where there is none it is begun. `AllocError` where the memory was
 /// refused.
-fn gone_on<R: SavedThread + Drop, W: Wait + AllocGlobal>(
+fn gone_on<R: SavedThread + Drop, W: Wait + Clock + AllocGlobal>(
     rt: &W,
     folder: &Folder<'_>,
     answers: &str,
+    hosts: Vec<MemoryHost>,
 ) -> Result<Called<MemoryDisk>, AllocError> {
     let words = "controller resume demo";
-    let ended = call::<R, W>(rt, folder, &Command { words, answers }, None)?;
+    let ended = call::<R, W>(rt, folder, &Command { words, answers }, None, hosts)?;
     if ended.out.bytes() != NO_BUILD {
         return Ok(ended);
     }
     let words = "controller run demo";
-    call::<R, W>(rt, folder, &Command { words, answers }, None)
+    call::<R, W>(rt, folder, &Command { words, answers }, None, ended.hosts)
 }

@@ -26,6 +26,7 @@
 #![tactic(auto)]
 
 mod call;
+mod hosts;
 mod lives;
 mod orders;
 mod stores;
@@ -38,6 +39,7 @@ use std::io;
 use std::io::Write;
 use std::process::ExitCode;
 use std::sync::Wait;
+use std::time::Clock;
 use stores::run_trial;
 
 fn main(rt: HostRuntime) -> ExitCode {
@@ -48,7 +50,10 @@ fn main(rt: HostRuntime) -> ExitCode {
 }
 
 /// Runs all trials of standard input.
-fn run_trials<R: Input + Print + Wait + AllocGlobal>(rt: &R, alloc: Global) -> io::Result<()> {
+fn run_trials<R: Input + Print + Wait + Clock + AllocGlobal>(
+    rt: &R,
+    alloc: Global,
+) -> io::Result<()> {
     let trials = io::read_to_string(alloc, rt.reader())?;
     let mut out = io::writer(rt);
     for text in trials.split("=== ").skip(1) {

@@ -64,6 +64,32 @@ pub struct Stretch<'a> {
     pub command: Command<'a>,
 }
 
+/// What a task does on each host.
+#[derive(Clone, Copy)]
+pub struct Outcome<'a> {
+    /// The number of the task.
+    pub task: u32,
+    /// The code with which it ends.
+    pub code: i32,
+    /// How many looks find it running; `u32::MAX` looks where it never ends.
+    pub looks: u32,
+    /// What it writes to its log, in which `\n` stands for a newline.
+    pub log: &'a str,
+    /// What it writes to its output.
+    pub out: &'a str,
+    /// How often what it writes to its log is written.
+    pub times: u32,
+}
+
+/// The hosts of a trial.
+#[derive(Clone, Copy)]
+pub struct Hosting {
+    /// How many there are.
+    pub count: u32,
+    /// The call of each that fails; 0 where none does.
+    pub fails_at: u64,
+}
+
 /// What a line of a trial asks for.
 #[derive(Clone, Copy)]
 pub enum Order<'a> {
@@ -81,6 +107,12 @@ pub enum Order<'a> {
     Lives(Lives<'a>),
     /// The controller is called over a stretched store.
     Stretch(Stretch<'a>),
+    /// A task of the hosts that are made then.
+    Task(Outcome<'a>),
+    /// The folder of a task stands on the hosts that are made then.
+    Folder(u32),
+    /// There are new hosts.
+    Hosts(Hosting),
 }
 
 /// Reads an order. `None` where the line is none.
@@ -97,6 +129,9 @@ pub fn read_order(line: &str) -> Option<Order<'_>> {
         "crashes" => Some(Order::Lives(read_lives(None, rest)?)),
         "stops" => Some(Order::Lives(read_lives(Some(Device::Machine), rest)?)),
         "fails" => Some(Order::Lives(read_lives(Some(Device::Disk), rest)?)),
+        "task" => Some(Order::Task(read_task(rest)?)),
+        "folder" => Some(Order::Folder(read_number(rest)?)),
+        "hosts" => Some(Order::Hosts(read_hosts(rest)?)),
         "stretch" => Some(Order::Stretch(read_stretch(rest)?)),
         _ => None,
     }
@@ -180,5 +215,37 @@ fn read_stretch(line: &str) -> Option<Stretch<'_>> {
         at: read_number(at)?,
         zeros: read_number(zeros)?,
         command: read_command(command)?,
+    })
+}
+
+/// Reads what a task does: its number, its code, how many looks find it running, how often its log is written, its log, and
+/// behind ` | ` its output.
+fn read_task(line: &str) -> Option<Outcome<'_>> {
+    let (task, behind) = split_word(line);
+    let (code, behind) = split_word(behind);
+    let (looks, behind) = split_word(behind);
+    let (times, texts) = split_word(behind);
+    let (log, out) = texts.split_once(" | ").unwrap_or((texts, ""));
+    Some(Outcome {
+        task: read_number(task)?,
+        code: code.parse::<i32>().ok()?,
+        looks: read_number(looks)?,
+        times: read_number(times)?,
+        log,
+        out,
+    })
+}
+
+/// Reads how many hosts there are, and which call of each fails.
+fn read_hosts(line: &str) -> Option<Hosting> {
+    let (count, call) = split_word(line);
+    let fails_at = if call.is_empty() {
+        0
+    } else {
+        u64::from(read_number(call)?)
+    };
+    Some(Hosting {
+        count: read_number(count)?,
+        fails_at,
     })
 }

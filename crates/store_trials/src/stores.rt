@@ -1,12 +1,16 @@
 //! A trial over the store of a build.
 
 use crate::call::{Folder, call, call_stretched};
+use crate::hosts::{Workshop, launched, make_hosts};
 use crate::lives::write_lives;
-use crate::orders::{Command, Fault, Order, Stretch, read_byte, read_order};
-use crate::told::{write_called, write_line, write_order};
+use crate::orders::{Command, Fault, Hosting, Order, Stretch, read_byte, read_order};
+use crate::told::{write_called, write_launched, write_line, write_order};
 use saved_thread::SavedThread;
 use std::alloc::{AllocError, Global};
+use std::mem;
 use std::sync::Wait;
+use std::time::Clock;
+use task_host::MemoryHost;
 use trial_text::read_trial;
 
 /// A folder, and what fails at the next command over it.
@@ -14,10 +18,12 @@ use trial_text::read_trial;
 struct Place<'a> {
     folder: Folder<'a>,
     fault: Option<Fault>,
+    workshop: Workshop<'a>,
+    hosts: Vec<MemoryHost>,
 }
 
 /// What a trial writes: each command, with its output and its status. `AllocError` where the memory was refused.
-pub fn run_trial<R: SavedThread + Drop, W: Wait + AllocGlobal>(
+pub fn run_trial<R: SavedThread + Drop, W: Wait + Clock + AllocGlobal>(
     rt: &W,
     text: &str,
 ) -> Result<Vec<u8>, AllocError> {
@@ -31,28 +37,37 @@ pub fn run_trial<R: SavedThread + Drop, W: Wait + AllocGlobal>(
 }
 
 /// Does what the orders say, on one folder. `AllocError` where the memory was refused.
-fn do_orders<R: SavedThread + Drop, W: Wait + AllocGlobal>(
+fn do_orders<'a, R: SavedThread + Drop, W: Wait + Clock + AllocGlobal>(
     rt: &W,
-    folder: Folder<'_>,
-    orders: &[&str],
+    folder: Folder<'a>,
+    orders: &[&'a str],
 ) -> Result<Vec<u8>, AllocError> {
     let mut place = Place {
         folder,
         fault: None,
+        workshop: Workshop {
+            tasks: Vec::new(rt.alloc()),
+            folders: Vec::new(rt.alloc()),
+            hosting: Hosting {
+                count: 0,
+                fails_at: 0,
+            },
+        },
+        hosts: Vec::new(rt.alloc()),
     };
     let mut out = Vec::new(rt.alloc());
     for line in orders {
-        do_order::<R, W>(rt, &mut place, line, &mut out)?;
+        do_order::<R, W>(rt, &mut place, *line, &mut out)?;
     }
     Ok(out)
 }
 
 /// Does what an order says. What fails at the next command fails at a command of its own alone. `AllocError` where
 /// the memory was refused.
-fn do_order<R: SavedThread + Drop, W: Wait + AllocGlobal>(
+fn do_order<'a, R: SavedThread + Drop, W: Wait + Clock + AllocGlobal>(
     rt: &W,
-    place: &mut Place<'_>,
-    line: &str,
+    place: &mut Place<'a>,
+    line: &'a str,
     out: &mut Vec<u8>,
 ) -> Result<(), AllocError> {
     match read_order(line) {
@@ -68,7 +83,14 @@ fn do_order<R: SavedThread + Drop, W: Wait + AllocGlobal>(
             Ok(())
         }
         Some(Order::Lives(lives)) if place.fault.is_none() => {
-            write_lives::<R, W>(rt, &place.folder, &lives, line, out)
+            write_lives::<R, W>(rt, &place.folder, &place.workshop, &lives, line, out)
+        }
+        Some(Order::Task(task)) => Ok(place.workshop.tasks.push(task)?),
+        Some(Order::Folder(task)) => Ok(place.workshop.folders.push(task)?),
+        Some(Order::Hosts(hosting)) => {
+            place.workshop.hosting = hosting;
+            place.hosts = make_hosts(rt.alloc(), &place.workshop)?;
+            Ok(())
         }
         Some(Order::Stretch(stretch)) if place.fault.is_none() => {
             do_stretched::<R, W>(rt, &place.folder, &stretch, line, out)
@@ -78,7 +100,7 @@ fn do_order<R: SavedThread + Drop, W: Wait + AllocGlobal>(
 }
 
 /// Calls the controller over a store that is stretched. `AllocError` where the memory was refused.
-fn do_stretched<R: SavedThread + Drop, W: Wait + AllocGlobal>(
+fn do_stretched<R: SavedThread + Drop, W: Wait + Clock + AllocGlobal>(
     rt: &W,
     folder: &Folder<'_>,
     stretch: &Stretch<'_>,
@@ -91,18 +113,22 @@ fn do_stretched<R: SavedThread + Drop, W: Wait + AllocGlobal>(
 }
 
 /// Calls the controller, and leaves its store in the folder. `AllocError` where the memory was refused.
-fn do_command<R: SavedThread + Drop, W: Wait + AllocGlobal>(
+fn do_command<R: SavedThread + Drop, W: Wait + Clock + AllocGlobal>(
     rt: &W,
     place: &mut Place<'_>,
     command: &Command<'_>,
     line: &str,
     out: &mut Vec<u8>,
 ) -> Result<(), AllocError> {
-    let called = call::<R, W>(rt, &place.folder, command, place.fault)?;
+    let hosts = mem::replace(&mut place.hosts, Vec::new(rt.alloc()));
+    let mut called = call::<R, W>(rt, &place.folder, command, place.fault, hosts)?;
     place.fault = None;
     place.folder.store = Vec::from_slice(rt.alloc(), called.disk.bytes())?;
+    let tasks = launched(rt.alloc(), &called.hosts)?;
+    place.hosts = mem::replace(&mut called.hosts, Vec::new(rt.alloc()));
     write_order(rt.alloc(), line, out)?;
-    write_called(rt.alloc(), called, out)
+    write_called(rt.alloc(), called, out)?;
+    write_launched(rt.alloc(), &tasks, out)
 }
 
 /// Reads the bytes of a store, two digits of base 16 each, with a blank between two of them. `AllocError` where the

@@ -1,6 +1,7 @@
 //! What a call of the controller came to, as text.
 
 use crate::call::Called;
+use crate::hosts::launched;
 use jp_io::{MemorySource, Source};
 use std::alloc::{AllocError, Global};
 
@@ -16,8 +17,17 @@ pub fn write_called<D: Drop>(
     called: Called<D>,
     out: &mut Vec<u8>,
 ) -> Result<(), AllocError> {
-    out.extend_from_slice(called.out.bytes())?;
-    write_line(out, &ending(alloc, called.status, unread(called.answers))?)
+    write_text(alloc, called.out.bytes(), out)?;
+    write_line(out, &ending(alloc, called.status, unread(called.answers))?)?;
+    write_launched(alloc, &launched(alloc, &called.hosts)?, out)
+}
+
+/// Writes which tasks were launched, where there are some. `AllocError` where the memory was refused.
+pub fn write_launched(alloc: Global, tasks: &[u32], out: &mut Vec<u8>) -> Result<(), AllocError> {
+    if tasks.is_empty() {
+        return Ok(());
+    }
+    write_line(out, &format!(in alloc; "launched {tasks:?}")?)
 }
 
 /// Writes a line. `AllocError` where the memory was refused.
@@ -44,4 +54,19 @@ fn unread(answers: MemorySource) -> usize {
         // The call that was to fail: the next one does not.
         Err(_) => answers.read(&mut bytes).unwrap_or(0),
     }
+}
+
+/// The longest text that is written whole.
+const LONGEST: usize = 10_000;
+
+/// Writes a text; of a long one its length and its last 200 bytes. `AllocError` where the memory was refused.
+fn write_text(alloc: Global, text: &[u8], out: &mut Vec<u8>) -> Result<(), AllocError> {
+    if text.len() <= LONGEST {
+        return out.extend_from_slice(text);
+    }
+    write_line(
+        out,
+        &format!(in alloc; "{} bytes, the last of them:", text.len())?,
+    )?;
+    out.extend_from_slice(&text[text.len() - 200..])
 }
