@@ -1,9 +1,12 @@
+ghost use Rattle.std.specs.Prelude.{◌≡◌, IfOk, length};
+
 use super::*;
 use jp_disk::{Bytes, MemoryDisk, Numbers};
 use jp_io::{MemorySink, MemorySource};
 use saved_thread::SavedThread;
 use std::sync::Wait;
 use std::test::Fail;
+use task_host::{Host, MemoryHost};
 
 const AGENTS: &str = r#"{"job":"demo","agents":[{"name":"m","root":"/w","executors":1}]}"#;
 
@@ -45,12 +48,26 @@ fn open_streams(
     })
 }
 
+/// The hosts of a call, on each of which a task writes its number and ends.
+fn echoing_hosts(alloc: Global) -> Result<Vec<MemoryHost>, AllocError>
+    ensures { IfOk result (λ hosts. length hosts.items ≡ 64) }
+{
+    let mut hosts = Vec::new(alloc);
+    for _ in 0..HOSTS {
+        hosts.push(MemoryHost::echoing(alloc))?;
+    }
+    Ok(hosts)
+}
+
 /// The status of a call over an empty store, and what it writes.
-fn call<R: SavedThread + Drop, W: Wait + AllocGlobal>(
+fn call<R: SavedThread + Drop, W: Wait + Clock + AllocGlobal, H: Host + Drop>(
     rt: &W,
     words: Vec<String>,
     streams: Streams,
-) -> (u8, MemorySink) {
+    hosts: Vec<H>,
+) -> (u8, MemorySink)
+    requires { length hosts.items ≡ 64 }
+{
     let Streams {
         mut script,
         mut agents,
@@ -59,13 +76,14 @@ fn call<R: SavedThread + Drop, W: Wait + AllocGlobal>(
     } = streams;
     let alloc = rt.alloc();
     let disk = MemoryDisk::new(Bytes::new(alloc), Numbers::new(alloc), None);
-    let ended = controller::<R, _, _, _, _, _>(
+    let ended = controller::<R, _, _, _, _, _, _>(
         rt,
         alloc,
         words,
         &mut script,
         &mut agents,
         disk,
+        hosts,
         answers,
         &mut out,
     );
@@ -73,7 +91,7 @@ fn call<R: SavedThread + Drop, W: Wait + AllocGlobal>(
 }
 
 /// Whether a `run` over these files ends with this status and writes this text, where these calls fail.
-fn ends_with<R: SavedThread + Drop, W: Wait + AllocGlobal>(
+fn ends_with<R: SavedThread + Drop, W: Wait + Clock + AllocGlobal>(
     rt: &W,
     files: [&str; 3],
     fails: [u64; 4],
@@ -81,7 +99,8 @@ fn ends_with<R: SavedThread + Drop, W: Wait + AllocGlobal>(
     text: &str,
 ) -> Result<bool, AllocError> {
     let streams = open_streams(rt.alloc(), files, fails)?;
-    let (ended, out) = call::<R, W>(rt, words(rt.alloc())?, streams);
+    let hosts = echoing_hosts(rt.alloc())?;
+    let (ended, out) = call::<R, W, _>(rt, words(rt.alloc())?, streams, hosts);
     Ok(ended == status && out.bytes() == text.as_bytes())
 }
 
@@ -135,8 +154,8 @@ const BUILDS: [(&str, &str, u8, &str); 9] = [
     (
         "node { sh 'x' }",
         "",
-        3,
-        "[Pipeline] node\nRunning on m in /w/workspace/demo\n[Pipeline] {\n[Pipeline] sh\n",
+        0,
+        "[Pipeline] node\nRunning on m in /w/workspace/demo\n[Pipeline] {\n[Pipeline] sh\nout 2\n[Pipeline] }\n[Pipeline] // node\n[Pipeline] End of Pipeline\nFinished: SUCCESS\n",
     ),
 ];
 
@@ -218,5 +237,34 @@ fn failing_reads_give_6_and_a_failing_write_gives_7(rt: HostRuntime) -> Result<(
             "{script}"
         );
     }
+    Ok(())
+}
+
+/// An agents file of one agent, whose root is this folder.
+fn agents_at(alloc: Global, folder: &str) -> Result<String, AllocError> {
+    format!(in alloc;
+        r#"{{"job":"real","agents":[{{"name":"m","root":"{folder}","executors":1}}]}}"#
+    )
+}
+
+/// The log of `node { sh 'echo hi' }` on that agent.
+fn log_at(alloc: Global, folder: &str) -> Result<String, AllocError> {
+    format!(in alloc;
+        "[Pipeline] Start of Pipeline\n[Pipeline] node\nRunning on m in {folder}/workspace/real\n[Pipeline] {{\n[Pipeline] sh\n+ echo hi\nhi\n[Pipeline] }}\n[Pipeline] // node\n[Pipeline] End of Pipeline\nFinished: SUCCESS\n"
+    )
+}
+
+#[test]
+fn a_shell_step_runs_in_a_real_folder(rt: HostRuntime) -> Result<(), Fail> {
+    let alloc = rt.alloc();
+    let here = env::current_dir(&rt)?;
+    let here = format!(in alloc; "{}", here.as_path().display())?;
+    let agents = agents_at(alloc, &here)?;
+    let streams = open_streams(alloc, ["node { sh 'echo hi' }", agents.as_str(), ""], NONE)?;
+    let hosts = hosts_of(&rt, alloc, Life::First)?;
+    let (status, out) = call::<MachineThread, _, _>(&rt, words(alloc)?, streams, hosts);
+    let log = log_at(alloc, &here)?;
+    assert_eq!(rt; status, 0);
+    assert!(rt; out.bytes() == log.as_bytes());
     Ok(())
 }

@@ -1,5 +1,7 @@
 //! Calls of the controller over devices in memory.
+ghost use Rattle.std.specs.Prelude.{◌≡◌, length};
 
+use crate::hosts::fill_up;
 use crate::orders::{Command, Device, Fault, Stretch};
 use crate::stretched::StretchedDisk;
 use controller::controller;
@@ -13,13 +15,24 @@ use task_host::MemoryHost;
 
 /// The files of a build's folder.
 #[derive(Drop)]
-pub struct Folder<'a> {
+pub struct Folder {
     /// `Jenkinsfile`.
-    pub script: &'a [u8],
+    pub script: Vec<u8>,
     /// `agents.json`.
-    pub agents: &'a [u8],
+    pub agents: Vec<u8>,
     /// `program.dat`.
     pub store: Vec<u8>,
+}
+
+impl Folder {
+    /// A folder with the same script and agents file and this store. `AllocError` where the memory was refused.
+    pub fn with_store(&self, alloc: Global, store: &[u8]) -> Result<Folder, AllocError> {
+        Ok(Folder {
+            script: Vec::from_slice(alloc, &self.script)?,
+            agents: Vec::from_slice(alloc, &self.agents)?,
+            store: Vec::from_slice(alloc, store)?,
+        })
+    }
 }
 
 /// What a call of the controller came to.
@@ -49,7 +62,7 @@ struct Streams {
 /// Calls the controller with a command over a folder. `AllocError` where the memory was refused.
 pub fn call<R: SavedThread + Drop, W: Wait + Clock + AllocGlobal>(
     rt: &W,
-    folder: &Folder<'_>,
+    folder: &Folder,
     command: &Command<'_>,
     fault: Option<Fault>,
     hosts: Vec<MemoryHost>,
@@ -57,6 +70,7 @@ pub fn call<R: SavedThread + Drop, W: Wait + Clock + AllocGlobal>(
     let words = words_of(rt.alloc(), command.words)?;
     let streams = open_streams(rt.alloc(), folder, command.answers, fault)?;
     let disk = disk(rt.alloc(), &folder.store, fault)?;
+    let hosts = fill_up(rt.alloc(), hosts)?;
     Ok(call_with::<R, W, MemoryDisk>(rt, words, streams, disk, hosts))
 }
 
@@ -64,14 +78,15 @@ pub fn call<R: SavedThread + Drop, W: Wait + Clock + AllocGlobal>(
 /// refused.
 pub fn call_stretched<R: SavedThread + Drop, W: Wait + Clock + AllocGlobal>(
     rt: &W,
-    folder: &Folder<'_>,
+    folder: &Folder,
     stretch: &Stretch<'_>,
 ) -> Result<Called<StretchedDisk>, AllocError> {
     let words = words_of(rt.alloc(), stretch.command.words)?;
     let streams = open_streams(rt.alloc(), folder, stretch.command.answers, None)?;
     let store = Vec::from_slice(rt.alloc(), &folder.store)?;
     let disk = StretchedDisk::new(store, u64::from(stretch.at), u64::from(stretch.zeros));
-    Ok(call_with::<R, W, StretchedDisk>(rt, words, streams, disk, Vec::new(rt.alloc())))
+    let hosts = fill_up(rt.alloc(), Vec::new(rt.alloc()))?;
+    Ok(call_with::<R, W, StretchedDisk>(rt, words, streams, disk, hosts))
 }
 
 /// Calls the controller with these words over these devices.
@@ -81,7 +96,9 @@ fn call_with<R: SavedThread + Drop, W: Wait + Clock + AllocGlobal, D: Disk>(
     streams: Streams,
     disk: D,
     hosts: Vec<MemoryHost>,
-) -> Called<D> {
+) -> Called<D>
+    requires { length hosts.items ≡ 64 }
+{
     let Streams {
         mut script,
         mut agents,
@@ -120,14 +137,22 @@ fn words_of(alloc: Global, line: &str) -> Result<Vec<String>, AllocError> {
 /// The sources of a folder's script and agents file and of answer lines, and a sink.
 fn open_streams(
     alloc: Global,
-    folder: &Folder<'_>,
+    folder: &Folder,
     answers: &str,
     fault: Option<Fault>,
 ) -> Result<Streams, AllocError> {
     let answers = lines_of(alloc, answers)?;
     Ok(Streams {
-        script: source(alloc, folder.script, failing(alloc, fault, Device::Script)?)?,
-        agents: source(alloc, folder.agents, failing(alloc, fault, Device::Agents)?)?,
+        script: source(
+            alloc,
+            &folder.script,
+            failing(alloc, fault, Device::Script)?,
+        )?,
+        agents: source(
+            alloc,
+            &folder.agents,
+            failing(alloc, fault, Device::Agents)?,
+        )?,
         answers: MemorySource::new(answers, failing(alloc, fault, Device::Answers)?),
         out: MemorySink::new(alloc, failing(alloc, fault, Device::Out)?),
     })

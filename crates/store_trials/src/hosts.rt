@@ -1,9 +1,13 @@
 //! The hosts of a trial.
+ghost use Rattle.std.specs.Prelude.{◌≡◌, IfOk, length};
 
 use crate::orders::{Hosting, Outcome};
 use model_text::Sequence;
 use std::alloc::{AllocError, Global};
 use task_host::{Bytes, Host, MemoryHost, Numbers, Order, Pairs, TaskOutcome, TaskOutcomes};
+
+/// How many hosts a call has: one for each executor that a site may have.
+const HOSTS: usize = 64;
 
 /// What the hosts of a trial are and do.
 #[derive(Drop)]
@@ -12,8 +16,22 @@ pub struct Workshop<'a> {
     pub tasks: Vec<Outcome<'a>>,
     /// The tasks whose folders stand from the beginning.
     pub folders: Vec<u32>,
-    /// How many hosts there are.
+    /// How many hosts there are on which tasks do something.
     pub hosting: Hosting,
+}
+
+/// These hosts, and behind them as many as a call needs, on which a task never ends. `AllocError` where the memory was
+/// refused.
+pub fn fill_up(alloc: Global, hosts: Vec<MemoryHost>) -> Result<Vec<MemoryHost>, AllocError>
+    ensures { IfOk result (λ hosts. length hosts.items ≡ 64) }
+{
+    let mut hosts = hosts;
+    hosts.truncate(HOSTS);
+    for _ in hosts.len()..HOSTS {
+        let none = TaskOutcomes::new(alloc);
+        hosts.push(MemoryHost::new(alloc, Numbers::new(alloc), none))?;
+    }
+    Ok(hosts)
 }
 
 /// New hosts, each with all of these tasks. `AllocError` where the memory was refused.
@@ -71,7 +89,7 @@ fn write_lines(text: &str, bytes: &mut Vec<u8>) -> Result<(), AllocError> {
     Ok(())
 }
 
-/// The tasks that were launched, those of one host behind those of another. `AllocError` where the memory was refused.
+/// The tasks that were launched, in order, each as often as it was. `AllocError` where the memory was refused.
 pub fn launched(alloc: Global, hosts: &[MemoryHost]) -> Result<Vec<u32>, AllocError> {
     let mut tasks = Vec::new(alloc);
     for host in hosts {

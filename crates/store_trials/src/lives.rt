@@ -25,7 +25,7 @@ const NO_BUILD: &[u8] = b"program.dat: no build\n";
 /// lost, and where anything is otherwise. `AllocError` where the memory was refused.
 pub fn write_lives<R: SavedThread + Drop, W: Wait + Clock + AllocGlobal>(
     rt: &W,
-    folder: &Folder<'_>,
+    folder: &Folder,
     workshop: &Workshop<'_>,
     lives: &Lives<'_>,
     line: &str,
@@ -44,7 +44,7 @@ pub fn write_lives<R: SavedThread + Drop, W: Wait + Clock + AllocGlobal>(
 /// and where the second life is not as wanted. `AllocError` where the memory was refused.
 fn end_each<R: SavedThread + Drop, W: Wait + Clock + AllocGlobal>(
     rt: &W,
-    folder: &Folder<'_>,
+    folder: &Folder,
     workshop: &Workshop<'_>,
     lives: &Lives<'_>,
     device: Device,
@@ -80,7 +80,7 @@ fn end_each<R: SavedThread + Drop, W: Wait + Clock + AllocGlobal>(
 /// where the second is not as wanted. `AllocError` where the memory was refused.
 fn end_at<R: SavedThread + Drop, W: Wait + Clock + AllocGlobal>(
     rt: &W,
-    folder: &Folder<'_>,
+    folder: &Folder,
     workshop: &Workshop<'_>,
     lives: &Lives<'_>,
     fault: Fault,
@@ -129,7 +129,7 @@ fn write_otherwise(
 /// where the memory was refused.
 fn crash_each<R: SavedThread + Drop, W: Wait + Clock + AllocGlobal>(
     rt: &W,
-    folder: &Folder<'_>,
+    folder: &Folder,
     workshop: &Workshop<'_>,
     lives: &Lives<'_>,
     fault: Option<Fault>,
@@ -158,7 +158,7 @@ fn is_same(one: &Called<MemoryDisk>, other: &Called<MemoryDisk>) -> bool {
 /// where the memory was refused.
 fn second<R: SavedThread + Drop, W: Wait + Clock + AllocGlobal>(
     rt: &W,
-    folder: &Folder<'_>,
+    folder: &Folder,
     workshop: &Workshop<'_>,
     lives: &Lives<'_>,
     fault: Option<Fault>,
@@ -172,11 +172,7 @@ fn second<R: SavedThread + Drop, W: Wait + Clock + AllocGlobal>(
         make_hosts(rt.alloc(), workshop)?,
     )?;
     let left = first.disk.crash(choice);
-    let behind = Folder {
-        script: folder.script,
-        agents: folder.agents,
-        store: Vec::from_slice(rt.alloc(), left.bytes())?,
-    };
+    let behind = folder.with_store(rt.alloc(), left.bytes())?;
     gone_on::<R, W>(rt, &behind, lives.answers, first.hosts)
 }
 
@@ -184,7 +180,7 @@ fn second<R: SavedThread + Drop, W: Wait + Clock + AllocGlobal>(
 /// refused.
 fn gone_on<R: SavedThread + Drop, W: Wait + Clock + AllocGlobal>(
     rt: &W,
-    folder: &Folder<'_>,
+    folder: &Folder,
     answers: &str,
     hosts: Vec<MemoryHost>,
 ) -> Result<Called<MemoryDisk>, AllocError> {

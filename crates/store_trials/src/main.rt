@@ -14,15 +14,24 @@
 //! | `words WORDS` | the controller is called with these words |
 //! | `fail DEVICE CALL` | this call of a device fails at the next of these |
 //! | `store BYTES` | the folder has a store of these bytes, of two digits each |
-//! | `cut NUMBER` | the store loses this many bytes at its end |
+//! | `bytes` | the bytes of the store are written, as the order `store` has them |
+//! | `cut FILE NUMBER` | a file loses this many bytes at its end |
+//! | `long FILE NUMBER` | a file gets newlines at its end until it has this many bytes |
+//! | `task TASK CODE LOOKS TIMES LOG \| OUT` | a task does this on the hosts that are made then |
+//! | `folder TASK` | the folder of a task stands on the hosts that are made then |
+//! | `hosts COUNT`, `hosts COUNT CALL` | there are new hosts, so many of them with these tasks and failing calls |
 //! | `crashes WAYS STEP COMMAND ; ANSWERS` | the machine crashes behind a command, and a `resume` has these answers |
 //! | `stops WAYS STEP COMMAND ; ANSWERS` | also behind one that is stopped at each call of the disk in turn |
 //! | `fails WAYS STEP COMMAND ; ANSWERS` | also behind one of which each call of the disk fails in turn |
 //! | `stretch PLACE ZEROS COMMAND` | the controller does this over the store with so many zeros at this place |
 //!
-//! Between two answer lines stands ` | `. The devices are `script`, `agents`, `answers`, `out` and `disk`. The
-//! machine crashes in this many ways, whose choices are so far apart (`MemoryDisk::crash`); the first of them loses
-//! nothing.
+//! Between two answer lines stands ` | `, and `\n` is a newline of a task's log and output. The devices are `script`,
+//! `agents`, `answers`, `out` and `disk`, the files `script`, `agents` and `store`. The machine crashes in this many
+//! ways, whose choices are so far apart (`MemoryDisk::crash`); the first of them loses nothing.
+//!
+//! A task ends with its code once so many looks have found it running; its log it has then written so many times. Each
+//! command gets the hosts that the one before it gave back, and so does the life behind a crash. Behind the status
+//! stand the tasks that were launched on them since they were made.
 #![tactic(auto)]
 
 mod call;

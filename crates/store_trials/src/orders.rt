@@ -28,6 +28,17 @@ pub enum Device {
     Machine,
 }
 
+/// A file of the folder.
+#[derive(Clone, Copy)]
+pub enum File {
+    /// `Jenkinsfile`.
+    Script,
+    /// `agents.json`.
+    Agents,
+    /// `program.dat`.
+    Store,
+}
+
 /// A command of the controller.
 #[derive(Clone, Copy)]
 pub struct Command<'a> {
@@ -84,7 +95,7 @@ pub struct Outcome<'a> {
 /// The hosts of a trial.
 #[derive(Clone, Copy)]
 pub struct Hosting {
-    /// How many there are.
+    /// How many of them there are on which tasks do something.
     pub count: u32,
     /// The call of each that fails; 0 where none does.
     pub fails_at: u64,
@@ -101,8 +112,12 @@ pub enum Order<'a> {
     Fail(Fault),
     /// The folder has a store of these bytes.
     Store(&'a str),
-    /// The store loses so many bytes at its end.
-    Cut(u32),
+    /// The store's bytes are written.
+    Bytes,
+    /// A file loses so many bytes at its end.
+    Cut(File, u32),
+    /// A file gets newlines at its end until it has so many bytes.
+    Long(File, u32),
     /// The machine crashes behind a command, which is gone on with.
     Lives(Lives<'a>),
     /// The controller is called over a stretched store.
@@ -125,7 +140,15 @@ pub fn read_order(line: &str) -> Option<Order<'_>> {
         "agents" => Some(Order::Agents),
         "fail" => Some(Order::Fail(read_fault(rest)?)),
         "store" if are_bytes(rest) => Some(Order::Store(rest)),
-        "cut" => Some(Order::Cut(read_number(rest)?)),
+        "bytes" if rest.is_empty() => Some(Order::Bytes),
+        "cut" => {
+            let (file, bytes) = read_size(rest)?;
+            Some(Order::Cut(file, bytes))
+        }
+        "long" => {
+            let (file, bytes) = read_size(rest)?;
+            Some(Order::Long(file, bytes))
+        }
         "crashes" => Some(Order::Lives(read_lives(None, rest)?)),
         "stops" => Some(Order::Lives(read_lives(Some(Device::Machine), rest)?)),
         "fails" => Some(Order::Lives(read_lives(Some(Device::Disk), rest)?)),
@@ -135,6 +158,18 @@ pub fn read_order(line: &str) -> Option<Order<'_>> {
         "stretch" => Some(Order::Stretch(read_stretch(rest)?)),
         _ => None,
     }
+}
+
+/// Reads the name of a file, and a number of bytes.
+fn read_size(line: &str) -> Option<(File, u32)> {
+    let (word, bytes) = split_word(line);
+    let file = match word {
+        "script" => File::Script,
+        "agents" => File::Agents,
+        "store" => File::Store,
+        _ => return None,
+    };
+    Some((file, read_number(bytes)?))
 }
 
 /// Reads a number of decimal digits below 4294967296.
@@ -218,8 +253,8 @@ fn read_stretch(line: &str) -> Option<Stretch<'_>> {
     })
 }
 
-/// Reads what a task does: its number, its code, how many looks find it running, how often its log is written, its log, and
-/// behind ` | ` its output.
+/// Reads what a task does: its number, its code, how many looks find it running, how often its log is written, its
+/// log, and behind ` | ` its output.
 fn read_task(line: &str) -> Option<Outcome<'_>> {
     let (task, behind) = split_word(line);
     let (code, behind) = split_word(behind);

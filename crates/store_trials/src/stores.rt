@@ -3,20 +3,20 @@
 use crate::call::{Folder, call, call_stretched};
 use crate::hosts::{Workshop, launched, make_hosts};
 use crate::lives::write_lives;
-use crate::orders::{Command, Fault, Hosting, Order, Stretch, read_byte, read_order};
-use crate::told::{write_called, write_launched, write_line, write_order};
+use crate::orders::{Command, Fault, File, Hosting, Order, Stretch, read_byte, read_order};
+use crate::told::{write_bytes, write_called, write_launched, write_line, write_order};
 use saved_thread::SavedThread;
 use std::alloc::{AllocError, Global};
 use std::mem;
 use std::sync::Wait;
 use std::time::Clock;
 use task_host::MemoryHost;
-use trial_text::read_trial;
+use trial_text::{Trial, read_trial};
 
 /// A folder, and what fails at the next command over it.
 #[derive(Drop)]
 struct Place<'a> {
-    folder: Folder<'a>,
+    folder: Folder,
     fault: Option<Fault>,
     workshop: Workshop<'a>,
     hosts: Vec<MemoryHost>,
@@ -28,18 +28,20 @@ pub fn run_trial<R: SavedThread + Drop, W: Wait + Clock + AllocGlobal>(
     text: &str,
 ) -> Result<Vec<u8>, AllocError> {
     let trial = read_trial(rt.alloc(), text)?;
+    let agents = Vec::from_slice(rt.alloc(), trial.agents().as_bytes())?;
+    let Trial { script, orders } = trial;
     let folder = Folder {
-        script: &trial.script,
-        agents: trial.agents().as_bytes(),
+        script,
+        agents,
         store: Vec::new(rt.alloc()),
     };
-    do_orders::<R, W>(rt, folder, &trial.orders)
+    do_orders::<R, W>(rt, folder, &orders)
 }
 
 /// Does what the orders say, on one folder. `AllocError` where the memory was refused.
 fn do_orders<'a, R: SavedThread + Drop, W: Wait + Clock + AllocGlobal>(
     rt: &W,
-    folder: Folder<'a>,
+    folder: Folder,
     orders: &[&'a str],
 ) -> Result<Vec<u8>, AllocError> {
     let mut place = Place {
@@ -78,9 +80,13 @@ fn do_order<'a, R: SavedThread + Drop, W: Wait + Clock + AllocGlobal>(
             Ok(())
         }
         Some(Order::Store(digits)) => read_store(rt.alloc(), digits, &mut place.folder.store),
-        Some(Order::Cut(bytes)) => {
-            cut(&mut place.folder.store, bytes as usize);
+        Some(Order::Bytes) => write_bytes(rt.alloc(), &place.folder.store, out),
+        Some(Order::Cut(file, bytes)) => {
+            cut(file_of(&mut place.folder, file), bytes as usize);
             Ok(())
+        }
+        Some(Order::Long(file, bytes)) => {
+            lengthen(file_of(&mut place.folder, file), bytes as usize)
         }
         Some(Order::Lives(lives)) if place.fault.is_none() => {
             write_lives::<R, W>(rt, &place.folder, &place.workshop, &lives, line, out)
@@ -102,7 +108,7 @@ fn do_order<'a, R: SavedThread + Drop, W: Wait + Clock + AllocGlobal>(
 /// Calls the controller over a store that is stretched. `AllocError` where the memory was refused.
 fn do_stretched<R: SavedThread + Drop, W: Wait + Clock + AllocGlobal>(
     rt: &W,
-    folder: &Folder<'_>,
+    folder: &Folder,
     stretch: &Stretch<'_>,
     line: &str,
     out: &mut Vec<u8>,
@@ -141,7 +147,24 @@ fn read_store(alloc: Global, digits: &str, store: &mut Vec<u8>) -> Result<(), Al
     Ok(())
 }
 
-/// Cuts bytes from the end of a store.
-fn cut(store: &mut Vec<u8>, bytes: usize) {
-    store.truncate(store.len().saturating_sub(bytes));
+/// A file of a folder.
+fn file_of(folder: &mut Folder, file: File) -> &mut Vec<u8> {
+    match file {
+        File::Script => &mut folder.script,
+        File::Agents => &mut folder.agents,
+        File::Store => &mut folder.store,
+    }
+}
+
+/// Cuts bytes from the end of a file.
+fn cut(file: &mut Vec<u8>, bytes: usize) {
+    file.truncate(file.len().saturating_sub(bytes));
+}
+
+/// Writes newlines at the end of a file until it has so many bytes. `AllocError` where the memory was refused.
+fn lengthen(file: &mut Vec<u8>, bytes: usize) -> Result<(), AllocError> {
+    for _ in file.len()..bytes {
+        file.push(b'\n')?;
+    }
+    Ok(())
 }

@@ -30,6 +30,16 @@ pub fn write_launched(alloc: Global, tasks: &[u32], out: &mut Vec<u8>) -> Result
     write_line(out, &format!(in alloc; "launched {tasks:?}")?)
 }
 
+/// Writes the bytes of a store, as the order `store` has them. `AllocError` where the memory was refused.
+pub fn write_bytes(alloc: Global, store: &[u8], out: &mut Vec<u8>) -> Result<(), AllocError> {
+    out.extend_from_slice(b"store")?;
+    for byte in store {
+        out.extend_from_slice(format!(in alloc; " {byte:02x}")?.as_bytes())?;
+    }
+    out.push(b'\n')?;
+    Ok(())
+}
+
 /// Writes a line. `AllocError` where the memory was refused.
 pub fn write_line(out: &mut Vec<u8>, line: &str) -> Result<(), AllocError> {
     out.extend_from_slice(line.as_bytes())?;
