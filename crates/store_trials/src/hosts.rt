@@ -20,7 +20,7 @@ pub struct Workshop<'a> {
     pub hosting: Hosting,
 }
 
-/// These hosts, and behind them as many as a call needs, on which a task never ends. `AllocError` where the memory was
+/// These hosts, and as many behind them as a call needs, on which no task ends. `AllocError` where the memory was
 /// refused.
 pub fn fill_up(alloc: Global, hosts: Vec<MemoryHost>) -> Result<Vec<MemoryHost>, AllocError>
     ensures { IfOk result (λ hosts. length hosts.items ≡ 64) }

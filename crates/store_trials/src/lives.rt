@@ -20,55 +20,47 @@ const DISK_TEXT: &[u8] = b"controller: disk failed\n";
 /// What is said of a store without a build.
 const NO_BUILD: &[u8] = b"program.dat: no build\n";
 
+/// Two lives of a build, and what they are led over.
+#[derive(Clone, Copy)]
+pub struct Case<'a> {
+    /// The folder before the first of them.
+    pub folder: &'a Folder,
+    /// The hosts that are made for it.
+    pub workshop: &'a Workshop<'a>,
+    /// The lives.
+    pub lives: &'a Lives<'a>,
+}
+
 /// Crashes in each way behind the first life, and where it is to end at each call of the disk in turn, also behind
 /// each of these; and lets the second life go on. Writes what the second comes to where nothing fails and nothing is
 /// lost, and where anything is otherwise. `AllocError` where the memory was refused.
 pub fn write_lives<R: SavedThread + Drop, W: Wait + Clock + AllocGlobal>(
     rt: &W,
-    folder: &Folder,
-    workshop: &Workshop<'_>,
-    lives: &Lives<'_>,
+    case: Case<'_>,
     line: &str,
     out: &mut Vec<u8>,
 ) -> Result<(), AllocError> {
     write_order(rt.alloc(), line, out)?;
-    let wanted = second::<R, W>(rt, folder, workshop, lives, None, 0)?;
-    crash_each::<R, W>(rt, folder, workshop, lives, None, &wanted, out)?;
-    if let Some(device) = lives.device {
-        end_each::<R, W>(rt, folder, workshop, lives, device, &wanted, out)?;
+    let mut wanted = second::<R, W>(rt, case, None, 0)?;
+    crash_each::<R, W>(rt, case, None, &wanted, out)?;
+    if let Some(device) = case.lives.device {
+        end_each::<R, W>(rt, case, device, &wanted, out)?;
     }
-    write_called(rt.alloc(), wanted, out)
+    write_called(rt.alloc(), &mut wanted, out)
 }
 
 /// Ends the first life at each call of the disk in turn, and crashes in each way. Writes how many calls there are,
 /// and where the second life is not as wanted. `AllocError` where the memory was refused.
 fn end_each<R: SavedThread + Drop, W: Wait + Clock + AllocGlobal>(
     rt: &W,
-    folder: &Folder,
-    workshop: &Workshop<'_>,
-    lives: &Lives<'_>,
+    case: Case<'_>,
     device: Device,
     wanted: &Called<MemoryDisk>,
     out: &mut Vec<u8>,
 ) -> Result<(), AllocError> {
-    let first = call::<R, W>(
-        rt,
-        folder,
-        &lives.first,
-        None,
-        make_hosts(rt.alloc(), workshop)?,
-    )?;
-    let calls = first.disk.calls().len() as u64;
+    let calls = first::<R, W>(rt, case, None)?.disk.calls().len() as u64;
     for call in 1..=calls {
-        end_at::<R, W>(
-            rt,
-            folder,
-            workshop,
-            lives,
-            Fault { device, call },
-            wanted,
-            out,
-        )?;
+        end_at::<R, W>(rt, case, Fault { device, call }, wanted, out)?;
     }
     write_line(
         out,
@@ -80,21 +72,13 @@ fn end_each<R: SavedThread + Drop, W: Wait + Clock + AllocGlobal>(
 /// where the second is not as wanted. `AllocError` where the memory was refused.
 fn end_at<R: SavedThread + Drop, W: Wait + Clock + AllocGlobal>(
     rt: &W,
-    folder: &Folder,
-    workshop: &Workshop<'_>,
-    lives: &Lives<'_>,
+    case: Case<'_>,
     fault: Fault,
     wanted: &Called<MemoryDisk>,
     out: &mut Vec<u8>,
 ) -> Result<(), AllocError> {
-    let first = call::<R, W>(
-        rt,
-        folder,
-        &lives.first,
-        Some(fault),
-        make_hosts(rt.alloc(), workshop)?,
-    )?;
-    if !is_refusal(&first) {
+    let ended = first::<R, W>(rt, case, Some(fault))?;
+    if !is_refusal(&ended) {
         write_otherwise(
             rt.alloc(),
             Some(fault),
@@ -102,7 +86,7 @@ fn end_at<R: SavedThread + Drop, W: Wait + Clock + AllocGlobal>(
             out,
         )?;
     }
-    crash_each::<R, W>(rt, folder, workshop, lives, Some(fault), wanted, out)
+    crash_each::<R, W>(rt, case, Some(fault), wanted, out)
 }
 
 /// Whether a life says that its disk has failed.
@@ -129,21 +113,19 @@ fn write_otherwise(
 /// where the memory was refused.
 fn crash_each<R: SavedThread + Drop, W: Wait + Clock + AllocGlobal>(
     rt: &W,
-    folder: &Folder,
-    workshop: &Workshop<'_>,
-    lives: &Lives<'_>,
+    case: Case<'_>,
     fault: Option<Fault>,
     wanted: &Called<MemoryDisk>,
     out: &mut Vec<u8>,
 ) -> Result<(), AllocError> {
-    for way in 0..lives.ways {
-        let choice = u64::from(way) * u64::from(lives.step);
-        let ended = second::<R, W>(rt, folder, workshop, lives, fault, choice)?;
-        if launched(rt.alloc(), &ended.hosts)? != launched(rt.alloc(), &wanted.hosts)? {
-            write_otherwise(rt.alloc(), fault, "other tasks were launched", out)?;
-        }
+    for way in 0..case.lives.ways {
+        let choice = u64::from(way) * u64::from(case.lives.step);
+        let ended = second::<R, W>(rt, case, fault, choice)?;
         if !is_same(&ended, wanted) {
             write_otherwise(rt.alloc(), fault, "the second life is another", out)?;
+        }
+        if launched(rt.alloc(), &ended.hosts)? != launched(rt.alloc(), &wanted.hosts)? {
+            write_otherwise(rt.alloc(), fault, "other tasks were launched", out)?;
         }
     }
     Ok(())
@@ -154,26 +136,28 @@ fn is_same(one: &Called<MemoryDisk>, other: &Called<MemoryDisk>) -> bool {
     one.status == other.status && one.out.bytes() == other.out.bytes()
 }
 
-/// What the second life comes to, behind a first one with this fault that is crashed by this choice. `AllocError`
-/// where the memory was refused.
+/// What the first life comes to, on new hosts, where this fails. `AllocError` where the memory was refused.
+fn first<R: SavedThread + Drop, W: Wait + Clock + AllocGlobal>(
+    rt: &W,
+    case: Case<'_>,
+    fault: Option<Fault>,
+) -> Result<Called<MemoryDisk>, AllocError> {
+    let hosts = make_hosts(rt.alloc(), case.workshop)?;
+    call::<R, W>(rt, case.folder, &case.lives.first, fault, hosts)
+}
+
+/// What the second life comes to, on the hosts of the first one, which had this fault and was crashed by this choice.
+/// `AllocError` where the memory was refused.
 fn second<R: SavedThread + Drop, W: Wait + Clock + AllocGlobal>(
     rt: &W,
-    folder: &Folder,
-    workshop: &Workshop<'_>,
-    lives: &Lives<'_>,
+    case: Case<'_>,
     fault: Option<Fault>,
     choice: u64,
 ) -> Result<Called<MemoryDisk>, AllocError> {
-    let first = call::<R, W>(
-        rt,
-        folder,
-        &lives.first,
-        fault,
-        make_hosts(rt.alloc(), workshop)?,
-    )?;
+    let first = first::<R, W>(rt, case, fault)?;
     let left = first.disk.crash(choice);
-    let behind = folder.with_store(rt.alloc(), left.bytes())?;
-    gone_on::<R, W>(rt, &behind, lives.answers, first.hosts)
+    let behind = case.folder.with_store(rt.alloc(), left.bytes())?;
+    gone_on::<R, W>(rt, &behind, case.lives.answers, first.hosts)
 }
 
 /// What a build comes to that is gone on with; where there is none it is begun. `AllocError` where the memory was

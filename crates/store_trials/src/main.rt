@@ -29,9 +29,9 @@
 //! `agents`, `answers`, `out` and `disk`, the files `script`, `agents` and `store`. The machine crashes in this many
 //! ways, whose choices are so far apart (`MemoryDisk::crash`); the first of them loses nothing.
 //!
-//! A task ends with its code once so many looks have found it running; its log it has then written so many times. Each
-//! command gets the hosts that the one before it gave back, and so does the life behind a crash. Behind the status
-//! stand the tasks that were launched on them since they were made.
+//! A task ends with its code once so many looks have found it running; its log it has then written so many times.
+//! Each command gets the hosts that the one before it gave back, and so does the life behind a crash. Behind the
+//! status stand the tasks that were launched on them since they were made.
 #![tactic(auto)]
 
 mod call;

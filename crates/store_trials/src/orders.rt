@@ -108,20 +108,27 @@ pub enum Order<'a> {
     Agents,
     /// The controller is called.
     Call(Command<'a>),
-    /// A call fails at the next command.
-    Fail(Fault),
-    /// The folder has a store of these bytes.
-    Store(&'a str),
-    /// The store's bytes are written.
-    Bytes,
-    /// A file loses so many bytes at its end.
-    Cut(File, u32),
-    /// A file gets newlines at its end until it has so many bytes.
-    Long(File, u32),
     /// The machine crashes behind a command, which is gone on with.
     Lives(Lives<'a>),
     /// The controller is called over a stretched store.
     Stretch(Stretch<'a>),
+    /// The store's bytes are written.
+    Bytes,
+    /// Something is otherwise from now on.
+    Change(Change<'a>),
+}
+
+/// What is otherwise from now on.
+#[derive(Clone, Copy)]
+pub enum Change<'a> {
+    /// A call fails at the next command.
+    Fail(Fault),
+    /// The folder has a store of these bytes.
+    Store(&'a str),
+    /// A file loses so many bytes at its end.
+    Cut(File, u32),
+    /// A file gets newlines at its end until it has so many bytes.
+    Long(File, u32),
     /// A task of the hosts that are made then.
     Task(Outcome<'a>),
     /// The folder of a task stands on the hosts that are made then.
@@ -138,24 +145,31 @@ pub fn read_order(line: &str) -> Option<Order<'_>> {
     let (word, rest) = split_word(line);
     match word {
         "agents" => Some(Order::Agents),
-        "fail" => Some(Order::Fail(read_fault(rest)?)),
-        "store" if are_bytes(rest) => Some(Order::Store(rest)),
-        "bytes" if rest.is_empty() => Some(Order::Bytes),
-        "cut" => {
-            let (file, bytes) = read_size(rest)?;
-            Some(Order::Cut(file, bytes))
-        }
-        "long" => {
-            let (file, bytes) = read_size(rest)?;
-            Some(Order::Long(file, bytes))
-        }
         "crashes" => Some(Order::Lives(read_lives(None, rest)?)),
         "stops" => Some(Order::Lives(read_lives(Some(Device::Machine), rest)?)),
         "fails" => Some(Order::Lives(read_lives(Some(Device::Disk), rest)?)),
-        "task" => Some(Order::Task(read_task(rest)?)),
-        "folder" => Some(Order::Folder(read_number(rest)?)),
-        "hosts" => Some(Order::Hosts(read_hosts(rest)?)),
         "stretch" => Some(Order::Stretch(read_stretch(rest)?)),
+        "bytes" if rest.is_empty() => Some(Order::Bytes),
+        _ => Some(Order::Change(read_change(word, rest)?)),
+    }
+}
+
+/// Reads what is otherwise from now on: a word, and what stands behind it.
+fn read_change<'a>(word: &str, rest: &'a str) -> Option<Change<'a>> {
+    match word {
+        "fail" => Some(Change::Fail(read_fault(rest)?)),
+        "store" if are_bytes(rest) => Some(Change::Store(rest)),
+        "cut" => {
+            let (file, bytes) = read_size(rest)?;
+            Some(Change::Cut(file, bytes))
+        }
+        "long" => {
+            let (file, bytes) = read_size(rest)?;
+            Some(Change::Long(file, bytes))
+        }
+        "task" => Some(Change::Task(read_task(rest)?)),
+        "folder" => Some(Change::Folder(read_number(rest)?)),
+        "hosts" => Some(Change::Hosts(read_hosts(rest)?)),
         _ => None,
     }
 }

@@ -1,10 +1,10 @@
 //! A trial over the store of a build.
 
 use crate::call::{Folder, call, call_stretched};
-use crate::hosts::{Workshop, launched, make_hosts};
-use crate::lives::write_lives;
-use crate::orders::{Command, Fault, File, Hosting, Order, Stretch, read_byte, read_order};
-use crate::told::{write_bytes, write_called, write_launched, write_line, write_order};
+use crate::hosts::{Workshop, make_hosts};
+use crate::lives::{Case, write_lives};
+use crate::orders::{Change, Command, Fault, File, Hosting, Order, Stretch, read_byte, read_order};
+use crate::told::{write_bytes, write_called, write_line, write_order};
 use saved_thread::SavedThread;
 use std::alloc::{AllocError, Global};
 use std::mem;
@@ -75,33 +75,47 @@ fn do_order<'a, R: SavedThread + Drop, W: Wait + Clock + AllocGlobal>(
     match read_order(line) {
         Some(Order::Agents) => Ok(()),
         Some(Order::Call(command)) => do_command::<R, W>(rt, place, &command, line, out),
-        Some(Order::Fail(fault)) => {
-            place.fault = Some(fault);
-            Ok(())
-        }
-        Some(Order::Store(digits)) => read_store(rt.alloc(), digits, &mut place.folder.store),
-        Some(Order::Bytes) => write_bytes(rt.alloc(), &place.folder.store, out),
-        Some(Order::Cut(file, bytes)) => {
-            cut(file_of(&mut place.folder, file), bytes as usize);
-            Ok(())
-        }
-        Some(Order::Long(file, bytes)) => {
-            lengthen(file_of(&mut place.folder, file), bytes as usize)
-        }
         Some(Order::Lives(lives)) if place.fault.is_none() => {
-            write_lives::<R, W>(rt, &place.folder, &place.workshop, &lives, line, out)
-        }
-        Some(Order::Task(task)) => Ok(place.workshop.tasks.push(task)?),
-        Some(Order::Folder(task)) => Ok(place.workshop.folders.push(task)?),
-        Some(Order::Hosts(hosting)) => {
-            place.workshop.hosting = hosting;
-            place.hosts = make_hosts(rt.alloc(), &place.workshop)?;
-            Ok(())
+            let case = Case {
+                folder: &place.folder,
+                workshop: &place.workshop,
+                lives: &lives,
+            };
+            write_lives::<R, W>(rt, case, line, out)
         }
         Some(Order::Stretch(stretch)) if place.fault.is_none() => {
             do_stretched::<R, W>(rt, &place.folder, &stretch, line, out)
         }
+        Some(Order::Bytes) => write_bytes(rt.alloc(), &place.folder.store, out),
+        Some(Order::Change(change)) => do_change(rt.alloc(), place, change),
         _ => write_line(out, "an unknown order"),
+    }
+}
+
+/// Makes something otherwise. `AllocError` where the memory was refused.
+fn do_change<'a>(
+    alloc: Global,
+    place: &mut Place<'a>,
+    change: Change<'a>,
+) -> Result<(), AllocError> {
+    match change {
+        Change::Fail(fault) => {
+            place.fault = Some(fault);
+            Ok(())
+        }
+        Change::Store(digits) => read_store(alloc, digits, &mut place.folder.store),
+        Change::Cut(file, bytes) => {
+            cut(file_of(&mut place.folder, file), bytes as usize);
+            Ok(())
+        }
+        Change::Long(file, bytes) => lengthen(file_of(&mut place.folder, file), bytes as usize),
+        Change::Task(task) => Ok(place.workshop.tasks.push(task)?),
+        Change::Folder(task) => Ok(place.workshop.folders.push(task)?),
+        Change::Hosts(hosting) => {
+            place.workshop.hosting = hosting;
+            place.hosts = make_hosts(alloc, &place.workshop)?;
+            Ok(())
+        }
     }
 }
 
@@ -113,12 +127,13 @@ fn do_stretched<R: SavedThread + Drop, W: Wait + Clock + AllocGlobal>(
     line: &str,
     out: &mut Vec<u8>,
 ) -> Result<(), AllocError> {
-    let called = call_stretched::<R, W>(rt, folder, stretch)?;
+    let mut called = call_stretched::<R, W>(rt, folder, stretch)?;
     write_order(rt.alloc(), line, out)?;
-    write_called(rt.alloc(), called, out)
+    write_called(rt.alloc(), &mut called, out)
 }
 
-/// Calls the controller, and leaves its store in the folder. `AllocError` where the memory was refused.
+/// Calls the controller, and leaves its store in the folder and its hosts for the next command. `AllocError` where the
+/// memory was refused.
 fn do_command<R: SavedThread + Drop, W: Wait + Clock + AllocGlobal>(
     rt: &W,
     place: &mut Place<'_>,
@@ -129,12 +144,11 @@ fn do_command<R: SavedThread + Drop, W: Wait + Clock + AllocGlobal>(
     let hosts = mem::replace(&mut place.hosts, Vec::new(rt.alloc()));
     let mut called = call::<R, W>(rt, &place.folder, command, place.fault, hosts)?;
     place.fault = None;
-    place.folder.store = Vec::from_slice(rt.alloc(), called.disk.bytes())?;
-    let tasks = launched(rt.alloc(), &called.hosts)?;
-    place.hosts = mem::replace(&mut called.hosts, Vec::new(rt.alloc()));
     write_order(rt.alloc(), line, out)?;
-    write_called(rt.alloc(), called, out)?;
-    write_launched(rt.alloc(), &tasks, out)
+    write_called(rt.alloc(), &mut called, out)?;
+    place.folder.store = Vec::from_slice(rt.alloc(), called.disk.bytes())?;
+    place.hosts = called.hosts;
+    Ok(())
 }
 
 /// Reads the bytes of a store, two digits of base 16 each, with a blank between two of them. `AllocError` where the

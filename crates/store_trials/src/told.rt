@@ -10,20 +10,21 @@ pub fn write_order(alloc: Global, line: &str, out: &mut Vec<u8>) -> Result<(), A
     write_line(out, &format!(in alloc; "$ {line}")?)
 }
 
-/// Writes what the controller wrote, its status, and how many bytes of the answers were not read, where there are some.
-/// `AllocError` where the memory was refused.
-pub fn write_called<D: Drop>(
+/// Writes what the controller wrote, its status, how many bytes of the answers were not read, where there are some,
+/// and which tasks were launched. `AllocError` where the memory was refused.
+pub fn write_called<D>(
     alloc: Global,
-    called: Called<D>,
+    called: &mut Called<D>,
     out: &mut Vec<u8>,
 ) -> Result<(), AllocError> {
     write_text(alloc, called.out.bytes(), out)?;
-    write_line(out, &ending(alloc, called.status, unread(called.answers))?)?;
+    let unread = unread(&mut called.answers);
+    write_line(out, &ending(alloc, called.status, unread)?)?;
     write_launched(alloc, &launched(alloc, &called.hosts)?, out)
 }
 
 /// Writes which tasks were launched, where there are some. `AllocError` where the memory was refused.
-pub fn write_launched(alloc: Global, tasks: &[u32], out: &mut Vec<u8>) -> Result<(), AllocError> {
+fn write_launched(alloc: Global, tasks: &[u32], out: &mut Vec<u8>) -> Result<(), AllocError> {
     if tasks.is_empty() {
         return Ok(());
     }
@@ -56,8 +57,7 @@ fn ending(alloc: Global, status: u8, unread: usize) -> Result<String, AllocError
 }
 
 /// How many bytes of the answers were not read; of more than 1,000 these.
-fn unread(answers: MemorySource) -> usize {
-    let mut answers = answers;
+fn unread(answers: &mut MemorySource) -> usize {
     let mut bytes = [0; 1000];
     match answers.read(&mut bytes) {
         Ok(count) => count,
