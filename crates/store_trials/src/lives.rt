@@ -28,7 +28,7 @@ pub struct Case<'a> {
     /// The hosts that are made for it.
     pub workshop: &'a Workshop<'a>,
     /// The lives.
-    pub lives: &'a Lives<'a>,
+    pub lives: Lives<'a>,
 }
 
 /// Crashes in each way behind the first life, and where it is to end at each call of the disk in turn, also behind

@@ -79,7 +79,7 @@ fn do_order<'a, R: SavedThread + Drop, W: Wait + Clock + AllocGlobal>(
             let case = Case {
                 folder: &place.folder,
                 workshop: &place.workshop,
-                lives: &lives,
+                lives,
             };
             write_lives::<R, W>(rt, case, line, out)
         }
