@@ -9,7 +9,7 @@ ghost use Rattle.saved_run.specs.Lives.{Lasts};
 ghost use Rattle.site_crew.specs.Crews.{IsCrew, members_of, others_of};
 ghost use Rattle.build_commands.specs.Reporting.{Reports};
 ghost use Rattle.build_commands.specs.Finishing.{TellsEnd, TellsRest};
-ghost use Rattle.build_commands.specs.Living.{Finished};
+ghost use Rattle.build_commands.specs.Living.{Finished, HostsStay};
 
 use crate::done::Ran;
 use crate::refusal::{Refusal, tell, tell_text};
@@ -50,6 +50,7 @@ pub fn finish<
 >(rt: &W, durable: DurableBuild<D, R>, hosts: Vec<H>, answers: A, out: &mut K) -> Ran<D, H, A>
     requires running { durable.stopped ≡ false }
     requires begun { has_begun durable.build.phase ≡ true }
+    ensures stay { HostsStay H.honest H.faults H.calls hosts.items result.hosts.items }
     ensures reports { Reports (D.faults durable.journal.disk) (D.faults result.disk) (A.faults answers) (A.faults result.answers) (K.written out.old) (K.written out.new) (K.faults out.old) (K.faults out.new) result.status }
     ensures finishes { (setting : Setting) (entry : Option (List ℕ)) (origin : D) (before : List AnEvent)
         → Lasts D.reads D.may_leave D.clock D.may_have_left_since R.stance setting entry origin before before durable
@@ -88,6 +89,8 @@ fn live<
     requires begun { has_begun durable.build.phase ≡ true }
     requires crew { IsCrew crew.members.items }
     requires room { vec_len crew.others + vec_len crew.members ≤ vec_capacity crew.others + 1 }
+    ensures stay { (executors : List SiteExecutor) (hosts : List H) (answers : A) → crew.members.items ≡ members_of executors hosts answers
+        → crew.others.items ≡ reverse (others_of executors hosts) → HostsStay H.honest H.faults H.calls hosts result.hosts.items }
     ensures reports { (executors : List SiteExecutor) (hosts : List H) (answers : A) → crew.members.items ≡ members_of executors hosts answers
         → Reports (D.faults durable.journal.disk) (D.faults result.disk) (A.faults answers) (A.faults result.answers) (K.written out.old) (K.written out.new) (K.faults out.old) (K.faults out.new) result.status }
     ensures finishes { (hosts : List H) (answers : A) (setting : Setting) (entry : Option (List ℕ)) (origin : D) (before : List AnEvent) → crew.members.items ≡ members_of setting.site.executors hosts answers

@@ -5,5 +5,9 @@ mod RunLemmas
 mod ResumeLemmas
 mod ShowLemmas
 mod CheckLemmas
+mod SiteLemmas
+mod HostLemmas
+mod SeatLemmas
+mod LaunchLemmas
 mod HeadlineLemmas
 mod Reading
