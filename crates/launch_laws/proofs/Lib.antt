@@ -3,3 +3,4 @@ pub mod TaskLaws
 pub mod FitLaws
 pub mod LifeLaws
 pub mod HostLaws
+pub mod OutputLaws
