@@ -170,10 +170,15 @@ def of_blocks(page):
     """Scripts in blocks, each with what is behind it: answers, and its log.
 
     A block `json` is the agents file of the scripts behind it. A log leaves out the first line of a build, and the last two of
-    one that ends with SUCCESS; `log N` is all but the first line, with the exit status N.
+    one that ends with SUCCESS; `log N` is all but the first line, with the exit status N. A script without a log ends with SUCCESS,
+    with stand-ins for commands.
     """
     agents, script, answers = NO_AGENTS, None, b""
     for kind, rest, content in re.findall(r"^```(\w+) ?(\d*)\n(.*?)^```$", page, re.M | re.S):
+        if script is not None and kind not in ("answers", "log"):
+            run = WITH_STAND_INS % script
+            yield Example(f"docs/USING.md: {script!r}", run.encode(), re.compile("^Finished: SUCCESS$", re.M), [0], ONE_AGENT)
+            script = None
         if kind == "json":
             agents = content.encode()
         elif kind == "groovy":
@@ -183,6 +188,7 @@ def of_blocks(page):
         elif kind == "log":
             wanted = START + content + ("" if rest else END)
             yield Example(f"docs/USING.md: {script!r}", script.encode(), wanted, [int(rest or 0)], agents, answers)
+            script = None
 
 
 def examples():

@@ -7,6 +7,7 @@ was launched leaves its name, which is unique in its build, in the file `launche
 import argparse
 import json
 import os
+import re
 import signal
 import subprocess
 import sys
@@ -246,6 +247,27 @@ class Tasks(Shell):
         self.build("parallel(a: { node { sh 'echo a > f; pwd; cat f' } }, b: { node { sh 'echo b > f; pwd; cat f' } })", executors=2)
         self.ends("run", 0, "ROOM/agent/workspace/trial", "a", "ROOM/agent/workspace/trial@2", "b", "Finished: SUCCESS")
 
+    def test_the_script_of_a_step_can_be_killed(self):
+        self.build(f"node {{ sh {script('sleep 60')} }}")
+        controller = self.start("run")
+        self.wait_until(lambda: self.launches(), "a launch")
+        named = subprocess.run("ps -eo pid,args | grep '[d]urable-.*/script.sh'", shell=True, capture_output=True, text=True, check=True).stdout
+        [pid] = [line.split()[0] for line in named.splitlines() if self.room in line]
+        os.kill(int(pid), signal.SIGTERM)
+        log, _ = controller.communicate(timeout=PATIENCE)
+        self.assertIn(b"ERROR: script returned exit code 143\n", log)
+
+    def test_answers_are_read_while_no_task_runs(self):
+        self.build(f"parallel(a: {{ node {{ sh {script('sleep 2')} }} }}, b: {{ input 'on?' }})")
+        controller = self.start("run", stdin=subprocess.PIPE)
+        controller.stdin.write(b"proceed 2 by ann\n")
+        controller.stdin.flush()
+        self.wait_until(lambda: self.launches(), "a launch")
+        time.sleep(1)
+        self.assertNotIn(b"Approved", self.ran("log")[0])
+        log, _ = controller.communicate()
+        self.assertEqual((log.count(b"Approved by ann\n"), controller.returncode), (1, 0))
+
     def test_shell_steps_of_branches_run_one_behind_the_other(self):
         step = "sh '#!/bin/sh\\necho begin >> ROOM/times; sleep 0.5; echo end >> ROOM/times'"
         self.build(f"parallel(a: {{ node('m') {{ {step} }} }}, b: {{ node('m2') {{ {step} }} }})", agents=("m", "m2"))
@@ -275,6 +297,48 @@ class Tasks(Shell):
         self.assertIn(b"ERROR: script returned exit code -2\n", ran.stdout)
         self.assertIn(f"controller: task 2 in {self.workspace} was not launched: ".encode(), ran.stderr)
         self.assertEqual(self.launches(), [])
+
+
+class Page(Shell):
+    """The commands of docs/USING.md for a shell."""
+
+    def block(self, word):
+        """The block for a shell that has this word, with the names of this trial."""
+        with open(f"{TOP}/docs/USING.md", encoding="utf-8") as page:
+            [found] = [block for block in re.findall(r"^```sh\n(.*?)^```$", page.read(), re.M | re.S) if word in block]
+        for name, value in (("./controller", PROGRAM), ("DIR", self.folder), ("ROOT", self.agent), ("JOB", "trial")):
+            found = found.replace(name, value)
+        return found
+
+    def sh(self, commands):
+        return subprocess.run(["sh", "-c", commands], cwd=TOP, stdin=subprocess.DEVNULL, capture_output=True, text=True, check=False)
+
+    def test_a_job_of_cron_begins_a_build_and_goes_on_with_it(self):
+        self.build(f"node {{ sh {script('sleep 1')}; sh {script('exit 3')} }}")
+        self.killed_at_launch(1)
+        for _ in range(2):
+            self.assertEqual(self.sh(self.block("resume")).returncode, 1)
+            with open(f"{self.folder}/log", encoding="utf-8") as log:
+                self.assertIn("\nERROR: script returned exit code 3\nFinished: FAILURE\n", log.read())
+        self.assertEqual(len(self.launches()), 2)
+        self.assertEqual(sorted(os.listdir(self.folder)), ["Jenkinsfile", "agents.json", "log", "program.dat", "program.lock"])
+
+    def test_a_job_of_cron_beside_another_leaves_that_alone(self):
+        self.build(f"node {{ sh {script('sleep 2', 'echo slept')} }}")
+        first = self.start("run")
+        self.wait_until(lambda: self.launches(), "a launch")
+        self.assertEqual(self.sh(self.block("resume")).returncode, 5)
+        self.assertFalse(os.path.exists(f"{self.folder}/log"))
+        self.assertIn(b"slept\n", first.communicate()[0])
+
+    def test_what_is_begun_anew_finds_nothing_of_the_earlier_build(self):
+        self.build(f"node {{ sh {script('exit 3')}; }}")
+        self.assertEqual(self.ran("run")[1], 1)
+        os.makedirs(f"{self.workspace}@tmp/durable-00000002")
+        self.assertEqual(self.sh(self.block("rm -rf")).returncode, 0)
+        self.assertFalse(os.path.exists(f"{self.workspace}@tmp"))
+        self.assertEqual(self.ran("run")[1], 1)
+        self.assertEqual(len(self.launches()), 2)
 
 
 class Demo(unittest.TestCase):
