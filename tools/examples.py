@@ -55,7 +55,7 @@ class Example:
         for name, content in (("Jenkinsfile", self.script), ("agents.json", self.agents), ("answers", self.answers)):
             with open(f"{folder}/{name}", "wb") as file:
                 file.write(content.replace(AGENTS, agents_of(folder)))
-        if b"/bin:" in self.script.partition(AGENTS)[2]:
+        if b"PATH=" + AGENTS in self.script:
             write_stand_ins(agents_of(folder).decode())
 
     def is_right(self, printed, status):
