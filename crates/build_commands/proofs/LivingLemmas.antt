@@ -20,24 +20,18 @@ use Rattle.model_run.specs.World.{answer_to, world_in}
 use Rattle.script_run.specs.declared.rest.Rest.{Rest}
 use Rattle.script_run.specs.Standing.{IsProper}
 use Rattle.settle_laws.specs.Stances.{Stance}
-use Rattle.durable_build.proofs.OpenLemmas.{begun_all}
-use Rattle.launch_laws.specs.Fitting as fitting
-use Rattle.launch_laws.specs.Fitting.{ExecutorHost}
-use Rattle.launch_laws.specs.ManyTurns.{AllTaken}
 use Rattle.launch_laws.proofs.LifeLaws.{all_fit_more}
 use Rattle.site_state.specs.declared.ask.Entry.{Entry}
-use Rattle.site_state.specs.Histories.{lines}
 use Rattle.site_life.specs.Turns.{DidTurn, Turn}
 use Rattle.site_life.specs.Ways.{Way}
 use Rattle.site_run.specs.Ending.{AllReadOut, any_failed}
 use Rattle.site_run.specs.Going.{begins}
 use Rattle.site_run.specs.Lives.{Ends, OpeningBreaks}
 use Rattle.site_run.specs.Serving.{AreServed, ReadOn, hosts_of}
-use Rattle.site_run.proofs.EndLemmas.{goes_taken}
 use Rattle.site_run.proofs.MemberLemmas.{all_came, all_served}
 use Rattle.site_run.proofs.WalkLemmas.{of_tree, small}
 use Rattle.site_crew.specs.Crews.{answers_in, hosts_in, IsCrew, members_of, others_of, seats_of}
-use Rattle.build_commands.specs.Living.{HostsStay, IsReported, LifeOf, TakesBy}
+use Rattle.build_commands.specs.Living.{HostsStay, LifeOf, TakesBy}
 
 same_answers : {A : Type 0} (a b : A) → a ∷ [] ≡ b ∷ [] → a ≡ b
 same_answers a b is = cc
@@ -207,37 +201,22 @@ module _ {H A : Type 0} (honest : H → Type 0) (faults : H → ℕ) (calls : H 
     others_next = b.fits_next;
   }
 
-  -- hosts that no member has fit what came, and one event more
-  others_fit : {T : Type 0} (stance : T → Stance) (setting : Setting) → IsProper setting → (before now more : List Event) → (world_in setting before).started ≡ true → now ≡ before ++ more → AllTaken setting before more
-      → (hosts : List ExecutorHost) → fitting.AllFit setting before hosts → fitting.AllFit setting now hosts
-  others_fit stance setting proper before now more begun is taken hosts fit =
-      subst (λ (es : List Event). fitting.AllFit setting es hosts) (sym is) (all_fit_more setting (tree_node proper.tree) (of_tree stance setting proper) (small stance setting proper) before more hosts begun taken fit)
-
-  others_fit_next : {T : Type 0} (stance : T → Stance) (setting : Setting) → IsProper setting → (now : List Event) → (world_in setting now).started ≡ true
-      → (hosts : List ExecutorHost) → fitting.AllFit setting now hosts → (e : Event) → answer_to setting (world_in setting now) e ≡ Accepted → fitting.AllFit setting (now ++ e ∷ []) hosts
-  others_fit_next stance setting proper now begun hosts fit e accepted =
-      all_fit_more setting (tree_node proper.tree) (of_tree stance setting proper) (small stance setting proper) now (e ∷ []) hosts begun (record { begun = begun; accepted = accepted }, tt) fit
-
   -- those of a life that was led
   pub life_events : {D T : Type 0} (reads : D → Option (List ℕ)) (may_leave : D → List ℕ → Type 0) (clock : D → ℕ) (since : D → ℕ → List ℕ → Type 0) (stance : T → Stance) (turns : List (Turn H A)) (setting : Setting) (entry : Option (List ℕ)) (origin : D)
       (before events : List Event) (old new : List (Member H A)) (history : List Entry) (kept : Kept D T) (ended : Result Rest TakeFault)
-      (e : Ends reads may_leave clock since stance honest faults calls launches dirs output exited left source_faults looks turns setting entry origin before events old new history kept ended) → IsProper setting → (world_in setting events).started ≡ true
-      → TakesSo setting events old new turns history e.now
-  life_events reads may_leave clock since stance turns setting entry origin before events old new history kept ended e proper begun =
-      let came = goes_taken setting (IsReported honest faults calls launches dirs output exited left source_faults looks turns) events e.now (lines history) begun e.goes in
-      let still : (world_in setting e.now).started ≡ true = subst (λ (es : List Event). (world_in setting es).started ≡ true) (sym came.1) (begun_all setting events came.0 begun) in
-      record {
-        begun = begun;
-        goes = e.goes;
-        granted = e.granted;
-        are_grants = e.are_grants;
-        is = e.is;
-        claims = e.claims;
-        fits = e.fits;
-        fits_next = e.fits_next;
-        others = others_fit stance setting proper events e.now came.0 begun came.1 came.2;
-        others_next = λ hosts fit x accepted. others_fit_next stance setting proper e.now still hosts (others_fit stance setting proper events e.now came.0 begun came.1 came.2 hosts fit) x accepted;
-      }
+      (e : Ends reads may_leave clock since stance honest faults calls launches dirs output exited left source_faults looks turns setting entry origin before events old new history kept ended) → (world_in setting events).started ≡ true → TakesSo setting events old new turns history e.now
+  life_events reads may_leave clock since stance turns setting entry origin before events old new history kept ended e begun = record {
+    begun = begun;
+    goes = e.goes;
+    granted = e.granted;
+    are_grants = e.are_grants;
+    is = e.is;
+    claims = e.claims;
+    fits = e.fits;
+    fits_next = e.fits_next;
+    others = e.others;
+    others_next = e.others_next;
+  }
 
 -- what a slice of a whole list was left as, is the list then
 pub whole_slice : {M : Type 0} (n : ℕ) (xs ys : List M) → n ≡ length xs → take n (xs ++ drop (length xs) ys) ≡ xs

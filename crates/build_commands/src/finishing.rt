@@ -11,7 +11,7 @@ ghost use Rattle.build_commands.specs.Reporting.{Reports};
 ghost use Rattle.build_commands.specs.Finishing.{TellsEnd, TellsRest};
 ghost use Rattle.build_commands.specs.Living.{Finished, HostsStay};
 
-use crate::done::Ran;
+use crate::done::Ended;
 use crate::refusal::{Refusal, tell, tell_text};
 use build_core::Build;
 use durable_build::{DurableBuild, TakeFault};
@@ -47,7 +47,7 @@ pub fn finish<
     H: Host + Drop,
     A: Source + Drop,
     K: Sink,
->(rt: &W, durable: DurableBuild<D, R>, hosts: Vec<H>, answers: A, out: &mut K) -> Ran<D, H, A>
+>(rt: &W, durable: DurableBuild<D, R>, hosts: Vec<H>, answers: A, out: &mut K) -> Ended<D, H, A>
     requires running { durable.stopped ≡ false }
     requires begun { has_begun durable.build.phase ≡ true }
     ensures stay { HostsStay H.honest H.faults H.calls hosts.items result.hosts.items }
@@ -65,7 +65,7 @@ pub fn finish<
         Ok(crew) => live(rt, durable, crew, looks, out),
         Err((hosts, answers)) => {
             let status = tell(out, &Refusal::OutOfMemory);
-            Ran {
+            Ended {
                 status,
                 disk: durable.close(),
                 hosts,
@@ -83,7 +83,7 @@ fn live<
     H: Host + Drop,
     A: Source + Drop,
     K: Sink,
->(rt: &W, durable: DurableBuild<D, R>, crew: Crew<H, A>, looks: u32, out: &mut K) -> Ran<D, H, A>
+>(rt: &W, durable: DurableBuild<D, R>, crew: Crew<H, A>, looks: u32, out: &mut K) -> Ended<D, H, A>
     requires looks { 0 < looks }
     requires running { durable.stopped ≡ false }
     requires begun { has_begun durable.build.phase ≡ true }
@@ -106,7 +106,7 @@ fn live<
             let status = tell_end(alloc, out, site.build(), ended);
             let (disk, _) = site.close();
             let (hosts, answers) = crew.dismiss();
-            Ran {
+            Ended {
                 status,
                 disk,
                 hosts,
@@ -116,7 +116,7 @@ fn live<
         Err((fault, disk)) => {
             let status = tell(out, &Refusal::of_take(alloc, fault));
             let (hosts, answers) = crew.dismiss();
-            Ran {
+            Ended {
                 status,
                 disk,
                 hosts,

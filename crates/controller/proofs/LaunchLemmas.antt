@@ -8,8 +8,8 @@ use Rattle.jp_disk.proofs.MomentLemmas.{if_told}
 use Rattle.journal_core.specs.Answers.{IsStarted}
 use Rattle.journal_core.specs.Records.{Has, Walked, records}
 use Rattle.launch_laws.specs.Fitting.{AllFit, ExecutorHost, all_launches}
-use Rattle.launch_laws.proofs.LifeLaws.{no_task_twice, none_fits, none_yet}
-use Rattle.model_syntax.specs.TreeNodes.{tree_node}
+use Rattle.launch_laws.proofs.HostLaws.{fit_each, numbered_apart}
+use Rattle.launch_laws.proofs.LifeLaws.{none_yet}
 use Rattle.model_syntax.specs.declared.tree.Tree.{Tree}
 use Rattle.agent_worker.specs.declared.fault.TakeFault.TheVariants as take
 use Rattle.model_run.specs.declared.event.Event.TheVariants.{Start as StartEvent}
@@ -35,13 +35,12 @@ use Rattle.model_run.specs.World.{answer_to, world_in}
 use Rattle.settle_laws.specs.Stances.{Stance}
 use Rattle.saved_run.specs.Saved.{Stores}
 use Rattle.saved_run.proofs.BeginLemmas.{mean_proper}
-use Rattle.site_run.proofs.WalkLemmas.{of_tree, small}
+use Rattle.site_run.proofs.ManyLemmas.{HasNow, all_once}
 use Rattle.build_commands.specs.Finishing.{ComesNext}
 use Rattle.build_commands.specs.Living.{HostsStay}
 use Rattle.build_commands.proofs.LivingLemmas.{stay_same}
 use Rattle.controller.specs.Call.{Call, ComesIn, Devices, Finds, IsUnled, LifeIn}
 use Rattle.controller.specs.Launches.{FitLeft, Launches, executor_hosts, tasks_on}
-use Rattle.controller.proofs.HostLemmas.{HasNow, numbered_apart}
 use Rattle.controller.proofs.SiteLemmas.{Consecutive, site_seated, store_begun}
 
 -- a file that has not the beginning of a record has none
@@ -73,14 +72,10 @@ none_stored setting file has = record {
 same_records : (setting : Setting) (events : List Event) (file other : List ℕ) → records file ≡ records other → Stores setting events file → Stores setting events other
 same_records setting events file other same stores = record { payloads = stores.payloads; has = sym same ∙ stores.has; told = stores.told }
 
--- hosts that fit no events have launched nothing, and so fit all
+-- hosts that fit no events have launched nothing
 none_launched : (setting : Setting) (hosts : List ExecutorHost) → AllFit setting [] hosts → all_launches hosts ≡ []
 none_launched setting [] fit = refl
 none_launched setting (host ∷ hosts) fit = ap (λ (l : List ℕ). l ++ all_launches hosts) (none_yet setting host.number host.tasks fit.0) ∙ none_launched setting hosts fit.1
-
-none_fit : (setting : Setting) (hosts : List ExecutorHost) → AllFit setting [] hosts → (other : Setting) (events : List Event) → AllFit other events hosts
-none_fit setting [] fit other events = tt
-none_fit setting (host ∷ hosts) fit other events = (none_fits other events host.number host.tasks (none_yet setting host.number host.tasks fit.0), none_fit setting hosts fit.1 other events)
 
 module _ {D H A T : Type 0} (v : Devices D H A) (stance : T → Stance) (told_image : (d : D) → IfSome (v.reads d) (λ file. v.may_leave d file)) (c : Call D H A) where
   abbrev AllFitBy : Setting → List Event → List H → Type 0
@@ -97,7 +92,7 @@ module _ {D H A T : Type 0} (v : Devices D H A) (stance : T → Stance) (told_im
   fit_once setting file (e ∷ es) stores fit =
       let begun = store_begun setting (e ∷ es) file stores (λ none. let bad : e ∷ es ≡ [] = none in cc) in
       let proper = mean_proper begun.script begun.agents setting begun.mean in
-      no_task_twice setting (tree_node proper.tree) (of_tree stance setting proper) (small stance setting proper) (e ∷ es) (executor_hosts v c.hosts) fit (numbered_apart 0 (tasks_on v c.hosts))
+      all_once stance setting proper (e ∷ es) (executor_hosts v c.hosts) fit (numbered_apart 0 (tasks_on v c.hosts))
 
   entry_once : (setting : Setting) (events : List Event) → Finds v setting events c → FitLeft v c.disk c.hosts → IsDistinct nat_eq (all_launches (executor_hosts v c.hosts))
   entry_once setting events finds left = ∥∥₁_elim (entry_fit setting events finds left) (IsDistinct-prop nat_eq (all_launches (executor_hosts v c.hosts))) (fit_once setting finds.file events finds.stores)
@@ -137,7 +132,7 @@ module _ {D H A T : Type 0} (v : Devices D H A) (stance : T → Stance) (told_im
   -- over a file without a record nothing was launched
   pub fit_fresh : FitLeft v c.disk c.hosts → (file : List ℕ) → v.reads c.disk ≡ Some file → Has [] file → (setting s : Setting) (es : List Event) → ∥ AllFitBy s es c.hosts ∥₁
   fit_fresh left file told none setting s es =
-      ∥∥₁_map (left file (if_told (λ f. v.may_leave c.disk f) told (told_image c.disk)) setting [] (none_stored setting file none)) (λ fit. none_fit setting (executor_hosts v c.hosts) fit s es)
+      ∥∥₁_map (left file (if_told (λ f. v.may_leave c.disk f) told (told_image c.disk)) setting [] (none_stored setting file none)) (λ fit. fit_each setting (executor_hosts v c.hosts) fit s es)
 
 -- events behind those of a build that has begun are some
 none_first : (es fs : List Event) → es ++ fs ≡ [] → es ≡ []
@@ -231,9 +226,10 @@ module _ {D H A T : Type 0} (v : Devices D H A) (stance : T → Stance) (told_im
   went_fits : (setting : Setting) (events : List Event) → Finds v setting events c → (opened : D) → v.faults opened ≡ v.faults c.disk → ∥ FinishedIn v c setting opened events c.status ∥₁ → AllAre v.honest c.hosts → FitLeft v c.disk c.hosts
       → FitLeft v c.now c.hosts_now × IsDistinct nat_eq (all_launches (executor_hosts v c.hosts_now))
   went_fits setting [] finds opened same finishes are left =
-      let never = λ (f : FinishedIn v c setting opened [] c.status). let g = gone v told_image setting opened [] c same f in let bad : false ≡ true = g.takes.goes.begun in bad in
-      (λ image leaves t es stores. ∥∥₁_elim finishes ∥∥₁_prop (λ f. let bad : false ≡ true = never f in absurd (cc)),
-      ∥∥₁_elim finishes (IsDistinct-prop nat_eq (all_launches (executor_hosts v c.hosts_now))) (λ f. let bad : false ≡ true = never f in absurd (cc)))
+      let never = λ (f : FinishedIn v c setting opened [] c.status). let g = gone v told_image setting opened [] c same f in let bad : false ≡ true = g.takes.goes.begun in bad in (
+        λ image leaves t es stores. ∥∥₁_elim finishes ∥∥₁_prop (λ f. let bad : false ≡ true = never f in absurd (cc)),
+        ∥∥₁_elim finishes (IsDistinct-prop nat_eq (all_launches (executor_hosts v c.hosts_now))) (λ f. let bad : false ≡ true = never f in absurd (cc)),
+      )
   went_fits setting (e ∷ es) finds opened same finishes are left =
       let begun = store_begun setting (e ∷ es) finds.file finds.stores (λ none. let bad : e ∷ es ≡ [] = none in cc) in
       let proper = mean_proper begun.script begun.agents setting begun.mean in

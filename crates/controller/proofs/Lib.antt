@@ -6,7 +6,6 @@ mod ResumeLemmas
 mod ShowLemmas
 mod CheckLemmas
 mod SiteLemmas
-mod HostLemmas
 mod SeatLemmas
 mod LaunchLemmas
 mod HeadlineLemmas

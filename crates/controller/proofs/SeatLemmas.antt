@@ -5,9 +5,8 @@ use Rattle.std.specs.List.{AllByRecursion as AllAre, IsDistinct}
 use Rattle.agent_worker.specs.declared.member.Member.{Member}
 use Rattle.agent_worker.specs.declared.member.Member.TheVariants.{Executor, Operator}
 use Rattle.agent_worker.specs.Serve.{tasks_at}
-use Rattle.launch_laws.specs.Fitting.{AllFit, ExecutorHost, all_launches}
-use Rattle.launch_laws.proofs.LifeLaws.{no_task_twice}
-use Rattle.model_syntax.specs.TreeNodes.{tree_node}
+use Rattle.launch_laws.specs.Fitting.{AllFit, ExecutorHost, all_launches, numbered}
+use Rattle.launch_laws.proofs.HostLaws.{fit_both, fit_first, fit_rest, numbered_apart}
 use Rattle.model_run.specs.declared.event.Event.{Event}
 use Rattle.model_run.specs.declared.site.Executor.{Executor as SiteExecutor}
 use Rattle.model_run.specs.declared.taken.Taken.TheVariants.{Accepted}
@@ -17,12 +16,11 @@ use Rattle.script_run.specs.Standing.{IsProper}
 use Rattle.settle_laws.specs.Stances.{Stance}
 use Rattle.saved_run.specs.Saved.{Stores}
 use Rattle.site_run.specs.Serving.{AreHonest, AreServed, hosts_of}
-use Rattle.site_run.proofs.WalkLemmas.{of_tree, small}
+use Rattle.site_run.proofs.ManyLemmas.{HasNow, all_once, has_fits}
 use Rattle.site_crew.specs.Crews.{hosts_in, members_of, others_of}
 use Rattle.build_commands.proofs.LivingLemmas.{operator_alone}
 use Rattle.controller.specs.Call.{Call, Devices, Takes}
-use Rattle.controller.specs.Launches.{executor_hosts, numbered, tasks_on}
-use Rattle.controller.proofs.HostLemmas.{HasNow, fit_both, fit_first, fit_rest, has_fits, numbered_apart}
+use Rattle.controller.specs.Launches.{executor_hosts, tasks_on}
 use Rattle.controller.proofs.SiteLemmas.{Consecutive}
 
 module _ {D H A : Type 0} (v : Devices D H A) where
@@ -113,5 +111,4 @@ module _ {D H A : Type 0} (v : Devices D H A) where
 
     -- and no task was launched twice
     pub led_once : AllAre v.honest c.hosts → AllFit setting before (executor_hosts v c.hosts) → IsDistinct nat_eq (all_launches (executor_hosts v c.hosts_now))
-    led_once are fit =
-        no_task_twice setting (tree_node proper.tree) (of_tree stance setting proper) (small stance setting proper) events (executor_hosts v c.hosts_now) (fit_now are fit) (numbered_apart 0 (tasks_on v c.hosts_now))
+    led_once are fit = all_once stance setting proper events (executor_hosts v c.hosts_now) (fit_now are fit) (numbered_apart 0 (tasks_on v c.hosts_now))

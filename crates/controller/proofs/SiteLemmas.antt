@@ -2,7 +2,8 @@
 use Rattle.std.proofs.Common.{◌≡◌, ◌+◌, ◌≤◌, ◌∙◌, ℕ, zero, suc, Bool, true, false, List, [], ◌∷◌, ◌++◌, length, Option, None, Some, refl, sym, ap, subst, arith}
 use Rattle.std.specs.Prelude.{codes, nat_le, nat_lt, if◌then◌else◌}
 use Rattle.std.specs.Str.{is_utf8}
-use Rattle.serde_json.specs.Data.{Data, array, boolean, item, Items, no_items, null, number, object, string}
+use Rattle.serde_json.specs.Data.{Data, Items, item, Members, no_items}
+use Rattle.serde_json.specs.Data as json
 use Rattle.serde_json.specs.Find.{get_member}
 use Rattle.serde_json.specs.Read.{read}
 use Rattle.record_form.specs.declared.record.EventRecord.{EventRecord}
@@ -50,8 +51,8 @@ few_executors count is = by (nat_le count 64) refl is
     by false few none = absurd (cc)
 
 length_agent : (agent : Data) (number slot left : ℕ) (rest : List Executor) → length (agent_executors agent number slot left ++ rest) ≡ left + length rest
-length_agent agent number slot zero rest = refl
-length_agent agent number slot (suc left) rest = ap suc (length_agent agent (suc number) (suc slot) left rest)
+length_agent agent number slot zero rest = let e : length rest ≡ 0 + length rest = omega arith in e
+length_agent agent number slot (suc left) rest = ap suc (length_agent agent (suc number) (suc slot) left rest) ∙ (let e : suc (left + length rest) ≡ suc left + length rest = omega arith in e)
 
 length_all : (number : ℕ) (agents : Items) → length (executors_from number agents) ≡ executor_count agents
 length_all number no_items = refl
@@ -64,19 +65,20 @@ pub record IsSeated (site : Site) : Type 0 where
   pub consecutive : Consecutive 0 site.executors
   pub few : length site.executors ≤ 64
 
+no_sum_fault : (ms : Members) → file_faults (json.object ms) ≡ [] → sum_faults (items_of (get_member (codes "agents") ms)) ≡ []
+no_sum_fault ms sound =
+    let agents = items_of (get_member (codes "agents") ms) in
+    last_none ((field_faults ms ++ keys_faults ms) ++ repeated_names [] 0 agents) (sum_faults agents) sound
+
 data_seated : (d : Data) → file_faults d ≡ [] → IsSeated (site_of d)
-data_seated (object ms) sound = record {
-  consecutive = all_consecutive 0 (items_of (get_member (codes "agents") ms));
-  few = subst (λ (n : ℕ). n ≤ 64) (sym (length_all 0 (items_of (get_member (codes "agents") ms)))) (few_executors (executor_count (items_of (get_member (codes "agents") ms))) sums);
-}
-  where
-    sums : sum_faults (items_of (get_member (codes "agents") ms)) ≡ []
-    sums = last_none (repeated_names [] 0 (items_of (get_member (codes "agents") ms))) (sum_faults (items_of (get_member (codes "agents") ms))) (last_none (keys_faults ms) _ (last_none (field_faults ms) _ sound))
-data_seated null sound = absurd (cc)
-data_seated (boolean b) sound = absurd (cc)
-data_seated (number n) sound = absurd (cc)
-data_seated (string s) sound = absurd (cc)
-data_seated (array ds) sound = absurd (cc)
+data_seated (json.object ms) sound =
+    let agents = items_of (get_member (codes "agents") ms) in
+    record { consecutive = all_consecutive 0 agents; few = subst (λ (n : ℕ). n ≤ 64) (sym (length_all 0 agents)) (few_executors (executor_count agents) (no_sum_fault ms sound)) }
+data_seated json.null sound = absurd (cc)
+data_seated (json.boolean b) sound = absurd (cc)
+data_seated (json.number n) sound = absurd (cc)
+data_seated (json.string s) sound = absurd (cc)
+data_seated (json.array ds) sound = absurd (cc)
 
 -- what an agents file means is the site of its JSON
 pub site_seated : (a : List ℕ) (site : Site) → agents_file a ≡ Means site → IsSeated site
@@ -86,13 +88,13 @@ site_seated a site means = file (nat_lt 65536 (length a)) (is_utf8 a) means
     faults [] d sound e = let is : site_of d ≡ site = cc in subst IsSeated is (data_seated d sound)
     faults (fault path k ∷ fs) d sound e = absurd (cc)
 
-    json : (o : Option Data) → of_json o ≡ Means site → IsSeated site
-    json None e = absurd (cc)
-    json (Some d) e = faults (file_faults d) d refl e
+    by_data : (o : Option Data) → of_json o ≡ Means site → IsSeated site
+    by_data None e = absurd (cc)
+    by_data (Some d) e = faults (file_faults d) d refl e
 
     file : (long text : Bool) → (if long then Refused (codes ".") kind.TooLong else (if text then of_json (read a) else Refused (codes ".") kind.NotJson)) ≡ Means site → IsSeated site
     file true text e = absurd (cc)
-    file false true e = json (read a) e
+    file false true e = by_data (read a) e
     file false false e = absurd (cc)
 
 -- a store with an event begins with a `Start` that means its setting

@@ -1,8 +1,8 @@
 -- What becomes of the hosts, and which tasks they have launched (this product's own).
-use Rattle.std.specs.Prelude.{◌≡◌, ◌+◌, ◌≤◌, ℕ, nat_eq, List, [], ◌∷◌, length, map}
+use Rattle.std.specs.Prelude.{◌≡◌, ◌≤◌, ℕ, nat_eq, List, length, map}
 use Rattle.std.specs.List.{AllByRecursion as AllAre, IsDistinct}
 use Rattle.agent_worker.specs.Serve.{Tasks, tasks_at}
-use Rattle.launch_laws.specs.Fitting.{AllFit, ExecutorHost, all_launches}
+use Rattle.launch_laws.specs.Fitting.{AllFit, ExecutorHost, all_launches, numbered}
 use Rattle.model_run.specs.AgentsFile.{agents_file, Means}
 use Rattle.model_run.specs.declared.event.Event.{Event}
 use Rattle.model_run.specs.declared.site.Site.{Site}
@@ -10,11 +10,6 @@ use Rattle.model_run.specs.State.{Setting}
 use Rattle.saved_run.specs.Saved.{Stores}
 use Rattle.build_commands.specs.Living.{HostsStay}
 use Rattle.controller.specs.Call.{Call, Devices, Finds}
-
--- the hosts of the executors from this number on
-abbrev pub numbered : ℕ → List Tasks → List ExecutorHost
-numbered number [] = []
-numbered number (tasks ∷ more) = record { number = number; tasks = tasks } ∷ numbered (number + 1) more
 
 module _ {D H A : Type 0} (v : Devices D H A) where
   -- the launches and the folders of hosts

@@ -6,7 +6,7 @@ ghost use Rattle.controller.specs.Call.{call_of, devices, usage_text};
 ghost use Rattle.controller.specs.Commands.{Does};
 ghost use Rattle.controller.specs.Promises.{Promises};
 
-use build_commands::{Done, Ran, check, graph, log, resume, run};
+use build_commands::{Done, Ended, check, graph, log, resume, run};
 use command_words::{Command, command_in};
 use jp_disk::Disk;
 use jp_io::{Sink, Source, write_all};
@@ -15,19 +15,6 @@ use std::alloc::Global;
 use std::sync::Wait;
 use std::time::Clock;
 use task_host::Host;
-
-/// How a call of the controller has ended.
-#[derive(Drop)]
-pub struct Ended<D, H, A> {
-    /// The exit status of the program.
-    pub status: u8,
-    /// The disk.
-    pub disk: D,
-    /// The hosts, each at its place: host i is that of executor i.
-    pub hosts: Vec<H>,
-    /// The answers, as far as they were not read.
-    pub answers: A,
-}
 
 /// Does the command that the words give, over the store of a build.
 ///
@@ -85,9 +72,7 @@ pub fn controller<
         (call_of (map string_bytes words.items) (taken_from S.left S.faults script.old script.new) (taken_from S.left S.faults agents.old agents.new)
         disk result.disk hosts.items result.hosts.items answers result.answers (K.written out.old) (K.written out.new) (K.faults out.old) (K.faults out.new) result.status) }
 {
-    do_command::<R, W, D, S, H, A, K>(
-        rt, alloc, &words, script, agents, disk, hosts, answers, out,
-    )
+    do_command::<R, W, D, S, H, A, K>(rt, alloc, &words, script, agents, disk, hosts, answers, out)
 }
 
 /// Does the command that the words give.
@@ -117,13 +102,9 @@ fn do_command<
 {
     match command_in(words) {
         Some((Command::Run, _)) => {
-            let ran = run::<D, R, W, S, H, A, K>(rt, script, agents, disk, hosts, answers, out);
-            ended_by(ran)
+            run::<D, R, W, S, H, A, K>(rt, script, agents, disk, hosts, answers, out)
         }
-        Some((Command::Resume, _)) => {
-            let ran = resume::<D, R, W, H, A, K>(rt, disk, hosts, answers, out);
-            ended_by(ran)
-        }
+        Some((Command::Resume, _)) => resume::<D, R, W, H, A, K>(rt, disk, hosts, answers, out),
         Some((Command::Log, _)) => {
             let Done { status, disk } = log::<D, R, K>(alloc, disk, out);
             Ended {
@@ -160,24 +141,6 @@ fn do_command<
                 answers,
             }
         }
-    }
-}
-
-/// How a call has ended whose command let a build go on.
-fn ended_by<D, H, A>(ran: Ran<D, H, A>) -> Ended<D, H, A>
-    ensures { result ≡ record { status = ran.status; disk = ran.disk; hosts = ran.hosts; answers = ran.answers } }
-{
-    let Ran {
-        status,
-        disk,
-        hosts,
-        answers,
-    } = ran;
-    Ended {
-        status,
-        disk,
-        hosts,
-        answers,
     }
 }
 

@@ -13,4 +13,5 @@
 
 mod call;
 
-pub use call::{Ended, controller};
+pub use build_commands::Ended;
+pub use call::controller;

@@ -97,7 +97,7 @@ returns-in-Ok-clause-finishes g c = λ hosts answers setting entry origin before
     setting entry origin before hosts c.dismiss-hosts.result.0.items answers c.dismiss-hosts.result.1 (K.written c.args.out.now) (K.written c.tell_end-status.new.out) (K.faults c.args.out.now) (K.faults c.tell_end-status.new.out) c.tell_end-status.result (D.faults c.args.durable.journal.disk)
     new turns site.history.items site.durable c.close-disk.result.0 c.close-disk.ensures.disk life hosts_are are e.now c.in-Ok.field-0.ended
     (subst (λ (ms : Members). TakesBy H.honest H.faults H.calls H.launches H.dirs H.output H.exited A.left A.faults c.args.looks setting before ms new turns site.history.items e.now) is
-    (life_events H.honest H.faults H.calls H.launches H.dirs H.output H.exited A.left A.faults c.args.looks D.reads D.may_leave D.clock D.may_have_left_since g.R.ScriptThread.stance turns setting entry origin before before old new site.history.items site.durable c.in-Ok.field-0.ended e lasts.goes.proper lasts.goes.begun)) e.ends
+    (life_events H.honest H.faults H.calls H.launches H.dirs H.output H.exited A.left A.faults c.args.looks D.reads D.may_leave D.clock D.may_have_left_since g.R.ScriptThread.stance turns setting entry origin before before old new site.history.items site.durable c.in-Ok.field-0.ended e lasts.goes.begun)) e.ends
     told (λ failed. crew_failed g.H.Host.honest g.H.Host.faults g.H.Host.calls A.left A.faults setting.site.executors hosts answers c.dismiss-hosts.result.1 new served are (c.in-Ok.ensures.failed failed)) c.in-Ok.ensures.disk.failed)
 
 pub returns-in-Err-clause-reports : goal.returns-in-Err-clause-reports

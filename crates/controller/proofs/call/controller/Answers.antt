@@ -3,6 +3,5 @@ use Rattle.controller.proofs.call.controller.Goals as goal
 
 pub returns : goal.returns
 returns g c =
-    let D = g.D.Disk in
     let told = g.met.D.Disk in
-    rw c.deref.ensures.value at (promises _ g.R.ScriptThread.stance told.told_image told.counts_now told.only_now _ c.requires.hosts c.do_command.ensures.does)
+    record { promises = rw c.deref.ensures.value at (promises _ g.R.ScriptThread.stance told.told_image told.counts_now told.only_now _ c.requires.hosts c.do_command.ensures.does) }
