@@ -5,8 +5,12 @@ With words it runs those alone whose name has one of them. The examples are
 
 - each folder below examples/ with a `log`: what is printed is the log, the status is that of the line `Exit status: N` of its
   README.md, and `answers`, where it is there, is standard input;
-- each row of the tables in examples/faults/README.md;
+- each row of the tables in examples/faults/README.md and examples/shell/README.md;
 - in docs/USING.md each row of a table whose first column is `in Jenkins` or `met by`, and each script with a log behind it.
+
+Shell steps really run. The folder /tmp/controller of the pages, in which their agents stand, is a new one for each run, and what is
+printed has the name of the pages again. Of the scripts to write in place of one of Jenkins the commands `git`, `make`, `jq` and `cp`
+are stand-ins that do nothing, `timeout` runs its command, and `sleep` makes the file `f` that a loop waits for.
 
 Where the program is built it runs them, and then tries the other commands on each: `check`; `resume` with one answer at a time,
 behind a `run` without answers, which must give the same log; `log` and `graph`, which must write nothing; and each of them where
@@ -26,7 +30,12 @@ from build import PROGRAM, TOP
 
 BUILT = f"{TOP}/crates/{PROGRAM}/out/{PROGRAM}"
 NO_AGENTS = b'{"job": "using", "agents": []}'
-ONE_AGENT = b'{"job": "using", "agents": [{"name": "m", "root": "/w", "executors": 1}]}'
+ONE_AGENT = b'{"job": "using", "agents": [{"name": "m", "root": "/tmp/controller/m", "executors": 1}]}'
+# The folder of the agents, as the pages name it; the commands that stand in for others, and where.
+AGENTS = b"/tmp/controller"
+STAND_INS = {"git": "", "make": "", "jq": "", "cp": "", "timeout": 'shift; exec "$@"', "sleep": "touch f"}
+FILES = {"VERSION": "1.4\n", "list": "2\n1\n"}
+WITH_STAND_INS = "withEnv(['PATH=/tmp/controller/bin:/usr/bin:/bin']) { %s }"
 # The limits that the reference does not count, as patterns.
 UNCOUNTED = ("nodes\\ evaluated", "text\\ length", "collection\\ size")
 START, END = "[Pipeline] Start of Pipeline\n", "[Pipeline] End of Pipeline\nFinished: SUCCESS\n"
@@ -41,10 +50,13 @@ class Example:
         self.wanted, self.statuses = wanted, statuses
 
     def write(self, folder):
+        """Writes the files into a new folder, with the agents beside it."""
         os.makedirs(folder)
         for name, content in (("Jenkinsfile", self.script), ("agents.json", self.agents), ("answers", self.answers)):
             with open(f"{folder}/{name}", "wb") as file:
-                file.write(content)
+                file.write(content.replace(AGENTS, agents_of(folder)))
+        if b"PATH=" + AGENTS in self.script:
+            write_stand_ins(agents_of(folder).decode())
 
     def is_right(self, printed, status):
         fits = self.wanted.search(printed) if isinstance(self.wanted, re.Pattern) else self.wanted == printed
@@ -56,6 +68,23 @@ class Example:
             return "\n".join([*lines, f"wanted a line with {self.wanted.pattern!r}, printed:", printed])
         given = (self.wanted.splitlines(), printed.splitlines(), "wanted", "printed")
         return "\n".join([*lines, *difflib.unified_diff(*given, lineterm="")])
+
+
+def agents_of(folder):
+    return f"{folder}.agents".encode()
+
+
+def write_stand_ins(agents):
+    """The commands of a script that stands in place of one of Jenkins, and the files that it reads in the workspace."""
+    os.makedirs(f"{agents}/bin")
+    for name, body in STAND_INS.items():
+        with open(f"{agents}/bin/{name}", "w", encoding="utf-8") as file:
+            file.write(f"#!/bin/sh\n{body}\n")
+        os.chmod(file.name, 0o755)
+    os.makedirs(f"{agents}/m/workspace/using")
+    for name, content in FILES.items():
+        with open(f"{agents}/m/workspace/using/{name}", "w", encoding="utf-8") as file:
+            file.write(content)
 
 
 # --- the examples
@@ -114,30 +143,42 @@ def of_faults():
                 yield Example(name, b"", codes(printed)[0] + "\n", [status], content)
 
 
+def of_shell_steps():
+    for script, printed, status in rows(read("examples/shell/README.md").decode(), "Jenkinsfile"):
+        line = re.compile("^" + re.escape(codes(printed)[0]) + "$", re.M)
+        yield Example(f"examples/shell: {script}", codes(script)[0].encode(), line, [int(status)], ONE_AGENT)
+
+
 def agents_for(script):
     return ONE_AGENT if "node" in script else NO_AGENTS
 
 
 def of_tables(page):
-    """What is refused or meets a limit tells so; what is written in its place runs, up to its first shell step or question."""
+    """What is refused or meets a limit tells so; what is written in its place runs, up to its first question."""
     for first, told, *_ in [*rows(page, "in Jenkins"), *rows(page, "met by")]:
         for script in codes(first):
             line = re.compile(re.escape(codes(told)[0]))
             yield Example(f"docs/USING.md: {script!r}", script.encode(), line, [1, 4], agents_for(script))
     for *_, instead in rows(page, "in Jenkins"):
         for script in codes(instead):
-            runs = re.compile(r"^Finished: |^\[Pipeline\] sh\n\Z|or Abort\n\Z", re.M)
-            yield Example(f"docs/USING.md: {script!r} in its place", script.encode(), runs, [0, 3, 10, 11], agents_for(script))
+            runs = re.compile(r"^Finished: |or Abort\n\Z", re.M)
+            run = WITH_STAND_INS % script if "sh " in script or "sh(" in script else script
+            yield Example(f"docs/USING.md: {script!r} in its place", run.encode(), runs, [0, 3, 10, 11], agents_for(script))
 
 
 def of_blocks(page):
     """Scripts in blocks, each with what is behind it: answers, and its log.
 
     A block `json` is the agents file of the scripts behind it. A log leaves out the first line of a build, and the last two of
-    one that ends with SUCCESS; `log N` is all but the first line, with the exit status N.
+    one that ends with SUCCESS; `log N` is all but the first line, with the exit status N. A script without a log ends with SUCCESS,
+    with stand-ins for commands.
     """
     agents, script, answers = NO_AGENTS, None, b""
     for kind, rest, content in re.findall(r"^```(\w+) ?(\d*)\n(.*?)^```$", page, re.M | re.S):
+        if script is not None and kind not in ("answers", "log"):
+            run = WITH_STAND_INS % script
+            yield Example(f"docs/USING.md: {script!r}", run.encode(), re.compile("^Finished: SUCCESS$", re.M), [0], ONE_AGENT)
+            script = None
         if kind == "json":
             agents = content.encode()
         elif kind == "groovy":
@@ -147,11 +188,12 @@ def of_blocks(page):
         elif kind == "log":
             wanted = START + content + ("" if rest else END)
             yield Example(f"docs/USING.md: {script!r}", script.encode(), wanted, [int(rest or 0)], agents, answers)
+            script = None
 
 
 def examples():
     page = read("docs/USING.md").decode()
-    return [*of_folders(), *of_faults(), *of_tables(page), *of_blocks(page)]
+    return [*of_folders(), *of_faults(), *of_shell_steps(), *of_tables(page), *of_blocks(page)]
 
 
 # --- ways to run them: each gives what was printed and the status, in order
@@ -159,7 +201,11 @@ def examples():
 
 def run_program(program, command, folder, answers=b""):
     ran = subprocess.run([program, command, folder], input=answers, stdout=subprocess.PIPE, check=False)
-    return ran.stdout.decode(errors="replace"), ran.returncode
+    return as_on_pages(ran.stdout, folder), ran.returncode
+
+
+def as_on_pages(printed, folder):
+    return printed.replace(agents_of(folder), AGENTS).decode(errors="replace")
 
 
 def by_program(given, program):
@@ -184,16 +230,16 @@ def by_kit(given):
                 files += ["--data", f"{name}/{file}={room}/{name}/{file}"]
         command = ["rt", "try", "--seconds", "600", "--cases", cases, *files]
         ran = subprocess.run(command, cwd=f"{TOP}/crates/{PROGRAM}", stdout=subprocess.PIPE, stderr=subprocess.PIPE, check=False)
-    yield from told(ran.stdout.decode(), ran.stderr.decode(), len(given))
+    yield from told(ran.stdout, ran.stderr.decode(), [f"{room}/example-{at:04}" for at in range(len(given))])
 
 
-def told(printed, said, count):
+def told(printed, said, folders):
     """What the kit printed under the name of each example, and the status that it says of each."""
-    parts = dict(part.split("\n", 1) for part in re.split(r"^== (?=example-\d{4}$)", printed, flags=re.M)[1:])
-    for at in range(count):
-        name = f"example-{at:04}"
+    parts = dict(part.split(b"\n", 1) for part in re.split(rb"^== (?=example-\d{4}$)", printed, flags=re.M)[1:])
+    for folder in folders:
+        name = os.path.basename(folder)
         status = re.search(rf"^case={name}\b.*\bstatus=(\d+)", said, re.M)
-        yield parts.get(name, ""), int(status[1]) if status else said[-2000:]
+        yield as_on_pages(parts.get(name.encode(), b""), folder), int(status[1]) if status else said[-2000:]
 
 
 def reference(example, *words):
@@ -204,7 +250,7 @@ def reference(example, *words):
         example.write(f"{room}/folder")
         command = [sys.executable, f"{TOP}/tools/reference/run.py", *words, f"{room}/folder"]
         ran = subprocess.run(command, input=example.answers, stdout=subprocess.PIPE, stderr=subprocess.DEVNULL, check=False)
-    return None if ran.returncode == 125 else (ran.stdout.decode(), ran.returncode)
+    return None if ran.returncode == 125 else (as_on_pages(ran.stdout, f"{room}/folder"), ran.returncode)
 
 
 def by_reference(given):

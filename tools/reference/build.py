@@ -52,6 +52,9 @@ class Thread:
     def __init__(self, number, parent, name=""):
         self.number, self.parent, self.name = number, parent, name
         self.folders = list(parent.folders) if parent else []
+        # The executors of the nodes that it is in, and the variables of `withEnv`.
+        self.nodes = list(parent.nodes) if parent else []
+        self.overrides = list(parent.overrides) if parent else []
         self.calls, self.run, self.answer, self.is_ready = 0, None, None, True
         # Its last flow node.
         self.head = None

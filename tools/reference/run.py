@@ -1,14 +1,16 @@
 #!/usr/bin/env python3
 """Runs the script of a folder by this reference, with answers from standard input: `tools/reference/run.py [--graph] DIR < ANSWERS`.
 
-Standard output and the exit status are those of `./controller run DIR`, where the agents file is without a fault. What it does not
-know has the status 125. With `--graph` the text of the flow graph is printed in place of the log.
+Standard output and the exit status are those of `./controller run DIR`, where the agents file is without a fault. Shell steps really
+run, one behind the other. What it does not know has the status 125. With `--graph` the text of the flow graph is printed in place of
+the log.
 """
 import json
 import sys
 
 from build import Build, Executor, RESULTS, TooLong
 from compare import with_deep_calls
+from hosts import serve
 from parse import parsed
 from tokens import Fault
 
@@ -36,6 +38,21 @@ def grant(build):
         build.take("granted %d %d" % due)
 
 
+def work(build, answers):
+    """Rounds: the executors serve shell steps, and then answers are read while an input is open."""
+    while not build.is_over:
+        serve(build, lambda: grant(build))
+        line = ""
+        while any(request["kind"] == "input" for request in build.requests.values()):
+            line = answers.readline()
+            if not line:
+                break
+            answer(build, line)
+            grant(build)
+        if not line and not any(request["kind"] == "task" for request in build.requests.values()):
+            return
+
+
 def site(text):
     """The job and the executors of an agents file."""
     try:
@@ -57,12 +74,7 @@ def ran(folder, answers, wants_graph=False):
         build = Build(parsed(source), *site(agents))
         build.start()
         grant(build)
-        while any(request["kind"] == "input" for request in build.requests.values()):
-            line = answers.readline()
-            if not line:
-                break
-            answer(build, line)
-            grant(build)
+        work(build, answers)
     except Fault as fault:
         return fault.told(source) + "\n", 4
     except (TooLong, RecursionError, UnicodeDecodeError):

@@ -171,7 +171,11 @@ class Steps:
         return ended, value
 
     def step_withEnv(self, thread, words, given, body):
-        return (yield from self.inside(thread, body))
+        before = len(thread.overrides)
+        thread.overrides += given["overrides"].items
+        ended = yield from self.inside(thread, body)
+        del thread.overrides[before:]
+        return ended
 
     def step_dir(self, thread, words, given, body):
         if not thread.folders:
@@ -199,7 +203,9 @@ class Steps:
         self.ask(thread, "node", label=words.get("label"))
         executor = yield
         workspace = self.held[executor]
+        thread.nodes.append(executor)
         ended = yield from self.in_folder(thread, body, f"Running on {self.executors[executor].agent} in {workspace}", workspace)
+        thread.nodes.pop()
         del self.held[executor]
         return ended
 
@@ -207,7 +213,8 @@ class Steps:
         if not thread.folders:
             raise missing_folder()
         keeps = given.get("returnStdout", False)
-        self.ask(thread, "task", keeps=keeps, log="", out="")
+        self.ask(thread, "task", keeps=keeps, log="", out="", script=words["script"], executor=thread.nodes[-1], folder=thread.folders[-1],
+                 overrides=list(thread.overrides))
         code, out = yield
         if given.get("returnStatus", False):
             return code

@@ -1,6 +1,6 @@
 -- How a command ends that lets a build go on, put together.
-use Rattle.std.proofs.Common.{◌≡◌, ◌⊎◌, ◌+◌, ◌<◌, ◌^◌, ◌∙◌, ℕ, ℤ, true, List, [], ◌∷◌, ◌++◌, Option, Some, None, Result, Ok, Err, inl, inr, refl, sym, ap, subst}
-use Rattle.std.specs.Prelude.{IfSome, IsSomeAnd}
+use Rattle.std.proofs.Common.{◌≡◌, ◌⊎◌, ◌+◌, ◌<◌, ◌^◌, ◌∙◌, ℕ, ℤ, List, [], ◌∷◌, ◌++◌, Option, Some, None, Result, Ok, Err, inl, inr, refl, sym, ap, subst}
+use Rattle.std.specs.Prelude.{Bool, true, false, IfSome, IsSomeAnd, if◌then◌else◌}
 use Rattle.device_faults.specs.Faults.{CountsFault, Rose}
 use Rattle.jp_disk.specs.Moments.{AtEachMoment}
 use Rattle.task_host.specs.declared.call.Call.{Call}
@@ -10,7 +10,9 @@ use Rattle.agent_worker.specs.declared.fault.TakeFault.TheVariants as take
 use Rattle.agent_worker.specs.declared.member.Member.{Member}
 use Rattle.model_run.specs.declared.event.Event.{Event}
 use Rattle.model_run.specs.State.{Setting}
-use Rattle.model_run.specs.World.{Build, world_in}
+use Rattle.model_run.specs.declared.taken.Taken.TheVariants.{Accepted, Finished as Over}
+use Rattle.model_run.specs.Taking.{answered, answered_first}
+use Rattle.model_run.specs.World.{Build, answer_to, standing, world_in}
 use Rattle.settle_laws.specs.Stances.{Stance}
 use Rattle.build_core.specs.Builds.{StandsFor}
 use Rattle.durable_build.specs.Standing.{Kept}
@@ -31,7 +33,6 @@ use Rattle.site_crew.specs.Crews.{answers_in, hosts_in, members_of, others_of}
 use Rattle.build_commands.specs.Living.{ComesBy, Finished, IsRefused, LifeOf, TakesBy}
 use Rattle.build_commands.specs.Reporting.{Reports}
 use Rattle.build_commands.specs.Reporting as report
-use Rattle.site_run.specs.Going.{begins}
 use Rattle.build_commands.specs.Texts.{full_text, out_of_memory_text}
 use Rattle.build_commands.specs.Writing.{Writes, Tells}
 use Rattle.build_commands.proofs.RefusalLemmas.{as_said, as_told}
@@ -41,6 +42,14 @@ some_next : (P Q : Event → Type 0) (o : Option Event) → IsSomeAnd o P → If
 some_next P Q None next all = absurd next
 some_next P Q (Some e) next all = (e, next, all, refl)
 
+-- a build that has ended accepts nothing
+accepted_going : (setting : Setting) (b : Build) (e : Event) → answer_to setting b e ≡ Accepted → b.ended ≡ false
+accepted_going setting b e = one b.ended
+  where
+    one : (ended : Bool) → (if ended then Over else if b.started then answered (standing setting b) e else answered_first e) ≡ Accepted → ended ≡ false
+    one true is = absurd (cc)
+    one false is = refl
+
 at_some : (o : Option Event) (e : Event) (P : Event → Type 0) → o ≡ Some e → IfSome o P → P e
 at_some o e P is all = subst (λ (x : Option Event). IfSome x P) is all
 
@@ -49,7 +58,7 @@ module _ {D T H A : Type 0} (reads : D → Option (List ℕ)) (may_leave : D →
     (left : A → Option (List ℕ)) (source_faults : A → ℕ) (looks : ℕ)
     (setting : Setting) (entry : Option (List ℕ)) (origin : D) (before : List Event) (old new : List (Member H A)) (turns : List (Turn H A)) (history : List Entry) (kept : Kept D T) where
   abbrev TakesSo : List Event → Type 0
-  TakesSo = TakesBy honest faults calls launches dirs output exited left source_faults looks setting before turns history
+  TakesSo = TakesBy honest faults calls launches dirs output exited left source_faults looks setting before old new turns history
 
   abbrev ComesSo : List Event → Event → Type 0
   ComesSo = ComesBy honest faults calls launches dirs output exited left source_faults looks setting turns
@@ -61,7 +70,7 @@ module _ {D T H A : Type 0} (reads : D → Option (List ℕ)) (may_leave : D →
   UnheardSo events = RestsWith AnswersFailed setting (world_in setting events) new
 
   abbrev NextSo : List Event → Event → Type 0
-  NextSo = ComesNext reads may_leave clock since TakesSo ComesSo IdlesSo UnheardSo setting entry origin before kept.journal.disk
+  NextSo = ComesNext ComesSo setting
 
   abbrev MadeSo : List Event → Option Event → Type 0
   MadeSo = Made reads may_leave clock since TakesSo ComesSo IdlesSo UnheardSo setting entry origin before kept.journal.disk
@@ -101,12 +110,12 @@ module _ {D T H A : Type 0} (reads : D → Option (List ℕ)) (may_leave : D →
     finishes_broken now take.Disk r status takes k says rose is told =
         let next = some_next (IsNext setting now) (ComesSo now) k.fails.refused k.fails.is_next k.caused in
         let made = made_broken now take.Disk takes k (Some next.0) (k.fails.may_risk ∙ next.3) (record { is_next = next.1; caused = next.2 }) in
-        broke r status is (as_told BreaksSo r DiskFailed says (disk_failed made (rose refl))) told
+        broke r status is (as_told BreaksSo r DiskFailed says (disk_failed made (accepted_going setting (world_in setting now) next.0 next.1.accepted) (rose refl))) told
     finishes_broken now (take.Full at add) r status takes k says rose is told =
         let next = some_next (IsNext setting now) (ComesSo now) k.fails.refused k.fails.is_next k.caused in
         let sizes = at_some k.fails.refused next.0 (λ e. IsFullOf e (image_after setting (now ++ e ∷ [])) kept.journal.len (take.Full at add)) next.3 k.fails.full in
         let made = made_broken now (take.Full at add) takes k None k.fails.may_risk tt in
-        broke r status is (as_said BreaksSo r 14 (full_text at add) says (no_memory made) (full at add made (record {
+        broke r status is (as_said BreaksSo r 14 (full_text at add) says (no_memory made) (full at add made (accepted_going setting (world_in setting now) next.0 next.1.accepted) (record {
           event = next.0;
           next = record { is_next = next.1; caused = next.2 };
           too_long = sizes.1;
@@ -137,37 +146,35 @@ module _ {D T H A : Type 0} (reads : D → Option (List ℕ)) (may_leave : D →
   abbrev FinishedSo : D → Type 0
   FinishedSo disk = Finished reads may_leave clock since honest faults calls launches dirs output exited left source_faults looks setting entry origin before hosts rest answers unread disk before_faults (disk_faults disk) wrote now_written c d status
 
+  abbrev BegunWith : List (Member H A)
+  BegunWith = members_of setting.site.executors hosts answers
+
+  abbrev LifeSo : List (Member H A) → List (Turn H A) → List Entry → Type 0
+  LifeSo new turns history = LifeOf honest faults calls launches dirs output exited left source_faults looks BegunWith new turns history
+
+  abbrev TookSo : List (Member H A) → List (Turn H A) → List Entry → List Event → Type 0
+  TookSo new turns history now = TakesBy honest faults calls launches dirs output exited left source_faults looks setting before BegunWith new turns history now
+
   -- a life of members that ended so
   pub finished_by : (new : List (Member H A)) (turns : List (Turn H A)) (history : List Entry) (kept : Kept D T) (disk : D) → disk ≡ kept.journal.disk
-      → LifeOf honest faults calls launches dirs output exited left source_faults looks (members_of setting.site.executors hosts answers) new turns history → rest ≡ hosts_in new ++ others_of setting.site.executors hosts → answers_in new ≡ unread ∷ []
-      → (now : List Event) (ended : Result Rest TakeFault) → TakesBy honest faults calls launches dirs output exited left source_faults looks setting before turns history now
+      → LifeSo new turns history → rest ≡ hosts_in new ++ others_of setting.site.executors hosts → answers_in new ≡ unread ∷ []
+      → (now : List Event) (ended : Result Rest TakeFault) → TookSo new turns history now
       → EndsBehind reads may_leave clock since stance setting entry origin before (IsRefused honest faults calls launches dirs output exited left source_faults looks turns) now new kept ended
       → TellsEnd (StandsFor stance kept.build) wrote now_written c d ended status → (ended ≡ Ok AnswersFailed → Rose (source_faults answers) (source_faults unread)) → (ended ≡ Err take.Disk → Rose before_faults (disk_faults kept.journal.disk)) → FinishedSo disk
-  finished_by new turns history kept disk same lived hosts_are answers_are now ended takes ends told failed rose = subst FinishedSo (sym same) (record {
-    new = new;
-    turns = turns;
-    history = history;
-    lived = lived;
-    hosts_are = hosts_are;
-    answers_are = answers_are;
-    finishes = finishes_ended reads may_leave clock since stance honest faults calls launches dirs output exited left source_faults looks setting entry origin before (members_of setting.site.executors hosts answers) new turns history kept before_faults (disk_faults kept.journal.disk) (source_faults answers) (source_faults unread)
+  finished_by new turns history kept disk same life hosts_are answers_are now ended takes ends told failed rose = subst FinishedSo (sym same) (record {
+    lived = record { new = new; turns = turns; history = history; life = life; hosts_are = hosts_are; answers_are = answers_are };
+    finishes = finishes_ended reads may_leave clock since stance honest faults calls launches dirs output exited left source_faults looks setting entry origin before BegunWith new turns history kept before_faults (disk_faults kept.journal.disk) (source_faults answers) (source_faults unread)
         wrote now_written c d now ended status takes ends told failed rose;
   })
 
   -- there was no memory for the members, and nothing was done
-  pub finished_wanting : (kept : Kept D T) (disk : D) → disk ≡ kept.journal.disk → LifeOf honest faults calls launches dirs output exited left source_faults looks (members_of setting.site.executors hosts answers) (members_of setting.site.executors hosts answers) [] []
-      → rest ≡ hosts_in (members_of setting.site.executors hosts answers) ++ others_of setting.site.executors hosts → answers_in (members_of setting.site.executors hosts answers) ≡ unread ∷ []
-      → Lasts reads may_leave clock since stance setting entry origin before before kept → status ≡ 8 → Tells wrote now_written c d out_of_memory_text → FinishedSo disk
-  finished_wanting kept disk same lived hosts_are answers_are lasts eight told = subst FinishedSo (sym same) (record {
-    new = members_of setting.site.executors hosts answers;
-    turns = [];
-    history = [];
-    lived = lived;
-    hosts_are = hosts_are;
-    answers_are = answers_are;
-    finishes = subst (λ (n : ℕ). EndsSo reads may_leave clock since stance honest faults calls launches dirs output exited left source_faults looks setting entry origin before (members_of setting.site.executors hosts answers) (members_of setting.site.executors hosts answers) [] [] kept before_faults (disk_faults kept.journal.disk)
+  pub finished_wanting : (kept : Kept D T) (disk : D) → disk ≡ kept.journal.disk → LifeSo BegunWith [] [] → rest ≡ hosts_in BegunWith ++ others_of setting.site.executors hosts → answers_in BegunWith ≡ unread ∷ []
+      → TookSo BegunWith [] [] before → Lasts reads may_leave clock since stance setting entry origin before before kept → status ≡ 8 → Tells wrote now_written c d out_of_memory_text → FinishedSo disk
+  finished_wanting kept disk same life hosts_are answers_are takes lasts eight told = subst FinishedSo (sym same) (record {
+    lived = record { new = BegunWith; turns = []; history = []; life = life; hosts_are = hosts_are; answers_are = answers_are };
+    finishes = subst (λ (n : ℕ). EndsSo reads may_leave clock since stance honest faults calls launches dirs output exited left source_faults looks setting entry origin before BegunWith BegunWith [] [] kept before_faults (disk_faults kept.journal.disk)
         (source_faults answers) (source_faults unread) wrote now_written c d n) (sym eight)
-        (by_break (no_memory (made_lasting reads may_leave clock since stance honest faults calls launches dirs output exited left source_faults looks setting entry origin before (members_of setting.site.executors hosts answers) (members_of setting.site.executors hosts answers) [] [] kept before begins lasts)) told);
+        (by_break (no_memory (made_lasting reads may_leave clock since stance honest faults calls launches dirs output exited left source_faults looks setting entry origin before BegunWith BegunWith [] [] kept before takes lasts)) told);
   })
 
 module _ (a b x y : ℕ) (old new : Option (List ℕ)) (c d : ℕ) where

@@ -2,7 +2,7 @@ mod RefusalLemmas
 mod StoreLemmas
 mod ShowLemmas
 mod FinishLemmas
-mod LivingLemmas
+pub mod LivingLemmas
 mod ResumeLemmas
 pub mod PlanLemmas
 mod BeginLemmas

@@ -1,26 +1,44 @@
 -- The members of a build at the end of a life, and what became of them.
-use Rattle.std.proofs.Common.{◌≡◌, ◌⊎◌, ◌∙◌, ◌++◌, ◌||◌, ℕ, ℤ, suc, Bool, true, false, List, [], ◌∷◌, Option, length, take, drop, refl, sym, ap, subst}
+use Rattle.std.proofs.Common.{◌≡◌, ◌⊎◌, ◌∙◌, ◌++◌, ◌||◌, ◌≤◌, ℕ, ℤ, suc, Bool, true, false, List, [], ◌∷◌, Option, Result, length, take, drop, refl, sym, ap, subst, append-nil, arith}
 use Rattle.std.proofs.Math.Seq.{take-append_seam}
-use Rattle.std.specs.List.{AllByRecursion as AllAre, AllZip}
+use Rattle.std.specs.Io.KnownBytes.{IsAtEnd}
+use Rattle.std.specs.List.{AllByRecursion as AllAre, AllZip, IsDistinct}
 use Rattle.device_faults.specs.Faults.{Rose}
 use Rattle.task_host.specs.declared.call.Call.{Call}
 use Rattle.task_host.specs.declared.order.Stream.{Stream}
+use Rattle.agent_worker.specs.declared.fault.TakeFault.{TakeFault}
 use Rattle.agent_worker.specs.declared.member.Member.{Member}
 use Rattle.agent_worker.specs.declared.member.Member.TheVariants.{Executor, Operator}
+use Rattle.agent_worker.specs.Gate.{Told, Claimed as ClaimedTask}
+use Rattle.durable_build.specs.Standing.{Kept}
+use Rattle.model_syntax.specs.TreeNodes.{tree_node}
+use Rattle.model_run.specs.declared.event.Event.{Event}
 use Rattle.model_run.specs.declared.site.Executor.{Executor as SiteExecutor}
+use Rattle.model_run.specs.declared.taken.Taken.TheVariants.{Accepted}
+use Rattle.model_run.specs.State.{Setting}
+use Rattle.model_run.specs.World.{answer_to, world_in}
+use Rattle.script_run.specs.declared.rest.Rest.{Rest}
+use Rattle.script_run.specs.Standing.{IsProper}
+use Rattle.settle_laws.specs.Stances.{Stance}
+use Rattle.launch_laws.proofs.LifeLaws.{all_fit_more}
+use Rattle.site_state.specs.declared.ask.Entry.{Entry}
 use Rattle.site_life.specs.Turns.{DidTurn, Turn}
 use Rattle.site_life.specs.Ways.{Way}
-use Rattle.site_run.specs.Ending.{any_failed}
-use Rattle.site_run.specs.Serving.{AreServed}
+use Rattle.site_run.specs.Ending.{AllReadOut, any_failed}
+use Rattle.site_run.specs.Going.{begins}
+use Rattle.site_run.specs.Lives.{Ends, OpeningBreaks}
+use Rattle.site_run.specs.Serving.{AreServed, ReadOn, hosts_of}
+use Rattle.site_run.proofs.MemberLemmas.{all_came, all_served}
+use Rattle.site_run.proofs.WalkLemmas.{of_tree, small}
 use Rattle.site_crew.specs.Crews.{answers_in, hosts_in, IsCrew, members_of, others_of, seats_of}
-use Rattle.build_commands.specs.Living.{LifeOf}
+use Rattle.build_commands.specs.Living.{HostsStay, LifeOf, TakesBy}
 
 same_answers : {A : Type 0} (a b : A) → a ∷ [] ≡ b ∷ [] → a ≡ b
 same_answers a b is = cc
 
-only_failed : (f : Bool) → (f || false) ≡ true → f ≡ true
-only_failed true is = refl
-only_failed false is = absurd (cc)
+or_false : (b : Bool) → (b || false) ≡ b
+or_false true = refl
+or_false false = refl
 
 module _ {H A : Type 0} where
   pub hosts_all : (xs : List SiteExecutor) (hosts : List H) (answers : A) → hosts_in (members_of xs hosts answers) ++ others_of xs hosts ≡ hosts
@@ -38,58 +56,167 @@ module _ {H A : Type 0} where
   is_crew (x ∷ xs) [] answers = refl
   is_crew (x ∷ xs) (host ∷ hosts) answers = is_crew xs hosts answers
 
-  module _ (left : A → Option (List ℕ)) (faults : A → ℕ) where
-    none_served : (new : List (Member H A)) → AreServed left faults [] new → new ≡ []
+  module _ (honest : H → Type 0) (host_faults : H → ℕ) (calls : H → Option (List Call)) (left : A → Option (List ℕ)) (faults : A → ℕ) where
+    abbrev Served : List (Member H A) → List (Member H A) → Type 0
+    Served = AreServed honest host_faults calls left faults
+
+    none_served : (new : List (Member H A)) → Served [] new → new ≡ []
     none_served [] served = refl
     none_served (m ∷ ms) served = absurd served
 
-    pub served_crew : (old new : List (Member H A)) → AreServed left faults old new → IsCrew old → IsCrew new
+    pub served_crew : (old new : List (Member H A)) → Served old new → IsCrew old → IsCrew new
     served_crew [] new served crew = absurd crew
     served_crew (Executor number host ∷ old) [] served crew = absurd served
     served_crew (Executor number host ∷ old) (Executor now next ∷ new) served crew = served_crew old new served.1 crew
     served_crew (Executor number host ∷ old) (Operator next kept ended failed ∷ new) served crew = absurd served
     served_crew (Operator answers line ended failed ∷ old) [] served crew = absurd served
     served_crew (Operator answers line ended failed ∷ old) (Executor now next ∷ new) served crew = absurd served
-    served_crew (Operator answers line ended failed ∷ old) (Operator next kept now_ended now_failed ∷ new) served crew = none_served new (subst (λ (ms : List (Member H A)). AreServed left faults ms new) crew served.1)
+    served_crew (Operator answers line ended failed ∷ old) (Operator next kept now_ended now_failed ∷ new) served crew = none_served new (subst (λ (ms : List (Member H A)). Served ms new) crew served.1)
 
-    operator_failed : (answers next : A) (line : List ℕ) (new : List (Member H A)) → AreServed left faults (Operator answers line false false ∷ []) new → answers_in new ≡ next ∷ [] → any_failed new ≡ true → Rose (faults answers) (faults next)
-    operator_failed answers next line [] served are failed = absurd served
-    operator_failed answers next line (Executor now host ∷ new) served are failed = absurd served
-    operator_failed answers next line (Operator unread kept ended now_failed ∷ []) served are failed =
-        subst (λ (a : A). Rose (faults answers) (faults a)) (same_answers unread next are) ((served.0.counts refl).failed (only_failed now_failed failed))
-    operator_failed answers next line (Operator unread kept ended now_failed ∷ (m ∷ new)) served are failed = absurd served.1
+    -- what became of the operator
+    pub record OperatorCame (answers next : A) (new : List (Member H A)) : Type 0 where
+      pub ended : Bool
+      pub failed : Bool
+      pub reads : ReadOn (left answers) (left next) (faults answers) (faults next) false ended false failed
+      pub fails : any_failed new ≡ failed
+      pub read_out : AllReadOut new → ended ≡ true
+
+    operator_came : (answers next : A) (new : List (Member H A)) → Served (Operator answers [] false false ∷ []) new → answers_in new ≡ next ∷ [] → OperatorCame answers next new
+    operator_came answers next [] served are = absurd served
+    operator_came answers next (Executor now host ∷ new) served are = absurd served
+    operator_came answers next (Operator unread kept ended failed ∷ []) served are = record {
+      ended = ended;
+      failed = failed;
+      reads = subst (λ (a : A). ReadOn (left answers) (left a) (faults answers) (faults a) false ended false failed) (same_answers unread next are) served.0;
+      fails = or_false failed;
+      read_out = λ out. out.0;
+    }
+    operator_came answers next (Operator unread kept ended failed ∷ (m ∷ new)) served are = absurd served.1
+
+    pub crew_came : (xs : List SiteExecutor) (hosts : List H) (answers next : A) (new : List (Member H A)) → Served (members_of xs hosts answers) new → answers_in new ≡ next ∷ [] → OperatorCame answers next new
+    crew_came [] hosts answers next new served are = operator_came answers next new served are
+    crew_came (x ∷ xs) [] answers next new served are = operator_came answers next new served are
+    crew_came (x ∷ xs) (host ∷ hosts) answers next [] served are = absurd served
+    crew_came (x ∷ xs) (host ∷ hosts) answers next (Executor now h ∷ new) served are =
+        let came = crew_came xs hosts answers next new served.1 are in
+        record { ended = came.ended; failed = came.failed; reads = came.reads; fails = came.fails; read_out = came.read_out }
+    crew_came (x ∷ xs) (host ∷ hosts) answers next (Operator unread kept ended failed ∷ new) served are = absurd served
 
     -- where the answers could not be read in the end, their source counted a fault
-    pub crew_failed : (xs : List SiteExecutor) (hosts : List H) (answers next : A) (new : List (Member H A)) → AreServed left faults (members_of xs hosts answers) new → answers_in new ≡ next ∷ [] → any_failed new ≡ true → Rose (faults answers) (faults next)
-    crew_failed [] hosts answers next new served are failed = operator_failed answers next [] new served are failed
-    crew_failed (x ∷ xs) [] answers next new served are failed = operator_failed answers next [] new served are failed
-    crew_failed (x ∷ xs) (host ∷ hosts) answers next [] served are failed = absurd served
-    crew_failed (x ∷ xs) (host ∷ hosts) answers next (Executor now h ∷ new) served are failed = crew_failed xs hosts answers next new served.1 are failed
-    crew_failed (x ∷ xs) (host ∷ hosts) answers next (Operator unread kept ended now_failed ∷ new) served are failed = absurd served
+    pub crew_failed : (xs : List SiteExecutor) (hosts : List H) (answers next : A) (new : List (Member H A)) → Served (members_of xs hosts answers) new → answers_in new ≡ next ∷ [] → any_failed new ≡ true → Rose (faults answers) (faults next)
+    crew_failed xs hosts answers next new served are failed =
+        let came = crew_came xs hosts answers next new served are in
+        (came.reads.counts refl).failed (sym came.fails ∙ failed)
+
+    -- where they were read out, they are at their end
+    pub crew_read : (xs : List SiteExecutor) (hosts : List H) (answers next : A) (new : List (Member H A)) → Served (members_of xs hosts answers) new → answers_in new ≡ next ∷ [] → AllReadOut new → IsAtEnd (left next)
+    crew_read xs hosts answers next new served are out =
+        let came = crew_came xs hosts answers next new served are in
+        came.reads.at_end refl (came.read_out out)
+
+    -- each host is at its place, and those that no member had are as they were
+    pub stay_same : (hosts : List H) → HostsStay honest host_faults calls hosts hosts
+    stay_same [] = tt
+    stay_same (host ∷ hosts) = (record { honest_stays = (λ h. h, λ h. h); never_falls = omega arith; called = λ list is. (list, [], is, sym (append-nil list)) }, stay_same hosts)
+
+    pub operator_alone : (answers : A) (new : List (Member H A)) → Served (Operator answers [] false false ∷ []) new → hosts_in new ≡ []
+    operator_alone answers [] served = absurd served
+    operator_alone answers (Executor number host ∷ new) served = absurd served
+    operator_alone answers (Operator next kept ended failed ∷ []) served = refl
+    operator_alone answers (Operator next kept ended failed ∷ (m ∷ new)) served = absurd served.1
+
+    pub crew_stay : (xs : List SiteExecutor) (hosts : List H) (answers : A) (new : List (Member H A)) → Served (members_of xs hosts answers) new → HostsStay honest host_faults calls hosts (hosts_in new ++ others_of xs hosts)
+    crew_stay [] hosts answers new served = subst (λ (hs : List H). HostsStay honest host_faults calls hosts (hs ++ hosts)) (sym (operator_alone answers new served)) (stay_same hosts)
+    crew_stay (x ∷ xs) [] answers new served = subst (λ (hs : List H). HostsStay honest host_faults calls [] (hs ++ [])) (sym (operator_alone answers new served)) tt
+    crew_stay (x ∷ xs) (host ∷ hosts) answers [] served = absurd served
+    crew_stay (x ∷ xs) (host ∷ hosts) answers (Operator next kept ended failed ∷ new) served = absurd served
+    crew_stay (x ∷ xs) (host ∷ hosts) answers (Executor seat next ∷ new) served = (served.0.1, crew_stay xs hosts answers new served.1)
+
+    -- as many members as before
+    pub served_length : (old new : List (Member H A)) → Served old new → length new ≡ length old
+    served_length [] [] served = refl
+    served_length [] (m ∷ new) served = absurd served
+    served_length (Executor number host ∷ old) [] served = absurd served
+    served_length (Executor number host ∷ old) (Executor now next ∷ new) served = ap suc (served_length old new served.1)
+    served_length (Executor number host ∷ old) (Operator next kept ended failed ∷ new) served = absurd served
+    served_length (Operator answers line ended failed ∷ old) [] served = absurd served
+    served_length (Operator answers line ended failed ∷ old) (Executor now next ∷ new) served = absurd served
+    served_length (Operator answers line ended failed ∷ old) (Operator next kept now_ended now_failed ∷ new) served = ap suc (served_length old new served.1)
 
 module _ {H A : Type 0} (honest : H → Type 0) (faults : H → ℕ) (calls : H → Option (List Call)) (launches dirs : H → List ℕ) (output : H → ℕ → Stream → List ℕ) (exited : H → ℕ → Option ℤ)
     (left : A → Option (List ℕ)) (source_faults : A → ℕ) (looks : ℕ) where
   abbrev Did : Turn H A → Type 0
   Did = DidTurn honest faults calls launches dirs output exited left source_faults looks
 
+  abbrev LifeSo : List (Member H A) → List (Member H A) → List (Turn H A) → List Entry → Type 0
+  LifeSo = LifeOf honest faults calls launches dirs output exited left source_faults looks
+
+  abbrev TakesSo : Setting → List Event → List (Member H A) → List (Member H A) → List (Turn H A) → List Entry → List Event → Type 0
+  TakesSo = TakesBy honest faults calls launches dirs output exited left source_faults looks
+
   -- members who had no turn
   no_ways : (members : List (Member H A)) → AllZip (Way Did []) members members
   no_ways [] = tt
   no_ways (m ∷ ms) = (record { turns = []; chain = refl; did = tt; own = []; made = refl; others = []; part = (refl, refl) }, no_ways ms)
 
-  pub no_life : (members : List (Member H A)) → LifeOf honest faults calls launches dirs output exited left source_faults looks members members [] []
-  no_life members = record { did = tt; ways = no_ways members }
+  pub no_life : (members : List (Member H A)) → LifeSo members members [] []
+  unfolding IsDistinct
+  no_life members = record {
+    did = tt;
+    ways = no_ways members;
+    launched_once = tt;
+    served = all_served honest faults calls launches dirs output exited left source_faults looks (λ (t : Told). Unit {0}) (λ (c : ClaimedTask). Unit {0}) members members []
+        (all_came honest faults calls launches dirs output exited left source_faults looks (λ (t : Told). Unit {0}) (λ (c : ClaimedTask). Unit {0}) members [] members refl tt tt tt);
+  }
 
--- as many members as before
-pub served_length : {H A : Type 0} (left : A → Option (List ℕ)) (faults : A → ℕ) (old new : List (Member H A)) → AreServed left faults old new → length new ≡ length old
-served_length left faults [] [] served = refl
-served_length left faults [] (m ∷ new) served = absurd served
-served_length left faults (Executor number host ∷ old) [] served = absurd served
-served_length left faults (Executor number host ∷ old) (Executor now next ∷ new) served = ap suc (served_length left faults old new served.1)
-served_length left faults (Executor number host ∷ old) (Operator next kept ended failed ∷ new) served = absurd served
-served_length left faults (Operator answers line ended failed ∷ old) [] served = absurd served
-served_length left faults (Operator answers line ended failed ∷ old) (Executor now next ∷ new) served = absurd served
-served_length left faults (Operator answers line ended failed ∷ old) (Operator next kept now_ended now_failed ∷ new) served = ap suc (served_length left faults old new served.1)
+  -- and took nothing
+  pub no_events : {T : Type 0} (stance : T → Stance) (setting : Setting) → IsProper setting → (before : List Event) → (world_in setting before).started ≡ true → (members : List (Member H A)) → TakesSo setting before members members [] [] before
+  no_events stance setting proper before begun members = record {
+    begun = begun;
+    goes = begins;
+    granted = [];
+    are_grants = tt;
+    is = sym (append-nil (before ++ []) ∙ append-nil before);
+    claims = tt;
+    fits = λ are fit. fit;
+    fits_next = λ are fit e accepted.
+        all_fit_more setting (tree_node proper.tree) (of_tree stance setting proper) (small stance setting proper) before (e ∷ []) (hosts_of launches dirs members) begun (record { begun = begun; accepted = accepted }, tt) fit;
+    others = λ hosts fit. fit;
+    others_next = λ hosts fit e accepted. all_fit_more setting (tree_node proper.tree) (of_tree stance setting proper) (small stance setting proper) before (e ∷ []) hosts begun (record { begun = begun; accepted = accepted }, tt) fit;
+  }
+
+  -- but for the grants that were made before the opening of their life was refused
+  pub opening_events : {D T : Type 0} (reads : D → Option (List ℕ)) (may_leave : D → List ℕ → Type 0) (clock : D → ℕ) (since : D → ℕ → List ℕ → Type 0) (stance : T → Stance) (setting : Setting) (entry : Option (List ℕ)) (origin : D)
+      (before events : List Event) (fault : TakeFault) (disk : D) (b : OpeningBreaks reads may_leave clock since stance setting entry origin before events fault disk) → (world_in setting events).started ≡ true → (members : List (Member H A)) → TakesSo setting events members members [] [] (events ++ b.granted)
+  opening_events reads may_leave clock since stance setting entry origin before events fault disk b begun members = record {
+    begun = begun;
+    goes = b.goes;
+    granted = b.granted;
+    are_grants = b.are_grants;
+    is = sym (append-nil (events ++ b.granted));
+    claims = tt;
+    fits = λ are fit. b.fits (hosts_of launches dirs members) fit;
+    fits_next = λ are fit e accepted. b.fits_next (hosts_of launches dirs members) fit e accepted;
+    others = b.fits;
+    others_next = b.fits_next;
+  }
+
+  -- those of a life that was led
+  pub life_events : {D T : Type 0} (reads : D → Option (List ℕ)) (may_leave : D → List ℕ → Type 0) (clock : D → ℕ) (since : D → ℕ → List ℕ → Type 0) (stance : T → Stance) (turns : List (Turn H A)) (setting : Setting) (entry : Option (List ℕ)) (origin : D)
+      (before events : List Event) (old new : List (Member H A)) (history : List Entry) (kept : Kept D T) (ended : Result Rest TakeFault)
+      (e : Ends reads may_leave clock since stance honest faults calls launches dirs output exited left source_faults looks turns setting entry origin before events old new history kept ended) → (world_in setting events).started ≡ true → TakesSo setting events old new turns history e.now
+  life_events reads may_leave clock since stance turns setting entry origin before events old new history kept ended e begun = record {
+    begun = begun;
+    goes = e.goes;
+    granted = e.granted;
+    are_grants = e.are_grants;
+    is = e.is;
+    claims = e.claims;
+    fits = e.fits;
+    fits_next = e.fits_next;
+    others = e.others;
+    others_next = e.others_next;
+  }
 
 -- what a slice of a whole list was left as, is the list then
 pub whole_slice : {M : Type 0} (n : ℕ) (xs ys : List M) → n ≡ length xs → take n (xs ++ drop (length xs) ys) ≡ xs

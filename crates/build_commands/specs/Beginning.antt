@@ -17,7 +17,7 @@ use Rattle.saved_run.specs.Saved.{Survives}
 use Rattle.run_command.specs.Inputs.{Input}
 use Rattle.task_host.specs.declared.call.Call.{Call}
 use Rattle.task_host.specs.declared.order.Stream.{Stream}
-use Rattle.build_commands.specs.Living.{Finished}
+use Rattle.build_commands.specs.Living.{Finished, HostsStay}
 use Rattle.build_commands.specs.Plans.{Give, RefusesFiles}
 use Rattle.build_commands.specs.Reporting.{Reports}
 use Rattle.build_commands.specs.Resuming.{GivesBack}
@@ -47,7 +47,7 @@ module _ {D T H A : Type 0} (reads : D → Option (List ℕ)) (may_leave : D →
         → TellsStart (script_setting tree site) (StartEvent script agents) fault
         → ((file : List ℕ) → reads disk ≡ Some file → BeginRefuses reads may_leave clock since stance (script_setting tree site) (StartEvent script agents) file disk fault now)
         → Tells old new sink_before sink_after text → Begins script agents tree site status
-    begun : {status : ℕ} (started : D) → faults started ≡ faults disk → Reports (faults disk) (faults now) (source_faults answers) (source_faults unread) old new sink_before sink_after status
+    begun : {status : ℕ} (started : D) → faults started ≡ faults disk → HostsStay honest host_faults calls hosts rest → Reports (faults disk) (faults now) (source_faults answers) (source_faults unread) old new sink_before sink_after status
         → ∥ Finished reads may_leave clock since honest host_faults calls launches dirs output exited left source_faults (max site.looks 1) (script_setting tree site) (reads disk) started (StartEvent script agents ∷ []) hosts rest answers unread now
         (faults started) (faults now) old new sink_before sink_after status ∥₁
         → ((file : List ℕ) → reads disk ≡ Some file → BeginsOver script agents tree site file started)

@@ -22,20 +22,29 @@ use Rattle.build_commands.specs.Texts.{disk_failed_text, full_text, out_of_memor
 use Rattle.build_commands.specs.Writing as writing
 use Rattle.build_commands.specs.Writing.{Writes}
 
+-- Why an event comes is open here. This one came next, and there is a cause for it.
+pub record ComesNext (Comes : List Event → Event → Type 0) (setting : Setting) (events : List Event) (event : Event) : Type 0 where
+  pub is_next : IsNext setting events event
+  pub caused : Comes events event
+
+-- The journal cannot take the record of the event that came next: these are the journal's length, and what the record would add. Where the disk told its bytes at
+-- the beginning, the length is that of the journal of now.
+pub record IsFull (Comes : List Event → Event → Type 0) (setting : Setting) (entry now : Option (List ℕ)) (events : List Event) (len add : ℕ) : Type 0 where
+  pub event : Event
+  pub next : ComesNext Comes setting events event
+  pub too_long : 2 ^ 30 < len + add
+  pub adds : add ≡ added event (image_after setting (events ++ event ∷ []))
+  pub length_is : IsSome entry → IfSome now (λ file. len ≡ journal_length file)
+
 -- What a life is, is open here: which events it may have taken, why one comes next behind them, and behind which nobody goes on, or the answers could not be
 -- read.
 module _ {D : Type 0} (reads : D → Option (List ℕ)) (may_leave : D → List ℕ → Type 0) (clock : D → ℕ) (since : D → ℕ → List ℕ → Type 0)
     (Takes : List Event → Type 0) (Comes : List Event → Event → Type 0) (Idles Unheard : List Event → Type 0) (setting : Setting) (entry : Option (List ℕ)) (origin : D) (before : List Event) (disk : D) where
-  -- This event came next, and there is a cause for it.
-  pub record ComesNext (events : List Event) (event : Event) : Type 0 where
-    pub is_next : IsNext setting events event
-    pub caused : Comes events event
-
   -- What a life has taken: these events; perhaps, where the disk failed, the next one is on it too. Where the disk told its bytes, which `entry` is, a crash
   -- since `origin`, over which there were the events from before, leaves the first of them; one now leaves all of them; or, both, them and that one.
   pub record Made (events : List Event) (risked : Option Event) : Type 0 where
     pub takes : Takes events
-    pub next : IfSome risked (ComesNext events)
+    pub next : IfSome risked (ComesNext Comes setting events)
     pub moments : IsSome entry → AtEachMoment clock since origin disk (Survives setting before events risked)
     pub images : IsSome entry → (image : List ℕ) → may_leave disk image → Stores setting events image ⊎ IsSomeAnd risked (λ e. Stores setting (events ++ e ∷ []) image)
 
@@ -44,19 +53,11 @@ module _ {D : Type 0} (reads : D → Option (List ℕ)) (may_leave : D → List 
     pub made : Made events None
     pub rests : ((world_in setting events).ended ≡ true) ⊎ Idles events
 
-  -- The journal cannot take the record of the event that came next: these are the journal's length, and what the record would add.
-  pub record IsFull (events : List Event) (len add : ℕ) : Type 0 where
-    pub event : Event
-    pub next : ComesNext events event
-    pub too_long : 2 ^ 30 < len + add
-    pub adds : add ≡ added event (image_after setting (events ++ event ∷ []))
-    pub length_is : IsSome entry → IfSome (reads disk) (λ file. len ≡ journal_length file)
-
-  -- It cannot go on.
+  -- It cannot go on. Want of memory may come behind the end of the build too.
   pub data Breaks (disk_before disk_after answers_before answers_after : ℕ) : ℕ → List ℕ → Type 0 where
     answers_failed : {events : List Event} → Made events None → Unheard events → Rose answers_before answers_after → Breaks disk_before disk_after answers_before answers_after 6 read_failed_text
-    disk_failed : {events : List Event} {risked : Option Event} → Made events risked → Rose disk_before disk_after → Breaks disk_before disk_after answers_before answers_after 5 disk_failed_text
-    full : {events : List Event} (len add : ℕ) → Made events None → IsFull events len add → Breaks disk_before disk_after answers_before answers_after 14 (full_text len add)
+    disk_failed : {events : List Event} {risked : Option Event} → Made events risked → (world_in setting events).ended ≡ false → Rose disk_before disk_after → Breaks disk_before disk_after answers_before answers_after 5 disk_failed_text
+    full : {events : List Event} (len add : ℕ) → Made events None → (world_in setting events).ended ≡ false → IsFull Comes setting entry (reads disk) events len add → Breaks disk_before disk_after answers_before answers_after 14 (full_text len add)
     no_memory : {events : List Event} → Made events None → Breaks disk_before disk_after answers_before answers_after 8 out_of_memory_text
 
   -- What was written of it: the log of a build that rests, whole or its front, then with 7; or the text of what broke it off.

@@ -6,7 +6,7 @@ use Rattle.model_run.specs.declared.event.Event.{Event}
 use Rattle.model_run.specs.State.{Setting}
 use Rattle.task_host.specs.declared.call.Call.{Call}
 use Rattle.task_host.specs.declared.order.Stream.{Stream}
-use Rattle.build_commands.specs.Living.{Finished}
+use Rattle.build_commands.specs.Living.{Finished, HostsStay}
 use Rattle.build_commands.specs.Reporting.{Reports}
 use Rattle.build_commands.specs.Showing.{HasBuild, NotTold}
 use Rattle.build_commands.specs.Texts.{disk_failed_text, no_build_text, out_of_memory_text}
@@ -36,6 +36,7 @@ module _ {D H A : Type 0} (reads : D → Option (List ℕ)) (may_leave : D → L
       refused : {status : ℕ} {text : List ℕ} → GivesBack hosts rest answers unread → IsUntouched reads may_leave clock since old disk → NotOpened events (faults old) (faults disk) status text → writing.Tells written now sink_before sink_after text
           → Resumes written now sink_before sink_after status
       went_on : {status : ℕ} (opened : D) → AtEachMoment clock since old opened (may_leave old) → faults opened ≡ faults old
+          → Reports (faults old) (faults disk) (source_faults answers) (source_faults unread) written now sink_before sink_after status
           → ∥ Finished reads may_leave clock since honest host_faults calls launches dirs output exited left source_faults (max setting.site.looks 1) setting (reads old) opened events hosts rest answers unread disk
           (faults opened) (faults disk) written now sink_before sink_after status ∥₁
           → Resumes written now sink_before sink_after status
@@ -44,5 +45,5 @@ module _ {D H A : Type 0} (reads : D → Option (List ℕ)) (may_leave : D → L
   pub data Reopens (old disk : D) (written now : Option (List ℕ)) (sink_before sink_after : ℕ) : ℕ → Type 0 where
     unopened : {status : ℕ} {text : List ℕ} → GivesBack hosts rest answers unread → IsUntouched reads may_leave clock since old disk → NotTold (reads old) (faults old) (faults disk) status text → writing.Tells written now sink_before sink_after text
         → Reopens old disk written now sink_before sink_after status
-    goes_on : {status : ℕ} → IfSome (reads old) HasBuild → Reports (faults old) (faults disk) (source_faults answers) (source_faults unread) written now sink_before sink_after status
+    goes_on : {status : ℕ} → IfSome (reads old) HasBuild → HostsStay honest host_faults calls hosts rest → Reports (faults old) (faults disk) (source_faults answers) (source_faults unread) written now sink_before sink_after status
         → Reopens old disk written now sink_before sink_after status

@@ -9,14 +9,14 @@ pub struct Done<D> {
     pub disk: D,
 }
 
-/// How a command has ended that lets a build go on.
+/// How a call has ended that has hosts and answers.
 #[derive(Drop)]
-pub struct Ran<D, H, A> {
+pub struct Ended<D, H, A> {
     /// The exit status of the program.
     pub status: u8,
-    /// The disk, as the command leaves it.
+    /// The disk, as the call leaves it.
     pub disk: D,
-    /// The hosts, host i that of the executor at place i.
+    /// The hosts, each at its place: host i is that of executor i.
     pub hosts: Vec<H>,
     /// The answers, as far as they were not read.
     pub answers: A,

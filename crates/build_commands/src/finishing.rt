@@ -9,9 +9,9 @@ ghost use Rattle.saved_run.specs.Lives.{Lasts};
 ghost use Rattle.site_crew.specs.Crews.{IsCrew, members_of, others_of};
 ghost use Rattle.build_commands.specs.Reporting.{Reports};
 ghost use Rattle.build_commands.specs.Finishing.{TellsEnd, TellsRest};
-ghost use Rattle.build_commands.specs.Living.{Finished};
+ghost use Rattle.build_commands.specs.Living.{Finished, HostsStay};
 
-use crate::done::Ran;
+use crate::done::Ended;
 use crate::refusal::{Refusal, tell, tell_text};
 use build_core::Build;
 use durable_build::{DurableBuild, TakeFault};
@@ -47,9 +47,10 @@ pub fn finish<
     H: Host + Drop,
     A: Source + Drop,
     K: Sink,
->(rt: &W, durable: DurableBuild<D, R>, hosts: Vec<H>, answers: A, out: &mut K) -> Ran<D, H, A>
+>(rt: &W, durable: DurableBuild<D, R>, hosts: Vec<H>, answers: A, out: &mut K) -> Ended<D, H, A>
     requires running { durable.stopped ≡ false }
     requires begun { has_begun durable.build.phase ≡ true }
+    ensures stay { HostsStay H.honest H.faults H.calls hosts.items result.hosts.items }
     ensures reports { Reports (D.faults durable.journal.disk) (D.faults result.disk) (A.faults answers) (A.faults result.answers) (K.written out.old) (K.written out.new) (K.faults out.old) (K.faults out.new) result.status }
     ensures finishes { (setting : Setting) (entry : Option (List ℕ)) (origin : D) (before : List AnEvent)
         → Lasts D.reads D.may_leave D.clock D.may_have_left_since R.stance setting entry origin before before durable
@@ -64,7 +65,7 @@ pub fn finish<
         Ok(crew) => live(rt, durable, crew, looks, out),
         Err((hosts, answers)) => {
             let status = tell(out, &Refusal::OutOfMemory);
-            Ran {
+            Ended {
                 status,
                 disk: durable.close(),
                 hosts,
@@ -82,12 +83,14 @@ fn live<
     H: Host + Drop,
     A: Source + Drop,
     K: Sink,
->(rt: &W, durable: DurableBuild<D, R>, crew: Crew<H, A>, looks: u32, out: &mut K) -> Ran<D, H, A>
+>(rt: &W, durable: DurableBuild<D, R>, crew: Crew<H, A>, looks: u32, out: &mut K) -> Ended<D, H, A>
     requires looks { 0 < looks }
     requires running { durable.stopped ≡ false }
     requires begun { has_begun durable.build.phase ≡ true }
     requires crew { IsCrew crew.members.items }
     requires room { vec_len crew.others + vec_len crew.members ≤ vec_capacity crew.others + 1 }
+    ensures stay { (executors : List SiteExecutor) (hosts : List H) (answers : A) → crew.members.items ≡ members_of executors hosts answers
+        → crew.others.items ≡ reverse (others_of executors hosts) → HostsStay H.honest H.faults H.calls hosts result.hosts.items }
     ensures reports { (executors : List SiteExecutor) (hosts : List H) (answers : A) → crew.members.items ≡ members_of executors hosts answers
         → Reports (D.faults durable.journal.disk) (D.faults result.disk) (A.faults answers) (A.faults result.answers) (K.written out.old) (K.written out.new) (K.faults out.old) (K.faults out.new) result.status }
     ensures finishes { (hosts : List H) (answers : A) (setting : Setting) (entry : Option (List ℕ)) (origin : D) (before : List AnEvent) → crew.members.items ≡ members_of setting.site.executors hosts answers
@@ -103,7 +106,7 @@ fn live<
             let status = tell_end(alloc, out, site.build(), ended);
             let (disk, _) = site.close();
             let (hosts, answers) = crew.dismiss();
-            Ran {
+            Ended {
                 status,
                 disk,
                 hosts,
@@ -113,7 +116,7 @@ fn live<
         Err((fault, disk)) => {
             let status = tell(out, &Refusal::of_take(alloc, fault));
             let (hosts, answers) = crew.dismiss();
-            Ran {
+            Ended {
                 status,
                 disk,
                 hosts,

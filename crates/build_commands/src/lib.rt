@@ -20,7 +20,7 @@ mod running;
 mod show;
 
 pub use checking::check;
-pub use done::{Done, Ran};
+pub use done::{Done, Ended};
 pub use finishing::finish;
 pub use plan::{Plan, read_plan};
 pub use refusal::{Refusal, tell, tell_text};

@@ -6,7 +6,7 @@ ghost use Rattle.model_run.specs.State.{Setting};
 ghost use Rattle.saved_run.specs.Saved.{Stores};
 ghost use Rattle.build_commands.specs.Resuming.{Reopens, Resumes};
 
-use crate::done::Ran;
+use crate::done::Ended;
 use crate::finishing::finish;
 use crate::refusal::{Refusal, tell};
 use jp_disk::Disk;
@@ -38,7 +38,7 @@ pub fn resume<
     H: Host + Drop,
     A: Source + Drop,
     K: Sink,
->(rt: &W, disk: D, hosts: Vec<H>, answers: A, out: &mut K) -> Ran<D, H, A>
+>(rt: &W, disk: D, hosts: Vec<H>, answers: A, out: &mut K) -> Ended<D, H, A>
     ensures reopens { Reopens D.reads D.may_leave D.clock D.may_have_left_since D.faults H.honest H.faults H.calls H.launches H.dirs H.output H.exited A.left A.faults hosts.items result.hosts.items answers result.answers
         disk result.disk (K.written out.old) (K.written out.new) (K.faults out.old) (K.faults out.new) result.status }
     ensures resumes { (file : List ℕ) → D.reads disk ≡ Some file → (setting : Setting) (events : List AnEvent) → Stores setting events file
@@ -50,7 +50,7 @@ pub fn resume<
         Ok(life) => finish(rt, life.into_durable(), hosts, answers, out),
         Err((fault, disk)) => {
             let status = tell(out, &Refusal::of_store(alloc, fault));
-            Ran {
+            Ended {
                 status,
                 disk,
                 hosts,

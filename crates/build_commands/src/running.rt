@@ -6,7 +6,7 @@ ghost use Rattle.run_command.specs.Files.{agents_limit, script_limit, Builds};
 ghost use Rattle.run_command.specs.Inputs.{taken_from};
 ghost use Rattle.build_commands.specs.Beginning.{Begins, Runs};
 
-use crate::done::Ran;
+use crate::done::Ended;
 use crate::finishing::finish;
 use crate::plan::{Plan, read_plan};
 use crate::refusal::{Refusal, tell};
@@ -51,7 +51,7 @@ pub fn run<
     hosts: Vec<H>,
     answers: A,
     out: &mut K,
-) -> Ran<D, H, A>
+) -> Ended<D, H, A>
     ensures runs { Runs D.reads D.may_leave D.clock D.may_have_left_since R.stance D.faults H.honest H.faults H.calls H.launches H.dirs H.output H.exited A.left A.faults disk result.disk hosts.items result.hosts.items answers result.answers
         (K.written out.old) (K.written out.new) (K.faults out.old) (K.faults out.new) (taken_from S.left S.faults script.old script.new) (taken_from S.left S.faults agents.old agents.new) result.status }
     ensures most_script { TakesAtMost (script_limit + 1) (S.left script.old) (S.left script.new) }
@@ -61,7 +61,7 @@ pub fn run<
         Ok(plan) => begin::<D, R, W, H, A, K>(rt, plan, disk, hosts, answers, out),
         Err(refusal) => {
             let status = tell(out, &refusal);
-            Ran {
+            Ended {
                 status,
                 disk,
                 hosts,
@@ -79,7 +79,7 @@ fn begin<
     H: Host + Drop,
     A: Source + Drop,
     K: Sink,
->(rt: &W, plan: Plan, disk: D, hosts: Vec<H>, answers: A, out: &mut K) -> Ran<D, H, A>
+>(rt: &W, plan: Plan, disk: D, hosts: Vec<H>, answers: A, out: &mut K) -> Ended<D, H, A>
     requires builds { Builds plan.script plan.agents plan.tree plan.site }
     ensures { Begins D.reads D.may_leave D.clock D.may_have_left_since R.stance D.faults H.honest H.faults H.calls H.launches H.dirs H.output H.exited A.left A.faults disk result.disk hosts.items result.hosts.items answers result.answers
         (K.written out.old) (K.written out.new) (K.faults out.old) (K.faults out.new) plan.script plan.agents plan.tree plan.site result.status }
@@ -95,7 +95,7 @@ fn begin<
         Ok(life) => finish(rt, life.into_durable(), hosts, answers, out),
         Err((fault, disk)) => {
             let status = tell(out, &Refusal::of_begin(alloc, fault));
-            Ran {
+            Ended {
                 status,
                 disk,
                 hosts,

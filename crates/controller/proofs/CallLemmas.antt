@@ -1,5 +1,5 @@
 -- The command of a call, its status, and what its devices tell.
-use Rattle.std.proofs.Common.{◌≡◌, ◌+◌, ◌*◌, ℕ, Bool, true, false, List, [], ◌∷◌, Option, None, Some, inl, inr, refl, sym, ap, ◌∙◌, subst, arith}
+use Rattle.std.proofs.Common.{◌≡◌, ◌+◌, ◌*◌, ℕ, Bool, true, false, List, [], ◌∷◌, Option, None, Some, inl, inr, refl, sym, ap, ◌∙◌, subst, max, arith}
 use Rattle.std.specs.Prelude.{nat_eq, if◌then◌else◌, IfSome, IsSomeAnd}
 use Rattle.command_words.specs.declared.command.Command.{Command}
 use Rattle.command_words.specs.declared.command.Command.TheVariants.{Run, Resume, Log, Graph, Check}
@@ -10,6 +10,8 @@ use Rattle.model_syntax.proofs.FirstFaultLaws.{faultless_or_fault}
 use Rattle.model_run.specs.declared.result.BuildResult.{BuildResult}
 use Rattle.model_run.specs.declared.result.BuildResult.TheVariants.{Success, Unstable, Failure, NotBuilt, Aborted}
 use Rattle.model_run.specs.declared.site.Site.{Site}
+use Rattle.model_run.specs.declared.event.Event.{Event}
+use Rattle.model_run.specs.State.{Setting}
 use Rattle.model_run.specs.World.{Build}
 use Rattle.store_laws.specs.Store.{Mean}
 use Rattle.script_run.specs.Standing.{script_setting}
@@ -17,8 +19,9 @@ use Rattle.run_command.specs.Files.{HasFault, HasSite, IsRefused, by_fault, by_l
 use Rattle.run_command.specs.Statuses.{HasRun, result_status, world_status, HasLog}
 use Rattle.run_command.specs.Inputs.{Input}
 use Rattle.run_command.proofs.StatusLemmas.{ended_status, going_status}
+use Rattle.build_commands.specs.Living.{Finished}
 use Rattle.build_commands.specs.Plans.{Hold}
-use Rattle.controller.specs.Call.{Call, Is}
+use Rattle.controller.specs.Call.{Call, Devices, Is}
 use Rattle.controller.specs.FirstFault.{TellsFault}
 
 -- the first three letters of a word, in one number
@@ -61,10 +64,10 @@ both_given (p ∷ (v ∷ (n ∷ []))) a b f g x y = same_command a b (x.0 ∙ sy
 both_given (p ∷ (v ∷ (n ∷ (m ∷ more)))) a b f g x y = absurd x
 
 -- the words are one command
-pub one_command : {D : Type 0} (c : Call D) (a b : Command) → Is a c → Is b c → a ≡ b
+pub one_command : {D H A : Type 0} (c : Call D H A) (a b : Command) → Is a c → Is b c → a ≡ b
 one_command c a b x y = both_given c.words a b x.0 y.0 x.1 y.1
 
-pub is_command : {D : Type 0} (c : Call D) (a : Command) → Is a c → IsCommand c.words
+pub is_command : {D H A : Type 0} (c : Call D H A) (a : Command) → Is a c → IsCommand c.words
 is_command c a is = (a, is.0, is.1)
 
 -- the statuses of calls that did not do what the command is for
@@ -145,3 +148,9 @@ where_told (Some file) P all = all file refl
 pub some_and : {X : Type 0} (o : Option X) (P Q : X → Type 0) → ((x : X) → P x → Q x) → IsSomeAnd o P → IsSomeAnd o Q
 some_and None P Q more holds = absurd holds
 some_and (Some x) P Q more holds = more x holds
+
+-- a life over a build of this setting, from these events on, has finished with this status
+abbrev pub FinishedIn : {D H A : Type 0} → Devices D H A → Call D H A → Setting → D → List Event → ℕ → Type 0
+FinishedIn v c setting origin before n =
+    Finished v.reads v.may_leave v.clock v.since v.honest v.host_faults v.calls v.launches v.dirs v.output v.exited v.left v.source_faults (max setting.site.looks 1)
+    setting (v.reads c.disk) origin before c.hosts c.hosts_now c.answers c.answers_now c.now (v.faults origin) (v.faults c.now) c.old c.new c.sink_before c.sink_after n

@@ -4,14 +4,14 @@ use Rattle.device_faults.specs.Faults.{Rose}
 use Rattle.model_run.specs.declared.result.BuildResult.TheVariants.{Success}
 use Rattle.run_command.specs.Files.{HasFault, HasSite, IsRefused, OfFiles}
 use Rattle.run_command.specs.Statuses.{HasRun}
-use Rattle.run_command.specs.Inputs.{HasFailed, IsUnread}
+use Rattle.run_command.specs.Inputs.{HasFailed}
 use Rattle.build_commands.specs.Checking.{Checks}
 use Rattle.build_commands.specs.Checking as checking
 use Rattle.build_commands.specs.Plans.{AreCalm, Faults, RefusesFiles}
 use Rattle.build_commands.specs.Plans as plan
 use Rattle.build_commands.specs.Texts.{ok_text}
 use Rattle.build_commands.specs.Writing as writing
-use Rattle.controller.specs.Call.{AreRead, Call, Tells, WithFiles}
+use Rattle.controller.specs.Call.{AreRead, Call, Devices, IsUnled, Tells, WithFiles}
 use Rattle.controller.specs.Causes.{CheckCauses}
 use Rattle.controller.specs.FirstFault.{JudgesFiles, TellsFault}
 use Rattle.controller.specs.Output.{Says}
@@ -19,7 +19,7 @@ use Rattle.controller.proofs.CallLemmas.{unrun, run_untold, built_not_refused, b
 use Rattle.controller.proofs.RunLemmas.{files_told, files_tell, files_want, files_failed, files_other, files_uncalm}
 use Rattle.controller.proofs.TextLemmas.{written, written_run, says_unrun, files_say}
 
-module _ {D : Type 0} (c : Call D) where
+module _ {D H A : Type 0} (c : Call D H A) where
   abbrev ChecksSo : ℕ → Type 0
   ChecksSo n = Checks c.script c.agents c.old c.new c.sink_before c.sink_after n
 
@@ -75,13 +75,12 @@ module _ {D : Type 0} (c : Call D) where
   works (checking.sound give writes) read quiet = λ script agents at_s at_a site sound. ⊎_elim (λ zero. inl zero) (λ failed. absurd (quiet failed.1)) (written writes)
   works (checking.refused refused tells) read quiet = λ script agents at_s at_a site sound. inr (files_want c refused read script agents at_s at_a site sound)
 
-  unread_told : {n : ℕ} → c.now ≡ c.disk → IsUnread c.answers → ChecksSo n → ¬ (AreCalm c.script c.agents) → (n ≡ 6) × (c.now ≡ c.disk) × IsUnread c.answers
-  unread_told same unread (checking.sound give writes) other = absurd (other give.calm)
-  unread_told same unread (checking.refused refused tells) other = (files_uncalm c refused other, same, unread)
+  unread_told : {n : ℕ} → c.now ≡ c.disk → IsUnled c → ChecksSo n → ¬ (AreCalm c.script c.agents) → (n ≡ 6) × (c.now ≡ c.disk) × IsUnled c
+  unread_told same unled (checking.sound give writes) other = absurd (other give.calm)
+  unread_told same unled (checking.refused refused tells) other = (files_uncalm c refused other, same, unled)
 
-  pub check_causes : {reads : D → Option (List ℕ)} {may_leave : D → List ℕ → Type 0} {clock : D → ℕ} {since : D → ℕ → List ℕ → Type 0} {faults : D → ℕ} → c.now ≡ c.disk → IsUnread c.answers → ChecksSo c.status
-      → CheckCauses reads may_leave clock since faults c
-  check_causes same unread checks = record { known = known checks; source = source checks; unread = unread_told same unread checks; sink = sink checks; works = works checks }
+  pub check_causes : {v : Devices D H A} → c.now ≡ c.disk → IsUnled c → ChecksSo c.status → CheckCauses v c
+  check_causes same unled checks = record { known = known checks; source = source checks; unread = unread_told same unled checks; sink = sink checks; works = works checks }
 
   pub check_known : {n : ℕ} → ChecksSo n → n ≡ 2 → ⊥
   check_known {n = n} (checking.sound give writes) two = unrun 2 n two refl (sound_run writes)

@@ -5,5 +5,8 @@ mod RunLemmas
 mod ResumeLemmas
 mod ShowLemmas
 mod CheckLemmas
+mod SiteLemmas
+mod SeatLemmas
+mod LaunchLemmas
 mod HeadlineLemmas
 mod Reading

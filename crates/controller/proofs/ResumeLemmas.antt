@@ -1,26 +1,27 @@
 -- The parts of a call's contract for `resume`, from its tables.
 use Rattle.std.proofs.Common.{◌≡◌, ◌⊎◌, ℕ, List, [], ◌++◌, Option, Some, inl, inr, refl, ap, subst, arith}
 use Rattle.std.specs.Prelude.{IfSome, IsSome, is_some}
+use Rattle.std.proofs.Math.Logic.{∥∥₁_map}
 use Rattle.device_faults.specs.Faults.{Rose}
+use Rattle.jp_disk.specs.Moments.{AtEachMoment}
 use Rattle.jp_disk.proofs.MomentLemmas.{if_told}
 use Rattle.model_run.specs.declared.event.Event.{Event}
 use Rattle.model_run.specs.State.{Setting}
 use Rattle.run_command.specs.Statuses.{HasRun}
-use Rattle.run_command.specs.Inputs.{HasFailed, IsUnread}
-use Rattle.build_commands.specs.Finishing.{Finishes}
+use Rattle.run_command.specs.Inputs.{HasFailed}
 use Rattle.build_commands.specs.Resuming.{IsUntouched, NotOpened, Resumes, Reopens}
 use Rattle.build_commands.specs.Resuming as resume
 use Rattle.build_commands.specs.Showing.{HasBuild, HasNone, NotTold}
 use Rattle.build_commands.specs.Showing as showing
-use Rattle.controller.specs.Call.{Call, Finds, Tells}
+use Rattle.controller.specs.Call.{Call, Devices, Finds, IsUnled, Tells, answered}
 use Rattle.controller.specs.Causes.{AllCalm, HasWorked, ResumeCauses, Unopened, WentOn}
 use Rattle.controller.specs.Commands.{ResumesBy}
-use Rattle.controller.specs.Crash.{Lasts, Stays, TakesUpTo}
+use Rattle.controller.specs.Crash.{LastsResume, Stays}
 use Rattle.controller.specs.FirstFault.{TellsFault}
 use Rattle.controller.specs.Output.{Delivers, Says}
-use Rattle.controller.proofs.CallLemmas.{unrun, untold}
-use Rattle.controller.proofs.LifeLemmas.{gone, finish_delivers, finish_went, finish_worked}
-use Rattle.controller.proofs.RunLemmas.{reports_untold, reports_answers, reports_disk, reports_sink, reports_build, reports_calm, reports_usage}
+use Rattle.controller.proofs.CallLemmas.{FinishedIn, unrun, untold}
+use Rattle.controller.proofs.LifeLemmas.{gone, finish_delivers, finish_went}
+use Rattle.controller.proofs.RunLemmas.{reports_untold, reports_answers, reports_disk, reports_sink, reports_build, reports_calm, reports_usage, reports_worked}
 use Rattle.controller.proofs.TextLemmas.{reports_say, not_told_says, says_unrun}
 
 -- a store does not have a build and none
@@ -60,108 +61,115 @@ not_told_always (showing.no_memory calm) = inr (inl refl)
 not_told_unrun : {stored : Option (List ℕ)} {a b n : ℕ} {text : List ℕ} → NotTold stored a b n text → HasRun n → ⊥
 not_told_unrun why run = says_unrun (not_told_says why) run
 
-module _ {D : Type 0} (reads : D → Option (List ℕ)) (may_leave : D → List ℕ → Type 0) (clock : D → ℕ) (since : D → ℕ → List ℕ → Type 0) (faults : D → ℕ) (told_image : (d : D) → IfSome (reads d) (λ file. may_leave d file)) (c : Call D) where
+module _ {D H A : Type 0} (v : Devices D H A) (told_image : (d : D) → IfSome (v.reads d) (λ file. v.may_leave d file)) (c : Call D H A) where
   abbrev ReopensSo : ℕ → Type 0
-  ReopensSo n = Reopens reads may_leave clock since faults c.disk c.now c.answers c.old c.new c.sink_before c.sink_after n
+  ReopensSo n = Reopens v.reads v.may_leave v.clock v.since v.faults v.honest v.host_faults v.calls v.launches v.dirs v.output v.exited v.left v.source_faults c.hosts c.hosts_now c.answers c.answers_now
+      c.disk c.now c.old c.new c.sink_before c.sink_after n
 
   abbrev ResumesSo : Setting → List Event → ℕ → Type 0
-  ResumesSo setting events n = Resumes reads may_leave clock since faults setting events c.answers.left c.answers.rest c.disk c.now c.answers.before c.answers.after c.old c.new c.sink_before c.sink_after n
+  ResumesSo setting events n = Resumes v.reads v.may_leave v.clock v.since v.faults v.honest v.host_faults v.calls v.launches v.dirs v.output v.exited v.left v.source_faults c.hosts c.hosts_now c.answers c.answers_now
+      setting events c.disk c.now c.old c.new c.sink_before c.sink_after n
 
   -- over any store
   pub resume_says : {n : ℕ} → ReopensSo n → HasRun n ⊎ ((text : List ℕ) × Says n text × Tells text c)
-  resume_says (resume.unopened {text = text} unread same why tells) = inr (text, not_told_says why, tells)
-  resume_says (resume.goes_on has reports) = reports_say reports
+  resume_says (resume.unopened {text = text} unled same why tells) = inr (text, not_told_says why, tells)
+  resume_says (resume.goes_on has stay reports) = reports_say reports
 
   pub resume_untold : {n : ℕ} → ReopensSo n → TellsFault n → ⊥
-  resume_untold (resume.unopened unread same why tells) is = not_told_untold why is
-  resume_untold (resume.goes_on has reports) is = reports_untold reports is
+  resume_untold (resume.unopened unled same why tells) is = not_told_untold why is
+  resume_untold (resume.goes_on has stay reports) is = reports_untold reports is
 
   pub resume_known : {n : ℕ} → ReopensSo n → n ≡ 2 → ⊥
-  resume_known (resume.unopened unread same why tells) two = (not_told_other why).2 two
-  resume_known (resume.goes_on has reports) two = reports_usage reports two
+  resume_known (resume.unopened unled same why tells) two = (not_told_other why).2 two
+  resume_known (resume.goes_on has stay reports) two = reports_usage reports two
 
-  answers_failed : {n : ℕ} → ReopensSo n → n ≡ 6 → HasFailed c.answers
-  answers_failed (resume.unopened unread same why tells) six = absurd ((not_told_other why).0 six)
-  answers_failed (resume.goes_on has reports) six = reports_answers reports six
+  answers_failed : {n : ℕ} → ReopensSo n → n ≡ 6 → HasFailed (answered v c)
+  answers_failed (resume.unopened unled same why tells) six = absurd ((not_told_other why).0 six)
+  answers_failed (resume.goes_on has stay reports) six = reports_answers reports six
 
-  disk_failed : {n : ℕ} → ReopensSo n → n ≡ 5 → Rose (faults c.disk) (faults c.now)
-  disk_failed (resume.unopened unread same why tells) five = not_told_disk why five
-  disk_failed (resume.goes_on has reports) five = reports_disk reports five
+  disk_failed : {n : ℕ} → ReopensSo n → n ≡ 5 → Rose (v.faults c.disk) (v.faults c.now)
+  disk_failed (resume.unopened unled same why tells) five = not_told_disk why five
+  disk_failed (resume.goes_on has stay reports) five = reports_disk reports five
 
   sink_failed : {n : ℕ} → ReopensSo n → n ≡ 7 → Rose c.sink_before c.sink_after
-  sink_failed (resume.unopened unread same why tells) seven = absurd ((not_told_other why).1 seven)
-  sink_failed (resume.goes_on has reports) seven = reports_sink reports seven
+  sink_failed (resume.unopened unled same why tells) seven = absurd ((not_told_other why).1 seven)
+  sink_failed (resume.goes_on has stay reports) seven = reports_sink reports seven
 
-  none : {n : ℕ} → ReopensSo n → n ≡ 9 → (text : List ℕ) × NotTold (reads c.disk) (faults c.disk) (faults c.now) n text × Tells text c
-  none (resume.unopened {text = text} unread same why tells) nine = (text, why, tells)
-  none (resume.goes_on has reports) nine = absurd (reports_build reports nine)
+  none : {n : ℕ} → ReopensSo n → n ≡ 9 → (text : List ℕ) × NotTold (v.reads c.disk) (v.faults c.disk) (v.faults c.now) n text × Tells text c
+  none (resume.unopened {text = text} unled same why tells) nine = (text, why, tells)
+  none (resume.goes_on has stay reports) nine = absurd (reports_build reports nine)
 
-  pub resume_unread : {n : ℕ} → ReopensSo n → n ≡ 9 → IsUnread c.answers
-  resume_unread (resume.unopened unread same why tells) nine = unread
-  resume_unread (resume.goes_on has reports) nine = absurd (reports_build reports nine)
+  pub resume_unread : {n : ℕ} → ReopensSo n → n ≡ 9 → IsUnled c
+  resume_unread (resume.unopened unled same why tells) nine = unled
+  resume_unread (resume.goes_on has stay reports) nine = absurd (reports_build reports nine)
 
-  finds_none : {n : ℕ} → ReopensSo n → (file : List ℕ) → reads c.disk ≡ Some file → HasNone file → ((n ≡ 9) ⊎ (n ≡ 8) ⊎ (n ≡ 5)) × IsUntouched reads may_leave clock since c.disk c.now × IsUnread c.answers
-  finds_none (resume.unopened unread same why tells) file told is = (not_told_always why, same, unread)
-  finds_none (resume.goes_on has reports) file told is = absurd (both file (if_told HasBuild told has) is)
+  finds_none : {n : ℕ} → ReopensSo n → (file : List ℕ) → v.reads c.disk ≡ Some file → HasNone file → ((n ≡ 9) ⊎ (n ≡ 8) ⊎ (n ≡ 5)) × IsUntouched v.reads v.may_leave v.clock v.since c.disk c.now × IsUnled c
+  finds_none (resume.unopened unled same why tells) file told is = (not_told_always why, same, unled)
+  finds_none (resume.goes_on has stay reports) file told is = absurd (both file (if_told HasBuild told has) is)
 
-  shown_calm : {n : ℕ} → ReopensSo n → HasRun n → faults c.now ≡ faults c.disk
-  shown_calm (resume.unopened unread same why tells) run = absurd (not_told_unrun why run)
-  shown_calm (resume.goes_on has reports) run = reports_calm reports run
+  shown_calm : {n : ℕ} → ReopensSo n → HasRun n → v.faults c.now ≡ v.faults c.disk
+  shown_calm (resume.unopened unled same why tells) run = absurd (not_told_unrun why run)
+  shown_calm (resume.goes_on has stay reports) run = reports_calm reports run
 
   -- over a consistent one
   module _ (setting : Setting) (events : List Event) where
-    abbrev FinishesSo : D → ℕ → Type 0
-    FinishesSo opened n = Finishes reads may_leave clock since setting (reads c.disk) opened events c.answers.left c.answers.rest c.now (faults opened) (faults c.now) c.answers.before c.answers.after c.old c.new c.sink_before c.sink_after n
+    abbrev FinishedSo : D → ℕ → Type 0
+    FinishedSo opened n = FinishedIn v c setting opened events n
 
-    delivered : {n : ℕ} → ResumesSo setting events n → n ≡ c.status → HasRun n → (more : List Event) × Delivers reads may_leave setting events (events ++ more) c
-    delivered (resume.refused unread same why tells) is run = absurd (opened_unrun why run)
-    delivered (resume.went_on opened up_to same finishes) is run =
-        finish_delivers reads may_leave clock since faults told_image setting opened events c same (subst (FinishesSo opened) is finishes) (subst HasRun is run)
+    delivered : {n : ℕ} → ResumesSo setting events n → n ≡ c.status → HasRun n → ∥ ((more : List Event) × Delivers v setting events (events ++ more) c) ∥₁
+    delivered (resume.refused unled same why tells) is run = absurd (opened_unrun why run)
+    delivered (resume.went_on opened up_to same reports finishes) is run =
+        ∥∥₁_map (subst (λ (m : ℕ). ∥ FinishedSo opened m ∥₁) is finishes) (λ f. finish_delivers v told_image setting opened events c same f (subst HasRun is run))
 
-    lasts : {n : ℕ} → ResumesSo setting events n → n ≡ c.status → IsSome (reads c.disk)
-        → Stays reads may_leave clock since faults c ⊎ ((taken : List Event) × (risked : Option Event) × TakesUpTo reads may_leave clock since faults setting events taken risked c × Lasts reads may_leave clock since faults setting events taken risked c)
-    lasts (resume.refused unread same why tells) is known = inl same.moments
-    lasts (resume.went_on opened up_to same finishes) is known =
-        let g = gone reads may_leave clock since faults told_image setting opened events c same (subst (FinishesSo opened) is finishes) in
-        inr (g.taken, g.risked, record { takes = g.takes; next = g.next }, record { origin = opened; up_to = up_to; from_then = g.moments known; at_end = g.images known; sure = g.sure; shown = g.shown })
+    lasts_by : IsSome (v.reads c.disk) → (opened : D) → AtEachMoment v.clock v.since c.disk opened (v.may_leave c.disk) → v.faults opened ≡ v.faults c.disk → FinishedSo opened c.status → LastsResume v setting events c
+    lasts_by known opened up_to same finishes =
+        let g = gone v told_image setting opened events c same finishes in
+        record {
+          taken = g.taken;
+          risked = g.risked;
+          takes = record { takes = g.takes; next = g.next };
+          lasts = record { origin = opened; up_to = up_to; from_then = g.moments known; at_end = g.images known; sure = g.sure; shown = g.shown };
+        }
 
-    opened_why : {n : ℕ} {text : List ℕ} → NotOpened events (faults c.disk) (faults c.now) n text → (n ≡ 9) ⊎ (n ≡ 5) ⊎ (n ≡ 8)
+    lasts : {n : ℕ} → ResumesSo setting events n → n ≡ c.status → IsSome (v.reads c.disk) → Stays v c ⊎ ∥ LastsResume v setting events c ∥₁
+    lasts (resume.refused unled same why tells) is known = inl same.moments
+    lasts (resume.went_on opened up_to same reports finishes) is known = inr (∥∥₁_map (subst (λ (m : ℕ). ∥ FinishedSo opened m ∥₁) is finishes) (lasts_by known opened up_to same))
+
+    opened_why : {n : ℕ} {text : List ℕ} → NotOpened events (v.faults c.disk) (v.faults c.now) n text → (n ≡ 9) ⊎ (n ≡ 5) ⊎ (n ≡ 8)
     opened_why (resume.no_build none) = inl refl
     opened_why (resume.disk_failed rose) = inr (inl refl)
     opened_why resume.no_memory = inr (inr refl)
 
-    went : {n : ℕ} → ResumesSo setting events n → n ≡ c.status → Unopened reads may_leave clock since faults c ⊎ WentOn reads may_leave clock since faults setting events c
-    went (resume.refused unread same why tells) is = inl (record { why = subst (λ (m : ℕ). (m ≡ 9) ⊎ (m ≡ 5) ⊎ (m ≡ 8)) is (opened_why why); disk = same; unread = unread })
-    went (resume.went_on opened up_to same finishes) is = inr (finish_went reads may_leave clock since faults told_image setting opened events c same (subst (FinishesSo opened) is finishes))
+    went : {n : ℕ} → ResumesSo setting events n → n ≡ c.status → Unopened v c ⊎ ∥ WentOn v setting events c ∥₁
+    went (resume.refused unled same why tells) is = inl (record { why = subst (λ (m : ℕ). (m ≡ 9) ⊎ (m ≡ 5) ⊎ (m ≡ 8)) is (opened_why why); disk = same; unled = unled })
+    went (resume.went_on opened up_to same reports finishes) is = inr (∥∥₁_map (subst (λ (m : ℕ). ∥ FinishedSo opened m ∥₁) is finishes) (finish_went v told_image setting opened events c same))
 
-    not_opened_works : {n : ℕ} {text : List ℕ} → NotOpened events (faults c.disk) (faults c.now) n text → AllCalm reads may_leave clock since faults c → ¬ (events ≡ []) → HasWorked n
+    not_opened_works : {n : ℕ} {text : List ℕ} → NotOpened events (v.faults c.disk) (v.faults c.now) n text → AllCalm v c → ¬ (events ≡ []) → HasWorked n
     not_opened_works (resume.no_build none) calm some = absurd (some none)
     not_opened_works (resume.disk_failed rose) calm some = absurd (calm.disk rose)
     not_opened_works resume.no_memory calm some = inr (inl refl)
 
-    works : {n : ℕ} → ResumesSo setting events n → n ≡ c.status → AllCalm reads may_leave clock since faults c → ¬ (events ≡ []) → HasWorked c.status
-    works (resume.refused unread same why tells) is calm some = subst HasWorked is (not_opened_works why calm some)
-    works (resume.went_on opened up_to same finishes) is calm some =
-        finish_worked reads may_leave clock since faults told_image setting opened events c same (subst (FinishesSo opened) is finishes) calm
+    works : {n : ℕ} → ResumesSo setting events n → n ≡ c.status → AllCalm v c → ¬ (events ≡ []) → HasWorked c.status
+    works (resume.refused unled same why tells) is calm some = subst HasWorked is (not_opened_works why calm some)
+    works (resume.went_on opened up_to same reports finishes) is calm some = subst HasWorked is (reports_worked reports calm.disk calm.answers calm.sink)
 
-  module _ (by : ResumesBy reads may_leave clock since faults c) where
-    here : (setting : Setting) (events : List Event) → Finds reads setting events c → ResumesSo setting events c.status
+  module _ (by : ResumesBy v c) where
+    here : (setting : Setting) (events : List Event) → Finds v setting events c → ResumesSo setting events c.status
     here setting events finds = by.resumes finds.file finds.told setting events finds.stores
 
-    pub resume_outputs : HasRun c.status → (setting : Setting) (events : List Event) → Finds reads setting events c → (more : List Event) × Delivers reads may_leave setting events (events ++ more) c
+    pub resume_outputs : HasRun c.status → (setting : Setting) (events : List Event) → Finds v setting events c → ∥ ((more : List Event) × Delivers v setting events (events ++ more) c) ∥₁
     resume_outputs run setting events finds = delivered setting events (here setting events finds) refl run
 
     -- a store that was not opened has each byte
-    untouched : {n : ℕ} → ReopensSo n → n ≡ 9 → IsUntouched reads may_leave clock since c.disk c.now
-    untouched (resume.unopened unread same why tells) nine = same
-    untouched (resume.goes_on has reports) nine = absurd (reports_build reports nine)
+    untouched : {n : ℕ} → ReopensSo n → n ≡ 9 → IsUntouched v.reads v.may_leave v.clock v.since c.disk c.now
+    untouched (resume.unopened unled same why tells) nine = same
+    untouched (resume.goes_on has stay reports) nine = absurd (reports_build reports nine)
 
-    pub resume_crashes : (c.status ≡ 9 → IsUntouched reads may_leave clock since c.disk c.now)
-        × ((setting : Setting) (events : List Event) → Finds reads setting events c
-        → Stays reads may_leave clock since faults c ⊎ ((taken : List Event) × (risked : Option Event) × TakesUpTo reads may_leave clock since faults setting events taken risked c × Lasts reads may_leave clock since faults setting events taken risked c))
+    pub resume_crashes : (c.status ≡ 9 → IsUntouched v.reads v.may_leave v.clock v.since c.disk c.now)
+        × ((setting : Setting) (events : List Event) → Finds v setting events c → Stays v c ⊎ ∥ LastsResume v setting events c ∥₁)
     resume_crashes = (untouched by.reopens, λ setting events finds. lasts setting events (here setting events finds) refl (ap is_some finds.told))
 
-    pub resume_causes : ResumeCauses reads may_leave clock since faults c
+    pub resume_causes : ResumeCauses v c
     resume_causes = record {
       answers = answers_failed by.reopens;
       disk = disk_failed by.reopens;

@@ -2,6 +2,7 @@
 use Rattle.std.proofs.Common.{◌≡◌, ◌⊎◌, ◌+◌, ◌<◌, ◌≤◌, ◌^◌, ℕ, List, [], ◌∷◌, ◌++◌, Option, None, Some, inl, inr, refl, sym, ap, ◌∙◌, subst, append_assoc, ⊎_elim, arith}
 use Rattle.std.specs.Prelude.{IfSome, IsSome, IsSomeAnd, is_some}
 use Rattle.std.specs.Io.KnownBytes.{IsAtEnd}
+use Rattle.std.proofs.Math.Logic.{∥∥₁_map}
 use Rattle.build_commands.specs.Texts.{full_text, has_build_text}
 use Rattle.device_faults.specs.Faults.{Rose, CountsFault}
 use Rattle.jp_disk.specs.Images.{IsOnlyImage}
@@ -26,22 +27,22 @@ use Rattle.store_laws.specs.Store.{AllSpell, Mean, events_of}
 use Rattle.saved_run.specs.Lives.{BeginRefuses, StartFails, MayRisk, TellsStart}
 use Rattle.saved_run.specs.Saved.{Stores, Survives}
 use Rattle.run_command.specs.Files.{HasFault, HasSite, IsRefused, by_fault, by_length, OfFiles, Builds}
-use Rattle.run_command.specs.Statuses.{HasRun}
-use Rattle.run_command.specs.Inputs.{HasFailed, IsUnread}
-use Rattle.build_commands.specs.Beginning.{BeginSays, BeginsOver, Runs}
+use Rattle.run_command.specs.Statuses.{HasLog, HasRun}
+use Rattle.run_command.specs.Inputs.{HasFailed}
+use Rattle.build_commands.specs.Beginning.{BeginSays, BeginsOver}
 use Rattle.build_commands.specs.Beginning as begin
-use Rattle.build_commands.specs.Finishing.{Finishes}
 use Rattle.build_commands.specs.Plans.{AreCalm, Faults, Hold, RefusesFiles}
 use Rattle.build_commands.specs.Plans as plan
 use Rattle.build_commands.specs.Reporting.{Reports}
 use Rattle.build_commands.specs.Reporting as report
-use Rattle.controller.specs.Call.{AreRead, Call, Tells, WithFiles}
+use Rattle.controller.specs.Call.{AreRead, Call, Devices, IsUnled, Tells, WithFiles, answered}
 use Rattle.controller.specs.Causes.{AllCalm, HasWorked, IsFullAtOnce, LeavesAll, RunCauses, RunWentOn, Unbegun}
+use Rattle.controller.specs.Commands.{RunsBy}
 use Rattle.controller.specs.Crash.{LastsRun, Stays}
 use Rattle.controller.specs.FirstFault.{TellsFault, JudgesFiles}
 use Rattle.controller.specs.Output.{DeliversRun, Says}
-use Rattle.controller.proofs.CallLemmas.{unrun, seven_no_log, untold, run_untold, built_not_refused, built_site, site_no_fault, mean_of, of_files, some_and}
-use Rattle.controller.proofs.LifeLemmas.{gone, finish_delivers, finish_went, finish_worked}
+use Rattle.controller.proofs.CallLemmas.{FinishedIn, unrun, seven_no_log, untold, run_untold, built_not_refused, built_site, site_no_fault, mean_of, of_files, some_and}
+use Rattle.controller.proofs.LifeLemmas.{gone, finish_delivers, finish_went}
 use Rattle.controller.proofs.TextLemmas.{written, written_run, says_unrun, files_say, begin_says, reports_say}
 
 -- a front of nothing is nothing
@@ -50,7 +51,7 @@ nothing_front [] rest is = refl
 nothing_front (e ∷ es) rest is = absurd (cc)
 
 -- files that are judged: what is told of them
-module _ {D : Type 0} (c : Call D) where
+module _ {D H A : Type 0} (c : Call D H A) where
   pub files_told : {n : ℕ} {text : List ℕ} → RefusesFiles c.script c.agents n text → Tells text c → TellsFault n
       → AreCalm c.script c.agents × WithFiles c (λ script agents. (t : List ℕ) × Faults script agents n t × Tells t c)
   files_told (plan.unread failed) tells is = absurd (untold 6 6 refl (λ e. omega (arith, e)) (λ e. omega (arith, e)) is)
@@ -125,52 +126,60 @@ module _ {a b x y d e : ℕ} {old new : Option (List ℕ)} where
   pub reports_untold : {n : ℕ} → Reports a b x y old new d e n → TellsFault n → ⊥
   reports_untold {n = n} (report.rested quiet log writes) is = run_untold n (written_run log writes) is
   reports_untold (report.answers_failed calm rose tells) is = untold 6 6 refl (λ e. omega (arith, e)) (λ e. omega (arith, e)) is
-  reports_untold (report.disk_failed rose calm tells) is = untold 5 5 refl (λ e. omega (arith, e)) (λ e. omega (arith, e)) is
-  reports_untold (report.full len event image quiet long tells) is = untold 14 14 refl (λ e. omega (arith, e)) (λ e. omega (arith, e)) is
+  reports_untold (report.disk_failed rose tells) is = untold 5 5 refl (λ e. omega (arith, e)) (λ e. omega (arith, e)) is
+  reports_untold (report.full len add quiet tells) is = untold 14 14 refl (λ e. omega (arith, e)) (λ e. omega (arith, e)) is
   reports_untold (report.no_memory quiet tells) is = untold 8 8 refl (λ e. omega (arith, e)) (λ e. omega (arith, e)) is
 
   pub reports_answers : {n : ℕ} → Reports a b x y old new d e n → n ≡ 6 → Rose x y
   reports_answers {n = n} (report.rested quiet log writes) six = absurd (unrun 6 n six refl (written_run log writes))
   reports_answers (report.answers_failed calm rose tells) six = rose
-  reports_answers (report.disk_failed rose calm tells) six = absurd (omega (arith, six))
-  reports_answers (report.full len event image quiet long tells) six = absurd (omega (arith, six))
+  reports_answers (report.disk_failed rose tells) six = absurd (omega (arith, six))
+  reports_answers (report.full len add quiet tells) six = absurd (omega (arith, six))
   reports_answers (report.no_memory quiet tells) six = absurd (omega (arith, six))
 
   pub reports_disk : {n : ℕ} → Reports a b x y old new d e n → n ≡ 5 → Rose a b
   reports_disk {n = n} (report.rested quiet log writes) five = absurd (unrun 5 n five refl (written_run log writes))
   reports_disk (report.answers_failed calm rose tells) five = absurd (omega (arith, five))
-  reports_disk (report.disk_failed rose calm tells) five = rose
-  reports_disk (report.full len event image quiet long tells) five = absurd (omega (arith, five))
+  reports_disk (report.disk_failed rose tells) five = rose
+  reports_disk (report.full len add quiet tells) five = absurd (omega (arith, five))
   reports_disk (report.no_memory quiet tells) five = absurd (omega (arith, five))
 
   pub reports_sink : {n : ℕ} → Reports a b x y old new d e n → n ≡ 7 → Rose d e
   reports_sink {n = n} (report.rested {ended = m} quiet log writes) seven = ⊎_elim (λ is. absurd (seven_no_log m (sym is ∙ seven) log)) (λ failed. failed.1) (written writes)
   reports_sink (report.answers_failed calm rose tells) seven = absurd (omega (arith, seven))
-  reports_sink (report.disk_failed rose calm tells) seven = absurd (omega (arith, seven))
-  reports_sink (report.full len event image quiet long tells) seven = absurd (omega (arith, seven))
+  reports_sink (report.disk_failed rose tells) seven = absurd (omega (arith, seven))
+  reports_sink (report.full len add quiet tells) seven = absurd (omega (arith, seven))
   reports_sink (report.no_memory quiet tells) seven = absurd (omega (arith, seven))
 
   pub reports_build : {n : ℕ} → Reports a b x y old new d e n → n ≡ 9 → ⊥
   reports_build {n = n} (report.rested quiet log writes) nine = unrun 9 n nine refl (written_run log writes)
   reports_build (report.answers_failed calm rose tells) nine = omega (arith, nine)
-  reports_build (report.disk_failed rose calm tells) nine = omega (arith, nine)
-  reports_build (report.full len event image quiet long tells) nine = omega (arith, nine)
+  reports_build (report.disk_failed rose tells) nine = omega (arith, nine)
+  reports_build (report.full len add quiet tells) nine = omega (arith, nine)
   reports_build (report.no_memory quiet tells) nine = omega (arith, nine)
 
   pub reports_usage : {n : ℕ} → Reports a b x y old new d e n → n ≡ 2 → ⊥
   reports_usage {n = n} (report.rested quiet log writes) two = unrun 2 n two refl (written_run log writes)
   reports_usage (report.answers_failed calm rose tells) two = omega (arith, two)
-  reports_usage (report.disk_failed rose calm tells) two = omega (arith, two)
-  reports_usage (report.full len event image quiet long tells) two = omega (arith, two)
+  reports_usage (report.disk_failed rose tells) two = omega (arith, two)
+  reports_usage (report.full len add quiet tells) two = omega (arith, two)
   reports_usage (report.no_memory quiet tells) two = omega (arith, two)
 
 -- where a log was shown the disk counted no fault
 pub reports_calm : {a b x y d e : ℕ} {old new : Option (List ℕ)} {n : ℕ} → Reports a b x y old new d e n → HasRun n → b ≡ a
-reports_calm (report.rested quiet log writes) run = quiet.0
+reports_calm (report.rested quiet log writes) run = quiet
 reports_calm (report.answers_failed calm rose tells) run = calm
-reports_calm (report.disk_failed rose calm tells) run = absurd (unrun 5 5 refl refl run)
-reports_calm (report.full len event image quiet long tells) run = quiet.0
-reports_calm (report.no_memory quiet tells) run = quiet.0
+reports_calm (report.disk_failed rose tells) run = absurd (unrun 5 5 refl refl run)
+reports_calm (report.full len add quiet tells) run = absurd (unrun 14 14 refl refl run)
+reports_calm (report.no_memory quiet tells) run = absurd (unrun 8 8 refl refl run)
+
+-- where no device counted a fault, it has worked
+pub reports_worked : {a b x y d e : ℕ} {old new : Option (List ℕ)} {n : ℕ} → Reports a b x y old new d e n → ¬ (Rose a b) → ¬ (Rose x y) → ¬ (Rose d e) → HasWorked n
+reports_worked (report.rested quiet log writes) disk answers sink = ⊎_elim (λ is. inl (subst HasLog (sym is) log)) (λ failed. absurd (sink failed.1)) (written writes)
+reports_worked (report.answers_failed calm rose tells) disk answers sink = absurd (answers rose)
+reports_worked (report.disk_failed rose tells) disk answers sink = absurd (disk rose)
+reports_worked (report.full len add quiet tells) disk answers sink = inr (inr refl)
+reports_worked (report.no_memory quiet tells) disk answers sink = inr (inl refl)
 
 -- the status of a build that was not begun
 begin_untold : {f : BeginFault} {n : ℕ} {text : List ℕ} → BeginSays f n text → TellsFault n → ⊥
@@ -203,7 +212,7 @@ begin_five begin.disk_failed five = refl
 begin_five (begin.full len add) five = absurd (omega (arith, five))
 begin_five (begin.no_memory other) five = absurd (omega (arith, five))
 
-begin_disk : {f : BeginFault} {n : ℕ} {text : List ℕ} → BeginSays f n text → f ≡ fault.Take take.Disk → n ≡ 5
+pub begin_disk : {f : BeginFault} {n : ℕ} {text : List ℕ} → BeginSays f n text → f ≡ fault.Take take.Disk → n ≡ 5
 begin_disk begin.has_build is = absurd (cc)
 begin_disk begin.disk_failed is = refl
 begin_disk (begin.full len add) is = absurd (cc)
@@ -235,38 +244,43 @@ risked_only take.Memory start risked is = inr is
 risked_only (take.Full len add) start risked is = inr is
 risked_only take.Stopped start risked is = inr is
 
-module _ {D T : Type 0} (reads : D → Option (List ℕ)) (may_leave : D → List ℕ → Type 0) (clock : D → ℕ) (since : D → ℕ → List ℕ → Type 0) (stance : T → Stance) (faults : D → ℕ)
-    (told_image : (d : D) → IfSome (reads d) (λ file. may_leave d file)) (counts_now : (d : D) (t : ℕ) (image : List ℕ) → t ≤ clock d → may_leave d image → since d t image)
-    (only_now : (d : D) (image : List ℕ) → since d (clock d) image → may_leave d image) (c : Call D) where
+module _ {D H A T : Type 0} (v : Devices D H A) (stance : T → Stance) (told_image : (d : D) → IfSome (v.reads d) (λ file. v.may_leave d file))
+    (counts_now : (d : D) (t : ℕ) (image : List ℕ) → t ≤ v.clock d → v.may_leave d image → v.since d t image) (only_now : (d : D) (image : List ℕ) → v.since d (v.clock d) image → v.may_leave d image) (c : Call D H A) where
   abbrev RunsSo : ℕ → Type 0
-  RunsSo n = Runs reads may_leave clock since stance faults c.disk c.now c.answers c.old c.new c.sink_before c.sink_after c.script c.agents n
+  RunsSo n = RunsBy v stance c n
 
-  abbrev FinishesBy : (s a : List ℕ) → Tree → Site → D → ℕ → Type 0
-  FinishesBy s a tree site started n =
-      Finishes reads may_leave clock since (script_setting tree site) (reads c.disk) started (StartEvent s a ∷ []) c.answers.left c.answers.rest c.now (faults started) (faults c.now) c.answers.before c.answers.after c.old c.new c.sink_before c.sink_after n
+  abbrev FinishedBy : (s a : List ℕ) → Tree → Site → D → ℕ → Type 0
+  FinishedBy s a tree site started n = FinishedIn v c (script_setting tree site) started (StartEvent s a ∷ []) n
 
   abbrev OverSo : (s a : List ℕ) → Tree → Site → List ℕ → D → Type 0
-  OverSo s a tree site file started = BeginsOver reads may_leave clock since stance faults c.disk c.now c.answers c.old c.new c.sink_before c.sink_after s a tree site file started
+  OverSo s a tree site file started =
+      BeginsOver v.reads v.may_leave v.clock v.since stance v.faults v.honest v.host_faults v.calls v.launches v.dirs v.output v.exited v.left v.source_faults c.disk c.now c.hosts c.hosts_now c.answers c.answers_now
+      c.old c.new c.sink_before c.sink_after s a tree site file started
 
   -- a call that left the disk as it was
-  pub stays_here : c.now ≡ c.disk → Stays reads may_leave clock since faults c
-  stays_here same = subst (λ (d : D). AtEachMoment clock since c.disk d (may_leave c.disk)) (sym same) (starts clock since c.disk (may_leave c.disk) (λ image left. only_now c.disk image left))
+  pub stays_here : c.now ≡ c.disk → Stays v c
+  stays_here same = subst (λ (d : D). AtEachMoment v.clock v.since c.disk d (v.may_leave c.disk)) (sym same) (starts v.clock v.since c.disk (v.may_leave c.disk) (λ image left. only_now c.disk image left))
 
   -- OUTPUT
-  outputs : {n : ℕ} → RunsSo n → n ≡ c.status → HasRun n → IsAtEnd c.script.rest × IsAtEnd c.agents.rest × WithFiles c (DeliversRun reads may_leave c)
-  outputs (begin.refused refused same unread tells) is run = absurd (says_unrun (files_say refused) run)
-  outputs (begin.built give (begin.unbegun unread says counts sizes refuses tells)) is run = absurd (begin_unrun says run)
-  outputs (begin.built {s = s} {a = a} {tree = tree} {site = site} give (begin.begun started same reports finishes over)) is run =
-      let d = finish_delivers reads may_leave clock since faults told_image (script_setting tree site) started (StartEvent s a ∷ []) c same (subst (λ (m : ℕ). FinishesBy s a tree site started m) is finishes) (subst HasRun is run) in
-      (give.script_ends, give.agents_end, (s, a, give.hold, record { setting = script_setting tree site; mean = mean_of give.builds; more = d.0; delivers = d.1 }))
+  delivered : (s a : List ℕ) (tree : Tree) (site : Site) → Builds s a tree site → (started : D) → v.faults started ≡ v.faults c.disk → HasRun c.status → FinishedBy s a tree site started c.status → DeliversRun v c s a
+  delivered s a tree site builds started same run finishes =
+      let d = finish_delivers v told_image (script_setting tree site) started (StartEvent s a ∷ []) c same finishes run in
+      record { setting = script_setting tree site; mean = mean_of builds; more = d.0; delivers = d.1 }
 
-  pub run_outputs : RunsSo c.status → HasRun c.status → IsAtEnd c.script.rest × IsAtEnd c.agents.rest × WithFiles c (DeliversRun reads may_leave c)
+  outputs : {n : ℕ} → RunsSo n → n ≡ c.status → HasRun n → IsAtEnd c.script.rest × IsAtEnd c.agents.rest × WithFiles c (λ script agents. ∥ DeliversRun v c script agents ∥₁)
+  outputs (begin.refused refused same unled tells) is run = absurd (says_unrun (files_say refused) run)
+  outputs (begin.built give (begin.unbegun unled says counts sizes refuses tells)) is run = absurd (begin_unrun says run)
+  outputs (begin.built {s = s} {a = a} {tree = tree} {site = site} give (begin.begun started same stay reports finishes over)) is run =
+      let here = subst (λ (m : ℕ). ∥ FinishedBy s a tree site started m ∥₁) is finishes in
+      (give.script_ends, give.agents_end, (s, a, give.hold, ∥∥₁_map here (delivered s a tree site give.builds started same (subst HasRun is run))))
+
+  pub run_outputs : RunsSo c.status → HasRun c.status → IsAtEnd c.script.rest × IsAtEnd c.agents.rest × WithFiles c (λ script agents. ∥ DeliversRun v c script agents ∥₁)
   run_outputs runs run = outputs runs refl run
 
   pub run_says : {n : ℕ} → RunsSo n → HasRun n ⊎ ((text : List ℕ) × Says n text × Tells text c)
-  run_says (begin.refused {text = text} refused same unread tells) = inr (text, files_say refused, tells)
-  run_says (begin.built {s = s} {a = a} {tree = tree} {site = site} give (begin.unbegun {text = text} unread says counts sizes refuses tells)) = inr (text, begin_says (script_setting tree site) (StartEvent s a) says sizes, tells)
-  run_says (begin.built give (begin.begun started same reports finishes over)) = reports_say reports
+  run_says (begin.refused {text = text} refused same unled tells) = inr (text, files_say refused, tells)
+  run_says (begin.built {s = s} {a = a} {tree = tree} {site = site} give (begin.unbegun {text = text} unled says counts sizes refuses tells)) = inr (text, begin_says (script_setting tree site) (StartEvent s a) says sizes, tells)
+  run_says (begin.built give (begin.begun started same stay reports finishes over)) = reports_say reports
 
   -- CRASH
   module _ (s a : List ℕ) (tree : Tree) (site : Site) (builds : Builds s a tree site) where
@@ -278,8 +292,8 @@ module _ {D T : Type 0} (reads : D → Option (List ℕ)) (may_leave : D → Lis
         same_event eq = cc
 
     -- a `Start` whose take failed
-    start_lasts : (file : List ℕ) (f : TakeFault) → (HasRun c.status → ⊥) → CountsFault (faults c.disk) (faults c.now) (fault.Take f ≡ fault.Take take.Disk)
-        → StartFails reads may_leave clock since stance (script_setting tree site) (StartEvent s a) file c.disk c.now f → LastsRun reads may_leave clock since faults c file s a
+    start_lasts : (file : List ℕ) (f : TakeFault) → (HasRun c.status → ⊥) → CountsFault (v.faults c.disk) (v.faults c.now) (fault.Take f ≡ fault.Take take.Disk)
+        → StartFails v.reads v.may_leave v.clock v.since stance (script_setting tree site) (StartEvent s a) file c.disk c.now f → LastsRun v c file s a
     start_lasts file f unrun counts fails = record {
       setting = script_setting tree site;
       mean = mean_of builds;
@@ -289,7 +303,7 @@ module _ {D T : Type 0} (reads : D → Option (List ℕ)) (may_leave : D → Lis
         origin = fails.moments.synced;
         up_to = fails.moments.up_to;
         from_then = fails.moments.from_then;
-        at_end = λ image left. kept_then image (fails.moments.from_then.each image (counts_now c.now (clock fails.moments.synced) image fails.moments.from_then.later left));
+        at_end = λ image left. kept_then image (fails.moments.from_then.each image (counts_now c.now (v.clock fails.moments.synced) image fails.moments.from_then.later left));
         sure = λ calm. ⊎_elim (λ disk. absurd (calm (counts.failed (ap (λ (x : TakeFault). fault.Take x) disk.0)))) (λ none. none) (risked_only f (StartEvent s a) fails.risked fails.may_risk);
         shown = λ run. absurd (unrun run);
       };
@@ -304,14 +318,14 @@ module _ {D T : Type 0} (reads : D → Option (List ℕ)) (may_leave : D → Lis
             survives.front.within
 
     abbrev Leaves : List ℕ → Type 0
-    Leaves file = Stays reads may_leave clock since faults c ⊎ (SinceSync clock since may_leave file c.disk c.now (λ image. records image ≡ records file) ⊎ (¬ (IsStarted file) × LastsRun reads may_leave clock since faults c file s a))
+    Leaves file = Stays v c ⊎ (SinceSync v.clock v.since v.may_leave file c.disk c.now (λ image. records image ≡ records file) ⊎ (¬ (IsStarted file) × LastsRun v c file s a))
 
-    failed_leaves : (file : List ℕ) (f : TakeFault) → (HasRun c.status → ⊥) → CountsFault (faults c.disk) (faults c.now) (fault.Take f ≡ fault.Take take.Disk)
-        → StartFails reads may_leave clock since stance (script_setting tree site) (StartEvent s a) file c.disk c.now f → Leaves file
+    failed_leaves : (file : List ℕ) (f : TakeFault) → (HasRun c.status → ⊥) → CountsFault (v.faults c.disk) (v.faults c.now) (fault.Take f ≡ fault.Take take.Disk)
+        → StartFails v.reads v.may_leave v.clock v.since stance (script_setting tree site) (StartEvent s a) file c.disk c.now f → Leaves file
     failed_leaves file f unrun counts fails = inr (inr (fails.fresh, start_lasts file f unrun counts fails))
 
-    unbegun_leaves : (file : List ℕ) (f : BeginFault) → (HasRun c.status → ⊥) → CountsFault (faults c.disk) (faults c.now) (f ≡ fault.Take take.Disk)
-        → BeginRefuses reads may_leave clock since stance (script_setting tree site) (StartEvent s a) file c.disk f c.now → Leaves file
+    unbegun_leaves : (file : List ℕ) (f : BeginFault) → (HasRun c.status → ⊥) → CountsFault (v.faults c.disk) (v.faults c.now) (f ≡ fault.Take take.Disk)
+        → BeginRefuses v.reads v.may_leave v.clock v.since stance (script_setting tree site) (StartEvent s a) file c.disk f c.now → Leaves file
     unbegun_leaves file fault.HasBuild unrun counts refuses = inr (inl refuses.3)
     unbegun_leaves file (fault.Take (take.Full len add)) unrun counts refuses = failed_leaves file (take.Full len add) unrun counts refuses.1
     unbegun_leaves file (fault.Take take.Memory) unrun counts refuses = ⊎_elim (λ stays. inl stays) (⊎_elim (λ keeps. inr (inl keeps)) (λ fails. failed_leaves file take.Memory unrun counts fails)) refuses.1
@@ -319,12 +333,12 @@ module _ {D T : Type 0} (reads : D → Option (List ℕ)) (may_leave : D → Lis
     unbegun_leaves file (fault.Take take.Stopped) unrun counts refuses = ⊎_elim (λ stays. inl stays) (⊎_elim (λ keeps. inr (inl keeps)) (λ fails. failed_leaves file take.Stopped unrun counts fails)) refuses.1
 
     -- a build that was begun and went on
-    begun_lasts : (file : List ℕ) (started : D) → reads c.disk ≡ Some file → faults started ≡ faults c.disk → FinishesBy s a tree site started c.status → OverSo s a tree site file started → LastsRun reads may_leave clock since faults c file s a
+    begun_lasts : (file : List ℕ) (started : D) → v.reads c.disk ≡ Some file → v.faults started ≡ v.faults c.disk → FinishedBy s a tree site started c.status → OverSo s a tree site file started → LastsRun v c file s a
     begun_lasts file started told same finishes over =
         let setting : Setting = script_setting tree site in
         let start : List Event = StartEvent s a ∷ [] in
-        let g = gone reads may_leave clock since faults told_image setting started start c same finishes in
-        let known : IsSome (reads c.disk) = ap is_some told in
+        let g = gone v told_image setting started start c same finishes in
+        let known : IsSome (v.reads c.disk) = ap is_some told in
         record {
           setting = setting;
           mean = mean_of builds;
@@ -333,9 +347,9 @@ module _ {D T : Type 0} (reads : D → Option (List ℕ)) (may_leave : D → Lis
           lasts = record {
             origin = over.moments.synced;
             up_to = over.moments.up_to;
-            from_then = runs_on clock since over.moments.synced started c.now (Survives setting [] g.taken g.risked)
-                (at_each_weaker clock since over.moments.synced started (Survives setting [] start None) (Survives setting [] g.taken g.risked) (λ image survives. grown setting g.taken g.more g.risked image g.is survives) over.moments.from_then)
-                (at_each_weaker clock since started c.now (Survives setting start g.taken g.risked) (Survives setting [] g.taken g.risked) (λ image survives. from_none setting g.taken g.risked image survives) (g.moments known));
+            from_then = runs_on v.clock v.since over.moments.synced started c.now (Survives setting [] g.taken g.risked)
+                (at_each_weaker v.clock v.since over.moments.synced started (Survives setting [] start None) (Survives setting [] g.taken g.risked) (λ image survives. grown setting g.taken g.more g.risked image g.is survives) over.moments.from_then)
+                (at_each_weaker v.clock v.since started c.now (Survives setting start g.taken g.risked) (Survives setting [] g.taken g.risked) (λ image survives. from_none setting g.taken g.risked image survives) (g.moments known));
             at_end = g.images known;
             sure = g.sure;
             shown = g.shown;
@@ -363,101 +377,102 @@ module _ {D T : Type 0} (reads : D → Option (List ℕ)) (may_leave : D → Lis
         }
 
   abbrev CrashesSo : List ℕ → Type 0
-  CrashesSo file = Stays reads may_leave clock since faults c
-      ⊎ (SinceSync clock since may_leave file c.disk c.now (λ image. records image ≡ records file) ⊎ (¬ (IsStarted file) × WithFiles c (LastsRun reads may_leave clock since faults c file)))
+  CrashesSo file = Stays v c
+      ⊎ (SinceSync v.clock v.since v.may_leave file c.disk c.now (λ image. records image ≡ records file) ⊎ (¬ (IsStarted file) × WithFiles c (λ script agents. ∥ LastsRun v c file script agents ∥₁)))
 
   leaves_files : (file : List ℕ) (s a : List ℕ) (tree : Tree) (site : Site) (builds : Builds s a tree site) → Hold c.script c.agents s a → Leaves s a tree site builds file → CrashesSo file
   leaves_files file s a tree site builds hold (inl stays) = inl stays
   leaves_files file s a tree site builds hold (inr (inl keeps)) = inr (inl keeps)
-  leaves_files file s a tree site builds hold (inr (inr lasts)) = inr (inr (lasts.0, (s, a, hold, lasts.1)))
+  leaves_files file s a tree site builds hold (inr (inr lasts)) = inr (inr (lasts.0, (s, a, hold, ∣ lasts.1 ∣₁)))
 
-  crashes : {n : ℕ} → RunsSo n → n ≡ c.status → (file : List ℕ) → reads c.disk ≡ Some file → CrashesSo file
-  crashes (begin.refused refused same unread tells) is file told = inl (stays_here same)
-  crashes (begin.built {s = s} {a = a} {tree = tree} {site = site} give (begin.unbegun {fault = f} unread says counts sizes refuses tells)) is file told =
+  crashes : {n : ℕ} → RunsSo n → n ≡ c.status → (file : List ℕ) → v.reads c.disk ≡ Some file → CrashesSo file
+  crashes (begin.refused refused same unled tells) is file told = inl (stays_here same)
+  crashes (begin.built {s = s} {a = a} {tree = tree} {site = site} give (begin.unbegun {fault = f} unled says counts sizes refuses tells)) is file told =
       leaves_files file s a tree site give.builds give.hold (unbegun_leaves s a tree site give.builds file f (λ run. begin_unrun says (subst HasRun (sym is) run)) counts (refuses file told))
-  crashes (begin.built {s = s} {a = a} {tree = tree} {site = site} give (begin.begun started same reports finishes over)) is file told =
-      inr (inr ((over file told).fresh, (s, a, give.hold, begun_lasts s a tree site give.builds file started told same (subst (λ (m : ℕ). FinishesBy s a tree site started m) is finishes) (over file told))))
+  crashes (begin.built {s = s} {a = a} {tree = tree} {site = site} give (begin.begun started same stay reports finishes over)) is file told =
+      let here = subst (λ (m : ℕ). ∥ FinishedBy s a tree site started m ∥₁) is finishes in
+      inr (inr ((over file told).fresh, (s, a, give.hold, ∥∥₁_map here (λ f. begun_lasts s a tree site give.builds file started told same f (over file told)))))
 
-  pub run_crashes : RunsSo c.status → (file : List ℕ) → reads c.disk ≡ Some file → CrashesSo file
+  pub run_crashes : RunsSo c.status → (file : List ℕ) → v.reads c.disk ≡ Some file → CrashesSo file
   run_crashes runs file told = crashes runs refl file told
 
   -- FIRST FAULT
   judges_told : {n : ℕ} → RunsSo n → TellsFault n → AreCalm c.script c.agents × WithFiles c (λ script agents. (text : List ℕ) × Faults script agents n text × Tells text c)
-  judges_told (begin.refused refused same unread tells) is = files_told c refused tells is
-  judges_told (begin.built give (begin.unbegun unread says counts sizes refuses tells)) is = absurd (begin_untold says is)
-  judges_told (begin.built give (begin.begun started same reports finishes over)) is = absurd (reports_untold reports is)
+  judges_told (begin.refused refused same unled tells) is = files_told c refused tells is
+  judges_told (begin.built give (begin.unbegun unled says counts sizes refuses tells)) is = absurd (begin_untold says is)
+  judges_told (begin.built give (begin.begun started same stay reports finishes over)) is = absurd (reports_untold reports is)
 
   judges_tell : {n : ℕ} → RunsSo n → AreRead c → OfFiles c.script c.agents (λ script agents. HasFault agents ⊎ IsRefused script → TellsFault n ⊎ (n ≡ 8))
-  judges_tell (begin.refused refused same unread tells) read = λ script agents at_s at_a faulty. files_tell c refused read
+  judges_tell (begin.refused refused same unled tells) read = λ script agents at_s at_a faulty. files_tell c refused read
   judges_tell {n = n} (begin.built {s = s} {a = a} give begins) read =
       of_files c.script c.agents s a (λ script agents. HasFault agents ⊎ IsRefused script → TellsFault n ⊎ (n ≡ 8)) give.hold
       (λ faulty. absurd (⊎_elim (λ of_agents. site_no_fault a (built_site give.builds) of_agents) (λ of_script. built_not_refused give.builds of_script) faulty))
 
   judges_untouched : {n : ℕ} → RunsSo n → TellsFault n → c.now ≡ c.disk
-  judges_untouched (begin.refused refused same unread tells) is = same
-  judges_untouched (begin.built give (begin.unbegun unread says counts sizes refuses tells)) is = absurd (begin_untold says is)
-  judges_untouched (begin.built give (begin.begun started same reports finishes over)) is = absurd (reports_untold reports is)
+  judges_untouched (begin.refused refused same unled tells) is = same
+  judges_untouched (begin.built give (begin.unbegun unled says counts sizes refuses tells)) is = absurd (begin_untold says is)
+  judges_untouched (begin.built give (begin.begun started same stay reports finishes over)) is = absurd (reports_untold reports is)
 
   pub run_judges : RunsSo c.status → JudgesFiles c
   run_judges runs = record { told = judges_told runs; tells = judges_tell runs; untouched = judges_untouched runs }
 
   -- CAUSES
-  sources : {n : ℕ} → RunsSo n → n ≡ 6 → HasFailed c.script ⊎ HasFailed c.agents ⊎ HasFailed c.answers
-  sources (begin.refused refused same unread tells) six = ⊎_elim (λ script. inl script) (λ agents. inr (inl agents)) (files_failed c refused six)
-  sources (begin.built give (begin.unbegun unread says counts sizes refuses tells)) six = absurd ((begin_other says).0 six)
-  sources (begin.built give (begin.begun started same reports finishes over)) six = inr (inr (reports_answers reports six))
+  sources : {n : ℕ} → RunsSo n → n ≡ 6 → HasFailed c.script ⊎ HasFailed c.agents ⊎ HasFailed (answered v c)
+  sources (begin.refused refused same unled tells) six = ⊎_elim (λ script. inl script) (λ agents. inr (inl agents)) (files_failed c refused six)
+  sources (begin.built give (begin.unbegun unled says counts sizes refuses tells)) six = absurd ((begin_other says).0 six)
+  sources (begin.built give (begin.begun started same stay reports finishes over)) six = inr (inr (reports_answers reports six))
 
-  disks : {n : ℕ} → RunsSo n → n ≡ 5 → Rose (faults c.disk) (faults c.now)
-  disks (begin.refused refused same unread tells) five = absurd ((files_other c refused).0 five)
-  disks (begin.built give (begin.unbegun unread says counts sizes refuses tells)) five = counts.failed (begin_five says five)
-  disks (begin.built give (begin.begun started same reports finishes over)) five = reports_disk reports five
+  disks : {n : ℕ} → RunsSo n → n ≡ 5 → Rose (v.faults c.disk) (v.faults c.now)
+  disks (begin.refused refused same unled tells) five = absurd ((files_other c refused).0 five)
+  disks (begin.built give (begin.unbegun unled says counts sizes refuses tells)) five = counts.failed (begin_five says five)
+  disks (begin.built give (begin.begun started same stay reports finishes over)) five = reports_disk reports five
 
   sinks : {n : ℕ} → RunsSo n → n ≡ 7 → Rose c.sink_before c.sink_after
-  sinks (begin.refused refused same unread tells) seven = absurd ((files_other c refused).1 seven)
-  sinks (begin.built give (begin.unbegun unread says counts sizes refuses tells)) seven = absurd ((begin_other says).1 seven)
-  sinks (begin.built give (begin.begun started same reports finishes over)) seven = reports_sink reports seven
+  sinks (begin.refused refused same unled tells) seven = absurd ((files_other c refused).1 seven)
+  sinks (begin.built give (begin.unbegun unled says counts sizes refuses tells)) seven = absurd ((begin_other says).1 seven)
+  sinks (begin.built give (begin.begun started same stay reports finishes over)) seven = reports_sink reports seven
 
-  started_by : (setting : Setting) (start : Event) (file : List ℕ) (f : BeginFault) → f ≡ fault.HasBuild → BeginRefuses reads may_leave clock since stance setting start file c.disk f c.now → IsStarted file × (reads c.now ≡ Some file) × IsOnlyImage file (may_leave c.now)
+  started_by : (setting : Setting) (start : Event) (file : List ℕ) (f : BeginFault) → f ≡ fault.HasBuild → BeginRefuses v.reads v.may_leave v.clock v.since stance setting start file c.disk f c.now → IsStarted file × (v.reads c.now ≡ Some file) × IsOnlyImage file (v.may_leave c.now)
   started_by setting start file fault.HasBuild is refuses = (refuses.0, refuses.1, refuses.2)
   started_by setting start file (fault.Take f) is refuses = absurd (cc)
 
-  builds_found : {n : ℕ} → RunsSo n → n ≡ 9 → Tells has_build_text c × ((file : List ℕ) → reads c.disk ≡ Some file → IsStarted file × (reads c.now ≡ Some file) × IsOnlyImage file (may_leave c.now))
-  builds_found (begin.refused refused same unread tells) nine = absurd ((files_other c refused).2 nine)
-  builds_found (begin.built {s = s} {a = a} {tree = tree} {site = site} give (begin.unbegun {fault = f} unread says counts sizes refuses tells)) nine =
+  builds_found : {n : ℕ} → RunsSo n → n ≡ 9 → Tells has_build_text c × ((file : List ℕ) → v.reads c.disk ≡ Some file → IsStarted file × (v.reads c.now ≡ Some file) × IsOnlyImage file (v.may_leave c.now))
+  builds_found (begin.refused refused same unled tells) nine = absurd ((files_other c refused).2 nine)
+  builds_found (begin.built {s = s} {a = a} {tree = tree} {site = site} give (begin.unbegun {fault = f} unled says counts sizes refuses tells)) nine =
       (subst (λ (text : List ℕ). Tells text c) (begin_text says nine) tells, λ file told. started_by (script_setting tree site) (StartEvent s a) file f (begin_nine says nine) (refuses file told))
-  builds_found (begin.built give (begin.begun started same reports finishes over)) nine = absurd (reports_build reports nine)
+  builds_found (begin.built give (begin.begun started same stay reports finishes over)) nine = absurd (reports_build reports nine)
 
   -- where no device failed
   unbegun_finds : {n : ℕ} {text : List ℕ} {f : BeginFault} (setting : Setting) (start : Event) (file : List ℕ) → BeginSays f n text
-      → BeginRefuses reads may_leave clock since stance setting start file c.disk f c.now → IsStarted file → (n ≡ 9) ⊎ (n ≡ 8) ⊎ (n ≡ 5)
+      → BeginRefuses v.reads v.may_leave v.clock v.since stance setting start file c.disk f c.now → IsStarted file → (n ≡ 9) ⊎ (n ≡ 8) ⊎ (n ≡ 5)
   unbegun_finds setting start file begin.has_build refuses is = inl refl
   unbegun_finds setting start file begin.disk_failed refuses is = inr (inr refl)
   unbegun_finds setting start file (begin.full len add) refuses is = absurd (refuses.1.fresh is)
   unbegun_finds setting start file (begin.no_memory other) refuses is = inr (inl refl)
 
-  finds : {n : ℕ} → RunsSo n → AreRead c → (file : List ℕ) → reads c.disk ≡ Some file → IsStarted file → OfFiles c.script c.agents (λ script agents. HasSite agents → ¬ (IsRefused script) → (n ≡ 9) ⊎ (n ≡ 8) ⊎ (n ≡ 5))
-  finds (begin.refused refused same unread tells) read file told is = λ script agents at_s at_a site sound. inr (inl (files_want c refused read script agents at_s at_a site sound))
-  finds (begin.built {s = s} {a = a} {tree = tree} {site = site} give (begin.unbegun unread says counts sizes refuses tells)) read file told is =
+  finds : {n : ℕ} → RunsSo n → AreRead c → (file : List ℕ) → v.reads c.disk ≡ Some file → IsStarted file → OfFiles c.script c.agents (λ script agents. HasSite agents → ¬ (IsRefused script) → (n ≡ 9) ⊎ (n ≡ 8) ⊎ (n ≡ 5))
+  finds (begin.refused refused same unled tells) read file told is = λ script agents at_s at_a site sound. inr (inl (files_want c refused read script agents at_s at_a site sound))
+  finds (begin.built {s = s} {a = a} {tree = tree} {site = site} give (begin.unbegun unled says counts sizes refuses tells)) read file told is =
       λ script agents at_s at_a has sound. unbegun_finds (script_setting tree site) (StartEvent s a) file says (refuses file told) is
-  finds (begin.built give (begin.begun started same reports finishes over)) read file told is = absurd ((over file told).fresh is)
+  finds (begin.built give (begin.begun started same stay reports finishes over)) read file told is = absurd ((over file told).fresh is)
 
-  unbegun_works : {n : ℕ} {text : List ℕ} {f : BeginFault} (setting : Setting) (start : Event) (file : List ℕ) → BeginSays f n text → CountsFault (faults c.disk) (faults c.now) (f ≡ fault.Take take.Disk)
-      → BeginRefuses reads may_leave clock since stance setting start file c.disk f c.now → ¬ (Rose (faults c.disk) (faults c.now)) → ¬ (IsStarted file) → HasWorked n
+  unbegun_works : {n : ℕ} {text : List ℕ} {f : BeginFault} (setting : Setting) (start : Event) (file : List ℕ) → BeginSays f n text → CountsFault (v.faults c.disk) (v.faults c.now) (f ≡ fault.Take take.Disk)
+      → BeginRefuses v.reads v.may_leave v.clock v.since stance setting start file c.disk f c.now → ¬ (Rose (v.faults c.disk) (v.faults c.now)) → ¬ (IsStarted file) → HasWorked n
   unbegun_works setting start file begin.has_build counts refuses calm fresh = absurd (fresh refuses.0)
   unbegun_works setting start file begin.disk_failed counts refuses calm fresh = absurd (calm (counts.failed refl))
   unbegun_works setting start file (begin.full len add) counts refuses calm fresh = inr (inr refl)
   unbegun_works setting start file (begin.no_memory other) counts refuses calm fresh = inr (inl refl)
 
-  works : {n : ℕ} → RunsSo n → n ≡ c.status → AllCalm reads may_leave clock since faults c → (file : List ℕ) → reads c.disk ≡ Some file → ¬ (IsStarted file) → OfFiles c.script c.agents (λ script agents. HasSite agents → ¬ (IsRefused script) → HasWorked n)
-  works (begin.refused refused same unread tells) is calm file told fresh = λ script agents at_s at_a site sound. inr (inl (files_want c refused calm.files script agents at_s at_a site sound))
-  works (begin.built {s = s} {a = a} {tree = tree} {site = site} give (begin.unbegun unread says counts sizes refuses tells)) is calm file told fresh =
+  works : {n : ℕ} → RunsSo n → n ≡ c.status → AllCalm v c → (file : List ℕ) → v.reads c.disk ≡ Some file → ¬ (IsStarted file) → OfFiles c.script c.agents (λ script agents. HasSite agents → ¬ (IsRefused script) → HasWorked n)
+  works (begin.refused refused same unled tells) is calm file told fresh = λ script agents at_s at_a site sound. inr (inl (files_want c refused calm.files script agents at_s at_a site sound))
+  works (begin.built {s = s} {a = a} {tree = tree} {site = site} give (begin.unbegun unled says counts sizes refuses tells)) is calm file told fresh =
       λ script agents at_s at_a has sound. unbegun_works (script_setting tree site) (StartEvent s a) file says counts (refuses file told) calm.disk fresh
-  works (begin.built {s = s} {a = a} {tree = tree} {site = site} give (begin.begun started same reports finishes over)) is calm file told fresh =
-      λ script agents at_s at_a has sound. subst HasWorked (sym is) (finish_worked reads may_leave clock since faults told_image (script_setting tree site) started (StartEvent s a ∷ []) c same (subst (λ (m : ℕ). FinishesBy s a tree site started m) is finishes) calm)
+  works (begin.built {s = s} {a = a} {tree = tree} {site = site} give (begin.begun started same stay reports finishes over)) is calm file told fresh =
+      λ script agents at_s at_a has sound. reports_worked reports calm.disk calm.answers calm.sink
 
   -- why no build was begun
   module _ (s a : List ℕ) (tree : Tree) (site : Site) (builds : Builds s a tree site) where
-    full_at_once : (len add : ℕ) → TellsStart (script_setting tree site) (StartEvent s a) (fault.Take (take.Full len add)) → Tells (full_text len add) c → IsFullAtOnce reads may_leave clock since faults s a c
+    full_at_once : (len add : ℕ) → TellsStart (script_setting tree site) (StartEvent s a) (fault.Take (take.Full len add)) → Tells (full_text len add) c → IsFullAtOnce v s a c
     full_at_once len add sizes tells =
         let all : (2 ^ 30 < 1 + add) × Tells (full_text 1 add) c = subst (λ (l : ℕ). (2 ^ 30 < l + add) × Tells (full_text l add) c) sizes.0 (sizes.1, tells) in
         record {
@@ -468,7 +483,7 @@ module _ {D T : Type 0} (reads : D → Option (List ℕ)) (may_leave : D → Lis
         }
 
     unbegun_why : {n : ℕ} {text : List ℕ} {f : BeginFault} → n ≡ c.status → BeginSays f n text → TellsStart (script_setting tree site) (StartEvent s a) f → Tells text c
-        → (c.status ≡ 9) ⊎ (c.status ≡ 5) ⊎ (c.status ≡ 8) ⊎ ((c.status ≡ 14) × IsFullAtOnce reads may_leave clock since faults s a c)
+        → (c.status ≡ 9) ⊎ (c.status ≡ 5) ⊎ (c.status ≡ 8) ⊎ ((c.status ≡ 14) × IsFullAtOnce v s a c)
     unbegun_why is begin.has_build sizes tells = inl (sym is)
     unbegun_why is begin.disk_failed sizes tells = inr (inl (sym is))
     unbegun_why is (begin.full len add) sizes tells = inr (inr (inr (sym is, full_at_once len add sizes tells)))
@@ -476,75 +491,74 @@ module _ {D T : Type 0} (reads : D → Option (List ℕ)) (may_leave : D → Lis
 
     abbrev UntakenSo : List ℕ → List ℕ → Type 0
     UntakenSo file image =
-        may_leave c.disk image ⊎ (records image ≡ records file) ⊎ ((c.status ≡ 5) × (setting : Setting) × Mean s a setting × Stores setting (StartEvent s a ∷ []) image)
+        v.may_leave c.disk image ⊎ (records image ≡ records file) ⊎ ((c.status ≡ 5) × Has [] file × (setting : Setting) × Mean s a setting × Stores setting (StartEvent s a ∷ []) image)
 
     -- a `Start` whose take failed: the file has no record, and neither has what a crash leaves, but for that `Start`
-    failed_image : (file : List ℕ) (f : TakeFault) (image : List ℕ) → (f ≡ take.Disk → c.status ≡ 5) → StartFails reads may_leave clock since stance (script_setting tree site) (StartEvent s a) file c.disk c.now f → may_leave c.now image → UntakenSo file image
+    failed_image : (file : List ℕ) (f : TakeFault) (image : List ℕ) → (f ≡ take.Disk → c.status ≡ 5) → StartFails v.reads v.may_leave v.clock v.since stance (script_setting tree site) (StartEvent s a) file c.disk c.now f → v.may_leave c.now image → UntakenSo file image
     failed_image file f image five fails left =
-        let survives = fails.moments.from_then.each image (counts_now c.now (clock fails.moments.synced) image fails.moments.from_then.later left) in
+        let survives = fails.moments.from_then.each image (counts_now c.now (v.clock fails.moments.synced) image fails.moments.from_then.later left) in
         ⊎_elim (λ front. inr (inl (has_none (script_setting tree site) image (subst (λ (es : List Event). Stores (script_setting tree site) es image) (nothing_front survives.kept front.0 front.1) survives.stores) ∙ sym fails.none)))
         (λ all. with_start survives.kept survives.stores all (risked_only f (StartEvent s a) fails.risked fails.may_risk)) survives.front.within
       where
         with_start : (kept : List Event) → Stores (script_setting tree site) kept image → IsSomeAnd fails.risked (λ e. kept ≡ [] ++ e ∷ []) → ((f ≡ take.Disk) × (fails.risked ≡ Some (StartEvent s a))) ⊎ (fails.risked ≡ None) → UntakenSo file image
         with_start kept stores all (inl disk) =
             let is : kept ≡ StartEvent s a ∷ [] = subst (λ (o : Option Event). IsSomeAnd o (λ e. kept ≡ [] ++ e ∷ [])) disk.1 all in
-            inr (inr (five disk.0, script_setting tree site, mean_of builds, subst (λ (es : List Event). Stores (script_setting tree site) es image) is stores))
+            inr (inr (five disk.0, fails.none, script_setting tree site, mean_of builds, subst (λ (es : List Event). Stores (script_setting tree site) es image) is stores))
         with_start kept stores all (inr none) = absurd (subst (λ (o : Option Event). IsSomeAnd o (λ e. kept ≡ [] ++ e ∷ [])) none all)
 
     either_image : (file : List ℕ) (f : TakeFault) (image : List ℕ) → (f ≡ take.Disk → c.status ≡ 5)
-        → AtEachMoment clock since c.disk c.now (may_leave c.disk) ⊎ (SinceSync clock since may_leave file c.disk c.now (λ image. records image ≡ records file) ⊎ StartFails reads may_leave clock since stance (script_setting tree site) (StartEvent s a) file c.disk c.now f)
-        → may_leave c.now image → UntakenSo file image
+        → AtEachMoment v.clock v.since c.disk c.now (v.may_leave c.disk) ⊎ (SinceSync v.clock v.since v.may_leave file c.disk c.now (λ image. records image ≡ records file) ⊎ StartFails v.reads v.may_leave v.clock v.since stance (script_setting tree site) (StartEvent s a) file c.disk c.now f)
+        → v.may_leave c.now image → UntakenSo file image
     either_image file f image five why left =
-        ⊎_elim (λ stays. inl (stays.each image (counts_now c.now (clock c.disk) image stays.later left)))
-        (⊎_elim (λ keeps. inr (inl (keeps.from_then.each image (counts_now c.now (clock keeps.synced) image keeps.from_then.later left)))) (λ fails. failed_image file f image five fails left)) why
+        ⊎_elim (λ stays. inl (stays.each image (counts_now c.now (v.clock c.disk) image stays.later left)))
+        (⊎_elim (λ keeps. inr (inl (keeps.from_then.each image (counts_now c.now (v.clock keeps.synced) image keeps.from_then.later left)))) (λ fails. failed_image file f image five fails left)) why
 
-    unbegun_image : (file : List ℕ) (f : BeginFault) (image : List ℕ) → (f ≡ fault.Take take.Disk → c.status ≡ 5) → BeginRefuses reads may_leave clock since stance (script_setting tree site) (StartEvent s a) file c.disk f c.now → may_leave c.now image → UntakenSo file image
+    pub unbegun_image : (file : List ℕ) (f : BeginFault) (image : List ℕ) → (f ≡ fault.Take take.Disk → c.status ≡ 5) → BeginRefuses v.reads v.may_leave v.clock v.since stance (script_setting tree site) (StartEvent s a) file c.disk f c.now → v.may_leave c.now image → UntakenSo file image
     unbegun_image file fault.HasBuild image five refuses left =
         let keeps = refuses.3 in
-        inr (inl (keeps.from_then.each image (counts_now c.now (clock keeps.synced) image keeps.from_then.later left)))
+        inr (inl (keeps.from_then.each image (counts_now c.now (v.clock keeps.synced) image keeps.from_then.later left)))
     unbegun_image file (fault.Take (take.Full len add)) image five refuses left = failed_image file (take.Full len add) image (λ e. five (ap (λ (x : TakeFault). fault.Take x) e)) refuses.1 left
     unbegun_image file (fault.Take take.Memory) image five refuses left = either_image file take.Memory image (λ e. five (ap (λ (x : TakeFault). fault.Take x) e)) refuses.1 left
     unbegun_image file (fault.Take take.Disk) image five refuses left = either_image file take.Disk image (λ e. five (ap (λ (x : TakeFault). fault.Take x) e)) refuses.1 left
     unbegun_image file (fault.Take take.Stopped) image five refuses left = either_image file take.Stopped image (λ e. five (ap (λ (x : TakeFault). fault.Take x) e)) refuses.1 left
 
-  went_on : {n : ℕ} → RunsSo n → n ≡ c.status → LeavesAll reads may_leave clock since faults c ⊎ WithFiles c (λ script agents. Unbegun reads may_leave clock since faults c script agents ⊎ RunWentOn reads may_leave clock since faults c script agents)
-  went_on (begin.refused refused same unread tells) is =
-      inl (record { why = subst (λ (m : ℕ). (m ≡ 4) ⊎ (m ≡ 13) ⊎ (m ≡ 8) ⊎ ((m ≡ 6) × (HasFailed c.script ⊎ HasFailed c.agents))) is (files_unbegun c refused); disk = same; unread = unread })
-  went_on (begin.built {s = s} {a = a} {tree = tree} {site = site} give (begin.unbegun {fault = f} unread says counts sizes refuses tells)) is =
+  went_by : (s a : List ℕ) (tree : Tree) (site : Site) → Builds s a tree site → (started : D) → v.faults started ≡ v.faults c.disk → FinishedBy s a tree site started c.status → RunWentOn v c s a
+  went_by s a tree site builds started same finishes = record {
+    setting = script_setting tree site;
+    mean = mean_of builds;
+    went_on = finish_went v told_image (script_setting tree site) started (StartEvent s a ∷ []) c same finishes;
+  }
+
+  went_on : {n : ℕ} → RunsSo n → n ≡ c.status → LeavesAll v c ⊎ WithFiles c (λ script agents. Unbegun v c script agents ⊎ ∥ RunWentOn v c script agents ∥₁)
+  went_on (begin.refused refused same unled tells) is =
+      inl (record { why = subst (λ (m : ℕ). (m ≡ 4) ⊎ (m ≡ 13) ⊎ (m ≡ 8) ⊎ ((m ≡ 6) × (HasFailed c.script ⊎ HasFailed c.agents))) is (files_unbegun c refused); disk = same; unled = unled })
+  went_on (begin.built {s = s} {a = a} {tree = tree} {site = site} give (begin.unbegun {fault = f} unled says counts sizes refuses tells)) is =
       inr (
         s,
         a,
         give.hold,
         inl (record {
           why = unbegun_why s a tree site give.builds is says sizes tells;
-          unread = unread;
+          unled = unled;
           images = λ file told image left. unbegun_image s a tree site give.builds file f image (λ disk. sym is ∙ begin_disk says disk) (refuses file told) left;
         }),
       )
-  went_on (begin.built {s = s} {a = a} {tree = tree} {site = site} give (begin.begun started same reports finishes over)) is =
-      inr (
-        s,
-        a,
-        give.hold,
-        inr (record {
-          setting = script_setting tree site;
-          mean = mean_of give.builds;
-          went_on = finish_went reads may_leave clock since faults told_image (script_setting tree site) started (StartEvent s a ∷ []) c same (subst (λ (m : ℕ). FinishesBy s a tree site started m) is finishes);
-        }),
-      )
+  went_on (begin.built {s = s} {a = a} {tree = tree} {site = site} give (begin.begun started same stay reports finishes over)) is =
+      let here = subst (λ (m : ℕ). ∥ FinishedBy s a tree site started m ∥₁) is finishes in
+      inr (s, a, give.hold, inr (∥∥₁_map here (went_by s a tree site give.builds started same)))
 
   -- a log was shown over a disk that counted no fault
-  shown_calm : {n : ℕ} → RunsSo n → HasRun n → faults c.now ≡ faults c.disk
-  shown_calm (begin.refused refused same unread tells) run = absurd (says_unrun (files_say refused) run)
-  shown_calm (begin.built give (begin.unbegun unread says counts sizes refuses tells)) run = absurd (begin_unrun says run)
-  shown_calm (begin.built give (begin.begun started same reports finishes over)) run = reports_calm reports run
+  shown_calm : {n : ℕ} → RunsSo n → HasRun n → v.faults c.now ≡ v.faults c.disk
+  shown_calm (begin.refused refused same unled tells) run = absurd (says_unrun (files_say refused) run)
+  shown_calm (begin.built give (begin.unbegun unled says counts sizes refuses tells)) run = absurd (begin_unrun says run)
+  shown_calm (begin.built give (begin.begun started same stay reports finishes over)) run = reports_calm reports run
 
   -- a source of a file that counted a fault is told
-  unread_told : {n : ℕ} → RunsSo n → ¬ (AreCalm c.script c.agents) → (n ≡ 6) × (c.now ≡ c.disk) × IsUnread c.answers
-  unread_told (begin.refused refused same unread tells) other = (files_uncalm c refused other, same, unread)
+  unread_told : {n : ℕ} → RunsSo n → ¬ (AreCalm c.script c.agents) → (n ≡ 6) × (c.now ≡ c.disk) × IsUnled c
+  unread_told (begin.refused refused same unled tells) other = (files_uncalm c refused other, same, unled)
   unread_told (begin.built give begins) other = absurd (other give.calm)
 
-  pub run_causes : RunsSo c.status → RunCauses reads may_leave clock since faults c
+  pub run_causes : RunsSo c.status → RunCauses v c
   run_causes runs = record {
     source = sources runs;
     unread = unread_told runs;
@@ -559,13 +573,13 @@ module _ {D T : Type 0} (reads : D → Option (List ℕ)) (may_leave : D → Lis
 
   -- it is no usage
   pub run_known : {n : ℕ} → RunsSo n → n ≡ 2 → ⊥
-  run_known (begin.refused refused same unread tells) two = (files_other c refused).3 two
-  run_known (begin.built give (begin.unbegun unread says counts sizes refuses tells)) two = (begin_other says).2 two
-  run_known (begin.built give (begin.begun started same reports finishes over)) two = reports_usage reports two
+  run_known (begin.refused refused same unled tells) two = (files_other c refused).3 two
+  run_known (begin.built give (begin.unbegun unled says counts sizes refuses tells)) two = (begin_other says).2 two
+  run_known (begin.built give (begin.begun started same stay reports finishes over)) two = reports_usage reports two
 
   -- no answer is read where no build goes on
-  pub run_unread : {n : ℕ} → RunsSo n → (n ≡ 4) ⊎ (n ≡ 13) ⊎ (n ≡ 9) → IsUnread c.answers
-  run_unread (begin.refused refused same unread tells) is = unread
-  run_unread (begin.built give (begin.unbegun unread says counts sizes refuses tells)) is = unread
-  run_unread (begin.built give (begin.begun started same reports finishes over)) is =
+  pub run_unread : {n : ℕ} → RunsSo n → (n ≡ 4) ⊎ (n ≡ 13) ⊎ (n ≡ 9) → IsUnled c
+  run_unread (begin.refused refused same unled tells) is = unled
+  run_unread (begin.built give (begin.unbegun unled says counts sizes refuses tells)) is = unled
+  run_unread (begin.built give (begin.begun started same stay reports finishes over)) is =
       absurd (⊎_elim (λ four. reports_untold reports (inl four)) (⊎_elim (λ thirteen. reports_untold reports (inr thirteen)) (λ nine. reports_build reports nine)) is)

@@ -1,92 +1,161 @@
 -- A call of the controller, as its contract sees it: what came in, and what it left. This product's own.
-use Rattle.std.specs.Prelude.{◌≡◌, ◌⊎◌, ◌++◌, ℕ, Bool, false, List, Option, None, Some, codes}
-use Rattle.std.specs.Io.KnownBytes.{Consumes, IsAtEnd}
-use Rattle.build_requests.specs.Waiting.{waiting_inputs}
+use Rattle.std.specs.Prelude.{◌≡◌, ◌⊎◌, ◌<◌, ℕ, ℤ, false, max, List, Option, Some, None, codes}
+use Rattle.std.specs.Io.KnownBytes.{IsAtEnd}
+use Rattle.build_requests.specs.Waiting.{open_tasks, waiting_inputs}
 use Rattle.command_words.specs.declared.command.Command.{Command}
 use Rattle.command_words.specs.Words.{Gives}
+use Rattle.task_host.specs.declared.call.Call.{Call as HostCall}
+use Rattle.task_host.specs.declared.order.Stream.{Stream}
 use Rattle.model_run.specs.declared.event.Event.{Event}
 use Rattle.model_run.specs.State.{Setting}
 use Rattle.model_run.specs.World.{next_grant, world_in}
-use Rattle.script_run.specs.Rests.{LeftOver}
-use Rattle.saved_run.specs.Going.{GoesOn}
 use Rattle.saved_run.specs.Saved.{Stores}
-use Rattle.run_command.specs.Inputs.{Input, HasFailed}
+use Rattle.run_command.specs.Inputs.{Input, HasFailed, taken_from}
+use Rattle.build_commands.specs.Living.{ComesBy, Lived, LivedBy}
 use Rattle.build_commands.specs.Plans.{Hold}
+use Rattle.build_commands.specs.Resuming.{GivesBack}
 use Rattle.build_commands.specs.Writing as writing
 
--- The words of the command line, what was taken from the sources, the disk at the beginning and at the end, the bytes of the sink where it tells
--- them with its count of faults, and the exit status.
-pub record Call (D : Type 0) : Type 0 where
+-- What devices tell of themselves: a disk (what a read of it gives, what a crash may leave, its clock, what a crash may have left since a moment, its count of
+-- faults), the host of an executor (whether it is honest, its count of faults, its calls, launches and folders, the output and the code of a task), and the
+-- source of the answers (the bytes that it has left, its count of faults).
+pub record Devices (D H A : Type 0) : Type 1 where
+  pub reads : D → Option (List ℕ)
+  pub may_leave : D → List ℕ → Type 0
+  pub clock : D → ℕ
+  pub since : D → ℕ → List ℕ → Type 0
+  pub faults : D → ℕ
+  pub honest : H → Type 0
+  pub host_faults : H → ℕ
+  pub calls : H → Option (List HostCall)
+  pub launches : H → List ℕ
+  pub dirs : H → List ℕ
+  pub output : H → ℕ → Stream → List ℕ
+  pub exited : H → ℕ → Option ℤ
+  pub left : A → Option (List ℕ)
+  pub source_faults : A → ℕ
+
+-- The words of the command line, what was taken from the sources of the two files; disk, hosts and answers at the beginning and at the end, of which host i is
+-- that of executor i; the bytes of the sink where it tells them with its count of faults; and the exit status.
+pub record Call (D H A : Type 0) : Type 0 where
   pub words : List (List ℕ)
   pub script : Input
   pub agents : Input
-  pub answers : Input
   pub disk : D
   pub now : D
+  pub hosts : List H
+  pub hosts_now : List H
+  pub answers : A
+  pub answers_now : A
   pub old : Option (List ℕ)
   pub new : Option (List ℕ)
   pub sink_before : ℕ
   pub sink_after : ℕ
   pub status : ℕ
 
-abbrev pub call_of : {D : Type 0} → List (List ℕ) → Input → Input → Input → D → D → Option (List ℕ) → Option (List ℕ) → ℕ → ℕ → ℕ → Call D
-call_of words script agents answers disk now old new before after status = record {
-  words = words;
-  script = script;
-  agents = agents;
-  answers = answers;
-  disk = disk;
-  now = now;
-  old = old;
-  new = new;
-  sink_before = before;
-  sink_after = after;
-  status = status;
-}
+module _ {D H A : Type 0} where
+  abbrev pub devices : (D → Option (List ℕ)) → (D → List ℕ → Type 0) → (D → ℕ) → (D → ℕ → List ℕ → Type 0) → (D → ℕ)
+      → (H → Type 0) → (H → ℕ) → (H → Option (List HostCall)) → (H → List ℕ) → (H → List ℕ) → (H → ℕ → Stream → List ℕ) → (H → ℕ → Option ℤ)
+      → (A → Option (List ℕ)) → (A → ℕ) → Devices D H A
+  devices reads may_leave clock since faults honest host_faults calls launches dirs output exited left source_faults = record {
+    reads = reads;
+    may_leave = may_leave;
+    clock = clock;
+    since = since;
+    faults = faults;
+    honest = honest;
+    host_faults = host_faults;
+    calls = calls;
+    launches = launches;
+    dirs = dirs;
+    output = output;
+    exited = exited;
+    left = left;
+    source_faults = source_faults;
+  }
 
--- the words are this command
-abbrev pub Is : {D : Type 0} → Command → Call D → Type 0
-Is command c = (folder : List ℕ) × Gives c.words command folder
+  abbrev pub call_of : List (List ℕ) → Input → Input → D → D → List H → List H → A → A → Option (List ℕ) → Option (List ℕ) → ℕ → ℕ → ℕ → Call D H A
+  call_of words script agents disk now hosts hosts_now answers answers_now old new before after status = record {
+    words = words;
+    script = script;
+    agents = agents;
+    disk = disk;
+    now = now;
+    hosts = hosts;
+    hosts_now = hosts_now;
+    answers = answers;
+    answers_now = answers_now;
+    old = old;
+    new = new;
+    sink_before = before;
+    sink_after = after;
+    status = status;
+  }
 
--- neither the source of the script nor that of the agents file counted a fault
-abbrev pub AreRead : {D : Type 0} → Call D → Type 0
-AreRead c = ¬ (HasFailed c.script) × ¬ (HasFailed c.agents)
+  -- the words are this command
+  abbrev pub Is : Command → Call D H A → Type 0
+  Is command c = (folder : List ℕ) × Gives c.words command folder
 
--- There are bytes of script and agents file, those that their sources had left where they tell them, of which this holds.
-abbrev pub WithFiles : {D : Type 0} → Call D → (List ℕ → List ℕ → Type 0) → Type 0
-WithFiles c P = (script : List ℕ) × (agents : List ℕ) × Hold c.script c.agents script agents × P script agents
+  -- neither the source of the script nor that of the agents file counted a fault
+  abbrev pub AreRead : Call D H A → Type 0
+  AreRead c = ¬ (HasFailed c.script) × ¬ (HasFailed c.agents)
 
--- The disk tells its bytes at the beginning, and they are a consistent store of these events.
-pub record Finds {D : Type 0} (reads : D → Option (List ℕ)) (setting : Setting) (events : List Event) (c : Call D) : Type 0 where
-  pub file : List ℕ
-  pub told : reads c.disk ≡ Some file
-  pub stores : Stores setting events file
+  -- no life was led: hosts and answers came back as they were
+  abbrev pub IsUnled : Call D H A → Type 0
+  IsUnled c = GivesBack c.hosts c.hosts_now c.answers c.answers_now
 
--- A life went on from the events before to these: by the grants that were due and by the lines that were read of the answers, all of them heard. Behind these
--- lines nothing was read, or bytes of one line, while the build listens. `more` says whether the answers may have more.
-pub record Takes {D : Type 0} (setting : Setting) (before events : List Event) (c : Call D) : Type 0 where
-  pub read : List ℕ
-  pub part : List ℕ
-  pub more : Bool
-  pub goes : GoesOn setting before events read more
-  pub answers : Consumes c.answers.left c.answers.rest (read ++ part)
-  pub at_end : more ≡ false → IsAtEnd c.answers.rest
-  pub left_over : LeftOver setting (world_in setting events) more part
+  -- There are bytes of script and agents file, those that their sources had left where they tell them, of which this holds.
+  abbrev pub WithFiles : Call D H A → (List ℕ → List ℕ → Type 0) → Type 0
+  WithFiles c P = (script : List ℕ) × (agents : List ℕ) × Hold c.script c.agents script agents × P script agents
 
--- nobody goes on with the build: no grant is due, and no input is open or the answers were read to their end
-pub record IsIdle (setting : Setting) (events : List Event) (more : Bool) : Type 0 where
+  -- the text that a command is for was written, with this status; or its front, and then the status is 7
+  abbrev pub Writes : List ℕ → ℕ → Call D H A → Type 0
+  Writes text status c = writing.Writes c.old c.new c.sink_before c.sink_after text status c.status
+
+  -- the text of a refusal was written, or its front
+  abbrev pub Tells : List ℕ → Call D H A → Type 0
+  Tells text c = writing.Tells c.old c.new c.sink_before c.sink_after text
+
+module _ {D H A : Type 0} (v : Devices D H A) where
+  -- what was taken from the answers
+  abbrev pub answered : Call D H A → Input
+  answered c = taken_from v.left v.source_faults c.answers c.answers_now
+
+  -- The disk tells its bytes at the beginning, and they are a consistent store of these events.
+  pub record Finds (setting : Setting) (events : List Event) (c : Call D H A) : Type 0 where
+    pub file : List ℕ
+    pub told : v.reads c.disk ≡ Some file
+    pub stores : Stores setting events file
+
+  -- A life of a build of this setting, with the members that are made of the call's hosts and answers: what they did, and what they became. A site's number of
+  -- looks is at least 1.
+  abbrev pub LifeIn : Setting → Call D H A → Type 0
+  LifeIn setting c = Lived v.honest v.host_faults v.calls v.launches v.dirs v.output v.exited v.left v.source_faults (max setting.site.looks 1) setting c.hosts c.hosts_now c.answers c.answers_now
+
+  -- A life went on from the events before to these: by the grants that were due, by what executors reported with their cause, and by the decisions of lines that
+  -- were read of the answers.
+  pub record Takes (setting : Setting) (before events : List Event) (c : Call D H A) : Type 0 where
+    pub life : LifeIn setting c
+    pub goes : LivedBy v.honest v.host_faults v.calls v.launches v.dirs v.output v.exited v.left v.source_faults (max setting.site.looks 1) setting before life events
+
+  -- behind these events this one came next in that life, and there is a cause for it
+  abbrev pub ComesIn : (setting : Setting) → (c : Call D H A) → LifeIn setting c → List Event → Event → Type 0
+  ComesIn setting c life events event = ComesBy v.honest v.host_faults v.calls v.launches v.dirs v.output v.exited v.left v.source_faults (max setting.site.looks 1) setting life.turns events event
+
+  -- nobody goes on with the build: no grant is due, no task is open, and no input is open or the answers were read to their end
+  pub record IsIdle (setting : Setting) (events : List Event) (c : Call D H A) : Type 0 where
+    pub going : (world_in setting events).ended ≡ false
+    pub granted : next_grant setting (world_in setting events) ≡ None
+    pub no_task : open_tasks (world_in setting events).shared.requests ≡ 0
+    pub heard : (waiting_inputs (world_in setting events).shared.requests ≡ 0) ⊎ IsAtEnd (v.left c.answers_now)
+
+-- an input is open, and nobody else goes on with the build
+pub record IsUnheard (setting : Setting) (events : List Event) : Type 0 where
   pub going : (world_in setting events).ended ≡ false
   pub granted : next_grant setting (world_in setting events) ≡ None
-  pub heard : (waiting_inputs (world_in setting events).shared.requests ≡ 0) ⊎ (more ≡ false)
+  pub no_task : open_tasks (world_in setting events).shared.requests ≡ 0
+  pub waits : 0 < waiting_inputs (world_in setting events).shared.requests
 
 -- how to use the program
 abbrev pub usage_text : List ℕ
 usage_text = codes "usage: controller run|resume|log|graph|check DIR\n       controller gen N\n"
-
--- the text that a command is for was written, with this status; or its front, and then the status is 7
-abbrev pub Writes : {D : Type 0} → List ℕ → ℕ → Call D → Type 0
-Writes text status c = writing.Writes c.old c.new c.sink_before c.sink_after text status c.status
-
--- the text of a refusal was written, or its front
-abbrev pub Tells : {D : Type 0} → List ℕ → Call D → Type 0
-Tells text c = writing.Tells c.old c.new c.sink_before c.sink_after text

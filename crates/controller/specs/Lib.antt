@@ -4,4 +4,6 @@ pub mod Crash
 pub mod FirstFault
 pub mod Causes
 pub mod Reads
+pub mod Launches
+pub mod Promises
 pub mod Commands

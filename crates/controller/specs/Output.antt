@@ -21,7 +21,7 @@ use Rattle.run_command.specs.Statuses.{HasRun, world_status}
 use Rattle.run_command.specs.Texts as run
 use Rattle.build_commands.specs.Showing.{ShowsLast}
 use Rattle.build_commands.specs.Texts as store
-use Rattle.controller.specs.Call.{Call, Is, IsIdle, Finds, Takes, Tells, WithFiles, Writes, usage_text}
+use Rattle.controller.specs.Call.{Call, Devices, Is, IsIdle, Finds, Takes, Tells, WithFiles, Writes, usage_text}
 
 -- the status and the text of a call that does not do what its command is for
 pub data Says : ℕ → List ℕ → Type 0 where
@@ -35,43 +35,42 @@ pub data Says : ℕ → List ℕ → Type 0 where
   no_build : Says 9 store.no_build_text
   damaged : (at : ℕ) → Says 9 (store.damaged_text at)
   agents_faulty : (path : List ℕ) (kind : AgentsKind) → Says 13 (run.agents_line path kind)
-  full : (len add : ℕ) → 2 ^ 30 < len + add → Says 14 (store.full_text len add)
+  full : (len add : ℕ) → Says 14 (store.full_text len add)
 
-module _ {D : Type 0} (reads : D → Option (List ℕ)) (may_leave : D → List ℕ → Type 0) where
-  -- The build went on from the events before to these, until it had ended or nobody went on with it, and no more of the answers was read than its lines; and the log of their world was written, with the status of
+module _ {D H A : Type 0} (v : Devices D H A) where
+  -- The build went on from the events before to these, until it had ended or nobody went on with it; and the log of their world was written, with the status of
   -- that world, or the front of the log, and then with 7. Where the disk told its bytes, all these events are durable: a read gives a consistent store of just
   -- them, and so does a crash.
-  pub record Delivers (setting : Setting) (before events : List Event) (c : Call D) : Type 0 where
-    pub takes : Takes setting before events c
-    pub rests : ((world_in setting events).ended ≡ true) ⊎ IsIdle setting events takes.more
-    pub no_more : takes.part ≡ []
+  pub record Delivers (setting : Setting) (before events : List Event) (c : Call D H A) : Type 0 where
+    pub takes : Takes v setting before events c
+    pub rests : ((world_in setting events).ended ≡ true) ⊎ IsIdle v setting events c
     pub log : Writes (world_in setting events).shared.log (world_status (world_in setting events)) c
-    pub stores : IsSome (reads c.disk) → IfSome (reads c.now) (Stores setting events)
-    pub durable : IsSome (reads c.disk) → (image : List ℕ) → may_leave c.now image → Stores setting events image
+    pub stores : IsSome (v.reads c.disk) → IfSome (v.reads c.now) (Stores setting events)
+    pub durable : IsSome (v.reads c.disk) → (image : List ℕ) → v.may_leave c.now image → Stores setting events image
 
   -- the events of `run` begin with the `Start` of all bytes of both files
-  pub record DeliversRun (c : Call D) (script agents : List ℕ) : Type 0 where
+  pub record DeliversRun (c : Call D H A) (script agents : List ℕ) : Type 0 where
     pub setting : Setting
     pub mean : Mean script agents setting
     pub more : List Event
     pub delivers : Delivers setting (StartEvent script agents ∷ []) (StartEvent script agents ∷ more) c
 
   -- What is shown of the build of the store, of which no byte changes. It is the text of the last record's image, whatever the other records tell.
-  pub record ShowsStore (text_of : Build → List ℕ) (text_in : Image → List ℕ) (c : Call D) : Type 0 where
-    pub text : HasRun c.status → (setting : Setting) (events : List Event) → Finds reads setting events c → Writes (text_of (world_in setting events)) 0 c
-    pub last : (file : List ℕ) → reads c.disk ≡ Some file → ShowsLast text_in file c.old c.new c.sink_before c.sink_after c.status
-    pub unchanged : (file : List ℕ) → reads c.disk ≡ Some file → reads c.now ≡ Some file
-    pub refused : c.status ≡ 9 → ((at : ℕ) × Tells (store.damaged_text at) c × IfSome (reads c.disk) (λ file. OpenFails file (Damaged at))) ⊎ (Tells store.no_build_text c × IfSome (reads c.disk) (Has []))
+  pub record ShowsStore (text_of : Build → List ℕ) (text_in : Image → List ℕ) (c : Call D H A) : Type 0 where
+    pub text : HasRun c.status → (setting : Setting) (events : List Event) → Finds v setting events c → Writes (text_of (world_in setting events)) 0 c
+    pub last : (file : List ℕ) → v.reads c.disk ≡ Some file → ShowsLast text_in file c.old c.new c.sink_before c.sink_after c.status
+    pub unchanged : (file : List ℕ) → v.reads c.disk ≡ Some file → v.reads c.now ≡ Some file
+    pub refused : c.status ≡ 9 → ((at : ℕ) × Tells (store.damaged_text at) c × IfSome (v.reads c.disk) (λ file. OpenFails file (Damaged at))) ⊎ (Tells store.no_build_text c × IfSome (v.reads c.disk) (Has []))
 
   -- What a command is for: a build that has ended or waits, whose events begin with those of the store; the log or the graph of the store's build; `ok`.
-  abbrev pub OutputOf : Command → Call D → Type 0
-  OutputOf Run c = HasRun c.status → IsAtEnd c.script.rest × IsAtEnd c.agents.rest × WithFiles c (DeliversRun c)
-  OutputOf Resume c = HasRun c.status → (setting : Setting) (events : List Event) → Finds reads setting events c → (more : List Event) × Delivers setting events (events ++ more) c
+  abbrev pub OutputOf : Command → Call D H A → Type 0
+  OutputOf Run c = HasRun c.status → IsAtEnd c.script.rest × IsAtEnd c.agents.rest × WithFiles c (λ script agents. ∥ DeliversRun c script agents ∥₁)
+  OutputOf Resume c = HasRun c.status → (setting : Setting) (events : List Event) → Finds v setting events c → ∥ ((more : List Event) × Delivers setting events (events ++ more) c) ∥₁
   OutputOf Log c = ShowsStore (λ w. w.shared.log) (λ i. i.log) c
   OutputOf Graph c = ShowsStore (λ w. graph_text w.shared.nodes) (λ i. graph_text i.nodes) c
   OutputOf Check c = HasRun c.status → Writes store.ok_text 0 c × WithFiles c (λ script agents. HasSite agents × ¬ (IsRefused script))
 
-  pub record Output (c : Call D) : Type 0 where
+  pub record Output (c : Call D H A) : Type 0 where
     pub command : (command : Command) → Is command c → OutputOf command c
     -- any other status has its text
     pub refusal : HasRun c.status ⊎ ((text : List ℕ) × Says c.status text × Tells text c)

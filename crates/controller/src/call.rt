@@ -1,9 +1,12 @@
 //! The call that the program makes.
-ghost use Rattle.std.specs.Prelude.{◌≡◌};
+ghost use Rattle.std.specs.Prelude.{◌≡◌, length, map, string_bytes};
+ghost use Rattle.run_command.specs.Inputs.{taken_from};
 ghost use Rattle.build_commands.specs.Writing as writing;
-ghost use Rattle.controller.specs.Call.{usage_text};
+ghost use Rattle.controller.specs.Call.{call_of, devices, usage_text};
+ghost use Rattle.controller.specs.Commands.{Does};
+ghost use Rattle.controller.specs.Promises.{Promises};
 
-use build_commands::{Done, Ran, check, graph, log, resume, run};
+use build_commands::{Done, Ended, check, graph, log, resume, run};
 use command_words::{Command, command_in};
 use jp_disk::Disk;
 use jp_io::{Sink, Source, write_all};
@@ -13,30 +16,17 @@ use std::sync::Wait;
 use std::time::Clock;
 use task_host::Host;
 
-/// How a call of the controller has ended.
-#[derive(Drop)]
-pub struct Ended<D, H, A> {
-    /// The exit status of the program.
-    pub status: u8,
-    /// The disk.
-    pub disk: D,
-    /// The hosts, host i that of executor i.
-    pub hosts: Vec<H>,
-    /// The answers, as far as they were not read.
-    pub answers: A,
-}
-
 /// Does the command that the words give, over the store of a build.
 ///
 /// The words are a command exactly where there are three of them, the second is `run`, `resume`, `log`, `graph` or `check`, and the
 /// third, the folder, is not empty and does not begin with `-`. `run` begins the build of a script and `resume` goes on with that of
-/// a store; both work until it has ended or nobody can go on, and write its log. `log` and `graph` write what the build of a store
+/// a store; both let its hosts work until it has ended or nobody can go on, and write its log. `log` and `graph` write what the build of a store
 /// has come to, and change no byte of it. `check` looks for faults of a script and its agents file, and does not call the disk.
 ///
 /// | status | comes | text |
 /// |---|---|---|
 /// | 2 | exactly where the words are no command | how to use the program |
-/// | 6 | only where a source counted a fault | `controller: read failed` |
+/// | 6 | of `run` and `check`, where the source of a file counted a fault; of `run` and `resume`, only where that of the answers did while an input was open | `controller: read failed` |
 /// | 13 | of `run` and `check`, exactly where the agents file has a fault | its path and kind |
 /// | 4 | of `run` and `check`, exactly where the script has a fault or is too long | the place of its first fault |
 /// | 9 | of `run`, exactly where it finds a record, or the beginning of one | `program.dat: already has a build` |
@@ -45,14 +35,18 @@ pub struct Ended<D, H, A> {
 /// | 5 | only where the disk counted a fault | `controller: disk failed` |
 /// | 7 | only where the sink counted a fault | a part of the text, from its beginning |
 /// | 0, 1, 10, 11, 12 | 0 alone for `log`, `graph` and `check`; else only where the build has ended so | the log, or the command's text |
-/// | 3 | only where no grant is due, and no input is open or the answers were read to their end | the log so far |
+/// | 3 | only where no grant is due, no task is open, and no input is open or the answers were read to their end | the log so far |
 /// | 8 | want of memory | `controller: out of memory` |
 ///
-/// Each status yields to those above it, and all but 2 to want of memory.
+/// Each status yields to those above it, 9 and 14 also to a 5 that ended the call first, and all but 2 and the 6 of a file to want of
+/// memory.
+///
+/// There are 64 hosts: host i runs the tasks of executor i, and each comes back at its place. A command that lets no build go on
+/// hands hosts and answers back as they were.
 ///
 /// What is said of the bytes of a source, the sink or the disk holds where it tells them. Of a disk that tells nothing, as a real
 /// file, it still holds that `run` writes the log of the build that it has begun, with the status of that build. It may wait for
-/// ever, as the answers may.
+/// ever, as the answers and the tasks may.
 pub fn controller<
     R: SavedThread + Drop,
     W: Wait + Clock + AllocGlobal,
@@ -71,16 +65,46 @@ pub fn controller<
     hosts: Vec<H>,
     answers: A,
     out: &mut K,
-) -> Ended<D, H, A> {
-    match command_in(&words) {
+) -> Ended<D, H, A>
+    requires hosts { length hosts.items ≡ 64 }
+    ensures promises { Promises
+        (devices D.reads D.may_leave D.clock D.may_have_left_since D.faults H.honest H.faults H.calls H.launches H.dirs H.output H.exited A.left A.faults)
+        (call_of (map string_bytes words.items) (taken_from S.left S.faults script.old script.new) (taken_from S.left S.faults agents.old agents.new)
+        disk result.disk hosts.items result.hosts.items answers result.answers (K.written out.old) (K.written out.new) (K.faults out.old) (K.faults out.new) result.status) }
+{
+    do_command::<R, W, D, S, H, A, K>(rt, alloc, &words, script, agents, disk, hosts, answers, out)
+}
+
+/// Does the command that the words give.
+fn do_command<
+    R: SavedThread + Drop,
+    W: Wait + Clock + AllocGlobal,
+    D: Disk,
+    S: Source,
+    H: Host + Drop,
+    A: Source + Drop,
+    K: Sink,
+>(
+    rt: &W,
+    alloc: Global,
+    words: &[String],
+    script: &mut S,
+    agents: &mut S,
+    disk: D,
+    hosts: Vec<H>,
+    answers: A,
+    out: &mut K,
+) -> Ended<D, H, A>
+    ensures does { Does
+        (devices D.reads D.may_leave D.clock D.may_have_left_since D.faults H.honest H.faults H.calls H.launches H.dirs H.output H.exited A.left A.faults) R.stance
+        (call_of (map string_bytes words.now) (taken_from S.left S.faults script.old script.new) (taken_from S.left S.faults agents.old agents.new)
+        disk result.disk hosts.items result.hosts.items answers result.answers (K.written out.old) (K.written out.new) (K.faults out.old) (K.faults out.new) result.status) }
+{
+    match command_in(words) {
         Some((Command::Run, _)) => {
-            let ran = run::<D, R, W, S, H, A, K>(rt, script, agents, disk, hosts, answers, out);
-            ended_by(ran)
+            run::<D, R, W, S, H, A, K>(rt, script, agents, disk, hosts, answers, out)
         }
-        Some((Command::Resume, _)) => {
-            let ran = resume::<D, R, W, H, A, K>(rt, disk, hosts, answers, out);
-            ended_by(ran)
-        }
+        Some((Command::Resume, _)) => resume::<D, R, W, H, A, K>(rt, disk, hosts, answers, out),
         Some((Command::Log, _)) => {
             let Done { status, disk } = log::<D, R, K>(alloc, disk, out);
             Ended {
@@ -117,22 +141,6 @@ pub fn controller<
                 answers,
             }
         }
-    }
-}
-
-/// How a call has ended whose command let a build go on.
-fn ended_by<D, H, A>(ran: Ran<D, H, A>) -> Ended<D, H, A> {
-    let Ran {
-        status,
-        disk,
-        hosts,
-        answers,
-    } = ran;
-    Ended {
-        status,
-        disk,
-        hosts,
-        answers,
     }
 }
 

@@ -9,11 +9,13 @@
 //! One controller at a time works on a folder: `run` and `resume` hold a lock on `DIR/program.lock`.
 #![tactic(auto)]
 
+ghost use Rattle.std.specs.Prelude.{◌≡◌, IfOk, length};
+
 use build_commands::{Refusal, tell};
 use command_words::{Command, command_in};
 use controller::controller;
 use cps_machine::MachineThread;
-use jp_io::{LazyFile, StdSink, StdSource};
+use jp_io::{LazyFile, Sink, Source, StdSink, StdSource};
 use real_edge::{FileDisk, FolderHost, Life, LockedDisk};
 use std::alloc::{AllocError, Global};
 use std::fs::File;
@@ -21,6 +23,7 @@ use std::io::ErrorKind;
 use std::process::ExitCode;
 use std::process::Processes;
 use std::rt::{Env, Files};
+use std::sync::Wait;
 use std::time::Clock;
 use std::{env, io};
 
@@ -28,40 +31,45 @@ fn main(rt: HostRuntime) -> ExitCode {
     let alloc = rt.alloc();
     let mut out = StdSink::new(io::writer(&rt));
     let status = match read_call(&rt, alloc) {
-        Ok(call) => {
-            let Call {
-                words,
-                script,
-                agents,
-                store,
-                lock,
-                life,
-            } = call;
-            match hosts_of(&rt, alloc, life) {
-                Ok(hosts) => {
-                    let mut script = StdSource::new(LazyFile::new(&rt, script));
-                    let mut agents = StdSource::new(LazyFile::new(&rt, agents));
-                    let answers = StdSource::new(rt.stdin());
-                    let disk = disk_at(&rt, store, lock);
-                    let ended = controller::<MachineThread, _, _, _, _, _, _>(
-                        &rt,
-                        alloc,
-                        words,
-                        &mut script,
-                        &mut agents,
-                        disk,
-                        hosts,
-                        answers,
-                        &mut out,
-                    );
-                    ended.status
-                }
-                Err(AllocError) => tell(&mut out, &Refusal::OutOfMemory),
-            }
-        }
+        Ok(call) => do_call(&rt, alloc, call, StdSource::new(rt.stdin()), &mut out),
         Err(AllocError) => tell(&mut out, &Refusal::OutOfMemory),
     };
     ExitCode::from(status)
+}
+
+/// Makes the one call for these words and paths: over the files of the folder and the hosts of this machine, with these answers and this
+/// sink. Answers the exit status.
+fn do_call<
+    W: Wait + Clock + Files<File = File> + Env + AllocGlobal + Eprint + Processes,
+    A: Source + Drop,
+    K: Sink,
+>(rt: &W, alloc: Global, call: Call, answers: A, out: &mut K) -> u8 {
+    let Call {
+        words,
+        script,
+        agents,
+        store,
+        lock,
+        life,
+    } = call;
+    let Ok(hosts) = hosts_of(rt, alloc, life) else {
+        return tell(out, &Refusal::OutOfMemory);
+    };
+    let mut script = StdSource::new(LazyFile::new(rt, script));
+    let mut agents = StdSource::new(LazyFile::new(rt, agents));
+    let disk = disk_at(rt, store, lock);
+    let ended = controller::<MachineThread, _, _, _, _, _, _>(
+        rt,
+        alloc,
+        words,
+        &mut script,
+        &mut agents,
+        disk,
+        hosts,
+        answers,
+        out,
+    );
+    ended.status
 }
 
 /// How many hosts there are: one for each executor that a site may have.
@@ -72,7 +80,9 @@ fn hosts_of<'a, R: Files + Env + AllocGlobal + Eprint + Clock + Processes>(
     rt: &'a R,
     alloc: Global,
     life: Life,
-) -> Result<Vec<FolderHost<'a, R>>, AllocError> {
+) -> Result<Vec<FolderHost<'a, R>>, AllocError>
+    ensures hosts { IfOk result (λ hosts. length hosts.items ≡ 64) }
+{
     let mut hosts = Vec::new(alloc);
     for _ in 0..HOSTS {
         hosts.push(FolderHost::new(rt, life))?;

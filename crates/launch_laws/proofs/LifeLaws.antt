@@ -61,11 +61,11 @@ claims_behind (Pauses ∷ past) old new = claims_behind past old new
 claims_behind (Halts ∷ past) old new = claims_behind past old new
 
 -- what was told stays told
-told_stays : (t : Told) (b : Bool) (u : Told) (old : List Told) → Some_of (λ x. x ≡ t) old → Some_of (λ x. x ≡ t) (added_if b u old)
+pub told_stays : (t : Told) (b : Bool) (u : Told) (old : List Told) → Some_of (λ x. x ≡ t) old → Some_of (λ x. x ≡ t) (added_if b u old)
 told_stays t true u old there = some_front (λ x. x ≡ t) old (u ∷ []) there
 told_stays t false u old there = there
 
-told_acts : (t : Told) (acts : List Act) (old : List Told) → Some_of (λ x. x ≡ t) old → Some_of (λ x. x ≡ t) (with_told acts old)
+pub told_acts : (t : Told) (acts : List Act) (old : List Told) → Some_of (λ x. x ≡ t) old → Some_of (λ x. x ≡ t) (with_told acts old)
 told_acts t [] old there = there
 told_acts t (Called c ∷ acts) old there = told_acts t acts old there
 told_acts t (Reported e answer ∷ acts) old there = told_stays t (is_told answer) (told_as e answer) (with_told acts old) (told_acts t acts old there)

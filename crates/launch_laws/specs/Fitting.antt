@@ -1,5 +1,5 @@
 -- When hosts fit the events of a build (this product's own). Hosts that have launched nothing fit all events.
-use Rattle.std.specs.Prelude.{◌≡◌, ◌⊎◌, ℕ, nat_eq, true, List, [], ◌∷◌, ◌++◌, map}
+use Rattle.std.specs.Prelude.{◌≡◌, ◌⊎◌, ◌+◌, ℕ, nat_eq, true, List, [], ◌∷◌, ◌++◌, map}
 use Rattle.std.specs.List.{IsDistinct}
 use Rattle.model_run.specs.declared.event.Event.{Event}
 use Rattle.model_run.specs.Fitting.{Some_of}
@@ -39,6 +39,11 @@ pub record ExecutorHost : Type 0 where
 abbrev pub AllFit : Setting → List Event → List ExecutorHost → Type 0
 AllFit setting events [] = Unit {0}
 AllFit setting events (host ∷ hosts) = Fits setting events host.number host.tasks × AllFit setting events hosts
+
+-- the hosts of the executors from this number on
+abbrev pub numbered : ℕ → List Tasks → List ExecutorHost
+numbered number [] = []
+numbered number (tasks ∷ more) = record { number = number; tasks = tasks } ∷ numbered (number + 1) more
 
 -- no two of them have one executor
 abbrev pub AreApart : List ExecutorHost → Type 0

@@ -1,6 +1,6 @@
 -- What is told of a life on each disk.
 use Rattle.std.proofs.Common.{◌≡◌, ◌⊎◌, ◌∙◌, ◌≤◌, ◌+◌, ◌^◌, inl, inr, ℕ, ℤ, Bool, true, false, List, [], ◌∷◌, Option, Some, None, Result, Ok, Err, refl, sym, ap, subst, arith}
-use Rattle.std.specs.Prelude.{◌&&◌, nat_lt, if◌then◌else◌}
+use Rattle.std.specs.Prelude.{IfErr, ◌&&◌, nat_lt, if◌then◌else◌}
 use Rattle.std.specs.List.{AllZip, IsDistinct}
 use Rattle.std.proofs.Props.{props}
 use Rattle.std.proofs.Math.Logic.{∥∥₁_elim, ∥∥₁_map}
@@ -17,10 +17,13 @@ use Rattle.script_run.specs.declared.rest.Rest.{Rest}
 use Rattle.script_run.specs.declared.rest.Rest.TheVariants.{Ended, Waits, AnswersFailed}
 use Rattle.settle_laws.specs.Stances.{Stance}
 use Rattle.site_state.specs.declared.ask.Ask.{Ask}
+use Rattle.model_run.specs.declared.event.Event.{Event}
+use Rattle.saved_run.specs.Lives.{TellsFault}
 use Rattle.site_state.specs.declared.ask.Entry.{Entry}
+use Rattle.site_state.specs.declared.ask.Entry.TheVariants.{Took, Claimed, Line, Failed}
 use Rattle.site_state.specs.declared.ask.Progress.{Progress}
 use Rattle.site_state.specs.declared.ask.Reply.{Reply}
-use Rattle.site_state.specs.Facts.{Facts, IsSite}
+use Rattle.site_state.specs.Facts.{Facts, IsFull, IsFullAt, IsSite}
 use Rattle.site_state.specs.Grants.{OpenRefuses}
 use Rattle.site_state.specs.Histories.{kept_fault}
 use Rattle.site_life.specs.Lives.{Life}
@@ -108,6 +111,36 @@ ended_failed members (Err memory) None is = absurd (cc)
 pub failed_so : {H A : Type 0} (members : List (Member H A)) (how : Result Progress Memory) (f : Option TakeFault) (ended : Result Rest TakeFault) → ended ≡ ended_as f how members → ended ≡ Ok AnswersFailed → any_failed members ≡ true
 failed_so members how f ended is failed = ended_failed members how f (sym is ∙ failed)
 
+-- a fault that is kept tells what it is
+kept_tells : {D T : Type 0} (stance : T → Stance) (now : Kept D T) (h : List Entry) (fault : TakeFault) → IsFullAt stance now h → kept_fault h ≡ Some fault → TellsFault stance now fault
+kept_tells stance now [] fault full is = absurd (cc)
+kept_tells stance now (Took e ∷ h) fault full is = kept_tells stance now h fault full is
+kept_tells stance now (Claimed executor task keep_out kept_log kept_out ∷ h) fault full is = kept_tells stance now h fault full is
+kept_tells stance now (Line line ∷ h) fault full is = kept_tells stance now h fault full is
+kept_tells {D} {T} stance now (Failed noted event ∷ h) fault full is = subst (TellsFault stance now) (same_kept noted fault is) (tells noted event full)
+  where
+    tells : (f : TakeFault) (event : Option Event) → IsFull stance now f event → TellsFault stance now f
+    tells take.Memory event full = tt
+    tells take.Disk event full = tt
+    tells (take.Full len add) (Some e) full = (e, full)
+    tells (take.Full len add) None full = absurd full
+    tells take.Stopped event full = absurd full
+
+err_same : (f g : TakeFault) → failed f ≡ failed g → f ≡ g
+err_same f g e = cc
+
+-- and so does the fault that ended a life
+pub fault_tells : {D T H A : Type 0} (stance : T → Stance) (now : Kept D T) (h : List Entry) (members : List (Member H A)) (how : Result Progress Memory) (fault : TakeFault) → IsFullAt stance now h → ended_as (kept_fault h) how members ≡ failed fault → TellsFault stance now fault
+fault_tells {H = H} {A = A} stance now h members how fault full is = by (kept_fault h) refl how is
+  where
+    by : (f : Option TakeFault) → kept_fault h ≡ f → (r : Result Progress Memory) → ended_as f r members ≡ failed fault → TellsFault stance now fault
+    by (Some f) kept r ended = kept_tells stance now h fault full (kept ∙ ap Some (err_same f fault ended))
+    by None kept (Ok come) ended = absurd (never (rest_of come members) ended)
+      where
+        never : (q : Rest) → rested q ≡ failed fault → ⊥
+        never q e = cc
+    by None kept (Err memory) ended = subst (TellsFault stance now) (err_same take.Memory fault ended) tt
+
 module _ {D T : Type 0} (reads : D → Option (List ℕ)) (may_leave : D → List ℕ → Type 0) (clock : D → ℕ) (since : D → ℕ → List ℕ → Type 0) (faults : D → ℕ) (stance : T → Stance) where
   -- the count of faults of the disk, over the opening and the life
   pub disk_counts : {H A : Type 0} (durable opened kept : Kept D T) (made h : List Entry) (capacity : ℕ) (members : List (Member H A)) (how : Result Progress Memory) (ended : Result Rest TakeFault)
@@ -122,7 +155,18 @@ module _ {D T : Type 0} (reads : D → Option (List ℕ)) (may_leave : D → Lis
         failed = λ failed. rose_known (faults opened.journal.disk) (faults kept.journal.disk) (∥∥₁_map site (λ s. s.facts.rose (fault_of members how (kept_fault h) (sym is ∙ failed))));
       })
 
-  -- and over an opening that was refused
+  -- the fault of a life tells what it is
+  pub err_tells : {H A : Type 0} (opened kept : Kept D T) (h : List Entry) (capacity : ℕ) (members : List (Member H A)) (how : Result Progress Memory) (ended : Result Rest TakeFault)
+      → ∥ IsSite reads may_leave clock since faults stance opened kept h capacity ∥₁ → ended ≡ ended_as (kept_fault h) how members → IfErr ended (λ fault. ∥ TellsFault stance kept fault ∥₁)
+  err_tells opened kept h capacity members how (Ok rest) site is = tt
+  err_tells opened kept h capacity members how (Err fault) site is = ∥∥₁_map site (λ s. fault_tells stance kept h members how fault s.facts.full (sym is))
+
+  -- and so does that of an opening
+  pub opening_tells : (durable now : Kept D T) (made : List Entry) (fault : TakeFault) → OpenRefuses stance durable now made fault → Facts reads may_leave clock since faults stance durable now made → TellsFault stance now fault
+  opening_tells durable now made fault (inl refuses) facts = kept_tells stance now made fault facts.full refuses.1
+  opening_tells durable now made fault (inr wants) facts = subst (TellsFault stance now) (sym wants.2) tt
+
+  -- the count over an opening that was refused
   pub opening_counts : (durable now : Kept D T) (made : List Entry) (fault : TakeFault) → OpenRefuses stance durable now made fault → Facts reads may_leave clock since faults stance durable now made → CountsFault (faults durable.journal.disk) (faults now.journal.disk) (fault ≡ take.Disk)
   opening_counts durable now made fault (inl refuses) facts = record {
     never_falls = facts.count;

@@ -6,3 +6,6 @@ pub mod FitLemmas
 pub mod WholeLemmas
 pub mod CloseLemmas
 pub mod GoingLaws
+pub mod FactLemmas
+pub mod OneStore
+pub mod ManyLemmas

@@ -33,13 +33,13 @@ use Rattle.site_state.proofs.HistoryLaws.{tooks-append, no_fault, none_pending, 
 use Rattle.site_run.proofs.WalkLemmas.{IsFaultOf, ShowsAll, shows_shown}
 
 -- records, their events and payloads
-events-append : (rs qs : List EventRecord) → events_of (rs ++ qs) ≡ events_of rs ++ events_of qs
+pub events-append : (rs qs : List EventRecord) → events_of (rs ++ qs) ≡ events_of rs ++ events_of qs
 events-append rs qs = map-append (λ (r : EventRecord). r.event) rs qs
 
 events-take : (k : ℕ) (rs : List EventRecord) → events_of (take k rs) ≡ take k (events_of rs)
 events-take k rs = sym (take-map (λ (r : EventRecord). r.event) k rs)
 
-spell_append : (rs qs : List EventRecord) (ps xs : List (List ℕ)) → AllSpell rs ps → AllSpell qs xs → AllSpell (rs ++ qs) (ps ++ xs)
+pub spell_append : (rs qs : List EventRecord) (ps xs : List (List ℕ)) → AllSpell rs ps → AllSpell qs xs → AllSpell (rs ++ qs) (ps ++ xs)
 spell_append [] qs [] xs one two = two
 spell_append [] qs (p ∷ ps) xs one two = absurd one
 spell_append (r ∷ rs) qs [] xs one two = absurd one
@@ -53,7 +53,7 @@ spell_take (suc k) (r ∷ rs) [] all = absurd all
 spell_take (suc k) (r ∷ rs) (p ∷ ps) all = (all.0, spell_take k rs ps all.1)
 
 module _ (s : Setting) where
-  follows_append : (b : W.Build) (rs qs : List EventRecord) → Follows world_image s b rs → Follows world_image s (fold (W.after_one s) b (events_of rs)) qs → Follows world_image s b (rs ++ qs)
+  pub follows_append : (b : W.Build) (rs qs : List EventRecord) → Follows world_image s b rs → Follows world_image s (fold (W.after_one s) b (events_of rs)) qs → Follows world_image s b (rs ++ qs)
   follows_append b [] qs one two = two
   follows_append b (r ∷ rs) qs one two = (one.0, one.1, follows_append (W.after_one s b r.event) rs qs one.2 two)
 
@@ -62,7 +62,7 @@ module _ (s : Setting) where
   follows_take (suc k) b [] all = tt
   follows_take (suc k) b (r ∷ rs) all = (all.0, all.1, follows_take k (W.after_one s b r.event) rs all.2)
 
-  due_append : (b : W.Build) (rs qs : List EventRecord) → AllDue s b rs → AllDue s (fold (W.after_one s) b (events_of rs)) qs → AllDue s b (rs ++ qs)
+  pub due_append : (b : W.Build) (rs qs : List EventRecord) → AllDue s b rs → AllDue s (fold (W.after_one s) b (events_of rs)) qs → AllDue s b (rs ++ qs)
   due_append b [] qs one two = two
   due_append b (r ∷ rs) qs one two = (one.0, due_append (W.after_one s b r.event) rs qs one.1 two)
 
@@ -87,11 +87,11 @@ module _ (s : Setting) where
   first_meant [] begun starts = let bad : false ≡ true = begun in absurd (cc)
   first_meant (r ∷ rs) begun starts = starts_meant r.event starts
 
-no_records : (rs : List EventRecord) → events_of rs ≡ [] → rs ≡ []
+pub no_records : (rs : List EventRecord) → events_of rs ≡ [] → rs ≡ []
 no_records [] is = refl
 no_records (r ∷ rs) is = absurd (cc)
 
-no_payloads : (rs : List EventRecord) (ps : List (List ℕ)) → rs ≡ [] → AllSpell rs ps → ps ≡ []
+pub no_payloads : (rs : List EventRecord) (ps : List (List ℕ)) → rs ≡ [] → AllSpell rs ps → ps ≡ []
 no_payloads [] [] none all = refl
 no_payloads [] (p ∷ ps) none all = absurd all
 no_payloads (r ∷ rs) ps none all = absurd (cc)

@@ -279,6 +279,8 @@ module _ {D T : Type 0} (reads : D → Option (List ℕ)) (may_leave : D → Lis
               ends = subst (EndsBehind reads may_leave clock since stance setting entry origin before Refused now new kept) (sym is) (ends_by at.stops rests);
               fits = fits_all;
               fits_next = λ are fit e accepted. next_fit Reported now (lines h) goes_all (hosts_of launches dirs new) (fits_all are fit) e accepted;
+              others = came_fit Reported now (lines h) goes_all;
+              others_next = λ hosts fit e accepted. next_fit Reported now (lines h) goes_all hosts (came_fit Reported now (lines h) goes_all hosts fit) e accepted;
               once = λ are fit apart. once_fit honest faults calls launches dirs output exited left source_faults looks setting (tree_node lasts.goes.proper.tree) (of_tree stance setting lasts.goes.proper) (small stance setting lasts.goes.proper) now old new life_served (fits_all are fit) apart;
             }
 

@@ -2,3 +2,4 @@ pub mod Going
 pub mod Ending
 pub mod Serving
 pub mod Lives
+pub mod ManyLives

@@ -6,7 +6,8 @@ use Rattle.task_host.specs.declared.call.Call.{Call}
 use Rattle.task_host.specs.declared.order.Stream.{Stream}
 use Rattle.agent_worker.specs.declared.fault.TakeFault.{TakeFault}
 use Rattle.agent_worker.specs.declared.member.Member.{Member}
-use Rattle.durable_build.specs.Standing.{Kept}
+use Rattle.durable_build.specs.Standing.{Kept, Keeps}
+use Rattle.jp_disk.specs.Moments.{AtEachMoment}
 use Rattle.model_run.specs.declared.event.Event.{Event}
 use Rattle.model_run.specs.declared.taken.Taken.TheVariants.{Accepted}
 use Rattle.model_run.specs.State.{Setting}
@@ -31,8 +32,14 @@ use Rattle.std.specs.List.{AllByRecursion as AllAre, IsDistinct}
 use Rattle.agent_worker.specs.Gate.{Claimed as ClaimedTask}
 use Rattle.launch_laws.specs.ManyTurns.{InLife}
 use Rattle.site_gate.specs.Tales.{claimed_of, is_grant}
-use Rattle.site_state.specs.Facts.{Facts}
+use Rattle.site_state.specs.Facts.{Facts, HasFront}
 use Rattle.site_state.specs.Grants.{Grants}
+
+-- A store that kept these records, whatever they tell, has them still, and perhaps others behind them; the build stands by the last of all.
+-- At each moment in between a crash leaves them and a front of the others.
+abbrev pub KeepsOn : {D T : Type 0} → (D → Option (List ℕ)) → (D → List ℕ → Type 0) → (D → ℕ) → (D → ℕ → List ℕ → Type 0) → (T → Stance) → Kept D T → Kept D T → List (List ℕ) → Type 0
+KeepsOn reads may_leave clock since stance old now payloads =
+    (more : List (List ℕ)) × Keeps reads may_leave stance now (payloads ++ more) × AtEachMoment clock since old.journal.disk now.journal.disk (HasFront payloads more)
 
 module _ {D T : Type 0} (reads : D → Option (List ℕ)) (may_leave : D → List ℕ → Type 0) (clock : D → ℕ) (since : D → ℕ → List ℕ → Type 0) (stance : T → Stance) (setting : Setting) (entry : Option (List ℕ)) (origin : D) (before : List Event) where
   -- It rests behind these events for this reason: the store has them, and the build goes on from them.
@@ -90,6 +97,9 @@ module _ {D T H A : Type 0} (reads : D → Option (List ℕ)) (may_leave : D →
     pub fits : AreHonest honest old → AllFit launches dirs setting events old → AllFit launches dirs setting now new
     -- and with one event more that is accepted, as that which the disk may have though its take failed
     pub fits_next : AreHonest honest old → AllFit launches dirs setting events old → (e : Event) → answer_to setting (world_in setting now) e ≡ Accepted → AllFit launches dirs setting (now ++ e ∷ []) new
+    -- and so do other hosts, that no member has
+    pub others : (hosts : List ExecutorHost) → fitting.AllFit setting events hosts → fitting.AllFit setting now hosts
+    pub others_next : (hosts : List ExecutorHost) → fitting.AllFit setting events hosts → (e : Event) → answer_to setting (world_in setting now) e ≡ Accepted → fitting.AllFit setting (now ++ e ∷ []) hosts
     pub once : AreHonest honest old → AllFit launches dirs setting events old → AreApart (hosts_of launches dirs old) → IsDistinct nat_eq (all_launches (hosts_of launches dirs new))
 
   -- A life over this build: the state that was opened, behind the grants that a stop had left out, what its members did, and how that ended; and
@@ -99,5 +109,7 @@ module _ {D T H A : Type 0} (reads : D → Option (List ℕ)) (may_leave : D →
     pub how : Result Progress Memory
     pub life : Life honest faults calls launches dirs output exited left source_faults looks answers base base old new history how
     pub told : ended ≡ ended_as (kept_fault history) how new
+    -- what is known of the store from before the opening to the end, whatever its records tell
+    pub whole : ∥ Facts reads may_leave clock since disk_faults stance durable kept (opened.0 ++ history) ∥₁
     pub comes : (setting : Setting) (entry : Option (List ℕ)) (origin : D) (before events : List Event) → Lasts reads may_leave clock since stance setting entry origin before events durable
         → ∥ Ends (turns_of life.rounds ++ life.last) setting entry origin before events old new history kept ended ∥₁

@@ -4,10 +4,10 @@ ghost use Rattle.device_faults.specs.Faults.{CountsFault};
 ghost use Rattle.build_core.specs.Phases.{has_begun};
 ghost use Rattle.model_run.specs.declared.event.Event.{Event as AnEvent};
 ghost use Rattle.model_run.specs.State.{Setting};
-ghost use Rattle.saved_run.specs.Lives.{Lasts};
+ghost use Rattle.saved_run.specs.Lives.{Lasts, TellsFault};
 ghost use Rattle.program_lock.specs.declared.program.Memory.{Memory as NoMemory};
 ghost use Rattle.site_state.specs.declared.ask.Progress.{Progress as Come};
-ghost use Rattle.durable_build.specs.Standing.{Kept};
+ghost use Rattle.durable_build.specs.Standing.{Kept, Keeps};
 ghost use Rattle.site_state.specs.declared.ask.Entry.{Entry};
 ghost use Rattle.site_state.specs.Facts.{Facts};
 ghost use Rattle.site_state.specs.Grants.{OpenRefuses};
@@ -15,7 +15,7 @@ ghost use Rattle.site_state.specs.Histories.{kept_fault};
 ghost use Rattle.site_state.specs.Says.{Says};
 ghost use Rattle.site_life.specs.Lives.{Life};
 ghost use Rattle.site_run.specs.Ending.{any_failed, ended_as};
-ghost use Rattle.site_run.specs.Lives.{LivesOn, OpeningBreaks};
+ghost use Rattle.site_run.specs.Lives.{KeepsOn, LivesOn, OpeningBreaks};
 ghost use Rattle.site_run.specs.Serving.{AreServed};
 
 use crate::resting::rest_of;
@@ -57,7 +57,8 @@ pub struct Lived<D: Disk, R: SavedThread + Drop> {
 /// # Errors
 ///
 /// A fault that stops the life is told beside the state, as [`DurableBuild::take`] answers it: `Disk` only where the disk's count
-/// of faults rose, which it does at no other fault; `Full` with the numbers of the record of the event that came next; `Memory`
+/// of faults rose, which it does at no other fault; `Full` with the journal's length in bytes and what the record of an event
+/// would have added to it, together more than 1,073,741,824: over a store of one build, of the event that came next; `Memory`
 /// where memory was refused. `Stopped` does not come. Where one of the grants that a stop left out is refused so, the disk alone
 /// is handed back, and no member has had a turn.
 pub fn go_on<W: Wait + Clock + AllocGlobal, D: Disk, R: SavedThread + Drop, H: Host, A: Source>(
@@ -75,12 +76,16 @@ pub fn go_on<W: Wait + Clock + AllocGlobal, D: Disk, R: SavedThread + Drop, H: H
         D.faults (λ base. base.value) (λ base history ask reply new. Says R.stance base.value.build history ask reply new)
         durable members.old members.new l.site.base l.site.history.items l.site.durable l.ended) }
     ensures refused { IfErr result (λ e. (made : List Entry) × (now : Kept D R) × OpenRefuses R.stance durable now made e.0
-        × Facts D.reads D.may_leave D.clock D.may_have_left_since D.faults R.stance durable now made × (e.1 ≡ now.journal.disk)) }
+        × Facts D.reads D.may_leave D.clock D.may_have_left_since D.faults R.stance durable now made × (e.1 ≡ now.journal.disk)
+        × TellsFault R.stance now e.0) }
     ensures breaks { IfErr result (λ e. (setting : Setting) (entry : Option (List ℕ)) (origin : D) (before events : List AnEvent)
         → Lasts D.reads D.may_leave D.clock D.may_have_left_since R.stance setting entry origin before events durable
         → OpeningBreaks D.reads D.may_leave D.clock D.may_have_left_since R.stance setting entry origin before events e.0 e.1) }
     ensures back { IfErr result (λ e. members.new ≡ members.old) }
     ensures served { IfOk result (λ l. AreServed H.honest H.faults H.calls A.left A.faults members.old members.new) }
+    ensures keeps { IfOk result (λ l. IfOk l.ended (λ rest. (payloads : List (List ℕ)) → Keeps D.reads D.may_leave R.stance durable payloads
+        → ∥ KeepsOn D.reads D.may_leave D.clock D.may_have_left_since R.stance durable l.site.durable payloads ∥₁)) }
+    ensures faults { IfOk result (λ l. IfErr l.ended (λ fault. ∥ TellsFault R.stance l.site.durable fault ∥₁)) }
     ensures failed { IfOk result (λ l. l.ended ≡ Ok Rest.AnswersFailed → any_failed members.new ≡ true) }
     ensures disk { MatchResult result
         (λ l. CountsFault (D.faults durable.journal.disk) (D.faults l.site.durable.journal.disk) (l.ended ≡ Err TakeFault.Disk))

@@ -8,10 +8,10 @@ use Rattle.site_life.specs.Rounds.{turns_of}
 use Rattle.site_run.specs.Serving.{AreServed}
 use Rattle.site_crew.specs.Crews.{answers_in, hosts_in, IsCrew, members_of, others_of}
 use Rattle.build_commands.specs.Finishing.{TellsEnd}
-use Rattle.build_commands.specs.Living.{LifeOf}
+use Rattle.build_commands.specs.Living.{HostsStay, LifeOf, TakesBy}
 use Rattle.build_commands.specs.Reporting.{Reports}
 use Rattle.build_commands.proofs.FinishLemmas.{finished_by, reports, reports_broken}
-use Rattle.build_commands.proofs.LivingLemmas.{crew_failed, no_life, served_crew, served_length, whole_slice}
+use Rattle.build_commands.proofs.LivingLemmas.{crew_failed, crew_stay, hosts_all, life_events, no_life, opening_events, served_crew, served_length, stay_same, whole_slice}
 use Rattle.build_commands.proofs.finishing.live.Goals as goal
 
 pub dismiss-hosts-requires-clause-crew : goal.dismiss-hosts-requires-clause-crew
@@ -19,9 +19,37 @@ dismiss-hosts-requires-clause-crew g c =
     let A = g.A.Source in
     let new = c.go_on.new.members in
     let old = c.as_mut_slice.result.now in
-    let here = whole_slice c.args.crew.members.len new c.args.crew.members.items (sym (served_length A.left A.faults old new c.in-Ok.ensures.served ∙ c.as_mut_slice.ensures.len)) in
+    let here = whole_slice c.args.crew.members.len new c.args.crew.members.items (sym (served_length g.H.Host.honest g.H.Host.faults g.H.Host.calls A.left A.faults old new c.in-Ok.ensures.served ∙ c.as_mut_slice.ensures.len)) in
     subst (λ (ms : List (Member g.row.H.Denot g.row.A.Denot)). IsCrew ms) (sym here)
-    (served_crew A.left A.faults old new c.in-Ok.ensures.served (subst (λ (ms : List (Member g.row.H.Denot g.row.A.Denot)). IsCrew ms) (sym c.as_mut_slice.ensures.value) c.requires.crew))
+    (served_crew g.H.Host.honest g.H.Host.faults g.H.Host.calls A.left A.faults old new c.in-Ok.ensures.served (subst (λ (ms : List (Member g.row.H.Denot g.row.A.Denot)). IsCrew ms) (sym c.as_mut_slice.ensures.value) c.requires.crew))
+
+pub returns-in-Ok-clause-stay : goal.returns-in-Ok-clause-stay
+returns-in-Ok-clause-stay g c = λ executors hosts answers made others.
+    let A = g.A.Source in
+    let H = g.H.Host in
+    let Members = List (Member g.row.H.Denot g.row.A.Denot) in
+    let new = c.go_on.new.members in
+    let old = c.as_mut_slice.result.now in
+    let here = whole_slice c.args.crew.members.len new c.args.crew.members.items (sym (served_length H.honest H.faults H.calls A.left A.faults old new c.in-Ok.ensures.served ∙ c.as_mut_slice.ensures.len)) in
+    let back : c.dismiss-hosts.result.0.items ≡ hosts_in new ++ others_of executors hosts =
+    c.dismiss-hosts.ensures.hosts ∙ ap (λ (ms : Members). hosts_in ms ++ reverse c.args.crew.others.items) here
+    ∙ ap (λ (hs : List g.row.H.Denot). hosts_in new ++ hs) (ap (λ (hs : List g.row.H.Denot). reverse hs) others ∙ reverse-reverse (others_of executors hosts)) in
+    subst (λ (hs : List g.row.H.Denot). HostsStay H.honest H.faults H.calls hosts hs) (sym back)
+    (crew_stay H.honest H.faults H.calls A.left A.faults executors hosts answers new (subst (λ (ms : Members). AreServed H.honest H.faults H.calls A.left A.faults ms new) (c.as_mut_slice.ensures.value ∙ made) c.in-Ok.ensures.served))
+
+pub returns-in-Err-clause-stay : goal.returns-in-Err-clause-stay
+returns-in-Err-clause-stay g c = λ executors hosts answers made others.
+    let A = g.A.Source in
+    let H = g.H.Host in
+    let Members = List (Member g.row.H.Denot g.row.A.Denot) in
+    let new = c.go_on.new.members in
+    let here = whole_slice c.args.crew.members.len new c.args.crew.members.items (sym (ap (λ (ms : Members). length ms) c.in-Err.ensures.back ∙ c.as_mut_slice.ensures.len)) in
+    let is : new ≡ members_of executors hosts answers = c.in-Err.ensures.back ∙ c.as_mut_slice.ensures.value ∙ made in
+    let back : c.dismiss-hosts-in-Err.result.0.items ≡ hosts =
+    c.dismiss-hosts-in-Err.ensures.hosts ∙ ap (λ (ms : Members). hosts_in ms ++ reverse c.args.crew.others.items) (here ∙ is)
+    ∙ ap (λ (hs : List g.row.H.Denot). hosts_in (members_of executors hosts answers) ++ hs) (ap (λ (hs : List g.row.H.Denot). reverse hs) others ∙ reverse-reverse (others_of executors hosts))
+    ∙ hosts_all executors hosts answers in
+    subst (λ (hs : List g.row.H.Denot). HostsStay H.honest H.faults H.calls hosts hs) (sym back) (stay_same H.honest H.faults H.calls A.left A.faults hosts)
 
 pub returns-in-Ok-clause-reports : goal.returns-in-Ok-clause-reports
 returns-in-Ok-clause-reports g c = λ executors hosts answers made.
@@ -30,14 +58,14 @@ returns-in-Ok-clause-reports g c = λ executors hosts answers made.
     let K = g.K.Sink in
     let new = c.go_on.new.members in
     let old = c.as_mut_slice.result.now in
-    let here = whole_slice c.args.crew.members.len new c.args.crew.members.items (sym (served_length A.left A.faults old new c.in-Ok.ensures.served ∙ c.as_mut_slice.ensures.len)) in
+    let here = whole_slice c.args.crew.members.len new c.args.crew.members.items (sym (served_length g.H.Host.honest g.H.Host.faults g.H.Host.calls A.left A.faults old new c.in-Ok.ensures.served ∙ c.as_mut_slice.ensures.len)) in
     let are : answers_in new ≡ c.dismiss-hosts.result.1 ∷ [] = ap (λ (ms : List (Member g.row.H.Denot g.row.A.Denot)). answers_in ms) (sym here) ∙ c.dismiss-hosts.ensures.answers in
-    let served = subst (λ (ms : List (Member g.row.H.Denot g.row.A.Denot)). AreServed A.left A.faults ms new) (c.as_mut_slice.ensures.value ∙ made) c.in-Ok.ensures.served in
+    let served = subst (λ (ms : List (Member g.row.H.Denot g.row.A.Denot)). AreServed g.H.Host.honest g.H.Host.faults g.H.Host.calls A.left A.faults ms new) (c.as_mut_slice.ensures.value ∙ made) c.in-Ok.ensures.served in
     subst (λ (d : g.row.D.Denot). Reports (D.faults c.args.durable.journal.disk) (D.faults d) (A.faults answers) (A.faults c.dismiss-hosts.result.1) (K.written c.args.out.now) (K.written c.tell_end-status.new.out) (K.faults c.args.out.now) (K.faults c.tell_end-status.new.out) c.tell_end-status.result)
     (sym c.close-disk.ensures.disk)
     (reports (D.faults c.args.durable.journal.disk) (D.faults c.in-Ok.field-0.site.durable.journal.disk) (A.faults answers) (A.faults c.dismiss-hosts.result.1) (K.written c.args.out.now) (K.written c.tell_end-status.new.out) (K.faults c.args.out.now) (K.faults c.tell_end-status.new.out)
     (StandsFor g.R.ScriptThread.stance c.build.result.now) c.in-Ok.field-0.ended c.tell_end-status.result c.tell_end-status.ensures
-    (λ is. crew_failed A.left A.faults executors hosts answers c.dismiss-hosts.result.1 new served are (c.in-Ok.ensures.failed is)) c.in-Ok.ensures.disk)
+    (λ is. crew_failed g.H.Host.honest g.H.Host.faults g.H.Host.calls A.left A.faults executors hosts answers c.dismiss-hosts.result.1 new served are (c.in-Ok.ensures.failed is)) c.in-Ok.ensures.disk)
 
 pub returns-in-Ok-clause-finishes : goal.returns-in-Ok-clause-finishes
 returns-in-Ok-clause-finishes g c = λ hosts answers setting entry origin before made others lasts.
@@ -50,25 +78,27 @@ returns-in-Ok-clause-finishes g c = λ hosts answers setting entry origin before
     let old = c.as_mut_slice.result.now in
     let begun = members_of setting.site.executors hosts answers in
     let site = c.in-Ok.field-0.site in
-    let here = whole_slice c.args.crew.members.len new c.args.crew.members.items (sym (served_length A.left A.faults old new c.in-Ok.ensures.served ∙ c.as_mut_slice.ensures.len)) in
+    let here = whole_slice c.args.crew.members.len new c.args.crew.members.items (sym (served_length g.H.Host.honest g.H.Host.faults g.H.Host.calls A.left A.faults old new c.in-Ok.ensures.served ∙ c.as_mut_slice.ensures.len)) in
     let are : answers_in new ≡ c.dismiss-hosts.result.1 ∷ [] = ap (λ (ms : Members). answers_in ms) (sym here) ∙ c.dismiss-hosts.ensures.answers in
     let hosts_are : c.dismiss-hosts.result.0.items ≡ hosts_in new ++ others_of setting.site.executors hosts =
     c.dismiss-hosts.ensures.hosts ∙ ap (λ (ms : Members). hosts_in ms ++ reverse c.args.crew.others.items) here
     ∙ ap (λ (hs : List g.row.H.Denot). hosts_in new ++ hs) (ap (λ (hs : List g.row.H.Denot). reverse hs) others ∙ reverse-reverse (others_of setting.site.executors hosts)) in
     let is : old ≡ begun = c.as_mut_slice.ensures.value ∙ made in
-    let served = subst (λ (ms : Members). AreServed A.left A.faults ms new) is c.in-Ok.ensures.served in
+    let served = subst (λ (ms : Members). AreServed g.H.Host.honest g.H.Host.faults g.H.Host.calls A.left A.faults ms new) is c.in-Ok.ensures.served in
     let lives = c.in-Ok.ensures.lives in
     let told = subst (λ (b : Parts g.row.R.Denot). TellsEnd (StandsFor g.R.ScriptThread.stance b) (K.written c.args.out.now) (K.written c.tell_end-status.new.out) (K.faults c.args.out.now) (K.faults c.tell_end-status.new.out) c.in-Ok.field-0.ended c.tell_end-status.result)
     c.build.ensures.build c.tell_end-status.ensures in
     let turns = turns_of lives.life.rounds ++ lives.life.last in
-    let lived : LifeOf H.honest H.faults H.calls H.launches H.dirs H.output H.exited A.left A.faults c.args.looks begun new turns site.history.items =
-    subst (λ (ms : Members). LifeOf H.honest H.faults H.calls H.launches H.dirs H.output H.exited A.left A.faults c.args.looks ms new turns site.history.items) is (record { did = lives.life.turns; ways = lives.life.ways }) in
+    let life : LifeOf H.honest H.faults H.calls H.launches H.dirs H.output H.exited A.left A.faults c.args.looks begun new turns site.history.items =
+    subst (λ (ms : Members). LifeOf H.honest H.faults H.calls H.launches H.dirs H.output H.exited A.left A.faults c.args.looks ms new turns site.history.items) is
+    (record { did = lives.life.turns; ways = lives.life.ways; launched_once = lives.life.launched_once; served = c.in-Ok.ensures.served }) in
     ∥∥₁_map (lives.comes setting entry origin before before lasts) (λ e.
     finished_by D.reads D.may_leave D.clock D.may_have_left_since g.R.ScriptThread.stance D.faults H.honest H.faults H.calls H.launches H.dirs H.output H.exited A.left A.faults c.args.looks
     setting entry origin before hosts c.dismiss-hosts.result.0.items answers c.dismiss-hosts.result.1 (K.written c.args.out.now) (K.written c.tell_end-status.new.out) (K.faults c.args.out.now) (K.faults c.tell_end-status.new.out) c.tell_end-status.result (D.faults c.args.durable.journal.disk)
-    new turns site.history.items site.durable c.close-disk.result.0 c.close-disk.ensures.disk lived hosts_are are e.now c.in-Ok.field-0.ended
-    e.goes e.ends
-    told (λ failed. crew_failed A.left A.faults setting.site.executors hosts answers c.dismiss-hosts.result.1 new served are (c.in-Ok.ensures.failed failed)) c.in-Ok.ensures.disk.failed)
+    new turns site.history.items site.durable c.close-disk.result.0 c.close-disk.ensures.disk life hosts_are are e.now c.in-Ok.field-0.ended
+    (subst (λ (ms : Members). TakesBy H.honest H.faults H.calls H.launches H.dirs H.output H.exited A.left A.faults c.args.looks setting before ms new turns site.history.items e.now) is
+    (life_events H.honest H.faults H.calls H.launches H.dirs H.output H.exited A.left A.faults c.args.looks D.reads D.may_leave D.clock D.may_have_left_since g.R.ScriptThread.stance turns setting entry origin before before old new site.history.items site.durable c.in-Ok.field-0.ended e lasts.goes.begun)) e.ends
+    told (λ failed. crew_failed g.H.Host.honest g.H.Host.faults g.H.Host.calls A.left A.faults setting.site.executors hosts answers c.dismiss-hosts.result.1 new served are (c.in-Ok.ensures.failed failed)) c.in-Ok.ensures.disk.failed)
 
 pub returns-in-Err-clause-reports : goal.returns-in-Err-clause-reports
 returns-in-Err-clause-reports g c = λ executors hosts answers made.
@@ -95,8 +125,9 @@ returns-in-Err-clause-finishes g c = λ hosts answers setting entry origin befor
     let hosts_are : c.dismiss-hosts-in-Err.result.0.items ≡ hosts_in begun ++ others_of setting.site.executors hosts =
     c.dismiss-hosts-in-Err.ensures.hosts ∙ ap (λ (ms : Members). hosts_in ms ++ reverse c.args.crew.others.items) (here ∙ is)
     ∙ ap (λ (hs : List g.row.H.Denot). hosts_in begun ++ hs) (ap (λ (hs : List g.row.H.Denot). reverse hs) others ∙ reverse-reverse (others_of setting.site.executors hosts)) in
-    let b = c.in-Err.ensures.refused setting entry origin before before lasts in
+    let b = c.in-Err.ensures.breaks setting entry origin before before lasts in
     ∣ finished_by D.reads D.may_leave D.clock D.may_have_left_since g.R.ScriptThread.stance D.faults H.honest H.faults H.calls H.launches H.dirs H.output H.exited A.left A.faults c.args.looks
     setting entry origin before hosts c.dismiss-hosts-in-Err.result.0.items answers c.dismiss-hosts-in-Err.result.1 (K.written c.args.out.now) (K.written c.tell-status.new.out) (K.faults c.args.out.now) (K.faults c.tell-status.new.out) c.tell-status.result (D.faults c.args.durable.journal.disk)
-    begun [] [] b.kept c.in-Err.disk b.same (no_life H.honest H.faults H.calls H.launches H.dirs H.output H.exited A.left A.faults c.args.looks begun) hosts_are are b.now (Err c.in-Err.fault) b.goes b.breaks
+    begun [] [] b.kept c.in-Err.disk b.same (no_life H.honest H.faults H.calls H.launches H.dirs H.output H.exited A.left A.faults c.args.looks begun) hosts_are are (before ++ b.granted) (Err c.in-Err.fault)
+    (opening_events H.honest H.faults H.calls H.launches H.dirs H.output H.exited A.left A.faults c.args.looks D.reads D.may_leave D.clock D.may_have_left_since g.R.ScriptThread.stance setting entry origin before before c.in-Err.fault c.in-Err.disk b lasts.goes.begun begun) b.breaks
     (c.of_take.result, c.of_take.ensures, c.tell-status.ensures.status, c.tell-status.ensures.text) (λ failed. absurd (cc)) (λ is_disk. subst (λ (d : g.row.D.Denot). Rose (D.faults c.args.durable.journal.disk) (D.faults d)) b.same (c.in-Err.ensures.disk.failed (cc))) ∣₁

@@ -19,13 +19,15 @@ returns-in-Ok-clause-reopens g c =
     let A = g.A.Source in
     let K = g.K.Sink in
     let life = c.in-Ok.life in
-    goes_on (if_told (D.reads c.args.disk) HasBuild (λ file at. has_build D.reads D.may_leave g.R.ScriptThread.stance file life.durable (c.in-Ok.ensures.opened file at) c.in-Ok.ensures.whole))
+    goes_on (if_told (D.reads c.args.disk) HasBuild (λ file at. has_build D.reads D.may_leave g.R.ScriptThread.stance file life.durable (c.in-Ok.ensures.opened file at) c.in-Ok.ensures.whole)) c.finish.ensures.stay
     (subst (λ (n : ℕ). Reports n (D.faults c.finish.result.disk) (A.faults c.args.answers) (A.faults c.finish.result.answers) (K.written c.args.out.now) (K.written c.finish.new.out) (K.faults c.args.out.now) (K.faults c.finish.new.out) c.finish.result.status)
     (ap (λ (k : Kept g.row.D.Denot g.row.R.Denot). D.faults k.journal.disk) c.into_durable.ensures ∙ c.in-Ok.ensures.cause.calm (λ e. e)) c.finish.ensures.reports)
 
 pub returns-in-Ok-clause-resumes : goal.returns-in-Ok-clause-resumes
 returns-in-Ok-clause-resumes g c = λ file told setting events stores.
     let D = g.D.Disk in
+    let A = g.A.Source in
+    let K = g.K.Sink in
     let stance = g.R.ScriptThread.stance in
     let life = c.in-Ok.life in
     let kept = c.into_durable.result in
@@ -33,6 +35,8 @@ returns-in-Ok-clause-resumes g c = λ file told setting events stores.
     let stands = subst (λ (k : Kept g.row.D.Denot g.row.R.Denot). Stands D.reads D.may_leave D.clock D.may_have_left_since stance setting events k) (sym c.into_durable.ensures) ((c.in-Ok.ensures.stands file told).1 setting events stores) in
     went_on opened (subst (λ (k : Kept g.row.D.Denot g.row.R.Denot). AtEachMoment D.clock D.may_have_left_since c.args.disk k.journal.disk (D.may_leave c.args.disk)) (sym c.into_durable.ensures) c.in-Ok.ensures.any_moment)
     (ap (λ (k : Kept g.row.D.Denot g.row.R.Denot). D.faults k.journal.disk) c.into_durable.ensures ∙ c.in-Ok.ensures.cause.calm (λ e. e))
+    (subst (λ (n : ℕ). Reports n (D.faults c.finish.result.disk) (A.faults c.args.answers) (A.faults c.finish.result.answers) (K.written c.args.out.now) (K.written c.finish.new.out) (K.faults c.args.out.now) (K.faults c.finish.new.out) c.finish.result.status)
+    (ap (λ (k : Kept g.row.D.Denot g.row.R.Denot). D.faults k.journal.disk) c.into_durable.ensures ∙ c.in-Ok.ensures.cause.calm (λ e. e)) c.finish.ensures.reports)
     (c.finish.ensures.finishes setting (D.reads c.args.disk) opened events (lasts_here D.reads D.may_leave D.clock D.may_have_left_since stance g.met.D.Disk.only_now setting (D.reads c.args.disk) events kept stands.goes (λ known. stands.saves)))
 
 pub returns-in-Err-clause-reopens : goal.returns-in-Err-clause-reopens

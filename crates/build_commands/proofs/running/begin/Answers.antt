@@ -34,7 +34,7 @@ returns-in-Ok g c =
     let saves : IsSome entry → Saves D.reads D.may_leave stance kept first =
     λ known. let file = known_file entry known in subst (λ (k : Kept g.row.D.Denot g.row.R.Denot). Saves D.reads D.may_leave stance k first) back (c.in-Ok.ensures.begun file.0 file.1).stands.saves in
     let goes = subst (λ (k : Kept g.row.D.Denot g.row.R.Denot). Goes stance setting first k) back c.in-Ok.ensures.made.goes in
-    begun started calm
+    begun started calm c.finish.ensures.stay
     (subst (λ (n : ℕ). Reports n (D.faults c.finish.result.disk) (A.faults c.args.answers) (A.faults c.finish.result.answers) (K.written c.args.out.now) (K.written c.finish.new.out) (K.faults c.args.out.now) (K.faults c.finish.new.out) c.finish.result.status) calm c.finish.ensures.reports)
     (c.finish.ensures.finishes setting entry started first (lasts_here D.reads D.may_leave D.clock D.may_have_left_since stance g.met.D.Disk.only_now setting entry first kept goes saves))
     (λ file told. subst (λ (k : Kept g.row.D.Denot g.row.R.Denot). BeginsOver D.reads D.may_leave D.clock D.may_have_left_since stance D.faults H.honest H.faults H.calls H.launches H.dirs H.output H.exited A.left A.faults c.args.disk c.finish.result.disk

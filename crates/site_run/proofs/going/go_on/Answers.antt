@@ -3,7 +3,8 @@ use Rattle.device_faults.specs.Faults.{CountsFault}
 use Rattle.agent_worker.specs.declared.fault.TakeFault.TheVariants.{Disk}
 use Rattle.site_state.specs.Facts.{Facts}
 use Rattle.site_state.specs.Histories.{kept_fault}
-use Rattle.site_run.proofs.CloseLemmas.{disk_counts, failed_so, known_from, opening_counts, same_start}
+use Rattle.site_run.proofs.CloseLemmas.{disk_counts, err_tells, failed_so, known_from, opening_counts, opening_tells, same_start}
+use Rattle.site_run.proofs.FactLemmas.{facts_all, rests_keep}
 use Rattle.site_run.proofs.FitLemmas.{life_serves}
 use Rattle.site_run.proofs.WholeLemmas.{life_ends, opening_refused}
 use Rattle.site_run.proofs.going.go_on.Goals as goal
@@ -24,6 +25,8 @@ returns-in-Ok-clause-lives g c =
       how = e.0;
       life = life;
       told = e.2;
+      whole = facts_all D.reads D.may_leave D.clock D.may_have_left_since D.faults stance c.args.durable site.durable l.site.durable made.0 l.site.history.items _ made.2 made.3
+          (known_from D.reads D.may_leave D.clock D.may_have_left_since D.faults stance (λ b. b.value) site.base l.site.base site.durable l.site.durable l.site.history.items _ e.1.base_stays c.in-Ok.ensures.fresh.1 l.site.stands);
       comes = λ setting entry origin before events lasts.
           life_ends D.reads D.may_leave D.clock D.may_have_left_since D.faults stance g.met.D.Disk.told_image setting entry origin before events c.args.durable lasts made.0 made.1 site.durable made.3 made.2
           H.honest H.faults H.calls H.launches H.dirs H.output H.exited A.left A.faults c.args.looks (λ b. b.value.build) l.site.base l.site.base c.args.members.now c.live_on.new.members l.site.history.items e.0 life
@@ -40,6 +43,26 @@ returns-in-Ok-clause-served g c =
     let l = c.live_on.result in
     life_serves H.honest H.faults H.calls H.launches H.dirs H.output H.exited A.left A.faults c.args.looks g.R.ScriptThread.stance (λ b. b.value.build) c.in-Ok.site.base l.site.base c.args.members.now c.live_on.new.members l.site.history.items e.0 e.1
 
+pub returns-in-Ok-clause-keeps : goal.returns-in-Ok-clause-keeps
+returns-in-Ok-clause-keeps g c =
+    let D = g.D.Disk in
+    let stance = g.R.ScriptThread.stance in
+    let e = c.live_on.ensures.lives in
+    let l = c.live_on.result in
+    let site = c.in-Ok.site in
+    let made = c.in-Ok.ensures.grants in
+    rests_keep D.reads D.may_leave D.clock D.may_have_left_since D.faults stance c.args.durable site.durable l.site.durable made.0 l.site.history.items _ made.2 made.3
+    (known_from D.reads D.may_leave D.clock D.may_have_left_since D.faults stance (λ b. b.value) site.base l.site.base site.durable l.site.durable l.site.history.items _ e.1.base_stays c.in-Ok.ensures.fresh.1 l.site.stands)
+    c.live_on.new.members e.0 l.ended e.2
+
+pub returns-in-Ok-clause-faults : goal.returns-in-Ok-clause-faults
+returns-in-Ok-clause-faults g c =
+    let D = g.D.Disk in
+    let stance = g.R.ScriptThread.stance in
+    let e = c.live_on.ensures.lives in
+    let l = c.live_on.result in
+    err_tells D.reads D.may_leave D.clock D.may_have_left_since D.faults stance l.site.base.value l.site.durable l.site.history.items _ c.live_on.new.members e.0 l.ended l.site.stands e.2
+
 pub returns-in-Ok-clause-failed : goal.returns-in-Ok-clause-failed
 returns-in-Ok-clause-failed g c = λ is.
     let e = c.live_on.ensures.lives in
@@ -55,6 +78,12 @@ returns-in-Ok-clause-disk g c =
     let made = c.in-Ok.ensures.grants in
     disk_counts D.reads D.may_leave D.clock D.may_have_left_since D.faults stance c.args.durable site.durable l.site.durable made.0 l.site.history.items _ c.live_on.new.members e.0 l.ended made.3 made.2
     (known_from D.reads D.may_leave D.clock D.may_have_left_since D.faults stance (λ b. b.value) site.base l.site.base site.durable l.site.durable l.site.history.items _ e.1.base_stays c.in-Ok.ensures.fresh.1 l.site.stands) e.2
+
+pub returns-in-Err-clause-refused : goal.returns-in-Err-clause-refused
+returns-in-Err-clause-refused g c =
+    let D = g.D.Disk in
+    let e = c.in-Err.ensures.refused in
+    (e.0, e.1, e.2, e.3, e.4, opening_tells D.reads D.may_leave D.clock D.may_have_left_since D.faults g.R.ScriptThread.stance c.args.durable e.1 e.0 _ e.2 e.3)
 
 pub returns-in-Err-clause-breaks : goal.returns-in-Err-clause-breaks
 returns-in-Err-clause-breaks g c = λ setting entry origin before events lasts.

@@ -1,0 +1,250 @@
+#!/usr/bin/env python3
+"""Kills controllers at random moments while shell steps run: `bench/kills.py [--builds N] [--kills N] [--seed N] [--program PROGRAM]`.
+
+Each build has a random Jenkinsfile with shell steps that really run. It runs once undisturbed; and then, in a folder of its own, its
+controller is killed (SIGKILL) at random moments, N times or until the build has ended, and resumed. Each log that it gives in between
+has to begin with the one before, its last log and its status have to be those of the undisturbed run, and each of its tasks, which
+leaves its name in a file when it is launched, has to have been launched once.
+
+A kill between the making of a task's control folder and the start of its shell costs that step: it ends with code -2 or -1 and is not
+launched again (docs/HOSTS.md). Such builds are counted for themselves; in them no task may have been launched twice.
+
+With `--calls` one build of five shell steps is killed at each system call in turn of those that write, by strace.
+
+The same seed gives the same scripts and times. The status is 0 where all is so.
+"""
+import argparse
+import collections
+import concurrent.futures
+import os
+import random
+import re
+import shutil
+import subprocess
+import sys
+import tempfile
+import time
+
+TOP = os.path.dirname(os.path.dirname(os.path.realpath(__file__)))
+PROGRAM = f"{TOP}/crates/jenkinsd/out/jenkinsd"
+AGENTS = """{"job": "killed", "looks": 24, "agents": [
+    {"name": "one", "root": "ROOM/one", "labels": ["small"], "executors": 1},
+    {"name": "two", "root": "ROOM/two", "labels": ["small"], "executors": 2}
+]}"""
+LOST = re.compile(r"exit code -[12]$|^code -[12]$", re.M)
+# The calls that change what is on the disk, or start a process.
+CALLS = "openat pwrite64 write fsync fdatasync ftruncate mkdir mkdirat rename renameat unlink unlinkat rmdir clone clone3 vfork fork".split()
+
+
+class Scripts:
+    """Random Jenkinsfiles."""
+
+    def __init__(self, choose):
+        self.choose, self.count = choose, 0
+
+    def shell(self, *lines):
+        """The script of a step that leaves its name, and takes up to an eighth of a second."""
+        self.count += 1
+        out = self.choose.choice(["", f"echo 'step {self.count}'", f"seq -f '{self.count}: %g' {self.choose.randrange(1, 4000)}"])
+        wait = f"sleep 0.{self.choose.randrange(125):03}"
+        return "'''" + "\n".join(["#!/bin/sh", 'echo "$0" >> ROOM/launches', out, wait, *lines]) + "\n'''"
+
+    def step(self):
+        kind = self.choose.randrange(8)
+        if kind < 3:
+            return [f"sh {self.shell()}"]
+        if kind == 3:
+            return [f"echo sh(script: {self.shell('echo out')}, returnStdout: true).trim()"]
+        if kind == 4:
+            return [f'echo "code ${{sh(script: {self.shell(f"exit {self.choose.randrange(4)}")}, returnStatus: true)}}"']
+        if kind == 5:
+            return [f"catchError(buildResult: 'UNSTABLE') {{ sh {self.shell('exit 3')} }}"]
+        if kind == 6:
+            mark = f"ROOM/mark-{self.count}"
+            flaky = self.shell(f"test -e {mark} || {{ touch {mark}; exit 1; }}")
+            return [f"retry(2) {{ sh {flaky} }}"]
+        return [f"withEnv(['N={self.count}']) {{ dir('d{self.count}') {{ sh {self.shell('echo $N in $(basename $PWD)')} }} }}"]
+
+    def steps(self, most):
+        return [line for _ in range(self.choose.randrange(1, most + 1)) for line in self.step()]
+
+    def node(self, most):
+        label = self.choose.choice(["", "'one'", "'two'", "'small'"])
+        return [f"node{'(' + label + ')' if label else ''} {{", *self.steps(most), "}"]
+
+    def stage(self, name):
+        if self.choose.randrange(3) > 0:
+            return [f"stage('{name}') {{", *self.node(3), "}"]
+        branches = [["{", *self.node(2), "}"] for _ in range(self.choose.randrange(2, 5))]
+        inside = ",\n".join(f"b{at}: " + "\n".join(branch) for at, branch in enumerate(branches))
+        return [f"stage('{name}') {{", f"parallel(\n{inside}\n)", "}"]
+
+    def script(self):
+        return "\n".join(line for at in range(self.choose.randrange(2, 4)) for line in self.stage(f"s{at}")) + "\n"
+
+
+FIXED = """node('one') {
+    sh '''#!/bin/sh\necho "$0" >> ROOM/launches; echo first'''
+    echo sh(script: '''#!/bin/sh\necho "$0" >> ROOM/launches; echo out; echo log >&2''', returnStdout: true)
+}
+parallel(
+    a: { node('one') { sh '''#!/bin/sh\necho "$0" >> ROOM/launches; seq 3''' } },
+    b: { node('two') { sh '''#!/bin/sh\necho "$0" >> ROOM/launches; sleep 0.02; seq 3''' } })
+node { sh '''#!/bin/sh\necho "$0" >> ROOM/launches; exit 3''' }
+"""
+
+
+class Build:
+    """A build in a folder of its own."""
+
+    def __init__(self, program, room, script):
+        self.program, self.room = program, room
+        os.makedirs(f"{room}/build")
+        for name, text in (("Jenkinsfile", script), ("agents.json", AGENTS)):
+            with open(f"{room}/build/{name}", "w", encoding="utf-8") as file:
+                file.write(text.replace("ROOM", room))
+
+    def start(self, command, before=()):
+        words = [*before, self.program, command, f"{self.room}/build"]
+        return subprocess.Popen(words, stdin=subprocess.DEVNULL, stdout=subprocess.PIPE, stderr=subprocess.DEVNULL)
+
+    def ended(self, controller):
+        log, _ = controller.communicate(timeout=300)
+        return log.decode(errors="replace").replace(self.room, "ROOM"), controller.returncode
+
+    def ran(self, command):
+        return self.ended(self.start(command))
+
+    def next_command(self):
+        """`run` where the store has no build yet, and else `resume`; with the log so far."""
+        log, status = self.ran("log")
+        if status == 9 and log == "program.dat: no build\n":
+            return "run", ""
+        return "resume", log if status == 0 else f"log: {log}"
+
+    def launches(self):
+        try:
+            with open(f"{self.room}/launches", encoding="utf-8") as file:
+                return collections.Counter(file.read().replace(self.room, "ROOM").split())
+        except FileNotFoundError:
+            return collections.Counter()
+
+
+class Wrong(Exception):
+    """What must not be."""
+
+
+def go_on(build, before, controller):
+    """What is known behind a kill: the command to go on with, and the log, which has to begin with the one before."""
+    controller.communicate()
+    command, log = build.next_command()
+    if not log.startswith(before[: before.rfind("\n") + 1]):
+        raise Wrong(f"the log does not begin with the one before:\n{before}\n---\n{log}")
+    return command, log
+
+
+def killed(build, kills, seconds, choose):
+    """How the build ends whose controller is killed so many times, and how many kills there were."""
+    command, log = "run", ""
+    for count in range(kills):
+        controller = build.start(command)
+        try:
+            controller.wait(choose.uniform(0, 2 * seconds / kills))
+            return build.ended(controller), count
+        except subprocess.TimeoutExpired:
+            controller.kill()
+        command, log = go_on(build, log, controller)
+        time.sleep(choose.choice([0, 0, 0.1, 0.3]))
+    return build.ran(command), kills
+
+
+def judged(first, first_launches, second, launches):
+    """Whether a step was lost; or Wrong."""
+    twice = [name for name, count in launches.items() if count > 1]
+    if twice:
+        raise Wrong(f"launched twice: {twice}")
+    if second == first and launches == first_launches:
+        return False
+    if LOST.search(second[0]) and not LOST.search(first[0]) and second[0].endswith("\n") and "Finished: " in second[0]:
+        return True
+    raise Wrong(f"undisturbed: {first}\nkilled: {second}\nlaunches: {first_launches}\n{launches}")
+
+
+def trial(program, seed, kills):
+    """One build: how many kills, how many tasks, whether a step was lost, seconds; or what is wrong."""
+    choose = random.Random(seed)
+    script = Scripts(choose).script()
+    room = tempfile.mkdtemp(prefix="controller-kills-")
+    try:
+        undisturbed, disturbed = (Build(program, f"{room}/{name}", script) for name in ("undisturbed", "disturbed"))
+        began = time.monotonic()
+        first = undisturbed.ran("run")
+        seconds = time.monotonic() - began
+        if first[1] not in (0, 1, 10):
+            raise Wrong(f"the undisturbed run: {first}")
+        second, count = killed(disturbed, kills, seconds, choose)
+        lost = judged(first, undisturbed.launches(), second, disturbed.launches())
+        return count, sum(disturbed.launches().values()), lost, seconds, None
+    except (Wrong, subprocess.TimeoutExpired) as why:
+        return 0, 0, False, 0, f"seed {seed}: {why}\n{script}"
+    finally:
+        shutil.rmtree(room, ignore_errors=True)
+
+
+def campaign(asked):
+    seeds = [asked.seed * 1_000_000 + at for at in range(asked.builds)]
+    with concurrent.futures.ThreadPoolExecutor(asked.jobs) as lanes:
+        ended = list(lanes.map(lambda seed: trial(asked.program, seed, asked.kills), seeds))
+    wrong = [why for *_, why in ended if why]
+    print(*wrong, sep="\n")
+    kills, tasks, lost = (sum(it[at] for it in ended) for at in range(3))
+    seconds = sum(it[3] for it in ended) / len(ended)
+    print(f"{len(ended)} builds of {seconds:.1f} seconds each, {kills} kills, {tasks} tasks launched, none twice" if not wrong else f"{len(wrong)} wrong")
+    print(f"{len(ended) - lost - len(wrong)} builds with the log and the launches of the undisturbed run, {lost} with a step that a kill cost")
+    return 1 if wrong else 0
+
+
+def at_each_call(asked):
+    """Kills the fixed build at each call in turn, and resumes it."""
+    room = tempfile.mkdtemp(prefix="controller-calls-")
+    try:
+        undisturbed = Build(asked.program, f"{room}/undisturbed", FIXED)
+        first, figures, wrong = undisturbed.ran("run"), collections.Counter(), []
+        for name in CALLS:
+            for number in range(1, 10_000):
+                build = Build(asked.program, f"{room}/{name}-{number}", FIXED)
+                inject = ["strace", "-qq", "-o", "/dev/null", "-e", f"trace={name}", "-e", f"inject={name}:signal=KILL:when={number}"]
+                controller = build.start("run", inject)
+                log, status = build.ended(controller)
+                if status != -9 and status != 137:
+                    break
+                try:
+                    command, _ = go_on(build, log, controller)
+                    lost = judged(first, undisturbed.launches(), build.ran(command), build.launches())
+                    figures[name, lost] += 1
+                except Wrong as why:
+                    wrong.append(f"{name} {number}: {why}")
+                shutil.rmtree(build.room, ignore_errors=True)
+        print(*wrong, sep="\n")
+        for name in CALLS:
+            if figures[name, False] + figures[name, True]:
+                print(f"{name}: {figures[name, False]} as the undisturbed run, {figures[name, True]} with a step that the kill cost")
+        return 1 if wrong else 0
+    finally:
+        shutil.rmtree(room, ignore_errors=True)
+
+
+def main():
+    parser = argparse.ArgumentParser(description=__doc__.splitlines()[0])
+    parser.add_argument("--builds", type=int, default=200)
+    parser.add_argument("--kills", type=int, default=5)
+    parser.add_argument("--seed", type=int, default=1)
+    parser.add_argument("--jobs", type=int, default=2, help="builds side by side")
+    parser.add_argument("--program", default=PROGRAM)
+    parser.add_argument("--calls", action="store_true")
+    asked = parser.parse_args()
+    return at_each_call(asked) if asked.calls else campaign(asked)
+
+
+if __name__ == "__main__":
+    sys.exit(main())

@@ -1,0 +1,260 @@
+-- The part of a call's contract on launches, from what its command does.
+use Rattle.std.proofs.Common.{◌≡◌, ◌⊎◌, ◌≤◌, ◌<◌, ◌∙◌, ℕ, suc, Bool, true, false, List, [], ◌∷◌, ◌++◌, length, Option, Some, None, inl, inr, refl, sym, ap, subst, max, ⊎_elim, arith, if◌then◌else◌}
+use Rattle.std.specs.Prelude.{nat_eq, nat_lt, ◌==◌, is_some, IfSome, IsSome, IsSomeAnd}
+use Rattle.std.specs.List.{AllByRecursion as AllAre, IsDistinct, IsDistinct-prop}
+use Rattle.std.proofs.Math.Logic.{∥∥₁_elim, ∥∥₁_map, ∥∥₁_prop}
+use Rattle.jp_disk.specs.Moments.{AtEachMoment}
+use Rattle.jp_disk.proofs.MomentLemmas.{if_told}
+use Rattle.journal_core.specs.Answers.{IsStarted}
+use Rattle.journal_core.specs.Records.{Has, Walked, records}
+use Rattle.launch_laws.specs.Fitting.{AllFit, ExecutorHost, all_launches}
+use Rattle.launch_laws.proofs.HostLaws.{fit_each, numbered_apart}
+use Rattle.launch_laws.proofs.LifeLaws.{none_yet}
+use Rattle.model_syntax.specs.declared.tree.Tree.{Tree}
+use Rattle.agent_worker.specs.declared.fault.TakeFault.TheVariants as take
+use Rattle.model_run.specs.declared.event.Event.TheVariants.{Start as StartEvent}
+use Rattle.model_run.specs.declared.site.Site.{Site}
+use Rattle.script_run.specs.Standing.{IsProper, script_setting}
+use Rattle.saved_run.specs.declared.life.BeginFault.{BeginFault}
+use Rattle.saved_run.specs.declared.life.BeginFault.TheVariants as fault
+use Rattle.saved_run.specs.Lives.{BeginRefuses}
+use Rattle.run_command.specs.Files.{Builds}
+use Rattle.build_commands.specs.Beginning as begin
+use Rattle.build_commands.specs.Resuming.{Reopens, Resumes}
+use Rattle.build_commands.specs.Resuming as resume
+use Rattle.controller.specs.Commands.{ResumesBy, RunsBy}
+use Rattle.controller.proofs.CallLemmas.{FinishedIn, mean_of}
+use Rattle.controller.proofs.LifeLemmas.{gone}
+use Rattle.controller.proofs.RunLemmas.{begin_disk, unbegun_image}
+use Rattle.controller.proofs.SeatLemmas.{led_fit, led_once}
+use Rattle.model_run.specs.AgentsFile.{agents_file, Means}
+use Rattle.model_run.specs.declared.event.Event.{Event}
+use Rattle.model_run.specs.declared.taken.Taken.TheVariants.{Accepted}
+use Rattle.model_run.specs.State.{Setting}
+use Rattle.model_run.specs.World.{answer_to, world_in}
+use Rattle.settle_laws.specs.Stances.{Stance}
+use Rattle.saved_run.specs.Saved.{Stores}
+use Rattle.saved_run.proofs.BeginLemmas.{mean_proper}
+use Rattle.site_run.proofs.ManyLemmas.{HasNow, all_once}
+use Rattle.build_commands.specs.Finishing.{ComesNext}
+use Rattle.build_commands.specs.Living.{HostsStay}
+use Rattle.build_commands.proofs.LivingLemmas.{stay_same}
+use Rattle.controller.specs.Call.{Call, ComesIn, Devices, Finds, IsUnled, LifeIn}
+use Rattle.controller.specs.Launches.{FitLeft, Launches, executor_hosts, tasks_on}
+use Rattle.controller.proofs.SiteLemmas.{Consecutive, site_seated, store_begun}
+
+-- a file that has not the beginning of a record has none
+unstarted : (file : List ℕ) → ¬ (IsStarted file) → Has [] file
+unstarted [] none = refl
+unstarted (gate ∷ rest) none = of (nat_lt (length (gate ∷ rest)) 6) (gate == 1) _ (λ long is_open. none (opened is_open, grown long))
+  where
+    of : (short is_open : Bool) (more : Walked) → (short ≡ false → is_open ≡ true → ⊥)
+        → (if short then record { payloads = []; is_whole = true } else (if is_open then more else record { payloads = []; is_whole = true })) ≡ record { payloads = []; is_whole = true }
+    of true is_open more never = refl
+    of false true more never = absurd (never refl refl)
+    of false false more never = refl
+
+    opened : (gate == 1) ≡ true → gate ≡ 1
+    opened is = grind (arith, is)
+
+    grown : nat_lt (length (gate ∷ rest)) 6 ≡ false → 6 ≤ length (gate ∷ rest)
+    grown is = grind (arith, is)
+
+-- a store without a record has no events
+none_stored : (setting : Setting) (file : List ℕ) → Has [] file → Stores setting [] file
+none_stored setting file has = record {
+  payloads = [];
+  has = has;
+  told = record { records = []; spelled = tt; story = record { starts = tt; follows = tt }; due = tt; are = refl };
+}
+
+-- a store with the same records tells the same
+same_records : (setting : Setting) (events : List Event) (file other : List ℕ) → records file ≡ records other → Stores setting events file → Stores setting events other
+same_records setting events file other same stores = record { payloads = stores.payloads; has = sym same ∙ stores.has; told = stores.told }
+
+-- hosts that fit no events have launched nothing
+none_launched : (setting : Setting) (hosts : List ExecutorHost) → AllFit setting [] hosts → all_launches hosts ≡ []
+none_launched setting [] fit = refl
+none_launched setting (host ∷ hosts) fit = ap (λ (l : List ℕ). l ++ all_launches hosts) (none_yet setting host.number host.tasks fit.0) ∙ none_launched setting hosts fit.1
+
+module _ {D H A T : Type 0} (v : Devices D H A) (stance : T → Stance) (told_image : (d : D) → IfSome (v.reads d) (λ file. v.may_leave d file)) (c : Call D H A) where
+  abbrev AllFitBy : Setting → List Event → List H → Type 0
+  AllFitBy setting events hosts = AllFit setting events (executor_hosts v hosts)
+
+  -- at the beginning, they fit what the disk tells
+  pub entry_fit : (setting : Setting) (events : List Event) → Finds v setting events c → FitLeft v c.disk c.hosts → ∥ AllFitBy setting events c.hosts ∥₁
+  entry_fit setting events finds left = left finds.file (if_told (λ f. v.may_leave c.disk f) finds.told (told_image c.disk)) setting events finds.stores
+
+  -- and no task was launched twice
+  fit_once : (setting : Setting) (file : List ℕ) (events : List Event) → Stores setting events file → AllFitBy setting events c.hosts → IsDistinct nat_eq (all_launches (executor_hosts v c.hosts))
+  unfolding IsDistinct
+  fit_once setting file [] stores fit = subst (IsDistinct nat_eq) (sym (none_launched setting (executor_hosts v c.hosts) fit)) tt
+  fit_once setting file (e ∷ es) stores fit =
+      let begun = store_begun setting (e ∷ es) file stores (λ none. let bad : e ∷ es ≡ [] = none in cc) in
+      let proper = mean_proper begun.script begun.agents setting begun.mean in
+      all_once stance setting proper (e ∷ es) (executor_hosts v c.hosts) fit (numbered_apart 0 (tasks_on v c.hosts))
+
+  entry_once : (setting : Setting) (events : List Event) → Finds v setting events c → FitLeft v c.disk c.hosts → IsDistinct nat_eq (all_launches (executor_hosts v c.hosts))
+  entry_once setting events finds left = ∥∥₁_elim (entry_fit setting events finds left) (IsDistinct-prop nat_eq (all_launches (executor_hosts v c.hosts))) (fit_once setting finds.file events finds.stores)
+
+  -- Where no life was led the hosts are as they were, and fit each image that tells no more than one from before.
+  abbrev LeavesFit : Type 0
+  LeavesFit = (setting : Setting) (events : List Event) → Finds v setting events c → FitLeft v c.disk c.hosts → FitLeft v c.now c.hosts
+
+  unled_so : (hosts_now : List H) → hosts_now ≡ c.hosts → LeavesFit → HostsStay v.honest v.host_faults v.calls c.hosts hosts_now
+      × ((setting : Setting) (events : List Event) → Finds v setting events c → AllAre v.honest c.hosts → FitLeft v c.disk c.hosts → FitLeft v c.now hosts_now)
+      × ((setting : Setting) (events : List Event) → Finds v setting events c → AllAre v.honest c.hosts → FitLeft v c.disk c.hosts → IsDistinct nat_eq (all_launches (executor_hosts v hosts_now)))
+  unled_so hosts_now same leaves = (
+    subst (λ (hs : List H). HostsStay v.honest v.host_faults v.calls c.hosts hs) (sym same) (stay_same v.honest v.host_faults v.calls v.left v.source_faults c.hosts),
+    λ setting events finds are left. subst (λ (hs : List H). FitLeft v c.now hs) (sym same) (leaves setting events finds left),
+    λ setting events finds are left. subst (λ (hs : List H). IsDistinct nat_eq (all_launches (executor_hosts v hs))) (sym same) (entry_once setting events finds left),
+  )
+
+  enough : length c.hosts ≡ 64 → (agents : List ℕ) (site : Site) → agents_file agents ≡ Means site → length site.executors ≤ length c.hosts
+  enough many agents site means = subst (λ (n : ℕ). length site.executors ≤ n) (sym many) (site_seated agents site means).few
+
+  unled : length c.hosts ≡ 64 → IsUnled c → LeavesFit → Launches v c
+  unled many same leaves = let so = unled_so c.hosts_now same.0 leaves in record { enough = enough many; stay = so.0; fit = so.1; once = so.2 }
+
+  -- the disk was not called
+  pub same_disk : c.now ≡ c.disk → LeavesFit
+  same_disk same setting events finds left = subst (λ (d : D). FitLeft v d c.hosts) (sym same) left
+
+  -- a crash leaves nothing new
+  pub nothing_new : ((image : List ℕ) → v.may_leave c.now image → v.may_leave c.disk image) → LeavesFit
+  nothing_new old setting events finds left image leaves s es stores = left image (old image leaves) s es stores
+
+  -- a store with the records of the file that was found is fitted as that is
+  pub fit_records : (setting : Setting) (events : List Event) → Finds v setting events c → FitLeft v c.disk c.hosts → (file image : List ℕ) → v.reads c.disk ≡ Some file → records image ≡ records file
+      → (s : Setting) (es : List Event) → Stores s es image → ∥ AllFitBy s es c.hosts ∥₁
+  fit_records setting events finds left file image told same s es stores = left file (if_told (λ f. v.may_leave c.disk f) told (told_image c.disk)) s es (same_records s es image file same stores)
+
+  -- over a file without a record nothing was launched
+  pub fit_fresh : FitLeft v c.disk c.hosts → (file : List ℕ) → v.reads c.disk ≡ Some file → Has [] file → (setting s : Setting) (es : List Event) → ∥ AllFitBy s es c.hosts ∥₁
+  fit_fresh left file told none setting s es =
+      ∥∥₁_map (left file (if_told (λ f. v.may_leave c.disk f) told (told_image c.disk)) setting [] (none_stored setting file none)) (λ fit. fit_each setting (executor_hosts v c.hosts) fit s es)
+
+-- events behind those of a build that has begun are some
+none_first : (es fs : List Event) → es ++ fs ≡ [] → es ≡ []
+none_first [] fs is = refl
+none_first (e ∷ es) fs is = absurd (cc)
+
+some_taken : (setting : Setting) (before taken more : List Event) → (world_in setting before).started ≡ true → taken ≡ before ++ more → ¬ (taken ≡ [])
+some_taken setting before taken more begun is none =
+    let bad : false ≡ true = subst (λ (es : List Event). (world_in setting es).started ≡ true) (none_first before more (sym is ∙ none)) begun in absurd (cc)
+
+-- what a crash leaves behind a life
+left_now : (Comes : List Event → Event → Type 0) (setting : Setting) (taken : List Event) (image : List ℕ) (risked : Option Event) → IfSome risked (ComesNext Comes setting taken)
+    → Stores setting taken image ⊎ IsSomeAnd risked (λ e. Stores setting (taken ++ e ∷ []) image) → HasNow setting taken image
+left_now Comes setting taken image risked next (inl has) = inl has
+left_now Comes setting taken image None next (inr none) = absurd none
+left_now Comes setting taken image (Some e) next (inr has) = inr (e, next.is_next.accepted, has)
+
+module _ {D H A T : Type 0} (v : Devices D H A) (stance : T → Stance) (told_image : (d : D) → IfSome (v.reads d) (λ file. v.may_leave d file))
+    (counts_now : (d : D) (t : ℕ) (image : List ℕ) → t ≤ v.clock d → v.may_leave d image → v.since d t image) (only_now : (d : D) (image : List ℕ) → v.since d (v.clock d) image → v.may_leave d image) (c : Call D H A) (many : length c.hosts ≡ 64) where
+  unled_here : IsUnled c → LeavesFit v stance told_image c → Launches v c
+  unled_here = unled v stance told_image c many
+
+  -- a crash leaves what it might have left at the beginning
+  stays : AtEachMoment v.clock v.since c.disk c.now (v.may_leave c.disk) → LeavesFit v stance told_image c
+  stays moments = nothing_new v stance told_image c (λ image left. moments.each image (counts_now c.now (v.clock c.disk) image moments.later left))
+
+  -- a life that finished, of a build whose setting this is
+  module _ (setting : Setting) (proper : IsProper setting) (all : Consecutive 0 setting.site.executors) (origin : D) (before : List Event) (same : v.faults origin ≡ v.faults c.disk) where
+    finished_fit : FinishedIn v c setting origin before c.status → IsSome (v.reads c.disk) → AllAre v.honest c.hosts → AllFit setting before (executor_hosts v c.hosts) → (image : List ℕ) → v.may_leave c.now image
+        → (s : Setting) (es : List Event) → Stores s es image → AllFit s es (executor_hosts v c.hosts_now)
+    finished_fit f known are fit image left s es stores =
+        let g = gone v told_image setting origin before c same f in
+        led_fit v stance c setting proper all before g.taken g.takes (some_taken setting before g.taken g.more g.takes.goes.begun g.is) are fit image
+        (left_now (ComesIn v setting c g.takes.life) setting g.taken image g.risked g.next (g.images known image left)) s es stores
+
+    finished_once : FinishedIn v c setting origin before c.status → AllAre v.honest c.hosts → AllFit setting before (executor_hosts v c.hosts) → IsDistinct nat_eq (all_launches (executor_hosts v c.hosts_now))
+    finished_once f are fit = let g = gone v told_image setting origin before c same f in led_once v stance c setting proper all before g.taken g.takes are fit
+
+    life_fits : ∥ FinishedIn v c setting origin before c.status ∥₁ → IsSome (v.reads c.disk) → AllAre v.honest c.hosts → ∥ AllFit setting before (executor_hosts v c.hosts) ∥₁ → FitLeft v c.now c.hosts_now
+    life_fits finishes known are fits image left s es stores = ∥∥₁_elim finishes ∥∥₁_prop (λ f. ∥∥₁_map fits (λ fit. finished_fit f known are fit image left s es stores))
+
+    life_once : ∥ FinishedIn v c setting origin before c.status ∥₁ → AllAre v.honest c.hosts → ∥ AllFit setting before (executor_hosts v c.hosts) ∥₁ → IsDistinct nat_eq (all_launches (executor_hosts v c.hosts_now))
+    life_once finishes are fits =
+        let prop = IsDistinct-prop nat_eq (all_launches (executor_hosts v c.hosts_now)) in
+        ∥∥₁_elim finishes prop (λ f. ∥∥₁_elim fits prop (λ fit. finished_once f are fit))
+
+  -- `run`: no build was begun, or one was over a file without a record, and then no host had launched a task
+  unbegun_leaves : (s a : List ℕ) (tree : Tree) (site : Site) → Builds s a tree site → (f : BeginFault) → (f ≡ fault.Take take.Disk → c.status ≡ 5)
+      → ((file : List ℕ) → v.reads c.disk ≡ Some file → BeginRefuses v.reads v.may_leave v.clock v.since stance (script_setting tree site) (StartEvent s a) file c.disk f c.now) → LeavesFit v stance told_image c
+  unbegun_leaves s a tree site builds f five refuses setting events finds left image leaves t es stores =
+      ⊎_elim (λ old. left image old t es stores)
+      (⊎_elim (λ kept. fit_records v stance told_image c setting events finds left finds.file image finds.told kept t es stores) (λ start. fit_fresh v stance told_image c left finds.file finds.told start.1 setting t es))
+      (unbegun_image v stance told_image counts_now only_now c s a tree site builds finds.file f image five (refuses finds.file finds.told) leaves)
+
+  begun_launches : (s a : List ℕ) (tree : Tree) (site : Site) → Builds s a tree site → (started : D) → v.faults started ≡ v.faults c.disk → HostsStay v.honest v.host_faults v.calls c.hosts c.hosts_now
+      → ∥ FinishedIn v c (script_setting tree site) started (StartEvent s a ∷ []) c.status ∥₁ → ((file : List ℕ) → v.reads c.disk ≡ Some file → ¬ (IsStarted file)) → Launches v c
+  begun_launches s a tree site builds started same stay finishes fresh =
+      let setting = script_setting tree site in
+      let proper = mean_proper s a setting (mean_of builds) in
+      let all = (site_seated a site builds.means).consecutive in
+      let first = StartEvent s a ∷ [] in
+      let fits = λ (t : Setting) (es : List Event) (finds : Finds v t es c) (left : FitLeft v c.disk c.hosts). fit_fresh v stance told_image c left finds.file finds.told (unstarted finds.file (fresh finds.file finds.told)) setting setting first in
+      record {
+        enough = enough v stance told_image c many;
+        stay = stay;
+        fit = λ t es finds are left. life_fits setting proper all started first same finishes (ap is_some finds.told) are (fits t es finds left);
+        once = λ t es finds are left. life_once setting proper all started first same finishes are (fits t es finds left);
+      }
+
+  run_by : {n : ℕ} → RunsBy v stance c n → n ≡ c.status → Launches v c
+  run_by (begin.refused refused same unled tells) is = unled_here unled (same_disk v stance told_image c same)
+  run_by (begin.built {s = s} {a = a} {tree = tree} {site = site} give (begin.unbegun {fault = f} unled says counts sizes refuses tells)) is =
+      unled_here unled (unbegun_leaves s a tree site give.builds f (λ disk. sym is ∙ begin_disk says disk) refuses)
+  run_by (begin.built {s = s} {a = a} {tree = tree} {site = site} give (begin.begun started same stay reports finishes over)) is =
+      begun_launches s a tree site give.builds started same stay (subst (λ (m : ℕ). ∥ FinishedIn v c (script_setting tree site) started (StartEvent s a ∷ []) m ∥₁) is finishes) (λ file told. (over file told).fresh)
+
+  pub run_launches : RunsBy v stance c c.status → Launches v c
+  run_launches runs = run_by runs refl
+
+  -- `resume`
+  abbrev ResumesSo : Setting → List Event → ℕ → Type 0
+  ResumesSo setting events n = Resumes v.reads v.may_leave v.clock v.since v.faults v.honest v.host_faults v.calls v.launches v.dirs v.output v.exited v.left v.source_faults c.hosts c.hosts_now c.answers c.answers_now
+      setting events c.disk c.now c.old c.new c.sink_before c.sink_after n
+
+  reopens_stay : {n : ℕ} → Reopens v.reads v.may_leave v.clock v.since v.faults v.honest v.host_faults v.calls v.launches v.dirs v.output v.exited v.left v.source_faults c.hosts c.hosts_now c.answers c.answers_now
+      c.disk c.now c.old c.new c.sink_before c.sink_after n → HostsStay v.honest v.host_faults v.calls c.hosts c.hosts_now
+  reopens_stay (resume.unopened unled same why tells) = subst (λ (hs : List H). HostsStay v.honest v.host_faults v.calls c.hosts hs) (sym unled.0) (stay_same v.honest v.host_faults v.calls v.left v.source_faults c.hosts)
+  reopens_stay (resume.goes_on has stay reports) = stay
+
+  -- a store's setting is that of a script, with executors numbered one after the other
+  went_fits : (setting : Setting) (events : List Event) → Finds v setting events c → (opened : D) → v.faults opened ≡ v.faults c.disk → ∥ FinishedIn v c setting opened events c.status ∥₁ → AllAre v.honest c.hosts → FitLeft v c.disk c.hosts
+      → FitLeft v c.now c.hosts_now × IsDistinct nat_eq (all_launches (executor_hosts v c.hosts_now))
+  went_fits setting [] finds opened same finishes are left =
+      let never = λ (f : FinishedIn v c setting opened [] c.status). let g = gone v told_image setting opened [] c same f in let bad : false ≡ true = g.takes.goes.begun in bad in (
+        λ image leaves t es stores. ∥∥₁_elim finishes ∥∥₁_prop (λ f. let bad : false ≡ true = never f in absurd (cc)),
+        ∥∥₁_elim finishes (IsDistinct-prop nat_eq (all_launches (executor_hosts v c.hosts_now))) (λ f. let bad : false ≡ true = never f in absurd (cc)),
+      )
+  went_fits setting (e ∷ es) finds opened same finishes are left =
+      let begun = store_begun setting (e ∷ es) finds.file finds.stores (λ none. let bad : e ∷ es ≡ [] = none in cc) in
+      let proper = mean_proper begun.script begun.agents setting begun.mean in
+      let all = (site_seated begun.agents setting.site begun.mean.means).consecutive in
+      let fits = entry_fit v stance told_image c setting (e ∷ es) finds left in
+      (life_fits setting proper all opened (e ∷ es) same finishes (ap is_some finds.told) are fits, life_once setting proper all opened (e ∷ es) same finishes are fits)
+
+  resume_fits : {n : ℕ} (setting : Setting) (events : List Event) → Finds v setting events c → ResumesSo setting events n → n ≡ c.status → AllAre v.honest c.hosts → FitLeft v c.disk c.hosts
+      → FitLeft v c.now c.hosts_now × IsDistinct nat_eq (all_launches (executor_hosts v c.hosts_now))
+  resume_fits setting events finds (resume.refused unled same why tells) is are left =
+      let so = unled_so v stance told_image c c.hosts_now unled.0 (stays same.moments) in (so.1 setting events finds are left, so.2 setting events finds are left)
+  resume_fits setting events finds (resume.went_on opened up_to same reports finishes) is are left =
+      went_fits setting events finds opened same (subst (λ (m : ℕ). ∥ FinishedIn v c setting opened events m ∥₁) is finishes) are left
+
+  pub resume_launches : ResumesBy v c → Launches v c
+  resume_launches by = record {
+    enough = enough v stance told_image c many;
+    stay = reopens_stay by.reopens;
+    fit = λ setting events finds are left. (resume_fits setting events finds (by.resumes finds.file finds.told setting events finds.stores) refl are left).0;
+    once = λ setting events finds are left. (resume_fits setting events finds (by.resumes finds.file finds.told setting events finds.stores) refl are left).1;
+  }
+
+  -- the other commands
+  pub show_launches : IsUnled c → AtEachMoment v.clock v.since c.disk c.now (v.may_leave c.disk) → Launches v c
+  show_launches unled moments = unled_here unled (stays moments)
+
+  pub same_launches : IsUnled c → c.now ≡ c.disk → Launches v c
+  same_launches unled same = unled_here unled (same_disk v stance told_image c same)

@@ -1,0 +1,196 @@
+-- What is known of a store over an opening and the history behind it, as of one history.
+use Rattle.std.proofs.Common.{◌≡◌, ◌⊎◌, ◌∙◌, ◌≤◌, ◌+◌, inl, inr, ℕ, zero, suc, true, List, [], ◌∷◌, ◌++◌, length, take, Option, Some, None, Result, Ok, Err, refl, sym, ap, subst, append_assoc, append-nil, arith}
+use Rattle.std.specs.Prelude.{IfOk, fold}
+use Rattle.std.proofs.lemmas.List.Sums.{fold-append}
+use Rattle.std.proofs.Math.Logic.{∥∥₁_map}
+use Rattle.device_faults.specs.Faults.{Rose}
+use Rattle.jp_disk.specs.Moments.{AtEachMoment}
+use Rattle.jp_disk.proofs.MomentLemmas.{runs_on, at_each_weaker}
+use Rattle.journal_core.specs.Records.{Has, framed}
+use Rattle.record_form.specs.declared.record.EventRecord.{EventRecord}
+use Rattle.agent_worker.specs.declared.fault.TakeFault.{TakeFault}
+use Rattle.agent_worker.specs.declared.fault.TakeFault.TheVariants.{Disk}
+use Rattle.agent_worker.specs.declared.member.Member.{Member}
+use Rattle.model_run.specs.declared.event.Event.{Event}
+use Rattle.model_run.specs.State.{Setting}
+use Rattle.model_run.specs.World as W
+use Rattle.program_lock.specs.declared.program.Memory.{Memory as NoMemory}
+use Rattle.settle_laws.specs.Stances.{Stance}
+use Rattle.build_core.specs.Builds.{Parts, StandsFor, setting_in}
+use Rattle.build_images.specs.Images.{world_image}
+use Rattle.store_laws.specs.Store.{AllDue, Follows, events_of}
+use Rattle.durable_build.specs.Standing.{Kept, Keeps}
+use Rattle.durable_build.proofs.OpenLemmas.{begun_all}
+use Rattle.script_run.specs.declared.rest.Rest.{Rest}
+use Rattle.site_state.specs.declared.ask.Entry.{Entry}
+use Rattle.site_state.specs.declared.ask.Entry.TheVariants.{Took, Claimed, Line, Failed}
+use Rattle.site_state.specs.declared.ask.Progress.{Progress}
+use Rattle.site_state.specs.Facts.{Facts, GoOn, Grown, HasFront, IsFullAt, IsMeant, IsSite, IsSizedAt}
+use Rattle.site_state.specs.Histories.{tooks, kept_fault}
+use Rattle.site_state.specs.Showing.{IsShown}
+use Rattle.site_state.proofs.FactLaws.{on_so_far}
+use Rattle.site_state.proofs.HistoryLaws.{kept_fault-append, no_fault, none_pending, pending-append, tooks-append}
+use Rattle.site_run.specs.Ending.{ended_as}
+use Rattle.site_run.specs.Lives.{KeepsOn}
+use Rattle.site_run.proofs.StoreLemmas.{due_append, events-append, follows_append, no_payloads, no_records, spell_append}
+
+-- fronts of records
+front_within : (xs ys : List (List ℕ)) (k : ℕ) → (n : ℕ) × (take k xs ≡ take n (xs ++ ys))
+front_within [] ys zero = (0, refl)
+front_within [] ys (suc k) = (0, refl)
+front_within (x ∷ xs) ys zero = (0, refl)
+front_within (x ∷ xs) ys (suc k) = let w = front_within xs ys k in (suc w.0, ap (λ (zs : List (List ℕ)). x ∷ zs) w.1)
+
+front_behind : (xs ys : List (List ℕ)) (k : ℕ) → (n : ℕ) × (xs ++ take k ys ≡ take n (xs ++ ys))
+front_behind [] ys k = (k, refl)
+front_behind (x ∷ xs) ys k = let w = front_behind xs ys k in (suc w.0, ap (λ (zs : List (List ℕ)). x ∷ zs) w.1)
+
+front_first : (ps xs ys : List (List ℕ)) (image : List ℕ) → HasFront ps xs image → HasFront ps (xs ++ ys) image
+front_first ps xs ys image is = let w = front_within xs ys is.0 in (w.0, subst (λ (zs : List (List ℕ)). Has (ps ++ zs) image) w.1 is.1)
+
+front_then : (ps xs ys : List (List ℕ)) (image : List ℕ) → HasFront (ps ++ xs) ys image → HasFront ps (xs ++ ys) image
+front_then ps xs ys image is =
+    let w = front_behind xs ys is.0 in
+    (w.0, subst (λ (zs : List (List ℕ)). Has (ps ++ zs) image) w.1 (subst (λ (zs : List (List ℕ)). Has zs image) (append_assoc ps xs (take is.0 ys)) is.1))
+
+none_first : (es fs : List Event) → es ++ fs ≡ [] → es ≡ []
+none_first [] fs is = refl
+none_first (e ∷ es) fs is = absurd (cc)
+
+none_behind : (es fs : List Event) → es ++ fs ≡ [] → fs ≡ []
+none_behind [] fs is = is
+none_behind (e ∷ es) fs is = absurd (cc)
+
+module _ {D T : Type 0} (stance : T → Stance) (now : Kept D T) where
+  full_then : (made h : List Entry) → kept_fault made ≡ None → IsFullAt stance now h → IsFullAt stance now (made ++ h)
+  full_then [] h none full = full
+  full_then (Took e ∷ made) h none full = full_then made h none full
+  full_then (Claimed executor task keep_out kept_log kept_out ∷ made) h none full = full_then made h none full
+  full_then (Line line ∷ made) h none full = full_then made h none full
+  full_then (Failed fault event ∷ made) h none full = absurd (no_fault fault none)
+
+sized_then : (s : Setting) (w : W.Build) (made h : List Entry) → kept_fault made ≡ None → IsSizedAt s (fold (W.after_one s) w (tooks made)) h → IsSizedAt s w (made ++ h)
+sized_then s w [] h none sized = sized
+sized_then s w (Took e ∷ made) h none sized = sized_then s (W.after_one s w e) made h none sized
+sized_then s w (Claimed executor task keep_out kept_log kept_out ∷ made) h none sized = sized_then s w made h none sized
+sized_then s w (Line line ∷ made) h none sized = sized_then s w made h none sized
+sized_then s w (Failed fault event ∷ made) h none sized = absurd (no_fault fault none)
+
+module _ {T : Type 0} (stance : T → Stance) (first mid : Parts T) (es : List Event) (shown : IsShown stance first es mid) where
+  abbrev s : Setting
+  s = setting_in first
+
+  shown_then : (last : Parts T) (fs : List Event) → IsShown stance mid fs last → IsShown stance first (es ++ fs) last
+  shown_then last fs more = record {
+    begun = more.begun;
+    setting = more.setting ∙ shown.setting;
+    unchanged = λ none. more.unchanged (none_behind es fs none) ∙ shown.unchanged (none_first es fs none);
+    stands = λ w at. subst (StandsFor stance last) (sym (fold-append (W.after_one s) w es fs))
+        (subst (λ (x : Setting). StandsFor stance last (fold (W.after_one x) (fold (W.after_one s) w es) fs)) shown.setting (more.stands (fold (W.after_one s) w es) (shown.stands w at)));
+  }
+
+  go_on_then : (rs qs : List EventRecord) → events_of rs ≡ es → GoOn stance first rs → GoOn stance mid qs → GoOn stance first (rs ++ qs)
+  go_on_then rs qs are on more before meant started at =
+      let w = W.world_in s before in
+      let here = on before meant started at in
+      let now : List Event = before ++ events_of rs in
+      let world : W.world_in s now ≡ fold (W.after_one s) w (events_of rs) = fold-append (W.after_one s) W.unbegun before (events_of rs) in
+      let stands : StandsFor stance mid (W.world_in s now) = subst (StandsFor stance mid) (sym world) (subst (λ (xs : List Event). StandsFor stance mid (fold (W.after_one s) w xs)) (sym are) (shown.stands w at)) in
+      let later : Follows world_image s (W.world_in s now) qs × AllDue s (W.world_in s now) qs =
+      subst (λ (x : Setting). IsMeant x → (W.world_in x now).started ≡ true → StandsFor stance mid (W.world_in x now) → Follows world_image x (W.world_in x now) qs × AllDue x (W.world_in x now) qs) shown.setting
+      (λ m started at. more now m started at) meant (begun_all s before (events_of rs) started) stands in
+      (follows_append s w rs qs here.0 (subst (λ (b : W.Build). Follows world_image s b qs) world later.0), due_append s w rs qs here.1 (subst (λ (b : W.Build). AllDue s b qs) world later.1))
+
+none_disk : None ≡ Some Disk → ⊥
+none_disk e = cc
+
+module _ {D T : Type 0} (reads : D → Option (List ℕ)) (may_leave : D → List ℕ → Type 0) (clock : D → ℕ) (since : D → ℕ → List ℕ → Type 0) (faults : D → ℕ) (stance : T → Stance)
+    (first mid last : Kept D T) (made h : List Entry) (none : kept_fault made ≡ None) (one : Facts reads may_leave clock since faults stance first mid made) (two : Facts reads may_leave clock since faults stance mid last h) where
+  kept_both : kept_fault (made ++ h) ≡ kept_fault h
+  kept_both = kept_fault-append made h none
+
+  calm_first : faults mid.journal.disk ≡ faults first.journal.disk
+  calm_first = one.calm (λ disk. none_disk (sym none ∙ disk))
+
+  module _ (payloads : List (List ℕ)) (g : Grown reads may_leave clock since stance first mid made payloads) (k : Grown reads may_leave clock since stance mid last h (payloads ++ g.added)) where
+    none_last : g.last ≡ []
+    none_last = no_payloads g.last_records g.last (no_records g.last_records (g.last_events ∙ none_pending made none)) g.last_spelled
+
+    abbrev both : List (List ℕ)
+    both = g.added ++ k.added
+
+    order : (payloads ++ g.added) ++ k.added ≡ payloads ++ both
+    order = append_assoc payloads g.added k.added
+
+    moments_first : AtEachMoment clock since first.journal.disk mid.journal.disk (HasFront payloads (both ++ k.last))
+    moments_first = at_each_weaker clock since first.journal.disk mid.journal.disk (HasFront payloads g.added) (HasFront payloads (both ++ k.last))
+        (λ image front. subst (λ (xs : List (List ℕ)). HasFront payloads xs image) (sym (append_assoc g.added k.added k.last)) (front_first payloads g.added (k.added ++ k.last) image front))
+        (subst (λ (xs : List (List ℕ)). AtEachMoment clock since first.journal.disk mid.journal.disk (HasFront payloads xs)) (ap (λ (xs : List (List ℕ)). g.added ++ xs) none_last ∙ append-nil g.added) g.moments)
+
+    moments_then : AtEachMoment clock since mid.journal.disk last.journal.disk (HasFront payloads (both ++ k.last))
+    moments_then = at_each_weaker clock since mid.journal.disk last.journal.disk (HasFront (payloads ++ g.added) (k.added ++ k.last)) (HasFront payloads (both ++ k.last))
+        (λ image front. subst (λ (xs : List (List ℕ)). HasFront payloads xs image) (sym (append_assoc g.added k.added k.last)) (front_then payloads g.added (k.added ++ k.last) image front)) k.moments
+
+    images_then : (image : List ℕ) → Has ((payloads ++ g.added) ++ k.added) image ⊎ Has ((payloads ++ g.added) ++ k.added ++ k.last) image → Has (payloads ++ both) image ⊎ Has (payloads ++ both ++ k.last) image
+    images_then image (inl has) = inl (subst (λ (xs : List (List ℕ)). Has xs image) order has)
+    images_then image (inr has) = inr (subst (λ (xs : List (List ℕ)). Has (xs ++ k.last) image) order has)
+
+    grown_then : Grown reads may_leave clock since stance first last (made ++ h) payloads
+    grown_then = record {
+      records = g.records ++ k.records;
+      events = events-append g.records k.records ∙ ap (λ (es : List Event). es ++ events_of k.records) g.events ∙ ap (λ (es : List Event). tooks made ++ es) k.events ∙ sym (tooks-append made h);
+      added = both;
+      spelled = spell_append g.records k.records g.added k.added g.spelled k.spelled;
+      last_records = k.last_records;
+      last_events = k.last_events ∙ sym (pending-append made h none);
+      last = k.last;
+      last_spelled = k.last_spelled;
+      go_on = subst (GoOn stance first.build) (sym (append_assoc g.records k.records k.last_records))
+          (go_on_then stance first.build mid.build (tooks made) (one.shown none) g.records (k.records ++ k.last_records) g.events (on_so_far reads may_leave clock since stance first mid made none payloads g) k.go_on);
+      ends = k.ends ∙ ap (λ (ps : List (List ℕ)). length (framed ps) + 1) order;
+      keeps = λ calm. subst (Keeps reads may_leave stance last) order (k.keeps (sym kept_both ∙ calm));
+      moments = runs_on clock since first.journal.disk mid.journal.disk last.journal.disk (HasFront payloads (both ++ k.last)) moments_first moments_then;
+      images = λ image left. images_then image (k.images image left);
+    }
+
+  -- both as one
+  pub facts_then : Facts reads may_leave clock since faults stance first last (made ++ h)
+  facts_then = record {
+    count = let a : faults first.journal.disk ≤ faults mid.journal.disk = one.count in let b : faults mid.journal.disk ≤ faults last.journal.disk = two.count in omega (arith, a, b);
+    rose = λ is. subst (λ (n : ℕ). Rose n (faults last.journal.disk)) calm_first (two.rose (sym kept_both ∙ is));
+    calm = λ other. two.calm (λ is. other (kept_both ∙ is)) ∙ calm_first;
+    longer = let a : first.journal.len ≤ mid.journal.len = one.longer in let b : mid.journal.len ≤ last.journal.len = two.longer in omega (arith, a, b);
+    full = full_then stance last made h none two.full;
+    size = λ w at. sized_then (setting_in first.build) w made h none
+        (subst (λ (s : Setting). IsSizedAt s (fold (W.after_one (setting_in first.build)) w (tooks made)) h) (one.shown none).setting (two.size (fold (W.after_one (setting_in first.build)) w (tooks made)) ((one.shown none).stands w at)));
+    running = λ calm. two.running (sym kept_both ∙ calm);
+    shown = λ calm. subst (λ (es : List Event). IsShown stance first.build es last.build) (sym (tooks-append made h)) (shown_then stance first.build mid.build (tooks made) (one.shown none) last.build (tooks h) (two.shown (sym kept_both ∙ calm)));
+    grown = λ payloads keeps. let g = one.grown payloads keeps in grown_then payloads g (two.grown (payloads ++ g.added) (g.keeps none));
+  }
+
+  -- Where no fault is kept the store has all records from before, and those of the events that were taken.
+  keeps_then : kept_fault h ≡ None → (payloads : List (List ℕ)) → Keeps reads may_leave stance first payloads → KeepsOn reads may_leave clock since stance first last payloads
+  keeps_then calm payloads keeps =
+      let g = facts_then.grown payloads keeps in
+      let nothing : g.last ≡ [] = no_payloads g.last_records g.last (no_records g.last_records (g.last_events ∙ none_pending (made ++ h) (kept_both ∙ calm))) g.last_spelled in (
+        g.added,
+        g.keeps (kept_both ∙ calm),
+        subst (λ (xs : List (List ℕ)). AtEachMoment clock since first.journal.disk last.journal.disk (HasFront payloads xs)) (ap (λ (xs : List (List ℕ)). g.added ++ xs) nothing ∙ append-nil g.added) g.moments,
+      )
+
+module _ {D T : Type 0} (reads : D → Option (List ℕ)) (may_leave : D → List ℕ → Type 0) (clock : D → ℕ) (since : D → ℕ → List ℕ → Type 0) (faults : D → ℕ) (stance : T → Stance)
+    (first mid last : Kept D T) (made h : List Entry) (capacity : ℕ) (none : kept_fault made ≡ None) (one : Facts reads may_leave clock since faults stance first mid made)
+    (known : ∥ IsSite reads may_leave clock since faults stance mid last h capacity ∥₁) where
+  pub facts_all : ∥ Facts reads may_leave clock since faults stance first last (made ++ h) ∥₁
+  facts_all = ∥∥₁_map known (λ site. facts_then reads may_leave clock since faults stance first mid last made h none one site.facts)
+
+  -- a life that rests has kept no fault
+  rest_calm : {H A : Type 0} (members : List (Member H A)) (how : Result Progress NoMemory) (f : Option TakeFault) (rest : Rest) → Ok rest ≡ ended_as f how members → f ≡ None
+  rest_calm members how None rest is = refl
+  rest_calm members how (Some fault) rest is = absurd (cc)
+
+  pub rests_keep : {H A : Type 0} (members : List (Member H A)) (how : Result Progress NoMemory) (ended : Result Rest TakeFault) → ended ≡ ended_as (kept_fault h) how members
+      → IfOk ended (λ rest. (payloads : List (List ℕ)) → Keeps reads may_leave stance first payloads → ∥ KeepsOn reads may_leave clock since stance first last payloads ∥₁)
+  rests_keep members how (Err fault) is = tt
+  rests_keep members how (Ok rest) is = λ payloads keeps.
+      ∥∥₁_map known (λ site. keeps_then reads may_leave clock since faults stance first mid last made h none one site.facts (rest_calm members how (kept_fault h) rest is) payloads keeps)

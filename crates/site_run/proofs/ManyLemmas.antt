@@ -1,0 +1,172 @@
+-- Hosts that fit the events of a build fit those of each image that a crash may leave behind a life, and behind any number of lives.
+use Rattle.std.proofs.Common.{◌≡◌, ◌⊎◌, ◌∙◌, inl, inr, ℕ, ℤ, true, false, List, [], ◌∷◌, ◌++◌, Option, Some, None, Result, Ok, Err, refl, sym, subst}
+use Rattle.std.specs.Prelude.{IsSome, IsSomeAnd, nat_eq}
+use Rattle.std.specs.List.{IsDistinct}
+use Rattle.task_host.specs.declared.call.Call.{Call}
+use Rattle.task_host.specs.declared.order.Stream.{Stream}
+use Rattle.journal_core.proofs.StepLemmas.{stores_has}
+use Rattle.agent_worker.specs.declared.fault.TakeFault.{TakeFault}
+use Rattle.agent_worker.specs.declared.fault.TakeFault.TheVariants.{Memory, Disk, Full, Stopped}
+use Rattle.agent_worker.specs.declared.member.Member.{Member}
+use Rattle.agent_worker.specs.declared.member.Member.TheVariants.{Executor, Operator}
+use Rattle.durable_build.specs.Standing.{Kept}
+use Rattle.launch_laws.specs.Fitting as fitting
+use Rattle.launch_laws.specs.Fitting.{ExecutorHost}
+use Rattle.launch_laws.proofs.LifeLaws.{no_task_twice}
+use Rattle.model_syntax.specs.TreeNodes.{tree_node}
+use Rattle.model_run.specs.declared.event.Event.{Event}
+use Rattle.model_run.specs.declared.taken.Taken.TheVariants.{Accepted}
+use Rattle.model_run.specs.State.{Setting}
+use Rattle.model_run.specs.World.{answer_to, world_in}
+use Rattle.script_run.specs.declared.rest.Rest.{Rest}
+use Rattle.script_run.specs.Standing.{IsProper}
+use Rattle.settle_laws.specs.Stances.{Stance}
+use Rattle.saved_run.specs.Lives.{Fails, IsOf, Lasts, MayRisk}
+use Rattle.saved_run.specs.Saved.{IsTold, Stores}
+use Rattle.site_state.specs.declared.ask.Entry.{Entry}
+use Rattle.site_state.specs.Histories.{tooks}
+use Rattle.site_life.specs.Turns.{Turn}
+use Rattle.site_run.specs.Lives.{Ends, EndsBehind, OpeningBreaks}
+use Rattle.site_run.specs.ManyLives.{Lives, OneLife, led, more, one, refused}
+use Rattle.site_run.specs.Serving.{AllFit, AreHonest, AreServed, hosts_of}
+use Rattle.site_run.proofs.OneStore.{one_store}
+use Rattle.site_run.proofs.WalkLemmas.{of_tree, small}
+
+-- a build that has begun has taken an event
+begun_some : (s : Setting) (es : List Event) → (world_in s es).started ≡ true → ¬ (es ≡ [])
+begun_some s es begun none = let bad : false ≡ true = subst (λ (l : List Event). (world_in s l).started ≡ true) none begun in absurd (cc)
+
+none_first : (es fs : List Event) → es ++ fs ≡ [] → es ≡ []
+none_first [] fs is = refl
+none_first (e ∷ es) fs is = absurd (cc)
+
+none_last : (es : List Event) (e : Event) → es ++ e ∷ [] ≡ [] → ⊥
+none_last [] e is = cc
+none_last (x ∷ xs) e is = cc
+
+-- the event that may be on the disk is one that was accepted
+risked_accepted : (setting : Setting) (now : List Event) (fault : TakeFault) (event risked : Option Event) → IsOf setting now fault event → MayRisk fault event risked → (P : Event → Type 0) → IsSomeAnd risked P
+    → (e : Event) × (answer_to setting (world_in setting now) e ≡ Accepted) × P e
+risked_accepted setting now Memory event risked of may P is = absurd (subst (λ (o : Option Event). IsSomeAnd o P) may is)
+risked_accepted setting now (Full len add) event risked of may P is = absurd (subst (λ (o : Option Event). IsSomeAnd o P) may is)
+risked_accepted setting now Stopped event risked of may P is = absurd (subst (λ (o : Option Event). IsSomeAnd o P) may is)
+risked_accepted setting now Disk None risked of may P is = absurd of
+risked_accepted setting now Disk (Some e) risked of may P is = (e, of.accepted, subst (λ (o : Option Event). IsSomeAnd o P) may is)
+
+-- What a store has behind these events: them, or them and one more that is accepted.
+abbrev pub HasNow : Setting → List Event → List ℕ → Type 0
+HasNow setting now image = Stores setting now image ⊎ ((e : Event) × (answer_to setting (world_in setting now) e ≡ Accepted) × Stores setting (now ++ e ∷ []) image)
+
+-- Hosts that fit them, with one more or without, fit whichever events the store has.
+pub has_fits : (setting : Setting) (now : List Event) (image : List ℕ) (hosts : List ExecutorHost) → ¬ (now ≡ []) → HasNow setting now image → fitting.AllFit setting now hosts
+    → ((e : Event) → answer_to setting (world_in setting now) e ≡ Accepted → fitting.AllFit setting (now ++ e ∷ []) hosts)
+    → (s : Setting) (es : List Event) → Stores s es image → fitting.AllFit s es hosts
+has_fits setting now image hosts some (inl has) fits next s es stores =
+    let same = one_store setting s now es image has stores in
+    subst (λ (x : Setting). fitting.AllFit x es hosts) (same.1 some) (subst (λ (l : List Event). fitting.AllFit setting l hosts) same.0 fits)
+has_fits setting now image hosts some (inr has) fits next s es stores =
+    let same = one_store setting s (now ++ has.0 ∷ []) es image has.2 stores in
+    subst (λ (x : Setting). fitting.AllFit x es hosts) (same.1 (λ none. none_last now has.0 none)) (subst (λ (l : List Event). fitting.AllFit setting l hosts) same.0 (next has.0 has.1))
+
+module _ {D T : Type 0} (reads : D → Option (List ℕ)) (may_leave : D → List ℕ → Type 0) (clock : D → ℕ) (since : D → ℕ → List ℕ → Type 0) (stance : T → Stance)
+    (setting : Setting) (entry : Option (List ℕ)) (origin : D) (before : List Event) (known : IsSome entry) where
+  fails_leave : (now : List Event) (fault : TakeFault) (kept : Kept D T) → Fails reads may_leave clock since stance setting entry origin before now fault kept
+      → (image : List ℕ) → may_leave kept.journal.disk image → HasNow setting now image
+  fails_leave now fault kept fails image leaves = by (fails.images known image leaves)
+    where
+      by : Stores setting now image ⊎ IsSomeAnd fails.risked (λ e. Stores setting (now ++ e ∷ []) image) → HasNow setting now image
+      by (inl has) = inl has
+      by (inr has) = inr (risked_accepted setting now fault fails.refused fails.risked fails.is_next fails.may_risk (λ e. Stores setting (now ++ e ∷ []) image) has)
+
+  lasts_leave : (now : List Event) (kept : Kept D T) → Lasts reads may_leave clock since stance setting entry origin before now kept → (image : List ℕ) → may_leave kept.journal.disk image → Stores setting now image
+  lasts_leave now kept lasts image leaves =
+      let saves = lasts.saves known in
+      record {
+        payloads = saves.payloads;
+        has = stores_has reads may_leave kept.journal.disk kept.journal.len saves.payloads image saves.keeps.holds leaves;
+        told = subst (λ (s : Setting). IsTold s now saves.payloads) lasts.goes.same saves.told;
+      }
+
+  ends_leave : {H A : Type 0} (Refused : Event → Type 0) (now : List Event) (members : List (Member H A)) (kept : Kept D T) (ended : Result Rest TakeFault)
+      → EndsBehind reads may_leave clock since stance setting entry origin before Refused now members kept ended → (image : List ℕ) → may_leave kept.journal.disk image → HasNow setting now image
+  ends_leave Refused now members kept (Ok rest) ends image leaves = inl (lasts_leave now kept ends.lasts image leaves)
+  ends_leave Refused now members kept (Err fault) ends image leaves = fails_leave now fault kept ends.fails image leaves
+
+  now_some : (events granted taken now : List Event) → (world_in setting events).started ≡ true → now ≡ (events ++ granted) ++ taken → ¬ (now ≡ [])
+  now_some events granted taken now begun is none = begun_some setting events begun (none_first events granted (none_first (events ++ granted) taken (sym is ∙ none)))
+
+  -- Behind an opening that was refused.
+  pub opening_fits : (events : List Event) (fault : TakeFault) (disk : D) → (world_in setting events).started ≡ true → OpeningBreaks reads may_leave clock since stance setting entry origin before events fault disk
+      → (hosts : List ExecutorHost) → fitting.AllFit setting events hosts → (image : List ℕ) → may_leave disk image → (s : Setting) (es : List Event) → Stores s es image → fitting.AllFit s es hosts
+  opening_fits events fault disk begun breaks hosts fit image leaves s es stores =
+      has_fits setting (events ++ breaks.granted) image hosts (λ none. begun_some setting events begun (none_first events breaks.granted none))
+      (fails_leave (events ++ breaks.granted) fault breaks.kept breaks.breaks.fails image (subst (λ (d : D). may_leave d image) breaks.same leaves))
+      (breaks.fits hosts fit) (λ e accepted. breaks.fits_next hosts fit e accepted) s es stores
+
+  module _ {H A : Type 0} (honest : H → Type 0) (faults : H → ℕ) (calls : H → Option (List Call)) (launches dirs : H → List ℕ) (output : H → ℕ → Stream → List ℕ) (exited : H → ℕ → Option ℤ)
+      (left : A → Option (List ℕ)) (source_faults : A → ℕ) (looks : ℕ) where
+    -- Behind a life, of the members' hosts and of others.
+    pub others_leave : (turns : List (Turn H A)) (events : List Event) (old new : List (Member H A)) (history : List Entry) (kept : Kept D T) (ended : Result Rest TakeFault) → (world_in setting events).started ≡ true
+        → Ends reads may_leave clock since stance honest faults calls launches dirs output exited left source_faults looks turns setting entry origin before events old new history kept ended
+        → (hosts : List ExecutorHost) → fitting.AllFit setting events hosts → (image : List ℕ) → may_leave kept.journal.disk image → (s : Setting) (es : List Event) → Stores s es image → fitting.AllFit s es hosts
+    others_leave turns events old new history kept ended begun ends hosts fit image leaves s es stores =
+        has_fits setting ends.now image hosts (now_some events ends.granted (tooks history) ends.now begun ends.is)
+        (ends_leave _ ends.now new kept ended ends.ends image leaves) (ends.others hosts fit) (λ e accepted. ends.others_next hosts fit e accepted) s es stores
+
+    pub life_leaves : (turns : List (Turn H A)) (events : List Event) (old new : List (Member H A)) (history : List Entry) (kept : Kept D T) (ended : Result Rest TakeFault) → (world_in setting events).started ≡ true
+        → Ends reads may_leave clock since stance honest faults calls launches dirs output exited left source_faults looks turns setting entry origin before events old new history kept ended
+        → AreHonest honest old → AllFit launches dirs setting events old → (image : List ℕ) → may_leave kept.journal.disk image → (s : Setting) (es : List Event) → Stores s es image → AllFit launches dirs s es new
+    life_leaves turns events old new history kept ended begun ends are fit image leaves s es stores =
+        has_fits setting ends.now image (hosts_of launches dirs new) (now_some events ends.granted (tooks history) ends.now begun ends.is)
+        (ends_leave _ ends.now new kept ended ends.ends image leaves) (ends.fits are fit) (λ e accepted. ends.fits_next are fit e accepted) s es stores
+
+-- Over all hosts no task was launched twice, where they fit the events of a build of a script.
+pub all_once : {T : Type 0} (stance : T → Stance) (setting : Setting) → IsProper setting → (now : List Event) (hosts : List ExecutorHost) → fitting.AllFit setting now hosts → fitting.AreApart hosts → IsDistinct nat_eq (fitting.all_launches hosts)
+all_once stance setting proper now hosts fit apart = no_task_twice setting (tree_node proper.tree) (of_tree stance setting proper) (small stance setting proper) now hosts fit apart
+
+module _ {D T H A : Type 0} (reads : D → Option (List ℕ)) (may_leave : D → List ℕ → Type 0) (clock : D → ℕ) (since : D → ℕ → List ℕ → Type 0) (stance : T → Stance)
+    (honest : H → Type 0) (faults : H → ℕ) (calls : H → Option (List Call)) (launches dirs : H → List ℕ) (output : H → ℕ → Stream → List ℕ) (exited : H → ℕ → Option ℤ)
+    (left : A → Option (List ℕ)) (source_faults : A → ℕ) (looks : ℕ) where
+  -- hosts stay honest
+  pub honest_served : (old new : List (Member H A)) → AreServed honest faults calls left source_faults old new → AreHonest honest old → AreHonest honest new
+  honest_served [] [] served are = tt
+  honest_served (Executor number host ∷ old) (Executor now next ∷ new) served are = (served.0.1.honest_stays.1 are.0, honest_served old new served.1 are.1)
+  honest_served (Operator answers line ended failed ∷ old) (Operator next kept now_ended now_failed ∷ new) served are = honest_served old new served.1 are
+  honest_served (Executor number host ∷ old) (Operator next kept now_ended now_failed ∷ new) served are = absurd served
+  honest_served (Operator answers line ended failed ∷ old) (Executor now next ∷ new) served are = absurd served
+  honest_served [] (member ∷ new) served are = absurd served
+  honest_served (member ∷ old) [] served are = absurd served
+
+  -- these hosts are honest, and fit the events of each image that a crash may leave
+  record FitsLeft (disk : D) (members : List (Member H A)) : Type 0 where
+    are : AreHonest honest members
+    fit : (image : List ℕ) → may_leave disk image → (s : Setting) (es : List Event) → Stores s es image → AllFit launches dirs s es members
+
+  one_fits : (setting : Setting) (events : List Event) (old : List (Member H A)) (disk : D) (new : List (Member H A))
+      → OneLife reads may_leave clock since stance honest faults calls launches dirs output exited left source_faults looks setting events old disk new
+      → AreHonest honest old → AllFit launches dirs setting events old → FitsLeft disk new
+  one_fits setting events old disk new (led {entry = entry} {origin = origin} {before = before} {kept = kept} {turns = turns} {history = history} {ended = ended} known lasts ends served) are fit = record {
+    are = honest_served old new served are;
+    fit = life_leaves reads may_leave clock since stance setting entry origin before known honest faults calls launches dirs output exited left source_faults looks turns events old new history kept ended lasts.goes.begun ends are fit;
+  }
+  one_fits setting events old disk new (refused {entry = entry} {origin = origin} {before = before} fault known lasts breaks) are fit = record {
+    are = are;
+    fit = opening_fits reads may_leave clock since stance setting entry origin before known events fault disk lasts.goes.begun breaks (hosts_of launches dirs old) fit;
+  }
+
+  all_fit : (setting : Setting) (events : List Event) (old : List (Member H A)) (disk : D) (new : List (Member H A))
+      → Lives reads may_leave clock since stance honest faults calls launches dirs output exited left source_faults looks setting events old disk new
+      → AreHonest honest old → AllFit launches dirs setting events old → FitsLeft disk new
+  all_fit setting events old disk new (one life) are fit = one_fits setting events old disk new life are fit
+  all_fit setting events old disk new (more {mid = mid} {members = members} {next = next} {later = later} {then = then} lives hands life) are fit =
+      let so_far = all_fit setting events old mid members lives are fit in
+      let here : AllFit launches dirs later then members = so_far.fit hands.image hands.leaves later then hands.stores in
+      one_fits later then next disk new life (hands.honest_stay so_far.are) (subst (λ (hosts : List ExecutorHost). fitting.AllFit later then hosts) (sym hands.hosts) here)
+
+  -- Over any number of lives: hosts that are honest and fit the events of the first are so at the end of the last, for each image that a crash
+  -- may leave then.
+  pub lives_fit : (setting : Setting) (events : List Event) (old : List (Member H A)) (disk : D) (new : List (Member H A))
+      → Lives reads may_leave clock since stance honest faults calls launches dirs output exited left source_faults looks setting events old disk new
+      → AreHonest honest old → AllFit launches dirs setting events old
+      → AreHonest honest new × ((image : List ℕ) → may_leave disk image → (s : Setting) (es : List Event) → Stores s es image → AllFit launches dirs s es new)
+  lives_fit setting events old disk new lives are fit = let f = all_fit setting events old disk new lives are fit in (f.are, f.fit)
