@@ -1,6 +1,8 @@
 -- How a command ends that lets a build go on, put together.
 use Rattle.std.proofs.Common.{◌≡◌, ◌⊎◌, ◌+◌, ◌<◌, ◌^◌, ◌∙◌, ℕ, ℤ, List, [], ◌∷◌, ◌++◌, Option, Some, None, Result, Ok, Err, inl, inr, refl, sym, ap, subst}
-use Rattle.std.specs.Prelude.{Bool, true, false, IfSome, IsSomeAnd, if◌then◌else◌}
+use Rattle.std.specs.Prelude.{Bool, true, false, IfErr, IfSome, IsSomeAnd, if◌then◌else◌}
+use Rattle.std.proofs.Props.{props}
+use Rattle.std.proofs.Math.Logic.{∥∥₁_elim}
 use Rattle.device_faults.specs.Faults.{CountsFault, Rose}
 use Rattle.jp_disk.specs.Moments.{AtEachMoment}
 use Rattle.task_host.specs.declared.call.Call.{Call}
@@ -18,7 +20,7 @@ use Rattle.build_core.specs.Builds.{StandsFor}
 use Rattle.durable_build.specs.Standing.{Kept}
 use Rattle.script_run.specs.declared.rest.Rest.{Rest}
 use Rattle.script_run.specs.declared.rest.Rest.TheVariants.{Ended, Waits, AnswersFailed}
-use Rattle.saved_run.specs.Lives.{image_after, Fails, IsFull as IsFullOf, IsNext, Lasts}
+use Rattle.saved_run.specs.Lives.{image_after, Fails, IsFull as IsFullOf, IsNext, Lasts, TellsFault}
 use Rattle.saved_run.specs.Saved.{Stores, Survives}
 use Rattle.saved_run.proofs.LifeLemmas.{saved_image}
 use Rattle.site_state.specs.declared.ask.Entry.{Entry}
@@ -177,19 +179,32 @@ module _ {D T H A : Type 0} (reads : D → Option (List ℕ)) (may_leave : D →
         (by_break (no_memory (made_lasting reads may_leave clock since stance honest faults calls launches dirs output exited left source_faults looks setting entry origin before BegunWith BegunWith [] [] kept before takes lasts)) told);
   })
 
-module _ (a b x y : ℕ) (old new : Option (List ℕ)) (c d : ℕ) where
-  pub reports_broken : (f : TakeFault) (r : Refusal) → SaysTake f r → CountsFault a b (f ≡ take.Disk) → Tells old new c d (refusal_text r) → Reports a b x y old new c d (refusal_status r)
-  reports_broken take.Memory r says disk = as_told (λ n t. Tells old new c d t → Reports a b x y old new c d n) r OutOfMemory says (report.no_memory (disk.calm (λ e. absurd (cc))))
-  reports_broken take.Stopped r says disk = as_told (λ n t. Tells old new c d t → Reports a b x y old new c d n) r OutOfMemory says (report.no_memory (disk.calm (λ e. absurd (cc))))
-  reports_broken take.Disk r says disk = as_told (λ n t. Tells old new c d t → Reports a b x y old new c d n) r DiskFailed says (report.disk_failed (disk.failed refl))
-  reports_broken (take.Full at add) r says disk =
-      let calm = disk.calm (λ e. absurd (cc)) in
-      as_said (λ n t. Tells old new c d t → Reports a b x y old new c d n) r 14 (full_text at add) says (report.no_memory calm) (report.full at add calm)
+less_prop : (m n : ℕ) → IsProp (m < n)
+less_prop m n = hlevel props
 
-  pub reports : (Stands : Build → Type 0) (ended : Result Rest TakeFault) (status : ℕ) → TellsEnd Stands old new c d ended status → (ended ≡ Ok AnswersFailed → Rose x y) → CountsFault a b (ended ≡ Err take.Disk) → Reports a b x y old new c d status
-  reports Stands (Ok AnswersFailed) status wrote answers disk = subst (Reports a b x y old new c d) (sym wrote.0) (report.answers_failed (disk.calm (λ e. absurd (cc))) (answers refl) wrote.1)
-  reports Stands (Ok Ended) status wrote answers disk = report.rested (disk.calm (λ e. absurd (cc))) wrote.known wrote.wrote
-  reports Stands (Ok Waits) status wrote answers disk = report.rested (disk.calm (λ e. absurd (cc))) wrote.known wrote.wrote
-  reports Stands (Err f) status wrote answers disk =
+-- the two numbers of a full journal are together too many, whatever the store has
+pub told_long : {D T : Type 0} (stance : T → Stance) (kept : Kept D T) (f : TakeFault) (at add : ℕ) → f ≡ take.Full at add → TellsFault stance kept f → 2 ^ 30 < at + add
+told_long stance kept f at add is told = (subst (λ (x : TakeFault). TellsFault stance kept x) is told).1.1
+
+pub ended_long : {D T : Type 0} (stance : T → Stance) (kept : Kept D T) (ended : Result Rest TakeFault) → IfErr ended (λ f. ∥ TellsFault stance kept f ∥₁) → (at add : ℕ) → ended ≡ Err (take.Full at add) → 2 ^ 30 < at + add
+ended_long stance kept ended told at add is =
+    let here : ∥ TellsFault stance kept (take.Full at add) ∥₁ = subst (λ (r : Result Rest TakeFault). IfErr r (λ f. ∥ TellsFault stance kept f ∥₁)) is told in
+    ∥∥₁_elim here (less_prop (2 ^ 30) (at + add)) (told_long stance kept (take.Full at add) at add refl)
+
+module _ (a b x y : ℕ) (old new : Option (List ℕ)) (c d : ℕ) where
+  pub reports_broken : (f : TakeFault) (r : Refusal) → SaysTake f r → CountsFault a b (f ≡ take.Disk) → ((at add : ℕ) → f ≡ take.Full at add → 2 ^ 30 < at + add) → Tells old new c d (refusal_text r) → Reports a b x y old new c d (refusal_status r)
+  reports_broken take.Memory r says disk long = as_told (λ n t. Tells old new c d t → Reports a b x y old new c d n) r OutOfMemory says (report.no_memory (disk.calm (λ e. absurd (cc))))
+  reports_broken take.Stopped r says disk long = as_told (λ n t. Tells old new c d t → Reports a b x y old new c d n) r OutOfMemory says (report.no_memory (disk.calm (λ e. absurd (cc))))
+  reports_broken take.Disk r says disk long = as_told (λ n t. Tells old new c d t → Reports a b x y old new c d n) r DiskFailed says (report.disk_failed (disk.failed refl))
+  reports_broken (take.Full at add) r says disk long =
+      let calm = disk.calm (λ e. absurd (cc)) in
+      as_said (λ n t. Tells old new c d t → Reports a b x y old new c d n) r 14 (full_text at add) says (report.no_memory calm) (report.full at add (long at add refl) calm)
+
+  pub reports : (Stands : Build → Type 0) (ended : Result Rest TakeFault) (status : ℕ) → TellsEnd Stands old new c d ended status → (ended ≡ Ok AnswersFailed → Rose x y) → CountsFault a b (ended ≡ Err take.Disk)
+      → ((at add : ℕ) → ended ≡ Err (take.Full at add) → 2 ^ 30 < at + add) → Reports a b x y old new c d status
+  reports Stands (Ok AnswersFailed) status wrote answers disk long = subst (Reports a b x y old new c d) (sym wrote.0) (report.answers_failed (disk.calm (λ e. absurd (cc))) (answers refl) wrote.1)
+  reports Stands (Ok Ended) status wrote answers disk long = report.rested (disk.calm (λ e. absurd (cc))) wrote.known wrote.wrote
+  reports Stands (Ok Waits) status wrote answers disk long = report.rested (disk.calm (λ e. absurd (cc))) wrote.known wrote.wrote
+  reports Stands (Err f) status wrote answers disk long =
       let counts : CountsFault a b (f ≡ take.Disk) = record { never_falls = disk.never_falls; calm = λ other. disk.calm (λ e. other (cc)); failed = λ e. disk.failed (ap Err e) } in
-      subst (Reports a b x y old new c d) (sym wrote.2) (reports_broken f wrote.0 wrote.1 counts wrote.3)
+      subst (Reports a b x y old new c d) (sym wrote.2) (reports_broken f wrote.0 wrote.1 counts (λ at add is. long at add (ap Err is)) wrote.3)

@@ -111,7 +111,7 @@ module _ {D H A : Type 0} (v : Devices D H A) (told_image : (d : D) → IfSome (
     breaks_say : {n : ℕ} {text : List ℕ} → BreaksSo n text → Says n text
     breaks_say (finish.answers_failed made rests rose) = output.read_failed
     breaks_say (finish.disk_failed made going rose) = output.disk_failed
-    breaks_say (finish.full len add made going is) = output.full len add
+    breaks_say (finish.full len add made going is) = output.full len add is.too_long
     breaks_say (finish.no_memory made) = output.no_memory
 
     -- one that broke off shows no log

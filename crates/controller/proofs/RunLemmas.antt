@@ -127,42 +127,42 @@ module _ {a b x y d e : ℕ} {old new : Option (List ℕ)} where
   reports_untold {n = n} (report.rested quiet log writes) is = run_untold n (written_run log writes) is
   reports_untold (report.answers_failed calm rose tells) is = untold 6 6 refl (λ e. omega (arith, e)) (λ e. omega (arith, e)) is
   reports_untold (report.disk_failed rose tells) is = untold 5 5 refl (λ e. omega (arith, e)) (λ e. omega (arith, e)) is
-  reports_untold (report.full len add quiet tells) is = untold 14 14 refl (λ e. omega (arith, e)) (λ e. omega (arith, e)) is
+  reports_untold (report.full len add long quiet tells) is = untold 14 14 refl (λ e. omega (arith, e)) (λ e. omega (arith, e)) is
   reports_untold (report.no_memory quiet tells) is = untold 8 8 refl (λ e. omega (arith, e)) (λ e. omega (arith, e)) is
 
   pub reports_answers : {n : ℕ} → Reports a b x y old new d e n → n ≡ 6 → Rose x y
   reports_answers {n = n} (report.rested quiet log writes) six = absurd (unrun 6 n six refl (written_run log writes))
   reports_answers (report.answers_failed calm rose tells) six = rose
   reports_answers (report.disk_failed rose tells) six = absurd (omega (arith, six))
-  reports_answers (report.full len add quiet tells) six = absurd (omega (arith, six))
+  reports_answers (report.full len add long quiet tells) six = absurd (omega (arith, six))
   reports_answers (report.no_memory quiet tells) six = absurd (omega (arith, six))
 
   pub reports_disk : {n : ℕ} → Reports a b x y old new d e n → n ≡ 5 → Rose a b
   reports_disk {n = n} (report.rested quiet log writes) five = absurd (unrun 5 n five refl (written_run log writes))
   reports_disk (report.answers_failed calm rose tells) five = absurd (omega (arith, five))
   reports_disk (report.disk_failed rose tells) five = rose
-  reports_disk (report.full len add quiet tells) five = absurd (omega (arith, five))
+  reports_disk (report.full len add long quiet tells) five = absurd (omega (arith, five))
   reports_disk (report.no_memory quiet tells) five = absurd (omega (arith, five))
 
   pub reports_sink : {n : ℕ} → Reports a b x y old new d e n → n ≡ 7 → Rose d e
   reports_sink {n = n} (report.rested {ended = m} quiet log writes) seven = ⊎_elim (λ is. absurd (seven_no_log m (sym is ∙ seven) log)) (λ failed. failed.1) (written writes)
   reports_sink (report.answers_failed calm rose tells) seven = absurd (omega (arith, seven))
   reports_sink (report.disk_failed rose tells) seven = absurd (omega (arith, seven))
-  reports_sink (report.full len add quiet tells) seven = absurd (omega (arith, seven))
+  reports_sink (report.full len add long quiet tells) seven = absurd (omega (arith, seven))
   reports_sink (report.no_memory quiet tells) seven = absurd (omega (arith, seven))
 
   pub reports_build : {n : ℕ} → Reports a b x y old new d e n → n ≡ 9 → ⊥
   reports_build {n = n} (report.rested quiet log writes) nine = unrun 9 n nine refl (written_run log writes)
   reports_build (report.answers_failed calm rose tells) nine = omega (arith, nine)
   reports_build (report.disk_failed rose tells) nine = omega (arith, nine)
-  reports_build (report.full len add quiet tells) nine = omega (arith, nine)
+  reports_build (report.full len add long quiet tells) nine = omega (arith, nine)
   reports_build (report.no_memory quiet tells) nine = omega (arith, nine)
 
   pub reports_usage : {n : ℕ} → Reports a b x y old new d e n → n ≡ 2 → ⊥
   reports_usage {n = n} (report.rested quiet log writes) two = unrun 2 n two refl (written_run log writes)
   reports_usage (report.answers_failed calm rose tells) two = omega (arith, two)
   reports_usage (report.disk_failed rose tells) two = omega (arith, two)
-  reports_usage (report.full len add quiet tells) two = omega (arith, two)
+  reports_usage (report.full len add long quiet tells) two = omega (arith, two)
   reports_usage (report.no_memory quiet tells) two = omega (arith, two)
 
 -- where a log was shown the disk counted no fault
@@ -170,7 +170,7 @@ pub reports_calm : {a b x y d e : ℕ} {old new : Option (List ℕ)} {n : ℕ} �
 reports_calm (report.rested quiet log writes) run = quiet
 reports_calm (report.answers_failed calm rose tells) run = calm
 reports_calm (report.disk_failed rose tells) run = absurd (unrun 5 5 refl refl run)
-reports_calm (report.full len add quiet tells) run = absurd (unrun 14 14 refl refl run)
+reports_calm (report.full len add long quiet tells) run = absurd (unrun 14 14 refl refl run)
 reports_calm (report.no_memory quiet tells) run = absurd (unrun 8 8 refl refl run)
 
 -- where no device counted a fault, it has worked
@@ -178,7 +178,7 @@ pub reports_worked : {a b x y d e : ℕ} {old new : Option (List ℕ)} {n : ℕ}
 reports_worked (report.rested quiet log writes) disk answers sink = ⊎_elim (λ is. inl (subst HasLog (sym is) log)) (λ failed. absurd (sink failed.1)) (written writes)
 reports_worked (report.answers_failed calm rose tells) disk answers sink = absurd (answers rose)
 reports_worked (report.disk_failed rose tells) disk answers sink = absurd (disk rose)
-reports_worked (report.full len add quiet tells) disk answers sink = inr (inr refl)
+reports_worked (report.full len add long quiet tells) disk answers sink = inr (inr refl)
 reports_worked (report.no_memory quiet tells) disk answers sink = inr (inl refl)
 
 -- the status of a build that was not begun

@@ -41,7 +41,7 @@ says_unrun has_build run = unrun 9 9 refl refl run
 says_unrun no_build run = unrun 9 9 refl refl run
 says_unrun (damaged at) run = unrun 9 9 refl refl run
 says_unrun (agents_faulty path kind) run = unrun 13 13 refl refl run
-says_unrun (full len add) run = unrun 14 14 refl refl run
+says_unrun (full len add long) run = unrun 14 14 refl refl run
 
 pub faults_say : {s a : List ℕ} {n : ℕ} {text : List ℕ} → Faults s a n text → Says n text
 faults_say (plan.of_agents {path = path} {kind = kind} is) = agents_faulty path kind
@@ -57,14 +57,14 @@ files_say (plan.judged calm hold faults) = faults_say faults
 pub begin_says : {fault : BeginFault} {n : ℕ} {text : List ℕ} (setting : Setting) (start : Event) → BeginSays fault n text → TellsStart setting start fault → Says n text
 begin_says setting start begin.has_build sizes = has_build
 begin_says setting start begin.disk_failed sizes = disk_failed
-begin_says setting start (begin.full len add) sizes = full len add
+begin_says setting start (begin.full len add) sizes = full len add sizes.1
 begin_says setting start (begin.no_memory other) sizes = no_memory
 
 pub reports_say : {a b x y c d : ℕ} {old new : Option (List ℕ)} {n : ℕ} → Reports a b x y old new c d n → HasRun n ⊎ ((text : List ℕ) × Says n text × writing.Tells old new c d text)
 reports_say (report.rested quiet log writes) = inl (written_run log writes)
 reports_say (report.answers_failed calm rose tells) = inr (texts.read_failed_text, read_failed, tells)
 reports_say (report.disk_failed rose tells) = inr (store.disk_failed_text, disk_failed, tells)
-reports_say (report.full len add quiet tells) = inr (store.full_text len add, full len add, tells)
+reports_say (report.full len add long quiet tells) = inr (store.full_text len add, full len add long, tells)
 reports_say (report.no_memory quiet tells) = inr (store.out_of_memory_text, no_memory, tells)
 
 pub not_told_says : {stored : Option (List ℕ)} {a b n : ℕ} {text : List ℕ} → showing.NotTold stored a b n text → Says n text

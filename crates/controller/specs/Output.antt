@@ -35,7 +35,7 @@ pub data Says : ℕ → List ℕ → Type 0 where
   no_build : Says 9 store.no_build_text
   damaged : (at : ℕ) → Says 9 (store.damaged_text at)
   agents_faulty : (path : List ℕ) (kind : AgentsKind) → Says 13 (run.agents_line path kind)
-  full : (len add : ℕ) → Says 14 (store.full_text len add)
+  full : (len add : ℕ) → 2 ^ 30 < len + add → Says 14 (store.full_text len add)
 
 module _ {D H A : Type 0} (v : Devices D H A) where
   -- The build went on from the events before to these, until it had ended or nobody went on with it; and the log of their world was written, with the status of

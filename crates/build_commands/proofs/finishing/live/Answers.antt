@@ -10,7 +10,7 @@ use Rattle.site_crew.specs.Crews.{answers_in, hosts_in, IsCrew, members_of, othe
 use Rattle.build_commands.specs.Finishing.{TellsEnd}
 use Rattle.build_commands.specs.Living.{HostsStay, LifeOf, TakesBy}
 use Rattle.build_commands.specs.Reporting.{Reports}
-use Rattle.build_commands.proofs.FinishLemmas.{finished_by, reports, reports_broken}
+use Rattle.build_commands.proofs.FinishLemmas.{ended_long, finished_by, reports, reports_broken, told_long}
 use Rattle.build_commands.proofs.LivingLemmas.{crew_failed, crew_stay, hosts_all, life_events, no_life, opening_events, served_crew, served_length, stay_same, whole_slice}
 use Rattle.build_commands.proofs.finishing.live.Goals as goal
 
@@ -65,7 +65,8 @@ returns-in-Ok-clause-reports g c = λ executors hosts answers made.
     (sym c.close-disk.ensures.disk)
     (reports (D.faults c.args.durable.journal.disk) (D.faults c.in-Ok.field-0.site.durable.journal.disk) (A.faults answers) (A.faults c.dismiss-hosts.result.1) (K.written c.args.out.now) (K.written c.tell_end-status.new.out) (K.faults c.args.out.now) (K.faults c.tell_end-status.new.out)
     (StandsFor g.R.ScriptThread.stance c.build.result.now) c.in-Ok.field-0.ended c.tell_end-status.result c.tell_end-status.ensures
-    (λ is. crew_failed g.H.Host.honest g.H.Host.faults g.H.Host.calls A.left A.faults executors hosts answers c.dismiss-hosts.result.1 new served are (c.in-Ok.ensures.failed is)) c.in-Ok.ensures.disk)
+    (λ is. crew_failed g.H.Host.honest g.H.Host.faults g.H.Host.calls A.left A.faults executors hosts answers c.dismiss-hosts.result.1 new served are (c.in-Ok.ensures.failed is)) c.in-Ok.ensures.disk
+    (ended_long g.R.ScriptThread.stance c.in-Ok.field-0.site.durable c.in-Ok.field-0.ended c.in-Ok.ensures.faults))
 
 pub returns-in-Ok-clause-finishes : goal.returns-in-Ok-clause-finishes
 returns-in-Ok-clause-finishes g c = λ hosts answers setting entry origin before made others lasts.
@@ -107,7 +108,8 @@ returns-in-Err-clause-reports g c = λ executors hosts answers made.
     let K = g.K.Sink in
     subst (λ (n : ℕ). Reports (D.faults c.args.durable.journal.disk) (D.faults c.in-Err.disk) (A.faults answers) (A.faults c.dismiss-hosts-in-Err.result.1) (K.written c.args.out.now) (K.written c.tell-status.new.out) (K.faults c.args.out.now) (K.faults c.tell-status.new.out) n) (sym c.tell-status.ensures.status)
     (reports_broken (D.faults c.args.durable.journal.disk) (D.faults c.in-Err.disk) (A.faults answers) (A.faults c.dismiss-hosts-in-Err.result.1) (K.written c.args.out.now) (K.written c.tell-status.new.out) (K.faults c.args.out.now) (K.faults c.tell-status.new.out)
-    c.in-Err.fault c.of_take.result c.of_take.ensures c.in-Err.ensures.disk c.tell-status.ensures.text)
+    c.in-Err.fault c.of_take.result c.of_take.ensures c.in-Err.ensures.disk
+    (λ at add is. told_long g.R.ScriptThread.stance c.in-Err.ensures.refused.1 c.in-Err.fault at add is c.in-Err.ensures.refused.5) c.tell-status.ensures.text)
 
 pub returns-in-Err-clause-finishes : goal.returns-in-Err-clause-finishes
 returns-in-Err-clause-finishes g c = λ hosts answers setting entry origin before made others lasts.
