@@ -30,6 +30,7 @@ use Rattle.site_life.proofs.LaunchLaws.{launches_differ}
 use Rattle.site_life.proofs.LookLemmas.{same_base}
 use Rattle.site_life.proofs.MadeLemmas.{made_behind, made_join}
 use Rattle.site_life.proofs.RoundsLemmas.{rounds_made}
+use Rattle.site_life.proofs.OrderLemmas.{life_orders}
 use Rattle.site_life.proofs.WaitLemmas.{life_waited}
 use Rattle.site_life.proofs.WayLemmas.{no_way, are_ways, rounds_ways}
 
@@ -83,6 +84,7 @@ module _ {H A : Type 0} (honest : H → Type 0) (faults : H → ℕ) (calls : H 
           ends = ended;
           turns = r.did;
           ways = last_ways (base state) old r.last r.members r.before now r.part (history state) how ended ways.1 ways.0;
+          orders = life_orders answers (base state) r.rounds r.last old r.members now r.before r.part (history state) how went ended;
           claimed_once = claims_differ stance opening (base state) (history state) e.legal;
           launched_once = launches_differ stance opening (base state) launches (turns_of r.rounds ++ r.last) (history state) e.legal made
               (all_map Did (λ (turn : Turn H A). Launches launches turn.old turn.now turn.own turn.launches) (turns_of r.rounds ++ r.last) (λ turn d. d.launched) r.did);

@@ -18,6 +18,7 @@ use Rattle.site_gate.specs.Tales.{claimed_of, told_of}
 use Rattle.site_gate.specs.Turning.{tasks_of}
 use Rattle.site_life.specs.Ending.{goes_on}
 use Rattle.site_life.specs.Coming.{Came, EachIs}
+use Rattle.site_life.specs.Orders.{OrdersAreSo}
 use Rattle.site_life.specs.Rounds.{Round, AllAsked, AreTurnsOf, IsRound, RoundsFrom, turns_of}
 use Rattle.site_life.specs.Turns.{Turn, MadeOf, launches_of, HoldsOfOne, DidTurn, Explains, IsExplained}
 use Rattle.site_life.specs.Waiting.{Waited, operators}
@@ -51,6 +52,8 @@ module _ {H A : Type 0} (honest : H → Type 0) (faults : H → ℕ) (calls : H 
     pub turns : AllAre (DidTurn honest faults calls launches dirs output exited left source_faults looks) (turns_of rounds ++ last)
     -- and so each member's own way, from what it was to what it became
     pub ways : AllZip (Way (DidTurn honest faults calls launches dirs output exited left source_faults looks) history) old now
+    -- each order that an executor was given is the state's, as it made it of the open request
+    pub orders : ∥ AllAre (λ (turn : Turn H A). OrdersAreSo (answers base) history turn.old turn.calls) (turns_of rounds ++ last) ∥₁
     -- no task was claimed twice, and none launched twice, on whichever hosts
     pub claimed_once : IsDistinct nat_eq (tasks_of (claimed_of history))
     pub launched_once : IsDistinct nat_eq (launches_of (turns_of rounds ++ last))
