@@ -1,8 +1,8 @@
 //! A life of members.
-ghost use Rattle.std.specs.Prelude.{◌≡◌, ◌<◌, ℕ, [], IfOk, IfErr, Some};
+ghost use Rattle.std.specs.Prelude.{◌≡◌, ◌<◌, [], IfOk, IfErr, Some};
 ghost use Rattle.program_lock.specs.Calls.{Steps};
 ghost use Rattle.program_lock.specs.Passes.{known, IsPassOf};
-ghost use Rattle.program_lock.specs.Views.{all_parts, handed_on};
+ghost use Rattle.program_lock.specs.Views.{all_parts};
 ghost use Rattle.site_state.specs.Says.{Says};
 ghost use Rattle.site_state.specs.declared.ask.Ask.TheVariants as asks;
 ghost use Rattle.site_state.specs.declared.ask.Reply.TheVariants as says;
@@ -10,17 +10,15 @@ ghost use Rattle.site_life.specs.Lives.{Life};
 ghost use Rattle.site_life.specs.Passing.{IsProgress, TakesRounds};
 ghost use Rattle.site_life.specs.Turns.{DidTurn};
 
-use crate::ending::goes_on;
+use crate::ending::{can_answer, goes_on};
 use crate::round::take_round;
 use agent_worker::Member;
 use jp_disk::Disk;
 use jp_io::Source;
 use program_lock::{Memory, Pass, Program};
 use saved_thread::SavedThread;
-use site_gate::Place;
 use site_state::{Ask, Progress, Reply, SiteState};
 use std::alloc::{AllocGlobal, Global};
-use std::marker::Brand;
 use std::sync::Wait;
 use std::thread;
 use std::time::{Clock, Duration};
@@ -41,7 +39,7 @@ fn progress_of(reply: Reply) -> Progress
 }
 
 /// Asks how far the build has come.
-fn look<W: Wait, D: Disk, R: SavedThread + Drop>(
+pub fn look<W: Wait, D: Disk, R: SavedThread + Drop>(
     rt: &W,
     program: &Program<SiteState<D, R>>,
     pass: &mut Pass<SiteState<D, R>>,
@@ -54,22 +52,15 @@ fn look<W: Wait, D: Disk, R: SavedThread + Drop>(
     progress_of(program.step(rt, pass, Ask::Look))
 }
 
-/// Sleeps, where the build has come no further since the last look.
-fn pause<W: Wait + Clock>(rt: &W, last: Option<Progress>, come: Progress) {
+/// Sleeps for 20 milliseconds, where the build has come no further since the last look.
+pub fn pause<W: Wait + Clock>(rt: &W, last: Option<Progress>, come: Progress) {
     if last == Some(come) {
         thread::sleep(rt, Duration::from_millis(PAUSE));
     }
 }
 
 /// Gives the members rounds over an open lock, until there is no other.
-fn take_rounds<
-    B: Place,
-    W: Wait + Clock + AllocGlobal,
-    D: Disk,
-    R: SavedThread + Drop,
-    H: Host,
-    A: Source,
->(
+fn take_rounds<W: Wait + Clock + AllocGlobal, D: Disk, R: SavedThread + Drop, H: Host, A: Source>(
     rt: &W,
     alloc: Global,
     program: &Program<SiteState<D, R>>,
@@ -79,8 +70,6 @@ fn take_rounds<
 ) -> Result<Progress, Memory>
     requires looks { 0 < looks }
     requires belongs { IsPassOf program.now pass.old }
-    requires placed { pass.old.seat.table_id ≡ B.table }
-    requires shared { (n : ℕ) → B.share n ≡ handed_on all_parts }
     requires whole { (known pass.old).parts ≡ all_parts }
     ensures belongs { IsPassOf program.now pass.new }
     ensures whole { (known pass.new).parts ≡ all_parts }
@@ -90,9 +79,9 @@ fn take_rounds<
 {
     let mut last = None;
     for _ in rt.forever() {
-        take_round::<B, W, D, R, H, A>(rt, alloc, program, pass, members, looks)?;
+        take_round(rt, alloc, program, pass, members, looks)?;
         let come = look(rt, program, pass);
-        if !goes_on(come, members) {
+        if !goes_on(come, can_answer(members)) {
             return Ok(come);
         }
         pause(rt, last, come);
@@ -102,14 +91,7 @@ fn take_rounds<
 }
 
 /// Gives the members their rounds over an open lock, and closes it.
-fn live_in<
-    B: Place,
-    W: Wait + Clock + AllocGlobal,
-    D: Disk,
-    R: SavedThread + Drop,
-    H: Host,
-    A: Source,
->(
+fn live_in<W: Wait + Clock + AllocGlobal, D: Disk, R: SavedThread + Drop, H: Host, A: Source>(
     rt: &W,
     alloc: Global,
     program: Program<SiteState<D, R>>,
@@ -119,8 +101,6 @@ fn live_in<
 ) -> (SiteState<D, R>, Result<Progress, Memory>)
     requires looks { 0 < looks }
     requires belongs { IsPassOf program pass }
-    requires placed { pass.seat.table_id ≡ B.table }
-    requires shared { (n : ℕ) → B.share n ≡ handed_on all_parts }
     requires whole { (known pass).parts ≡ all_parts }
     requires first { (known pass).seen ≡ [] }
     ensures lives { (start : _) → (known pass).base ≡ Some start → Life H.honest H.faults H.calls H.launches H.dirs H.output H.exited A.left A.faults looks
@@ -128,7 +108,7 @@ fn live_in<
         start result.0.base members.old members.new result.0.history.items result.1 }
 {
     let mut pass = pass;
-    let how = take_rounds::<B, W, D, R, H, A>(rt, alloc, &program, &mut pass, members, looks);
+    let how = take_rounds(rt, alloc, &program, &mut pass, members, looks);
     match program.close(pass) {
         Ok(state) => (state, how),
         Err(_out) => unreachable!(),
@@ -142,7 +122,8 @@ fn live_in<
 /// stopped by a fault, and a task is open, or an input is open while an operator's answers are neither at their end nor failed.
 /// The answer of the last look is given: it is how far the state has come that is given with it.
 ///
-/// `Life` says what the history is made of, what became of each member, and how it ended.
+/// `Life` says what the history is made of, what became of each member, and how it ended; that each answer that a member was given is the
+/// state's at its place in the history, the orders of executors too; and that each decision stands directly behind its line.
 ///
 /// `looks`, at least 1, is as for [`agent_worker::work`]. It may wait for ever. It sleeps 20 milliseconds before a round where the
 /// one before it left the build where it was, as where a task is open whose executor is not among the members.
@@ -166,9 +147,7 @@ pub fn live<W: Wait + Clock + AllocGlobal, D: Disk, R: SavedThread + Drop, H: Ho
     ensures back { IfErr result (λ e. (e.1 ≡ state) × (members.new ≡ members.old)) }
 {
     match Program::open(alloc, state) {
-        Ok((program, pass)) => {
-            Ok(live_in::<Brand, W, D, R, H, A>(rt, alloc, program, pass, members, looks))
-        }
+        Ok((program, pass)) => { Ok(live_in(rt, alloc, program, pass, members, looks)) }
         Err((memory, state)) => Err((memory, state)),
     }
 }
