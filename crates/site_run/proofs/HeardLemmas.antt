@@ -1,6 +1,6 @@
 -- Which lines an operator heard in a life: those that it read.
-use Rattle.std.proofs.Common.{◌≡◌, ◌⊎◌, ◌≤◌, ◌∙◌, ⊎_elim, inl, inr, ℕ, suc, ℤ, Bool, true, false, List, [], ◌∷◌, ◌++◌, map, Option, Some, None, Result, Ok, Err, refl, sym, ap, subst, append_assoc, append-nil, arith}
-use Rattle.std.specs.Prelude.{IfOk, ◌||◌, not, if◌then◌else◌}
+use Rattle.std.proofs.Common.{◌≡◌, ◌⊎◌, ◌≤◌, ◌∙◌, ⊎_elim, inl, inr, ℕ, suc, ℤ, Bool, true, false, List, [], ◌∷◌, ◌++◌, map, Option, None, Result, Ok, Err, refl, sym, ap, subst, append_assoc, append-nil, arith}
+use Rattle.std.specs.Prelude.{IfOk, not, if◌then◌else◌}
 use Rattle.std.specs.List.{AllByRecursion as AllAre}
 use Rattle.std.specs.Io.KnownBytes.{Consumes}
 use Rattle.std.proofs.KnownBytes.{Consumes-nil, Consumes-trans}
@@ -11,10 +11,8 @@ use Rattle.program_lock.specs.Legal.{Answers as AnswersOf}
 use Rattle.program_lock.specs.Merge.{IsMergeOf}
 use Rattle.script_run.specs.declared.rest.Rest.{Rest}
 use Rattle.agent_worker.specs.declared.fault.TakeFault.{TakeFault}
-use Rattle.agent_worker.specs.declared.fault.TakeFault.TheVariants.{Memory, Disk, Full, Stopped}
 use Rattle.agent_worker.specs.declared.gate.GateCall.{GateCall}
 use Rattle.agent_worker.specs.declared.gate.GateCall.TheVariants as gate_call
-use Rattle.agent_worker.specs.declared.gate.Heard.{Heard}
 use Rattle.agent_worker.specs.declared.gate.Said.{Said}
 use Rattle.agent_worker.specs.declared.gate.Said.TheVariants.{Nothing}
 use Rattle.agent_worker.specs.declared.operator.LineEnd.{LineEnd}
@@ -24,7 +22,6 @@ use Rattle.agent_worker.specs.declared.member.Member.TheVariants.{Executor, Oper
 use Rattle.agent_worker.specs.declared.worked.Worked.{Worked}
 use Rattle.agent_worker.specs.declared.worked.Worked.TheVariants as worked
 use Rattle.agent_worker.specs.AnswerBytes.{begun_after, last_line, lines_of, short}
-use Rattle.agent_worker.specs.Gate.{heard_of}
 use Rattle.agent_worker.specs.Operating.{Ask, Asked, Reads, Given, Halted, FoundInput, IsOperating, IsReadToEnd, NoMore, LastHeeded, MayAsk, First, Busy, PassedOver, Heeded, Operates, OperatorEnds, ReadLine, GivesLines, given_in, has_ended, read_in, operator_calls}
 use Rattle.agent_worker.specs.Operating as operating
 use Rattle.agent_worker.proofs.AnswerLemmas.{begun-on, lines-on}

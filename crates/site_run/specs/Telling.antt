@@ -1,5 +1,5 @@
 -- What the members of a life were told, and what was heard of the operator, said of the events (this product's own).
-use Rattle.std.specs.Prelude.{◌≡◌, ◌<◌, ℕ, Bool, true, false, not, List, [], ◌∷◌, ◌++◌, Option, Some}
+use Rattle.std.specs.Prelude.{◌≡◌, ◌<◌, ℕ, false, not, List, [], ◌∷◌, ◌++◌, Option, Some}
 use Rattle.std.specs.Io.KnownBytes.{Consumes}
 use Rattle.task_host.specs.declared.order.Order.{Order}
 use Rattle.agent_worker.specs.AnswerBytes.{begun_after}
