@@ -122,7 +122,8 @@ fn live_in<W: Wait + Clock + AllocGlobal, D: Disk, R: SavedThread + Drop, H: Hos
 /// stopped by a fault, and a task is open, or an input is open while an operator's answers are neither at their end nor failed.
 /// The answer of the last look is given: it is how far the state has come that is given with it.
 ///
-/// `Life` says what the history is made of, what became of each member, and how it ended.
+/// `Life` says what the history is made of, what became of each member, and how it ended; that each answer that a member was given is the
+/// state's at its place in the history, the orders of executors too; and that each decision stands directly behind its line.
 ///
 /// `looks`, at least 1, is as for [`agent_worker::work`]. It may wait for ever. It sleeps 20 milliseconds before a round where the
 /// one before it left the build where it was, as where a task is open whose executor is not among the members.
