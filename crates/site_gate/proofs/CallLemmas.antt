@@ -1,5 +1,5 @@
 -- The calls of a gate, by the steps of the lock.
-use Rattle.std.proofs.Common.{◌≡◌, ℕ, List, [], ◌++◌, Option, Some, None, Result, Ok, Err, true, false, is_some, inl, inr, refl, sym, ap, subst, append-nil}
+use Rattle.std.proofs.Common.{◌≡◌, ℕ, List, [], Option, Some, None, Result, Ok, Err, true, false, is_some, inl, inr, refl, sym, ap, subst, append-nil}
 use Rattle.program_lock.specs.declared.view.Known.{Known}
 use Rattle.program_lock.specs.History.{entries, entries_of}
 use Rattle.program_lock.specs.Legal.{Answers}

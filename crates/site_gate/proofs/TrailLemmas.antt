@@ -1,6 +1,6 @@
 -- The calls of a gate, and where in the history they were answered.
 use Rattle.std.proofs.Math.Logic.{∥∥₁_map}
-use Rattle.std.proofs.Common.{◌≡◌, ◌∙◌, ℕ, suc, Bool, true, false, ◌||◌, List, [], ◌∷◌, ◌++◌, length, Some, refl, sym, ap, subst, append_assoc, append-nil, arith}
+use Rattle.std.proofs.Common.{◌≡◌, ◌∙◌, ℕ, Bool, true, false, ◌||◌, List, [], ◌∷◌, ◌++◌, length, Some, refl, sym, ap, subst, append_assoc, append-nil, arith}
 use Rattle.program_lock.specs.declared.view.Known.{Known}
 use Rattle.program_lock.specs.Legal.{Answers}
 use Rattle.program_lock.specs.History.{has, entries, keep_if, numbered, under, entries_of, NoneUnder}

@@ -1,11 +1,11 @@
 -- A turn of a member, put together from its calls on the lock.
-use Rattle.std.proofs.Common.{◌≡◌, ◌<◌, ◌+◌, arith, ℕ, ℤ, Bool, false, List, [], ◌∷◌, ◌++◌, length, Option, Some, refl, sym, ap, ◌∙◌, subst, append_assoc}
+use Rattle.std.proofs.Common.{◌≡◌, ◌<◌, arith, ℕ, ℤ, Bool, false, List, [], ◌∷◌, ◌++◌, length, Option, Some, refl, sym, ap, ◌∙◌, subst, append_assoc}
 use Rattle.std.proofs.Math.Logic.{∥∥₁_map}
 use Rattle.program_lock.specs.declared.view.Known.{Known}
 use Rattle.program_lock.specs.History.{entries, entries_of, under, NoneUnder}
 use Rattle.program_lock.specs.Calls.{Splits, Joins}
 use Rattle.program_lock.proofs.EntryLemmas.{entries_of-split_off, entries_of-join_theirs}
-use Rattle.program_lock.proofs.HistoryLemmas.{entries-append, none_append, none_behind, under-append, under-none}
+use Rattle.program_lock.proofs.HistoryLemmas.{none_append, none_behind, under-none}
 use Rattle.program_lock.proofs.NumberLemmas.{among_itself}
 use Rattle.program_lock.proofs.PartLemmas.{parts-split, parts-join}
 use Rattle.program_lock.specs.Views.{all_parts}

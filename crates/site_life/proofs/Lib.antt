@@ -7,6 +7,7 @@ pub mod LookLemmas
 pub mod RoundsLemmas
 pub mod WayLemmas
 pub mod WaitLemmas
+pub mod OrderLemmas
 pub mod ExplainLemmas
 pub mod LaunchLaws
 pub mod LifeLemmas

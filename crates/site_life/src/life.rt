@@ -10,7 +10,7 @@ ghost use Rattle.site_life.specs.Lives.{Life};
 ghost use Rattle.site_life.specs.Passing.{IsProgress, TakesRounds};
 ghost use Rattle.site_life.specs.Turns.{DidTurn};
 
-use crate::ending::goes_on;
+use crate::ending::{can_answer, goes_on};
 use crate::round::take_round;
 use agent_worker::Member;
 use jp_disk::Disk;
@@ -39,7 +39,7 @@ fn progress_of(reply: Reply) -> Progress
 }
 
 /// Asks how far the build has come.
-fn look<W: Wait, D: Disk, R: SavedThread + Drop>(
+pub fn look<W: Wait, D: Disk, R: SavedThread + Drop>(
     rt: &W,
     program: &Program<SiteState<D, R>>,
     pass: &mut Pass<SiteState<D, R>>,
@@ -52,8 +52,8 @@ fn look<W: Wait, D: Disk, R: SavedThread + Drop>(
     progress_of(program.step(rt, pass, Ask::Look))
 }
 
-/// Sleeps, where the build has come no further since the last look.
-fn pause<W: Wait + Clock>(rt: &W, last: Option<Progress>, come: Progress) {
+/// Sleeps for 20 milliseconds, where the build has come no further since the last look.
+pub fn pause<W: Wait + Clock>(rt: &W, last: Option<Progress>, come: Progress) {
     if last == Some(come) {
         thread::sleep(rt, Duration::from_millis(PAUSE));
     }
@@ -81,7 +81,7 @@ fn take_rounds<W: Wait + Clock + AllocGlobal, D: Disk, R: SavedThread + Drop, H:
     for _ in rt.forever() {
         take_round(rt, alloc, program, pass, members, looks)?;
         let come = look(rt, program, pass);
-        if !goes_on(come, members) {
+        if !goes_on(come, can_answer(members)) {
             return Ok(come);
         }
         pause(rt, last, come);
@@ -122,7 +122,8 @@ fn live_in<W: Wait + Clock + AllocGlobal, D: Disk, R: SavedThread + Drop, H: Hos
 /// stopped by a fault, and a task is open, or an input is open while an operator's answers are neither at their end nor failed.
 /// The answer of the last look is given: it is how far the state has come that is given with it.
 ///
-/// `Life` says what the history is made of, what became of each member, and how it ended.
+/// `Life` says what the history is made of, what became of each member, and how it ended; that each answer that a member was given is the
+/// state's at its place in the history, the orders of executors too; and that each decision stands directly behind its line.
 ///
 /// `looks`, at least 1, is as for [`agent_worker::work`]. It may wait for ever. It sleeps 20 milliseconds before a round where the
 /// one before it left the build where it was, as where a task is open whose executor is not among the members.

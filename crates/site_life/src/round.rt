@@ -20,8 +20,8 @@ use task_host::Host;
 
 /// Gives each of the members a turn, in their order.
 ///
-/// `TakesRound` says what each turn was, as of [`take_turn`], and which entries of them the pass has. It has all parts of the right
-/// to close before and behind it.
+/// `TakesRound` says what each turn was, as of [`take_turn`], and that the entries of the turns stand behind those that the pass had. It has
+/// all parts of the right to close before and behind it.
 ///
 /// # Errors
 ///
