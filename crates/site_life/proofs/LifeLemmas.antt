@@ -30,7 +30,7 @@ use Rattle.site_life.proofs.LaunchLaws.{launches_differ}
 use Rattle.site_life.proofs.LookLemmas.{same_base}
 use Rattle.site_life.proofs.MadeLemmas.{made_behind, made_join}
 use Rattle.site_life.proofs.RoundsLemmas.{rounds_made}
-use Rattle.site_life.proofs.OrderLemmas.{life_orders}
+use Rattle.site_life.proofs.OrderLemmas.{life_answered, life_halted, life_orders}
 use Rattle.site_life.proofs.WaitLemmas.{life_waited}
 use Rattle.site_life.proofs.WayLemmas.{no_way, are_ways, rounds_ways}
 
@@ -71,6 +71,7 @@ module _ {H A : Type 0} (honest : H → Type 0) (faults : H → ℕ) (calls : H 
         (rounds_made answers (base state) r.rounds old r.members [] r.before went)
         (last_made (base state) r.last r.members r.before now r.part (history state) how ended) in
         let events = events_explained honest faults calls launches dirs output exited left source_faults looks (turns_of r.rounds ++ r.last) (history state) r.did made in
+        let answered = life_answered answers (base state) r.rounds r.last old r.members now r.before r.part (history state) how went ended in
         let ways = rounds_ways Did answers (base state) r.rounds r.last old old r.members [] r.before r.did went (no_way Did old) in
         record {
           base_stays = same_base (base state) start (sym e.start ∙ r.goes.base_stays ∙ is);
@@ -84,7 +85,9 @@ module _ {H A : Type 0} (honest : H → Type 0) (faults : H → ℕ) (calls : H 
           ends = ended;
           turns = r.did;
           ways = last_ways (base state) old r.last r.members r.before now r.part (history state) how ended ways.1 ways.0;
-          orders = life_orders answers (base state) r.rounds r.last old r.members now r.before r.part (history state) how went ended;
+          answered = answered;
+          halted = life_halted honest faults calls launches dirs output exited left source_faults looks stance (opening (base state)) (turns_of r.rounds ++ r.last) (history state) r.did answered;
+          orders = life_orders answers (base state) (turns_of r.rounds ++ r.last) (history state) answered;
           claimed_once = claims_differ stance opening (base state) (history state) e.legal;
           launched_once = launches_differ stance opening (base state) launches (turns_of r.rounds ++ r.last) (history state) e.legal made
               (all_map Did (λ (turn : Turn H A). Launches launches turn.old turn.now turn.own turn.launches) (turns_of r.rounds ++ r.last) (λ turn d. d.launched) r.did);

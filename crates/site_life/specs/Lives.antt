@@ -1,11 +1,12 @@
 -- What a life with members is: from the opening of the lock to its closing (this product's own).
-use Rattle.std.specs.Prelude.{◌≡◌, ◌≤◌, ℕ, ℤ, true, false, nat_eq, List, [], ◌++◌, Option, Result, Ok, Err}
+use Rattle.std.specs.Prelude.{◌≡◌, ◌≤◌, ℕ, ℤ, true, false, is_some, nat_eq, List, [], ◌++◌, Option, Result, Ok, Err}
 use Rattle.std.specs.List.{IsDistinct, AllZip, AllByRecursion as AllAre}
 use Rattle.program_lock.specs.declared.program.Memory.{Memory}
 use Rattle.program_lock.specs.Legal.{Answers, IsLegal}
 use Rattle.task_host.specs.declared.call.Call.{Call}
 use Rattle.task_host.specs.declared.order.Stream.{Stream}
 use Rattle.agent_worker.specs.declared.member.Member.{Member}
+use Rattle.agent_worker.specs.declared.worked.Worked.TheVariants as worked
 use Rattle.agent_worker.specs.Gate.{Told}
 use Rattle.site_state.specs.declared.ask.Ask.{Ask}
 use Rattle.site_state.specs.declared.ask.Ask.TheVariants.{Look}
@@ -13,12 +14,12 @@ use Rattle.site_state.specs.declared.ask.Entry.{Entry}
 use Rattle.site_state.specs.declared.ask.Progress.{Progress}
 use Rattle.site_state.specs.declared.ask.Reply.{Reply}
 use Rattle.site_state.specs.declared.ask.Reply.TheVariants as reply
-use Rattle.site_state.specs.Histories.{pending, tooks}
+use Rattle.site_state.specs.Histories.{kept_fault, pending, tooks}
 use Rattle.site_gate.specs.Tales.{claimed_of, told_of}
 use Rattle.site_gate.specs.Turning.{tasks_of}
 use Rattle.site_life.specs.Ending.{goes_on}
 use Rattle.site_life.specs.Coming.{Came, EachIs}
-use Rattle.site_life.specs.Orders.{OrdersAreSo}
+use Rattle.site_life.specs.Orders.{AllAnswered, OrdersAreSo}
 use Rattle.site_life.specs.Rounds.{Round, AllAsked, AreTurnsOf, IsRound, RoundsFrom, turns_of}
 use Rattle.site_life.specs.Turns.{Turn, MadeOf, launches_of, HoldsOfOne, DidTurn, Explains, IsExplained}
 use Rattle.site_life.specs.Waiting.{Waited, operators}
@@ -52,6 +53,10 @@ module _ {H A : Type 0} (honest : H → Type 0) (faults : H → ℕ) (calls : H 
     pub turns : AllAre (DidTurn honest faults calls launches dirs output exited left source_faults looks) (turns_of rounds ++ last)
     -- and so each member's own way, from what it was to what it became
     pub ways : AllZip (Way (DidTurn honest faults calls launches dirs output exited left source_faults looks) history) old now
+    -- each answer that a member was given is the state's, at a beginning of the history where the entries of that call stand
+    pub answered : ∥ AllAre (λ (turn : Turn H A). AllAnswered (answers base) history turn.calls) (turns_of rounds ++ last) ∥₁
+    -- who met want of memory has halted the build, where nothing had stopped it
+    pub halted : ∥ AllAre (λ (turn : Turn H A). turn.worked ≡ worked.Memory → is_some (kept_fault history) ≡ true) (turns_of rounds ++ last) ∥₁
     -- each order that an executor was given is the state's, as it made it of the open request
     pub orders : ∥ AllAre (λ (turn : Turn H A). OrdersAreSo (answers base) history turn.old turn.calls) (turns_of rounds ++ last) ∥₁
     -- no task was claimed twice, and none launched twice, on whichever hosts

@@ -1,4 +1,5 @@
--- The orders that executors are given (this product's own): each is the state's, as it made it of the open request.
+-- What members are told (this product's own): each answer is the state's, at its place in the history; so the orders that executors are given
+-- are as it made them of the open requests.
 use Rattle.std.specs.Prelude.{◌≡◌, ℕ, List, [], ◌∷◌, ◌++◌}
 use Rattle.agent_worker.specs.declared.gate.Claim.{Claim}
 use Rattle.agent_worker.specs.declared.gate.GateCall.{GateCall}
@@ -10,8 +11,18 @@ use Rattle.site_state.specs.declared.ask.Ask.TheVariants as ask
 use Rattle.site_state.specs.declared.ask.Entry.{Entry}
 use Rattle.site_state.specs.declared.ask.Reply.{Reply}
 use Rattle.site_state.specs.declared.ask.Reply.TheVariants as reply
+use Rattle.site_gate.specs.Saying.{AnswersCall}
+use Rattle.site_life.specs.Turns.{IsIn}
 
 module _ (says : List Entry → Ask → Reply → List Entry → Type 0) (history : List Entry) where
+  -- the call was answered so at a beginning of the history, and its entries stand there
+  abbrev pub AnsweredIn : GateCall → Type 0
+  AnsweredIn call = (at : List Entry) × (new : List Entry) × (later : List Entry) × (at ++ (new ++ later) ≡ history) × AnswersCall says at call new
+
+  -- each of these calls was
+  abbrev pub AllAnswered : List GateCall → Type 0
+  AllAnswered calls = (call : GateCall) → IsIn call calls → AnsweredIn call
+
   -- what a claim of this executor gave is what the state said to it, at a beginning of the history
   abbrev pub GaveSo : ℕ → Claim → Type 0
   GaveSo executor claim = (at : List Entry) × (later : List Entry) × (new : List Entry) × (at ++ later ≡ history) × says at (ask.Claim executor) (reply.Claimed claim) new
