@@ -20,17 +20,17 @@ use Rattle.build_core.specs.Builds.{StandsFor}
 use Rattle.durable_build.specs.Standing.{Kept}
 use Rattle.script_run.specs.declared.rest.Rest.{Rest}
 use Rattle.script_run.specs.declared.rest.Rest.TheVariants.{Ended, Waits, AnswersFailed}
-use Rattle.saved_run.specs.Lives.{image_after, Fails, IsFull as IsFullOf, IsNext, Lasts, TellsFault}
+use Rattle.saved_run.specs.Lives.{image_after, IsFull as IsFullOf, IsNext, Lasts, TellsFault}
 use Rattle.saved_run.specs.Saved.{Stores, Survives}
 use Rattle.saved_run.proofs.LifeLemmas.{saved_image}
 use Rattle.site_state.specs.declared.ask.Entry.{Entry}
 use Rattle.site_life.specs.Turns.{Turn}
 use Rattle.site_run.specs.Ending.{RestsWith}
-use Rattle.site_run.specs.Lives.{BreaksBehind, EndsBehind, RestsBehind}
+use Rattle.site_run.specs.Lives.{BreaksBehind, EndsBehind}
 use Rattle.build_commands.specs.declared.refusal.Refusal.{Refusal}
 use Rattle.build_commands.specs.declared.refusal.Refusal.TheVariants.{DiskFailed, OutOfMemory}
 use Rattle.build_commands.specs.Refusals.{SaysTake, refusal_status, refusal_text}
-use Rattle.build_commands.specs.Finishing.{ComesNext, Made, Rests, Breaks, answers_failed, disk_failed, full, no_memory, Finishes, by_rest, by_break, TellsEnd, TellsRest}
+use Rattle.build_commands.specs.Finishing.{ComesNext, Made, Breaks, answers_failed, disk_failed, full, no_memory, Finishes, by_rest, by_break, TellsEnd, TellsRest}
 use Rattle.site_crew.specs.Crews.{answers_in, hosts_in, members_of, others_of}
 use Rattle.build_commands.specs.Living.{ComesBy, Finished, IsRefused, LifeOf, TakesBy}
 use Rattle.build_commands.specs.Reporting.{Reports}

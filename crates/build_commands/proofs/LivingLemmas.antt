@@ -1,8 +1,8 @@
 -- The members of a build at the end of a life, and what became of them.
-use Rattle.std.proofs.Common.{◌≡◌, ◌⊎◌, ◌∙◌, ◌++◌, ◌||◌, ◌≤◌, ℕ, ℤ, suc, Bool, true, false, List, [], ◌∷◌, Option, Result, length, take, drop, refl, sym, ap, subst, append-nil, arith}
+use Rattle.std.proofs.Common.{◌≡◌, ◌∙◌, ◌++◌, ◌||◌, ℕ, ℤ, suc, Bool, true, false, List, [], ◌∷◌, Option, Result, length, take, drop, refl, sym, ap, subst, append-nil, arith}
 use Rattle.std.proofs.Math.Seq.{take-append_seam}
 use Rattle.std.specs.Io.KnownBytes.{IsAtEnd}
-use Rattle.std.specs.List.{AllByRecursion as AllAre, AllZip, IsDistinct}
+use Rattle.std.specs.List.{AllZip, IsDistinct}
 use Rattle.device_faults.specs.Faults.{Rose}
 use Rattle.task_host.specs.declared.call.Call.{Call}
 use Rattle.task_host.specs.declared.order.Stream.{Stream}
@@ -14,9 +14,8 @@ use Rattle.durable_build.specs.Standing.{Kept}
 use Rattle.model_syntax.specs.TreeNodes.{tree_node}
 use Rattle.model_run.specs.declared.event.Event.{Event}
 use Rattle.model_run.specs.declared.site.Executor.{Executor as SiteExecutor}
-use Rattle.model_run.specs.declared.taken.Taken.TheVariants.{Accepted}
 use Rattle.model_run.specs.State.{Setting}
-use Rattle.model_run.specs.World.{answer_to, world_in}
+use Rattle.model_run.specs.World.{world_in}
 use Rattle.script_run.specs.declared.rest.Rest.{Rest}
 use Rattle.script_run.specs.Standing.{IsProper}
 use Rattle.settle_laws.specs.Stances.{Stance}
@@ -30,7 +29,7 @@ use Rattle.site_run.specs.Lives.{Ends, OpeningBreaks}
 use Rattle.site_run.specs.Serving.{AreServed, ReadOn, hosts_of}
 use Rattle.site_run.proofs.MemberLemmas.{all_came, all_served}
 use Rattle.site_run.proofs.WalkLemmas.{of_tree, small}
-use Rattle.site_crew.specs.Crews.{answers_in, hosts_in, IsCrew, members_of, others_of, seats_of}
+use Rattle.site_crew.specs.Crews.{answers_in, hosts_in, IsCrew, members_of, others_of}
 use Rattle.build_commands.specs.Living.{HostsStay, LifeOf, TakesBy}
 
 same_answers : {A : Type 0} (a b : A) → a ∷ [] ≡ b ∷ [] → a ≡ b

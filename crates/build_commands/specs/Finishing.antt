@@ -1,6 +1,5 @@
 -- How a life ends that a command lets go on, with its status and its text (this product's own).
-use Rattle.std.specs.Prelude.{◌≡◌, ◌⊎◌, ◌+◌, ◌<◌, ◌^◌, ℕ, Bool, false, List, [], ◌∷◌, ◌++◌, Option, None, true, IfSome, IsSome, IsSomeAnd, Result, Ok, Err}
-use Rattle.std.specs.Io.KnownBytes.{Consumes, IsAtEnd}
+use Rattle.std.specs.Prelude.{◌≡◌, ◌⊎◌, ◌+◌, ◌<◌, ◌^◌, ℕ, false, List, [], ◌∷◌, ◌++◌, Option, None, true, IfSome, IsSome, IsSomeAnd, Result, Ok, Err}
 use Rattle.device_faults.specs.Faults.{Rose}
 use Rattle.jp_disk.specs.Moments.{AtEachMoment}
 use Rattle.agent_worker.specs.declared.fault.TakeFault.{TakeFault}
@@ -11,10 +10,8 @@ use Rattle.run_command.specs.Statuses.{world_status, HasLog}
 use Rattle.run_command.specs.Texts.{read_failed_text}
 use Rattle.script_run.specs.declared.rest.Rest.{Rest}
 use Rattle.script_run.specs.declared.rest.Rest.TheVariants.{AnswersFailed}
-use Rattle.script_run.specs.Rests.{LeftOver, RestsFor}
-use Rattle.saved_run.specs.Going.{GoesOn}
 use Rattle.durable_build.specs.Taking.{added}
-use Rattle.saved_run.specs.Lives.{image_after, IsCaused, IsNext}
+use Rattle.saved_run.specs.Lives.{image_after, IsNext}
 use Rattle.saved_run.specs.Saved.{Stores, Survives, journal_length}
 use Rattle.build_commands.specs.declared.refusal.Refusal.{Refusal}
 use Rattle.build_commands.specs.Refusals.{SaysTake, refusal_status, refusal_text}

@@ -1,5 +1,5 @@
 -- The parts of a call's contract for `check`, from its table.
-use Rattle.std.proofs.Common.{◌≡◌, ◌⊎◌, ℕ, List, Option, inl, inr, refl, ⊎_elim, arith}
+use Rattle.std.proofs.Common.{◌≡◌, ◌⊎◌, ℕ, List, inl, inr, refl, ⊎_elim, arith}
 use Rattle.device_faults.specs.Faults.{Rose}
 use Rattle.model_run.specs.declared.result.BuildResult.TheVariants.{Success}
 use Rattle.run_command.specs.Files.{HasFault, HasSite, IsRefused, OfFiles}

@@ -1,5 +1,5 @@
 -- The part of a call's contract on launches, from what its command does.
-use Rattle.std.proofs.Common.{◌≡◌, ◌⊎◌, ◌≤◌, ◌<◌, ◌∙◌, ℕ, suc, Bool, true, false, List, [], ◌∷◌, ◌++◌, length, Option, Some, None, inl, inr, refl, sym, ap, subst, max, ⊎_elim, arith, if◌then◌else◌}
+use Rattle.std.proofs.Common.{◌≡◌, ◌⊎◌, ◌≤◌, ◌∙◌, ℕ, Bool, true, false, List, [], ◌∷◌, ◌++◌, length, Option, Some, None, inl, inr, refl, sym, ap, subst, ⊎_elim, arith, if◌then◌else◌}
 use Rattle.std.specs.Prelude.{nat_eq, nat_lt, ◌==◌, is_some, IfSome, IsSome, IsSomeAnd}
 use Rattle.std.specs.List.{AllByRecursion as AllAre, IsDistinct, IsDistinct-prop}
 use Rattle.std.proofs.Math.Logic.{∥∥₁_elim, ∥∥₁_map, ∥∥₁_prop}
@@ -29,9 +29,8 @@ use Rattle.controller.proofs.RunLemmas.{begin_disk, unbegun_image}
 use Rattle.controller.proofs.SeatLemmas.{led_fit, led_once}
 use Rattle.model_run.specs.AgentsFile.{agents_file, Means}
 use Rattle.model_run.specs.declared.event.Event.{Event}
-use Rattle.model_run.specs.declared.taken.Taken.TheVariants.{Accepted}
 use Rattle.model_run.specs.State.{Setting}
-use Rattle.model_run.specs.World.{answer_to, world_in}
+use Rattle.model_run.specs.World.{world_in}
 use Rattle.settle_laws.specs.Stances.{Stance}
 use Rattle.saved_run.specs.Saved.{Stores}
 use Rattle.saved_run.proofs.BeginLemmas.{mean_proper}
@@ -39,7 +38,7 @@ use Rattle.site_run.proofs.ManyLemmas.{HasNow, all_once}
 use Rattle.build_commands.specs.Finishing.{ComesNext}
 use Rattle.build_commands.specs.Living.{HostsStay}
 use Rattle.build_commands.proofs.LivingLemmas.{stay_same}
-use Rattle.controller.specs.Call.{Call, ComesIn, Devices, Finds, IsUnled, LifeIn}
+use Rattle.controller.specs.Call.{Call, ComesIn, Devices, Finds, IsUnled}
 use Rattle.controller.specs.Launches.{FitLeft, Launches, executor_hosts, tasks_on}
 use Rattle.controller.proofs.SiteLemmas.{Consecutive, site_seated, store_begun}
 

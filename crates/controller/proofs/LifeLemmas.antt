@@ -1,17 +1,15 @@
 -- What a build that went on has come to, from how its life finished.
-use Rattle.std.proofs.Common.{true, ◌≡◌, ◌⊎◌, ◌<◌, ℕ, List, [], ◌∷◌, ◌++◌, Option, None, Some, inl, inr, refl, sym, ap, ◌∙◌, subst, append-nil, append_assoc, max, ⊎_elim}
+use Rattle.std.proofs.Common.{true, ◌≡◌, ◌⊎◌, ℕ, List, [], ◌∷◌, ◌++◌, Option, None, Some, inl, inr, refl, sym, ap, ◌∙◌, subst, append-nil, append_assoc, max, ⊎_elim}
 use Rattle.std.specs.Prelude.{IfSome, IsSome, IsSomeAnd}
-use Rattle.std.specs.Io.KnownBytes.{IsAtEnd}
 use Rattle.device_faults.specs.Faults.{Rose}
 use Rattle.jp_disk.specs.Moments.{AtEachMoment}
 use Rattle.jp_disk.proofs.MomentLemmas.{if_told}
-use Rattle.build_requests.specs.Waiting.{waiting_inputs}
 use Rattle.model_run.specs.declared.event.Event.{Event}
 use Rattle.model_run.specs.State.{Setting}
 use Rattle.model_run.specs.World.{world_in}
 use Rattle.script_run.specs.declared.rest.Rest.TheVariants as why
 use Rattle.saved_run.specs.Saved.{Stores, Survives}
-use Rattle.site_run.specs.Ending.{AllReadOut, RestsWith}
+use Rattle.site_run.specs.Ending.{RestsWith}
 use Rattle.site_run.specs.Going as life
 use Rattle.run_command.specs.Statuses.{HasRun, world_status}
 use Rattle.run_command.proofs.StatusLemmas.{going_status}
@@ -20,7 +18,7 @@ use Rattle.build_commands.specs.Finishing as finish
 use Rattle.build_commands.specs.Living.{LivedBy}
 use Rattle.build_commands.specs.Writing as writing
 use Rattle.build_commands.proofs.LivingLemmas.{crew_read}
-use Rattle.controller.specs.Call.{Call, ComesIn, Devices, IsIdle, IsUnheard, LifeIn, Takes, Tells}
+use Rattle.controller.specs.Call.{Call, ComesIn, Devices, IsIdle, LifeIn, Takes, Tells}
 use Rattle.controller.specs.Causes.{Stops, ended, waits, cut, unheard, disk_failed, full, no_memory, WentOn}
 use Rattle.controller.specs.Output as output
 use Rattle.controller.specs.Output.{Says, Delivers}

@@ -1,5 +1,5 @@
 -- What a reader gets of the promises alone, without the code: some sentences of docs/PROOFS.md, derived.
-use Rattle.std.proofs.Common.{◌≡◌, ◌⊎◌, ◌+◌, ◌<◌, ◌^◌, ℕ, true, List, ◌++◌, Option, Some, inl, refl, ap, ⊎_elim, arith}
+use Rattle.std.proofs.Common.{◌≡◌, ◌⊎◌, ◌+◌, ◌<◌, ◌^◌, ℕ, true, List, ◌++◌, Some, inl, refl, ap, ⊎_elim, arith}
 use Rattle.std.specs.Prelude.{IfSome, is_some}
 use Rattle.std.proofs.Math.Logic.{∥∥₁_map}
 use Rattle.command_words.specs.declared.command.Command.TheVariants.{Resume}

@@ -8,7 +8,7 @@ use Rattle.serde_json.specs.Find.{get_member}
 use Rattle.serde_json.specs.Read.{read}
 use Rattle.record_form.specs.declared.record.EventRecord.{EventRecord}
 use Rattle.model_run.specs.AgentsFaults.{Fault, executor_count, fault, field_faults, file_faults, keys_faults, repeated_names, sum_faults}
-use Rattle.model_run.specs.AgentsFile.{AgentsFile, agent_executors, agents_file, executors_from, judged, Means, of_json, Refused, site_of}
+use Rattle.model_run.specs.AgentsFile.{agent_executors, agents_file, executors_from, judged, Means, of_json, Refused, site_of}
 use Rattle.model_run.specs.AgentsMembers.{items_of, number_at}
 use Rattle.model_run.specs.declared.agents.AgentsKind.TheVariants as kind
 use Rattle.model_run.specs.declared.event.Event.{Event}

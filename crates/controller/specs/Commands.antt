@@ -1,5 +1,5 @@
 -- What each command does, by its own table in `build_commands`. The parts of a call's contract follow from it.
-use Rattle.std.specs.Prelude.{◌≡◌, ℕ, List, Option, Some}
+use Rattle.std.specs.Prelude.{◌≡◌, ℕ, List, Some}
 use Rattle.command_words.specs.declared.command.Command.TheVariants.{Run, Resume, Log, Graph, Check}
 use Rattle.command_words.specs.Words.{IsCommand}
 use Rattle.jp_disk.specs.Moments.{AtEachMoment}

@@ -1,4 +1,4 @@
-use Rattle.std.proofs.Common.{◌≡◌, ◌∙◌, ℕ, List, refl, sym, ap, subst}
+use Rattle.std.proofs.Common.{◌∙◌, ℕ, refl, sym, ap, subst}
 use Rattle.jp_disk.specs.Moments.{AtEachMoment}
 use Rattle.durable_build.specs.Opening.{OpenFails}
 use Rattle.durable_build.specs.Standing.{Kept}

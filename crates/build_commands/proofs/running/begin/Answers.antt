@@ -1,11 +1,10 @@
-use Rattle.std.proofs.Common.{◌≡◌, ◌∙◌, [], ◌∷◌, ℕ, refl, sym, ap, subst}
+use Rattle.std.proofs.Common.{◌∙◌, [], ◌∷◌, ℕ, refl, sym, ap, subst}
 use Rattle.std.specs.Prelude.{IsSome}
 use Rattle.durable_build.specs.Standing.{Kept}
-use Rattle.journal_core.specs.Moments.{SinceSync}
 use Rattle.model_run.specs.declared.event.Event.TheVariants.{Start as StartEvent}
 use Rattle.script_run.specs.Standing.{script_setting}
 use Rattle.saved_run.specs.Lives.{Goes}
-use Rattle.saved_run.specs.Saved.{Saves, Survives}
+use Rattle.saved_run.specs.Saved.{Saves}
 use Rattle.saved_run.proofs.LifeLemmas.{lasts_here}
 use Rattle.build_commands.specs.Beginning.{Begins, BeginsOver, begun, unbegun}
 use Rattle.build_commands.specs.Reporting.{Reports}
