@@ -3,4 +3,4 @@ use Rattle.jenkinsd.proofs.hosts_of.Given as goal
 
 -- Each turn gives one host.
 abbrev pub invariant-loop : goal.invariant-loop
-invariant-loop l = (length l.hosts.items ≡ l.counter) × (l.counter ≤ 64)
+invariant-loop g l = (length l.hosts.items ≡ l.counter) × (l.counter ≤ 64)
