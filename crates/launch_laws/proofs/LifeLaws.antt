@@ -65,7 +65,7 @@ pub told_stays : (t : Told) (b : Bool) (u : Told) (old : List Told) → Some_of 
 told_stays t true u old there = some_front (λ x. x ≡ t) old (u ∷ []) there
 told_stays t false u old there = there
 
-pub told_acts : (t : Told) (acts : List Act) (old : List Told) → Some_of (λ x. x ≡ t) old → Some_of (λ x. x ≡ t) (with_told acts old)
+told_acts : (t : Told) (acts : List Act) (old : List Told) → Some_of (λ x. x ≡ t) old → Some_of (λ x. x ≡ t) (with_told acts old)
 told_acts t [] old there = there
 told_acts t (Called c ∷ acts) old there = told_acts t acts old there
 told_acts t (Reported e answer ∷ acts) old there = told_stays t (is_told answer) (told_as e answer) (with_told acts old) (told_acts t acts old there)
@@ -84,7 +84,7 @@ exit_told order acts old x = by x.1.is
     by (inl is) = subst (λ (l : List Act). Some_of (λ t. t ≡ told_at (exited order x.0) true) (with_told l old)) (sym is) here
     by (inr is) = subst (λ (l : List Act). Some_of (λ t. t ≡ told_at (exited order x.0) true) (with_told l old)) (sym is.1) here
 
-all_some : {A : Type 0} (P : A → Type 0) (xs : List A) → AllAre P xs → (y : A) → Some_of (λ x. x ≡ y) xs → P y
+pub all_some : {A : Type 0} (P : A → Type 0) (xs : List A) → AllAre P xs → (y : A) → Some_of (λ x. x ≡ y) xs → P y
 all_some P [] all y there = absurd there
 all_some P (x ∷ xs) all y (inl is) = subst P is all.0
 all_some P (x ∷ xs) all y (inr there) = all_some P xs all.1 y there

@@ -29,7 +29,7 @@ use Rattle.model_run.specs.World.{world_in}
 use Rattle.world_laws.proofs.Places.{some_behind}
 use Rattle.launch_laws.specs.ManyTurns.{Turns, none, more}
 use Rattle.launch_laws.specs.Outputs.{AreOutputs, Delivered}
-use Rattle.launch_laws.proofs.LifeLaws.{told_stays}
+use Rattle.launch_laws.proofs.LifeLaws.{all_some, told_stays}
 use Rattle.launch_laws.proofs.Lists.{same_or_not}
 
 -- bytes that stand in a list stand in what it becomes
@@ -231,11 +231,6 @@ all_last : (P : Told → Type 0) (ts : List Told) (t : Told) → AllAre P ts →
 all_last P [] t all one = (one, tt)
 all_last P (x ∷ ts) t all one = (all.0, all_last P ts t all.1 one)
 
-some_is : (P : Told → Type 0) (ts : List Told) → AllAre P ts → (t : Told) → Some_of (λ x. x ≡ t) ts → P t
-some_is P [] all t there = absurd there
-some_is P (x ∷ ts) all t (inl is) = subst P is all.0
-some_is P (x ∷ ts) all t (inr there) = some_is P ts all.1 t there
-
 same_told : (e f : Event) (a b : Bool) → told_at e a ≡ told_at f b → (e ≡ f) × (a ≡ b)
 same_told e f a b is = (ap (λ (t : Told). t.event) is, ap (λ (t : Told). t.accepted) is)
 
@@ -244,7 +239,7 @@ module _ (order : Order) (looks : ℕ) (acts : List Act) (lawful : IsServe order
     (below : AllAre IsBelow (with_told acts old)) where
   short : (stream : Stream) → Short order looks stream acts
   short stream task place bytes done =
-      some_is IsBelow (with_told acts old) below (told_at (Output task (named stream) place bytes) true) (done_told (Output task (named stream) place bytes) acts old done) task stream place bytes refl
+      all_some IsBelow (with_told acts old) below (told_at (Output task (named stream) place bytes) true) (done_told (Output task (named stream) place bytes) acts old done) task stream place bytes refl
 
   done_stands : (task : ℕ) (stream : Stream) (place : ℕ) (bytes : List ℕ) → WasDone (output_at task stream place bytes) acts → StandsFrom place bytes (host.output task stream)
   done_stands task stream place bytes done =
@@ -356,4 +351,4 @@ life_delivers setting begun taken executor looks start now told claimed turns ar
     by (inl r) = turns_still start told claimed now turns task stream place bytes (delivered task stream place bytes (record { front = was.front; rest = r.0; is = r.1; task_of = was.task_of }))
     by (inr f) =
         let own = are.own task stream place bytes (record { front = f.0; rest = was.rest; is = f.2; task_of = subst (λ (es : List Event). IsTaskOf executor task (world_in setting es).shared) f.1 was.task_of }) in
-        some_is (HasTold now.output) told (turns_stand start told claimed now turns (below told (λ t there. there))) (told_at (Output task (named stream) place bytes) true) own task stream place bytes refl
+        all_some (HasTold now.output) told (turns_stand start told claimed now turns (below told (λ t there. there))) (told_at (Output task (named stream) place bytes) true) own task stream place bytes refl

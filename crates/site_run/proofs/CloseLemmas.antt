@@ -209,6 +209,9 @@ module _ {H A : Type 0} (honest : H → Type 0) (faults : H → ℕ) (calls : H 
     launched_once = tt;
     told = tt;
     came = ∣ tt ∣₁;
+    answered = ∣ tt ∣₁;
+    halted = ∣ tt ∣₁;
+    orders = ∣ tt ∣₁;
     waited = λ one. ∣ tt ∣₁;
     explained = tt;
     at_risk = tt;

@@ -53,7 +53,7 @@ front_then ps xs ys image is =
     let w = front_behind xs ys is.0 in
     (w.0, subst (λ (zs : List (List ℕ)). Has (ps ++ zs) image) w.1 (subst (λ (zs : List (List ℕ)). Has zs image) (append_assoc ps xs (take is.0 ys)) is.1))
 
-none_first : (es fs : List Event) → es ++ fs ≡ [] → es ≡ []
+pub none_first : (es fs : List Event) → es ++ fs ≡ [] → es ≡ []
 none_first [] fs is = refl
 none_first (e ∷ es) fs is = absurd (cc)
 

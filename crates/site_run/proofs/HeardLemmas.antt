@@ -39,13 +39,14 @@ use Rattle.site_gate.specs.Tales.{tells_of}
 use Rattle.site_gate.proofs.TaleLemmas.{lines-append}
 use Rattle.site_life.specs.Lives.{EndsWith, Life}
 use Rattle.site_life.specs.Rounds.{AreTurnsOf, Round, RoundsFrom, turns_of}
+use Rattle.site_life.specs.Orders.{AllAnswered}
 use Rattle.site_life.specs.Turns.{Turn, DidTurn, MadeOf, Work}
 use Rattle.site_life.specs.Waiting.{operators}
 use Rattle.site_life.proofs.WaitLemmas.{few_nows, few_olds}
 use Rattle.site_run.specs.Ending.{ended_as}
 use Rattle.site_run.specs.Going.{heard_in}
 use Rattle.site_run.specs.Telling.{AreHeard}
-use Rattle.site_run.proofs.CallLemmas.{Answered, CallsAnswered, life_asked, no_halt, no_refusal}
+use Rattle.site_run.proofs.CallLemmas.{in_last, no_halt, no_refusal}
 use Rattle.site_run.proofs.FactLemmas.{rest_calm}
 use Rattle.site_run.proofs.FitLemmas.{steps_all}
 use Rattle.site_run.proofs.WalkLemmas.{all_behind, all_front}
@@ -168,11 +169,6 @@ lines_second xs ys (z ∷ zs) m none = ⊎_elim
     (λ (r : (vs : List Entry) × (ys ≡ z ∷ vs) × IsMergeOf xs vs zs). lines_one z zs ∙ ap (λ (ls : List (List ℕ)). lines (z ∷ []) ++ ls) (lines_second xs r.0 zs r.2 none) ∙ sym (lines_one z r.0) ∙ sym (ap lines r.1))
     m
 
--- the last of some calls
-last_call : (P : GateCall → Type 0) (calls : List GateCall) (call : GateCall) → AllAre P (calls ++ call ∷ []) → P call
-last_call P [] call all = all.0
-last_call P (c ∷ calls) call all = last_call P calls call all.1
-
 module _ {H A : Type 0} where
   -- whether a turn of an operator ended without a fault
   abbrev EndsWell : Member H A → Worked → Type 0
@@ -186,7 +182,7 @@ module _ {H A : Type 0} (honest : H → Type 0) (faults : H → ℕ) (calls : H 
 
   -- In a life that keeps no fault each turn of an operator ends so.
   well_turn : {T : Type 0} (stance : T → Stance) (opening : Parts T) (history : List Entry) → kept_fault history ≡ None → (m n : Member H A) (w : Worked) (own : List Entry) (gate_calls : List GateCall) (said : Said) (is_open : Bool)
-      → DoesWork m n w own gate_calls said is_open → AllAre (Answered (λ h a r new. Says stance opening h a r new) history) gate_calls → EndsWell m w
+      → DoesWork m n w own gate_calls said is_open → AllAnswered (λ h a r new. Says stance opening h a r new) history gate_calls → EndsWell m w
   well_turn stance opening history calm (Executor number host) n w own gate_calls said is_open works asked = tt
   well_turn stance opening history calm (Operator answers line ended failed) (Executor now next) w own gate_calls said is_open works asked = absurd works
   well_turn stance opening history calm (Operator answers line ended failed) (Operator next kept now_ended now_failed) w own gate_calls said is_open works asked =
@@ -198,7 +194,7 @@ module _ {H A : Type 0} (honest : H → Type 0) (faults : H → ℕ) (calls : H 
       stops worked.Stopped past are ends is =
           let calls_are : gate_calls ≡ operator_calls ends.2 [] ++ gate_call.Answer ends.0 (Err ends.1) ∷ [] = are ∙ ap (λ (p : List Ask). operator_calls p []) ends.3 in
           no_refusal stance opening history calm ends.0 ends.1 ends.4
-          (last_call (Answered (λ h a r new. Says stance opening h a r new) history) (operator_calls ends.2 []) (gate_call.Answer ends.0 (Err ends.1)) (subst (AllAre (Answered (λ h a r new. Says stance opening h a r new) history)) calls_are asked))
+          (subst (AllAnswered (λ h a r new. Says stance opening h a r new) history) calls_are asked (gate_call.Answer ends.0 (Err ends.1)) (in_last (operator_calls ends.2 []) (gate_call.Answer ends.0 (Err ends.1))))
       stops worked.Memory past are ends is = absurd (cc)
       stops worked.AnswersFailed past are ends is = absurd (cc)
 
@@ -208,7 +204,7 @@ module _ {H A : Type 0} (honest : H → Type 0) (faults : H → ℕ) (calls : H 
       wants worked.Memory past are ends is =
           let calls_are : gate_calls ≡ operator_calls ends.0 [] ++ gate_call.Halt ∷ [] = are ∙ ap (λ (p : List Ask). operator_calls p []) ends.1 in
           no_halt stance opening history calm
-          (last_call (Answered (λ h a r new. Says stance opening h a r new) history) (operator_calls ends.0 []) gate_call.Halt (subst (AllAre (Answered (λ h a r new. Says stance opening h a r new) history)) calls_are asked))
+          (subst (AllAnswered (λ h a r new. Says stance opening h a r new) history) calls_are asked gate_call.Halt (in_last (operator_calls ends.0 []) gate_call.Halt))
       wants worked.AnswersFailed past are ends is = absurd (cc)
 
   -- What an operator has read so far, what it keeps of the next line, and which lines were heard.
@@ -441,7 +437,7 @@ module _ {H A : Type 0} (honest : H → Type 0) (faults : H → ℕ) (calls : H 
     abbrev Its : List Entry → AskState → Reply → List Entry → Type 0
     Its history x y more = Says stance (opening base) history x y more
 
-    well_turns : kept_fault h ≡ None → (ts : List (Turn H A)) → AllAre Did ts → AllAre (CallsAnswered Its h) ts → AllAre Well ts
+    well_turns : kept_fault h ≡ None → (ts : List (Turn H A)) → AllAre Did ts → AllAre (λ (turn : Turn H A). AllAnswered Its h turn.calls) ts → AllAre Well ts
     well_turns calm [] did asked = tt
     well_turns calm (turn ∷ ts) did asked =
         (well_turn stance (opening base) h calm turn.old turn.now turn.worked turn.own turn.calls turn.said turn.is_open did.0.works asked.0, well_turns calm ts did.1 asked.1)
@@ -449,7 +445,7 @@ module _ {H A : Type 0} (honest : H → Type 0) (faults : H → ℕ) (calls : H 
     pub life_heard : (ended : Result Rest TakeFault) → ended ≡ ended_as (kept_fault h) how new → IfOk ended (λ rest. ∥ AreHeard left (lines h) old new ∥₁)
     life_heard (Err fault) is = tt
     life_heard (Ok rest) is =
-        ∥∥₁_map (life_asked (λ b history x y more. Says stance (opening b) history x y more) base h life.rounds life.last old life.members life.before new life.part how life.went_on life.ends) (λ asked.
+        ∥∥₁_map life.answered (λ asked.
         heard_same (lines h) (lines_told turns) old new
         (life_told stance opening base h life.rounds life.last old life.members life.before new life.part how life.turns life.went_on life.ends)
         (heard_at_end (lines_told turns) old new

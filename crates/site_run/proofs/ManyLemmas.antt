@@ -29,16 +29,13 @@ use Rattle.site_life.specs.Turns.{Turn}
 use Rattle.site_run.specs.Lives.{Ends, EndsBehind, OpeningBreaks}
 use Rattle.site_run.specs.ManyLives.{Lives, OneLife, led, more, one, refused}
 use Rattle.site_run.specs.Serving.{AllFit, AreHonest, AreServed, hosts_of}
+use Rattle.site_run.proofs.FactLemmas.{none_first}
 use Rattle.site_run.proofs.OneStore.{one_store}
 use Rattle.site_run.proofs.WalkLemmas.{of_tree, small}
 
 -- a build that has begun has taken an event
 begun_some : (s : Setting) (es : List Event) → (world_in s es).started ≡ true → ¬ (es ≡ [])
 begun_some s es begun none = let bad : false ≡ true = subst (λ (l : List Event). (world_in s l).started ≡ true) none begun in absurd (cc)
-
-none_first : (es fs : List Event) → es ++ fs ≡ [] → es ≡ []
-none_first [] fs is = refl
-none_first (e ∷ es) fs is = absurd (cc)
 
 none_last : (es : List Event) (e : Event) → es ++ e ∷ [] ≡ [] → ⊥
 none_last [] e is = cc

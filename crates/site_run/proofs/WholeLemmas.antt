@@ -41,9 +41,10 @@ use Rattle.site_state.proofs.HistoryLaws.{kept_fault-append, no_fault, tooks-app
 use Rattle.site_gate.specs.Tales.{is_grant, told_of}
 use Rattle.site_gate.proofs.TaleLemmas.{grants_silent, told-append}
 use Rattle.site_life.specs.Coming.{Came, EachIs}
+use Rattle.site_life.specs.Orders.{AllAnswered}
 use Rattle.site_life.specs.Waiting.{Waited, operators}
 use Rattle.site_run.specs.Telling.{HeardInTime, IsOrderOf, orders_in}
-use Rattle.site_run.proofs.CallLemmas.{CallsAnswered, heard_in_time, life_asked, turns_ordered}
+use Rattle.site_run.proofs.CallLemmas.{heard_in_time, turns_ordered}
 use Rattle.site_life.specs.Lives.{Life, EndsWith}
 use Rattle.site_life.specs.Rounds.{turns_of}
 use Rattle.site_life.specs.Turns.{Turn}
@@ -308,9 +309,8 @@ module _ {D T : Type 0} (reads : D → Option (List ℕ)) (may_leave : D → Lis
               (shows_shown stance setting lasts.goes.proper opened.build kept.build begun (tooks h) shown_opened (site.facts.shown calm)) (site.settled calm) says.0.2 ends.5)
 
           -- the orders that were given, and when lines were heard
-          asked : ∥ AllAre (CallsAnswered (λ history x y more. Says stance opened.build history x y more) h) turns ∥₁
-          asked = subst (λ (b : Parts T). ∥ AllAre (CallsAnswered (λ history x y more. Says stance b history x y more) h) turns ∥₁) is_base
-              (life_asked (λ b history x y more. Says stance (opening b) history x y more) base h life.rounds life.last old life.members life.before new life.part how life.went_on life.ends)
+          asked : ∥ AllAre (λ (turn : Turn H A). AllAnswered (λ history x y more. Says stance opened.build history x y more) h turn.calls) turns ∥₁
+          asked = subst (λ (b : Parts T). ∥ AllAre (λ (turn : Turn H A). AllAnswered (λ history x y more. Says stance b history x y more) h turn.calls) turns ∥₁) is_base life.answered
 
           ordered : ∥ AllAre (λ (turn : Turn H A). AllAre (IsOrderOf setting begun (tooks h)) (orders_in turn.calls)) turns ∥₁
           ordered = ∥∥₁_elim asked ∥∥₁_prop (λ all. turns_ordered stance opened.build h setting lasts.goes.proper begun shown_opened turns all)

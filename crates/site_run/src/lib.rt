@@ -4,8 +4,9 @@
 //! work on the build through the program lock, in rounds, and says why the life rests or which fault stopped it. Each event is on
 //! the disk, with the image of the build behind it, before the next one comes.
 //!
-//! Which events come, and why, stands in `specs/Going`; how a life rests or breaks off in `specs/Lives`; and what it makes of the
-//! hosts and of the answers in `specs/Serving`.
+//! Which events come, and why, stands in `specs/Going`; how a life rests or breaks off in `specs/Lives`; what it makes of the
+//! hosts and of the answers in `specs/Serving`; which orders were given and which lines heard in `specs/Telling`; and lives one
+//! after the other in `specs/ManyLives`.
 //!
 //! ```text
 //! match go_on(&rt, alloc, durable, &mut members, 5) {
