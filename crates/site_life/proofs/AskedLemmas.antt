@@ -1,6 +1,5 @@
 -- The calls of a turn, and where in the history they were answered.
-use Rattle.std.proofs.Common.{◌≡◌, ◌∙◌, ℕ, true, List, [], ◌∷◌, ◌++◌, refl, sym, ap, subst, append_assoc}
-use Rattle.std.specs.List.{AllByRecursion as AllAre}
+use Rattle.std.proofs.Common.{◌≡◌, ◌∙◌, ℕ, true, List, [], ◌∷◌, ◌++◌, sym, ap, subst, append_assoc}
 use Rattle.program_lock.specs.History.{has, entries, numbered, entries_of}
 use Rattle.program_lock.proofs.HistoryLemmas.{entries-append, entries-numbered, under-none, under-numbered}
 use Rattle.agent_worker.specs.declared.gate.GateCall.{GateCall}

@@ -29,7 +29,7 @@ use Rattle.site_gate.specs.Tales.{is_of_task, asked_for, told_of}
 use Rattle.site_gate.proofs.AskLemmas.{Asked, task_plain, claim_adds, take_adds, inputs_adds, halt_adds}
 use Rattle.site_gate.proofs.TaleLemmas.{grants_silent}
 use Rattle.site_gate.proofs.TrailLemmas.{no_second, no_first}
-use Rattle.site_life.specs.Coming.{is_decision, BehindItsLine, Came, EachIs, EachUnder}
+use Rattle.site_life.specs.Coming.{is_decision, Came, EachIs, EachUnder}
 
 -- not a decision
 abbrev IsOther : Told → Type 0
