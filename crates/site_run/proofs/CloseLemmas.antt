@@ -200,13 +200,16 @@ module _ {H A : Type 0} (honest : H → Type 0) (faults : H → ℕ) (calls : H 
     last = [];
     members = members;
     before = [];
+    part = [];
     went_on = (refl, refl);
-    ends = (members, (refl, refl), refl);
+    ends = (members, (refl, refl), refl, refl, ∣ tt ∣₁);
     turns = tt;
     ways = no_ways members;
     claimed_once = tt;
     launched_once = tt;
     told = tt;
+    came = ∣ tt ∣₁;
+    waited = λ one. ∣ tt ∣₁;
     explained = tt;
     at_risk = tt;
   }

@@ -74,7 +74,7 @@ module _ (setting : Setting) where
   -- events that came for one reason came for another
   comes_so : (R S : Event → Type 0) (events : List Event) (e : Event) (heard : List (List ℕ)) → ((x : Event) → R x → S x) → Comes setting R events e heard → Comes setting S events e heard
   comes_so R S events e heard goes (by_grant request executor is) = by_grant request executor is
-  comes_so R S events e heard goes (by_report x none r) = by_report x none (goes x r)
+  comes_so R S events e heard goes (by_report x none other r) = by_report x none other (goes x r)
   comes_so R S events e heard goes (by_line line x none d) = by_line line x none d
 
   goes_so : (R S : Event → Type 0) (before now : List Event) (lines : List (List ℕ)) → ((x : Event) → R x → S x) → GoesBy setting R before now lines → GoesBy setting S before now lines

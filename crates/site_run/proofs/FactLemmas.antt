@@ -101,6 +101,11 @@ module _ {T : Type 0} (stance : T → Stance) (first mid : Parts T) (es : List E
       (λ m started at. more now m started at) meant (begun_all s before (events_of rs) started) stands in
       (follows_append s w rs qs here.0 (subst (λ (b : W.Build). Follows world_image s b qs) world later.0), due_append s w rs qs here.1 (subst (λ (b : W.Build). AllDue s b qs) world later.1))
 
+-- a life that rests has kept no fault
+pub rest_calm : {H A : Type 0} (members : List (Member H A)) (how : Result Progress NoMemory) (f : Option TakeFault) (rest : Rest) → Ok rest ≡ ended_as f how members → f ≡ None
+rest_calm members how None rest is = refl
+rest_calm members how (Some fault) rest is = absurd (cc)
+
 none_disk : None ≡ Some Disk → ⊥
 none_disk e = cc
 
@@ -183,11 +188,6 @@ module _ {D T : Type 0} (reads : D → Option (List ℕ)) (may_leave : D → Lis
     (known : ∥ IsSite reads may_leave clock since faults stance mid last h capacity ∥₁) where
   pub facts_all : ∥ Facts reads may_leave clock since faults stance first last (made ++ h) ∥₁
   facts_all = ∥∥₁_map known (λ site. facts_then reads may_leave clock since faults stance first mid last made h none one site.facts)
-
-  -- a life that rests has kept no fault
-  rest_calm : {H A : Type 0} (members : List (Member H A)) (how : Result Progress NoMemory) (f : Option TakeFault) (rest : Rest) → Ok rest ≡ ended_as f how members → f ≡ None
-  rest_calm members how None rest is = refl
-  rest_calm members how (Some fault) rest is = absurd (cc)
 
   pub rests_keep : {H A : Type 0} (members : List (Member H A)) (how : Result Progress NoMemory) (ended : Result Rest TakeFault) → ended ≡ ended_as (kept_fault h) how members
       → IfOk ended (λ rest. (payloads : List (List ℕ)) → Keeps reads may_leave stance first payloads → ∥ KeepsOn reads may_leave clock since stance first last payloads ∥₁)

@@ -40,7 +40,7 @@ use Rattle.launch_laws.specs.ManyTurns.{AllTaken, InLife}
 use Rattle.launch_laws.proofs.Lists.{NoTwice, all_differ, none_twice}
 use Rattle.launch_laws.proofs.LifeLaws.{life_fits, no_task_twice}
 use Rattle.site_run.specs.Serving.{AreHonest, AllFit, AreServed, hosts_of}
-use Rattle.site_life.proofs.MadeLemmas.{made_join}
+use Rattle.site_life.proofs.MadeLemmas.{made_behind, made_join}
 use Rattle.site_run.proofs.WalkLemmas.{all_behind, all_front}
 use Rattle.site_run.proofs.MemberLemmas.{Steps, steps_of, steps_then, rounds_steps, claims_of_all, SaysSo, AllCame, all_came, all_served}
 
@@ -114,7 +114,7 @@ ClaimTurn = Turn (List ℕ) (List ℕ)
 claim_turn : {H A : Type 0} → Turn H A → ClaimTurn
 claim_turn turn =
     let claims : List ℕ = tasks_of (claimed_of turn.own) in
-    record { old = Executor 0 []; now = Executor 0 claims; worked = turn.worked; own = turn.own; said = turn.said; is_open = turn.is_open; launches = claims }
+    record { old = Executor 0 []; now = Executor 0 claims; worked = turn.worked; own = turn.own; calls = turn.calls; said = turn.said; is_open = turn.is_open; launches = claims }
 
 claims_made : {H A : Type 0} (before : List Entry) (turns : List (Turn H A)) (after : List Entry) → MadeOf before turns after → MadeOf before (map claim_turn turns) after
 unfolding claim_turn
@@ -143,13 +143,16 @@ module _ {H A : Type 0} (honest : H → Type 0) (faults : H → ℕ) (calls : H 
     abbrev pub all_turns : List (Turn H A)
     all_turns = turns_of life.rounds ++ life.last
 
-    last_steps : (r : Result Progress Memory) → EndsWith (λ b history x y more. Says stance (opening b) history x y more) base life.last life.members life.before new h r → Steps life.members life.last new × MadeOf life.before life.last h
-    last_steps (Ok come) e = (steps_of life.last [] life.members new e.0, e.1)
-    last_steps (Err memory) e = (steps_of life.last e.0 life.members new e.1, e.2)
+    last_made : MadeOf [] life.last life.part → life.before ++ life.part ≡ h → MadeOf life.before life.last h
+    last_made made is = subst (MadeOf life.before life.last) is (made_behind life.before life.last life.part made)
+
+    last_steps : (r : Result Progress Memory) → EndsWith (λ b history x y more. Says stance (opening b) history x y more) base life.last life.members life.before new life.part h r → Steps life.members life.last new × MadeOf life.before life.last h
+    last_steps (Ok come) e = (steps_of life.last [] life.members new e.0, last_made e.1 e.2)
+    last_steps (Err memory) e = (steps_of life.last e.0 life.members new e.1, last_made e.2 e.3)
 
     pub steps_all : Steps old all_turns new × MadeOf [] all_turns h
     steps_all =
-        let first = rounds_steps (λ b history x y more. Says stance (opening b) history x y more) base h life.rounds old [] life.members life.before life.went_on in
+        let first = rounds_steps (λ b history x y more. Says stance (opening b) history x y more) base life.rounds old [] life.members life.before life.went_on in
         let last = last_steps how life.ends in
         (steps_then old (turns_of life.rounds) life.last life.members new first.0 last.0, made_join (turns_of life.rounds) life.last [] life.before h first.1 last.1)
 

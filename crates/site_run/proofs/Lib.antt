@@ -9,3 +9,5 @@ pub mod GoingLaws
 pub mod FactLemmas
 pub mod OneStore
 pub mod ManyLemmas
+pub mod CallLemmas
+pub mod HeardLemmas

@@ -11,6 +11,7 @@ use Rattle.agent_worker.specs.declared.member.Member.{Member}
 use Rattle.agent_worker.specs.declared.member.Member.TheVariants.{Executor, Operator}
 use Rattle.agent_worker.specs.declared.worked.Worked.{Worked}
 use Rattle.agent_worker.specs.declared.worked.Worked.TheVariants as worked
+use Rattle.agent_worker.specs.declared.gate.GateCall.{GateCall}
 use Rattle.agent_worker.specs.declared.gate.Said.{Said}
 use Rattle.agent_worker.specs.declared.gate.Said.TheVariants.{Nothing}
 use Rattle.agent_worker.specs.Gate.{Becomes, Told, Claimed as ClaimedTask}
@@ -24,7 +25,7 @@ use Rattle.site_gate.specs.Tales.{claimed_of, told_of, tells_of}
 use Rattle.site_gate.specs.Turning.{tasks_of}
 use Rattle.site_gate.specs.Turns.{Executed}
 use Rattle.site_gate.proofs.ClaimLaws.{tasks-append}
-use Rattle.site_life.proofs.MadeLemmas.{made_join}
+use Rattle.site_life.proofs.MadeLemmas.{made_behind, made_join}
 use Rattle.site_gate.proofs.PartLemmas.{all_append}
 use Rattle.site_life.specs.Rounds.{Round, AreTurnsOf, RoundsFrom, turns_of}
 use Rattle.site_life.specs.Turns.{Turn, MadeOf, DidTurn, Work}
@@ -73,13 +74,15 @@ module _ {H A : Type 0} where
   steps_then ms [] more ns ks one two = subst (λ (l : List (Member H A)). Steps l more ks) (sym one) two
   steps_then ms (turn ∷ turns) more ns ks one two = (one.0, one.1, one.2, steps_then (one.0 ++ turn.now ∷ one.1) turns more ns ks one.3 two)
 
-  module _ {B : Type 0} (answers : Answers B Entry Ask Reply) (base : B) (history : List Entry) where
-    pub rounds_steps : (rounds : List (Round H A)) (old : List (Member H A)) (before : List Entry) (now : List (Member H A)) (after : List Entry) → RoundsFrom answers base history rounds old before now after
+  module _ {B : Type 0} (answers : Answers B Entry Ask Reply) (base : B) where
+    pub rounds_steps : (rounds : List (Round H A)) (old : List (Member H A)) (before : List Entry) (now : List (Member H A)) (after : List Entry) → RoundsFrom answers base rounds old before now after
         → Steps old (turns_of rounds) now × MadeOf before (turns_of rounds) after
     rounds_steps [] old before now after r = (sym r.0, sym r.1)
     rounds_steps (round ∷ rounds) old before now after r =
-        let later = rounds_steps rounds r.0 r.1 now after r.6 in
-        (steps_then old round.turns (turns_of rounds) r.0 now (steps_of round.turns [] old r.0 r.2) later.0, made_join round.turns (turns_of rounds) before r.1 after r.3 later.1)
+        let later = rounds_steps rounds r.0 (before ++ r.1) now after r.7 in (
+          steps_then old round.turns (turns_of rounds) r.0 now (steps_of round.turns [] old r.0 r.2) later.0,
+          made_join round.turns (turns_of rounds) before (before ++ r.1) after (made_behind before round.turns r.1 r.3) later.1,
+        )
 
   -- all claims of these turns
   abbrev pub claims_of_all : List (Turn H A) → List ℕ
@@ -200,10 +203,10 @@ module _ {H A : Type 0} (honest : H → Type 0) (faults : H → ℕ) (calls : H 
   said_failed worked.AnswersFailed = inl refl
 
   -- one turn more
-  came_turn : (o m n : Member H A) (w : Worked) (own : List Entry) (said : Said) (is_open : Bool) (seen : List ℕ) → Work honest faults calls launches dirs output exited left source_faults looks m n w (tells_of [] Nothing false) (tells_of own said is_open)
-      → Executed honest calls launches dirs output exited looks m n w own → AllAre IsTold (told_of own) → AllAre IsGiven (claimed_of own) → NoTwice (tasks_of (claimed_of own))
+  came_turn : (o m n : Member H A) (w : Worked) (own : List Entry) (gate_calls : List GateCall) (said : Said) (is_open : Bool) (seen : List ℕ) → Work honest faults calls launches dirs output exited left source_faults looks m n w (tells_of [] [] Nothing false) (tells_of own gate_calls said is_open)
+      → Executed honest calls launches dirs output exited looks m n w own gate_calls → AllAre IsTold (told_of own) → AllAre IsGiven (claimed_of own) → NoTwice (tasks_of (claimed_of own))
       → ((x : ℕ) → Among x seen → Among x (tasks_of (claimed_of own)) → ⊥) → CameTo o m seen → CameTo o n (seen ++ tasks_of (claimed_of own))
-  came_turn (Executor number host) (Executor now next) (Executor then last) w own said is_open seen works executed told given once apart c =
+  came_turn (Executor number host) (Executor now next) (Executor then last) w own gate_calls said is_open seen works executed told given once apart c =
       let k = c.1 in
       let own_claims : List ClaimedTask = claimed_of own in (
         works.0 ∙ c.0,
@@ -229,7 +232,7 @@ module _ {H A : Type 0} (honest : H → Type 0) (faults : H → ℕ) (calls : H 
       by : (x : ℕ) → Among x (tasks_of c.1.claimed) ⊎ Among x (tasks_of (claimed_of own)) → Among x (seen ++ tasks_of (claimed_of own))
       by x (inl here) = some_front (λ m. m ≡ x) seen (tasks_of (claimed_of own)) (c.1.among x here)
       by x (inr there) = some_behind (λ m. m ≡ x) seen (tasks_of (claimed_of own)) there
-  came_turn (Operator answers line ended failed) (Operator next kept now_ended now_failed) (Operator last held then_ended then_failed) w own said is_open seen works executed told given once apart c =
+  came_turn (Operator answers line ended failed) (Operator next kept now_ended now_failed) (Operator last held then_ended then_failed) w own gate_calls said is_open seen works executed told given once apart c =
       let o = works.0 in
       record {
         read = c.read ++ read_in o.past;
@@ -237,10 +240,10 @@ module _ {H A : Type 0} (honest : H → Type 0) (faults : H → ℕ) (calls : H 
         at_end = λ not is. end_then now_ended (has_ended o.past) (left next) (left last) (c.at_end not) (λ over. (o.over over).1) o.at_end (sym o.ended_so ∙ is);
         counts = λ calm. counts_then (source_faults answers) (source_faults next) (source_faults last) now_failed then_failed (w ≡ worked.AnswersFailed) (c.counts calm) works.1 works.2 works.3 (said_failed w);
       }
-  came_turn (Executor number host) (Executor now next) (Operator last held then_ended then_failed) w own said is_open seen works executed told given once apart c = absurd works
-  came_turn (Executor number host) (Operator next kept now_ended now_failed) n w own said is_open seen works executed told given once apart c = absurd c
-  came_turn (Operator answers line ended failed) (Operator next kept now_ended now_failed) (Executor then last) w own said is_open seen works executed told given once apart c = absurd works
-  came_turn (Operator answers line ended failed) (Executor now next) n w own said is_open seen works executed told given once apart c = absurd c
+  came_turn (Executor number host) (Executor now next) (Operator last held then_ended then_failed) w own gate_calls said is_open seen works executed told given once apart c = absurd works
+  came_turn (Executor number host) (Operator next kept now_ended now_failed) n w own gate_calls said is_open seen works executed told given once apart c = absurd c
+  came_turn (Operator answers line ended failed) (Operator next kept now_ended now_failed) (Executor then last) w own gate_calls said is_open seen works executed told given once apart c = absurd works
+  came_turn (Operator answers line ended failed) (Executor now next) n w own gate_calls said is_open seen works executed told given once apart c = absurd c
 
   -- all members
   abbrev pub AllCame : List (Member H A) → List (Member H A) → List ℕ → Type 0
@@ -276,7 +279,7 @@ module _ {H A : Type 0} (honest : H → Type 0) (faults : H → ℕ) (calls : H 
       subst (AllCame os ns) same
       (all_steps os (steps.0 ++ turn.now ∷ steps.1) turns ns (seen ++ own) steps.3 did.1 says.1 (subst NoTwice (sym same) once)
       (all_turn os steps.0 steps.1 turn.old turn.now seen own
-      (λ o. came_turn o turn.old turn.now turn.worked turn.own turn.said turn.is_open seen did.0.works did.0.executed says.0.0 says.0.1 (twice_behind seen own once_here) (not_in_both seen own once_here))
+      (λ o. came_turn o turn.old turn.now turn.worked turn.own turn.calls turn.said turn.is_open seen did.0.works did.0.executed says.0.0 says.0.1 (twice_behind seen own once_here) (not_in_both seen own once_here))
       (subst (λ (l : List (Member H A)). AllCame os l seen) steps.2 c)))
 
   -- from the beginning of a life to its end

@@ -53,9 +53,10 @@ use Rattle.site_state.specs.Hearing.{AnswerSays, IsSkipped}
 use Rattle.site_state.specs.Histories.{tooks, kept_fault, lines, is_claimed}
 use Rattle.site_state.specs.Says.{Answers, SaysAt, Says}
 use Rattle.site_state.specs.Showing.{answer_of, due, IsNext, IsSettled, IsShown}
-use Rattle.site_state.proofs.HistoryLaws.{tooks-append, kept_fault-append}
+use Rattle.site_state.proofs.HistoryLaws.{tooks-append, kept_fault-append, no_fault}
 use Rattle.site_state.proofs.WorldLaws.{same_standing, same_answer, same_due}
 use Rattle.site_gate.specs.Tales.{is_grant, claimed_of}
+use Rattle.site_life.specs.Coming.{BehindItsLine, Came, EachIs, FailedSo, is_decision}
 use Rattle.site_gate.proofs.PartLemmas.{all_append, all_map}
 use Rattle.site_gate.proofs.TaleLemmas.{claimed-append, lines-append, grants_silent}
 use Rattle.saved_run.specs.Lives.{IsNext as ComesNext}
@@ -118,6 +119,67 @@ IsFaultOf setting events Memory of = of ≡ None
 IsFaultOf setting events Disk of = IsSomeAnd of (λ e. ComesNext setting events e × ((heard : List (List ℕ)) × Comes setting (λ x. Unit {0}) events e heard))
 IsFaultOf setting events (Full len add) of = IsSomeAnd of (λ e. ComesNext setting events e × ((heard : List (List ℕ)) × Comes setting (λ x. Unit {0}) events e heard))
 IsFaultOf setting events Stopped of = ⊥
+
+-- the last entry of a history
+abbrev pub last_from : Entry → List Entry → Entry
+last_from x [] = x
+last_from x (y ∷ ys) = last_from y ys
+
+abbrev pub last_is : List Entry → Option Entry
+last_is [] = None
+last_is (x ∷ xs) = Some (last_from x xs)
+
+last_behind : (z : Entry) (h : List Entry) (x : Entry) (xs : List Entry) → last_from z (h ++ x ∷ xs) ≡ last_from x xs
+last_behind z [] x xs = refl
+last_behind z (y ∷ h) x xs = last_behind y h x xs
+
+last-append : (h : List Entry) (x : Entry) (xs : List Entry) → last_is (h ++ x ∷ xs) ≡ Some (last_from x xs)
+last-append [] x xs = refl
+last-append (y ∷ h) x xs = ap (λ (z : Entry). Some z) (last_behind y h x xs)
+
+same_entry : (x y : Entry) → Some x ≡ Some y → x ≡ y
+same_entry x y is = cc
+
+none_entry : (x : Entry) → None ≡ Some x → ⊥
+none_entry x is = cc
+
+-- an entry that is no line is not the last line
+no_last_line : (h : List Entry) (x : Entry) (xs : List Entry) → ((line : List ℕ) → last_from x xs ≡ Line line → ⊥) → (line : List ℕ) → last_is (h ++ x ∷ xs) ≡ Some (Line line) → ⊥
+no_last_line h x xs other line is = other line (same_entry (last_from x xs) (Line line) (sym (last-append h x xs) ∙ is))
+
+-- what holds of each entry of two lists
+each_first : (P : List Entry → Entry → Type 0) (before xs ys : List Entry) → EachIs P before (xs ++ ys) → EachIs P before xs
+each_first P before [] ys each = tt
+each_first P before (x ∷ xs) ys each = (each.0, each_first P (before ++ x ∷ []) xs ys each.1)
+
+each_rest : (P : List Entry → Entry → Type 0) (before xs ys : List Entry) → EachIs P before (xs ++ ys) → EachIs P (before ++ xs) ys
+each_rest P before [] ys each = subst (λ (es : List Entry). EachIs P es ys) (sym (append-nil before)) each
+each_rest P before (x ∷ xs) ys each = subst (λ (es : List Entry). EachIs P es ys) (append_assoc before (x ∷ []) xs) (each_rest P (before ++ x ∷ []) xs ys each.1)
+
+pub kept_first : (xs ys : List Entry) → kept_fault (xs ++ ys) ≡ None → kept_fault xs ≡ None
+kept_first [] ys none = refl
+kept_first (Took e ∷ xs) ys none = kept_first xs ys none
+kept_first (Claimed executor task keep_out kept_log kept_out ∷ xs) ys none = kept_first xs ys none
+kept_first (Line line ∷ xs) ys none = kept_first xs ys none
+kept_first (Failed fault event ∷ xs) ys none = absurd (no_fault fault none)
+
+failed_no_line : (fault : TakeFault) (event : Option Event) (line : List ℕ) → Failed fault event ≡ Line line → ⊥
+failed_no_line fault event line is = cc
+
+claimed_no_line : (executor task kept_log kept_out : ℕ) (keep_out : Bool) (line : List ℕ) → Claimed executor task keep_out kept_log kept_out ≡ Line line → ⊥
+claimed_no_line executor task kept_log kept_out keep_out line is = cc
+
+took_no_line : (e : Event) (line : List ℕ) → Took e ≡ Line line → ⊥
+took_no_line e line is = cc
+
+same_line : (line other : List ℕ) → Line line ≡ Line other → line ≡ other
+same_line line other is = cc
+
+took_same : (line : List ℕ) (e f : Event) (es fs xs : List Entry) → Line line ∷ Took e ∷ es ≡ Line line ∷ xs → xs ≡ Took f ∷ fs → f ≡ e
+took_same line e f es fs xs is are = cc
+
+failed_same : (fault : TakeFault) (e f : Event) → Failed fault (Some e) ∷ [] ≡ Failed fault (Some f) ∷ [] → f ≡ e
+failed_same fault e f is = cc
 
 -- the first free task of an executor is one of its open tasks
 found_task : (h : List Entry) (x : ℕ) (rs : List OpenRequest) (r : OpenRequest) → first_free h x rs ≡ Some r → Some_of (λ q. (q.number ≡ r.number) × RunsOn x q.request) rs
@@ -203,13 +265,13 @@ module _ {T : Type 0} (stance : T → Stance) (setting : Setting) (proper : IsPr
     comes_next e settled accepted = record { accepted = accepted_is e accepted; due = order_is e settled accepted }
 
     -- an event that was asked for
-    asked_comes : (Reported : Event → Type 0) (e : Event) → W.next_grant setting w ≡ grant_of e → IsGrantOr Reported e → Comes setting Reported events e []
-    asked_comes Reported (Start script agents) order is = by_report (Start script agents) order (not_grant Reported (Start script agents) refl is)
-    asked_comes Reported (Granted request executor) order is = by_grant request executor order
-    asked_comes Reported (Output task stream place bytes) order is = by_report (Output task stream place bytes) order (not_grant Reported (Output task stream place bytes) refl is)
-    asked_comes Reported (Exited task code) order is = by_report (Exited task code) order (not_grant Reported (Exited task code) refl is)
-    asked_comes Reported (Lost task why) order is = by_report (Lost task why) order (not_grant Reported (Lost task why) refl is)
-    asked_comes Reported (DecidedEvent request proceed name) order is = by_report (DecidedEvent request proceed name) order (not_grant Reported (DecidedEvent request proceed name) refl is)
+    asked_comes : (Reported : Event → Type 0) (e : Event) → W.next_grant setting w ≡ grant_of e → is_decision e ≡ false → IsGrantOr Reported e → Comes setting Reported events e []
+    asked_comes Reported (Start script agents) order other is = by_report (Start script agents) order refl (not_grant Reported (Start script agents) refl is)
+    asked_comes Reported (Granted request executor) order other is = by_grant request executor order
+    asked_comes Reported (Output task stream place bytes) order other is = by_report (Output task stream place bytes) order refl (not_grant Reported (Output task stream place bytes) refl is)
+    asked_comes Reported (Exited task code) order other is = by_report (Exited task code) order refl (not_grant Reported (Exited task code) refl is)
+    asked_comes Reported (Lost task why) order other is = by_report (Lost task why) order refl (not_grant Reported (Lost task why) refl is)
+    asked_comes Reported (DecidedEvent request proceed name) order other is = absurd (let bad : true ≡ false = other in cc)
 
     -- an answer line
     line_decides : (line : List ℕ) (request : ℕ) (e : Event) → hearing.Decides b line request e → Decides w line e
@@ -261,6 +323,16 @@ module _ {T : Type 0} (stance : T → Stance) (setting : Setting) (proper : IsPr
     grants_go {b} (refused request executor Stopped is may) es ls all g = absurd may
     grants_go not_found es ls all g = same_goes es (es ++ []) ls (ls ++ []) (sym (append-nil es)) (sym (append-nil ls)) g
 
+    -- no grant is a line
+    grants_last : {b : Parts T} {entries : List Entry} → Grants stance b entries → (e : Event) (line : List ℕ) → last_from (Took e) entries ≡ Line line → ⊥
+    grants_last (none_due settled) e line is = took_no_line e line is
+    grants_last (granted request executor due next more) e line is = grants_last more (Granted request executor) line is
+    grants_last (refused request executor Memory due may) e line is = failed_no_line Memory None line is
+    grants_last (refused request executor Disk due may) e line is = failed_no_line Disk (Some (Granted request executor)) line is
+    grants_last (refused request executor (Full len add) due may) e line is = failed_no_line (Full len add) (Some (Granted request executor)) line is
+    grants_last (refused request executor Stopped due may) e line is = absurd may
+    grants_last not_found e line is = failed_no_line Memory None line is
+
     -- How a history was stopped: by its last entry, the first that tells a fault.
     pub record StoppedBy (h : List Entry) : Type 0 where
       pub front : List Entry
@@ -309,11 +381,16 @@ module _ {T : Type 0} (stance : T → Stance) (setting : Setting) (proper : IsPr
     abbrev GivenIn : List Event → ClaimedTask → Type 0
     GivenIn taken c = InLife setting before taken c.executor c.task
 
+    abbrev Back : List Entry → List ℕ → Type 0
+    Back h line = (ls : List (List ℕ)) × (lines h ≡ ls ++ line ∷ []) × Goes (before ++ tooks h) ls
+
     -- What a history tells so far.
     pub record At (h : List Entry) : Type 0 where
       pub goes : Goes (before ++ tooks h) (lines h)
       pub stops : Stops h
       pub given : AllAre (GivenIn (tooks h)) (claimed_of h)
+      -- what stood before a line that is the last entry
+      pub back : (line : List ℕ) → last_is h ≡ Some (Line line) → Back h line
 
     given_more : (taken more : List Event) (c : ClaimedTask) → GivenIn taken c → GivenIn (taken ++ more) c
     given_more taken more c g = record { front = g.front; rest = g.rest ++ more; is = ap (λ (es : List Event). es ++ more) g.is ∙ append_assoc g.front g.rest more; has_begun = g.has_begun; task_of = g.task_of }
@@ -325,11 +402,13 @@ module _ {T : Type 0} (stance : T → Stance) (setting : Setting) (proper : IsPr
         (all_append (GivenIn (tooks h ++ tooks new)) (claimed_of h) (claimed_of new) (all_map (GivenIn (tooks h)) (GivenIn (tooks h ++ tooks new)) (claimed_of h) (given_more (tooks h) (tooks new)) old) more))
 
     -- a step that tells of this
-    at_then : (h new : List Entry) → At h → Goes ((before ++ tooks h) ++ tooks new) (lines h ++ lines new) → Stops (h ++ new) → AllAre (GivenIn (tooks h ++ tooks new)) (claimed_of new) → At (h ++ new)
-    at_then h new at goes stops given = record {
+    at_then : (h new : List Entry) → At h → Goes ((before ++ tooks h) ++ tooks new) (lines h ++ lines new) → Stops (h ++ new) → AllAre (GivenIn (tooks h ++ tooks new)) (claimed_of new)
+        → ((line : List ℕ) → last_is (h ++ new) ≡ Some (Line line) → Back (h ++ new) line) → At (h ++ new)
+    at_then h new at goes stops given back = record {
       goes = same_goes ((before ++ tooks h) ++ tooks new) (before ++ tooks (h ++ new)) (lines h ++ lines new) (lines (h ++ new)) (sym (events_then h new [])) (sym (lines-append h new)) goes;
       stops = stops;
       given = given_then h new at.given given;
+      back = back;
     }
 
     -- an ask that adds nothing
@@ -340,7 +419,7 @@ module _ {T : Type 0} (stance : T → Stance) (setting : Setting) (proper : IsPr
     at_failed : (h new : List Entry) (fault : TakeFault) (event : Option Event) → At h → kept_fault h ≡ None → new ≡ Failed fault event ∷ [] → IsFaultOf setting (before ++ tooks h) fault event → At (h ++ new)
     at_failed h new fault event at none is of = subst (λ (es : List Entry). At (h ++ es)) (sym is)
         (at_then h (Failed fault event ∷ []) at (same_goes (before ++ tooks h) ((before ++ tooks h) ++ []) (lines h) (lines h ++ []) (sym (append-nil (before ++ tooks h))) (sym (append-nil (lines h))) at.goes)
-        (stops_here h fault event none of) tt)
+        (stops_here h fault event none of) tt (λ line last. absurd (no_last_line h (Failed fault event) [] (λ l bad. failed_no_line fault event l bad) line last)))
 
     module _ (h : List Entry) (at : At h) (none : kept_fault h ≡ None) (b : Parts T) (all : ShowsAll b (before ++ tooks h)) where
       abbrev now : List Event
@@ -348,16 +427,15 @@ module _ {T : Type 0} (stance : T → Stance) (setting : Setting) (proper : IsPr
 
       -- an event that was taken, with the grants behind it, and the line that was heard for it
       took_at : (e : Event) (after : Parts T) (entries : List Entry) (heard : List (List ℕ)) (front : List Entry) → tooks front ≡ [] → lines front ≡ heard → claimed_of front ≡ [] → kept_fault front ≡ None
-          → IsNext stance b e after → Grants stance after entries → Comes setting Reported now e heard → claimed_of entries ≡ [] → At (h ++ (front ++ Took e ∷ entries))
-      took_at e after entries heard front no_events its_lines no_claims no_faults next grants comes none_claimed =
+          → IsNext stance b e after → Grants stance after entries → Goes (now ++ e ∷ []) (lines h ++ heard) → At (h ++ (front ++ Took e ∷ entries))
+      took_at e after entries heard front no_events its_lines no_claims no_faults next grants one =
           let mid : List Entry = h ++ (front ++ Took e ∷ []) in
           let new : List Entry = front ++ Took e ∷ entries in
           let events : tooks new ≡ e ∷ tooks entries = tooks-append front (Took e ∷ entries) ∙ ap (λ (es : List Event). es ++ e ∷ tooks entries) no_events in
           let one_event : tooks (front ++ Took e ∷ []) ≡ e ∷ [] = tooks-append front (Took e ∷ []) ∙ ap (λ (es : List Event). es ++ e ∷ []) no_events in
           let said : lines new ≡ heard ++ lines entries = lines-append front (Took e ∷ entries) ∙ ap (λ (l : List (List ℕ)). l ++ lines entries) its_lines in
-          let claims : claimed_of new ≡ [] = claimed-append front (Took e ∷ entries) ∙ ap (λ (l : List ClaimedTask). l ++ claimed_of entries) no_claims ∙ none_claimed in
+          let claims : claimed_of new ≡ [] = claimed-append front (Took e ∷ entries) ∙ ap (λ (l : List ClaimedTask). l ++ claimed_of entries) no_claims ∙ (grants_silent grants).claimed in
           let shown : ShowsAll after (now ++ e ∷ []) = shows_next b now all e after next in
-          let one : Goes (now ++ e ∷ []) (lines h ++ heard) = takes e at.goes comes (accepted_is b now all e next.accepted) in
           let more : Goes ((now ++ e ∷ []) ++ tooks entries) ((lines h ++ heard) ++ lines entries) = grants_go grants (now ++ e ∷ []) (lines h ++ heard) shown one in
           let mid_none : kept_fault mid ≡ None = still_none h (front ++ Took e ∷ []) none (kept_fault-append front (Took e ∷ []) no_faults) in
           let mid_shown : ShowsAll after (before ++ tooks mid) = subst (ShowsAll after) (ap (λ (es : List Event). now ++ es) (sym one_event) ∙ sym (events_then h (front ++ Took e ∷ []) [])) shown in
@@ -367,30 +445,63 @@ module _ {T : Type 0} (stance : T → Stance) (setting : Setting) (proper : IsPr
           (append_assoc now (e ∷ []) (tooks entries) ∙ ap (λ (es : List Event). now ++ es) (sym events)) (append_assoc (lines h) heard (lines entries) ∙ ap (λ (l : List (List ℕ)). lines h ++ l) (sym said)) more)
           (same_stops (mid ++ entries) (h ++ new) order (grants_stop grants mid mid_none mid_shown))
           (subst (AllAre (GivenIn (tooks h ++ tooks new))) (sym claims) tt)
+          (λ line last. absurd (no_last_line (h ++ front) (Took e) entries (grants_last grants e) line (ap last_is (append_assoc h front (Took e ∷ entries)) ∙ last)))
+
+      comes_then : (e : Event) (heard : List (List ℕ)) → answer_of b e ≡ Accepted → Comes setting Reported now e heard → Goes (now ++ e ∷ []) (lines h ++ heard)
+      comes_then e heard accepted comes = takes e at.goes comes (accepted_is b now all e accepted)
+
+      -- What is known of an event that is a decision: it comes by its line.
+      abbrev Deciding : Event → Result Taken TakeFault → Type 0
+      Deciding e (Ok Accepted) = is_decision e ≡ true → Goes (now ++ e ∷ []) (lines h)
+      Deciding e (Ok NotOpen) = Unit {0}
+      Deciding e (Ok (WrongPlace kept)) = Unit {0}
+      Deciding e (Ok Finished) = Unit {0}
+      Deciding e (Err Memory) = Unit {0}
+      Deciding e (Err Disk) = is_decision e ≡ true → (heard : List (List ℕ)) × Comes setting (λ x. Unit {0}) now e heard
+      Deciding e (Err (Full len add)) = is_decision e ≡ true → (heard : List (List ℕ)) × Comes setting (λ x. Unit {0}) now e heard
+      Deciding e (Err Stopped) = Unit {0}
+
+      taken_goes : (e : Event) → answer_of b e ≡ Accepted → IsSettled b → IsGrantOr Reported e → (is_decision e ≡ true → Goes (now ++ e ∷ []) (lines h)) → Goes (now ++ e ∷ []) (lines h ++ [])
+      taken_goes e accepted settled here decided = by (is_decision e) refl
+        where
+          by : (d : Bool) → is_decision e ≡ d → Goes (now ++ e ∷ []) (lines h ++ [])
+          by true is = same_goes (now ++ e ∷ []) (now ++ e ∷ []) (lines h) (lines h ++ []) refl (sym (append-nil (lines h))) (decided is)
+          by false is = comes_then e [] accepted (asked_comes b now all Reported e (order_is b now all e settled accepted) is here)
+
+      failed_comes : (e : Event) → answer_of b e ≡ Accepted → IsSettled b → (is_decision e ≡ true → (heard : List (List ℕ)) × Comes setting (λ x. Unit {0}) now e heard) → (heard : List (List ℕ)) × Comes setting (λ x. Unit {0}) now e heard
+      failed_comes e accepted settled decided = by (is_decision e) refl
+        where
+          by : (d : Bool) → is_decision e ≡ d → (heard : List (List ℕ)) × Comes setting (λ x. Unit {0}) now e heard
+          by true is = decided is
+          by false is = ([], asked_comes b now all (λ x. Unit {0}) e (order_is b now all e settled accepted) is (inr tt))
 
       -- The table: what each ask makes of it.
-      take_at : (e : Event) (r : Result Taken TakeFault) (new : List Entry) → IsSettled b → TakeSays stance b e r new → AllAre (IsGrantOr Reported) (tooks new) → At (h ++ new)
-      take_at e (Ok Accepted) new settled says explained =
+      take_at : (e : Event) (r : Result Taken TakeFault) (new : List Entry) → IsSettled b → TakeSays stance b e r new → AllAre (IsGrantOr Reported) (tooks new) → Deciding e r → At (h ++ new)
+      take_at e (Ok Accepted) new settled says explained decided =
           let entries : List Entry = says.1 in
           let here : IsGrantOr Reported e = (subst (λ (es : List Entry). AllAre (IsGrantOr Reported) (tooks es)) says.4 explained).0 in
           subst (λ (es : List Entry). At (h ++ es)) (sym says.4)
-          (took_at e says.0 entries [] [] refl refl refl refl says.2 says.3 (asked_comes b now all Reported e (order_is b now all e settled says.2.accepted) here) (grants_silent says.3).claimed)
-      take_at e (Ok NotOpen) new settled says explained = at_same h new at says.1
-      take_at e (Ok (WrongPlace kept)) new settled says explained = at_same h new at says.1
-      take_at e (Ok Finished) new settled says explained = at_same h new at says.1
-      take_at e (Err Memory) new settled says explained = at_failed h new Memory None at none says.1 refl
-      take_at e (Err Disk) new settled says explained = at_failed h new Disk (Some e) at none says.1 (comes_next b now all e settled says.0, ([], asked_comes b now all (λ x. Unit {0}) e (order_is b now all e settled says.0) (inr tt)))
-      take_at e (Err (Full len add)) new settled says explained = at_failed h new (Full len add) (Some e) at none says.1 (comes_next b now all e settled says.0.0, ([], asked_comes b now all (λ x. Unit {0}) e (order_is b now all e settled says.0.0) (inr tt)))
-      take_at e (Err Stopped) new settled says explained = absurd says.0
+          (took_at e says.0 entries [] [] refl refl refl refl says.2 says.3 (taken_goes e says.2.accepted settled here decided))
+      take_at e (Ok NotOpen) new settled says explained decided = at_same h new at says.1
+      take_at e (Ok (WrongPlace kept)) new settled says explained decided = at_same h new at says.1
+      take_at e (Ok Finished) new settled says explained decided = at_same h new at says.1
+      take_at e (Err Memory) new settled says explained decided = at_failed h new Memory None at none says.1 refl
+      take_at e (Err Disk) new settled says explained decided = at_failed h new Disk (Some e) at none says.1 (comes_next b now all e settled says.0, failed_comes e says.0 settled decided)
+      take_at e (Err (Full len add)) new settled says explained decided = at_failed h new (Full len add) (Some e) at none says.1 (comes_next b now all e settled says.0.0, failed_comes e says.0.0 settled decided)
+      take_at e (Err Stopped) new settled says explained decided = absurd says.0
 
       answer_at : (line : List ℕ) (r : Result Heard TakeFault) (new : List Entry) → IsSettled b → AnswerSays stance b line r new → At (h ++ new)
       answer_at line (Ok (Decided request)) new settled says =
           let taken = says.3 in
           subst (λ (es : List Entry). At (h ++ es)) (sym (says.4 ∙ ap (λ (es : List Entry). Line line ∷ es) taken.4))
-          (took_at says.0 taken.0 taken.1 (line ∷ []) (Line line ∷ []) refl refl refl refl taken.2 taken.3 (line_comes b now all Reported line request says.0 settled says.2) (grants_silent taken.3).claimed)
+          (took_at says.0 taken.0 taken.1 (line ∷ []) (Line line ∷ []) refl refl refl refl taken.2 taken.3 (comes_then says.0 (line ∷ []) taken.2.accepted (line_comes b now all Reported line request says.0 settled says.2)))
       answer_at line (Ok Skipped) new settled says = subst (λ (es : List Entry). At (h ++ es)) (sym says.1)
           (at_then h (Line line ∷ []) at (same_goes now (now ++ []) (lines h ++ line ∷ []) (lines h ++ line ∷ []) (sym (append-nil now)) refl (passes line at.goes (settled_none b now all settled) (line_passed b now all line says.0)))
-          (inl (still_none h (Line line ∷ []) none refl)) tt)
+          (inl (still_none h (Line line ∷ []) none refl)) tt (λ other last. (
+            lines h,
+            lines-append h (Line line ∷ []) ∙ ap (λ (l : List ℕ). lines h ++ l ∷ []) (same_line line other (same_entry (Line line) (Line other) (sym (last-append h (Line line) []) ∙ last))),
+            subst (λ (es : List Event). Goes (before ++ es) (lines h)) (sym (tooks-append h (Line line ∷ []) ∙ append-nil (tooks h))) at.goes,
+          )))
       answer_at line (Err Memory) new settled says = at_failed h new Memory None at none says refl
       answer_at line (Err Disk) new settled says =
           at_failed h new Disk (Some says.1) at none says.3.1 (comes_next b now all says.1 settled says.3.0, (line ∷ [], line_comes b now all (λ x. Unit {0}) line says.0 says.1 settled says.2))
@@ -405,7 +516,8 @@ module _ {T : Type 0} (stance : T → Stance) (setting : Setting) (proper : IsPr
           let entry : Entry = Claimed x says.0.number order.keep_out order.kept_log order.kept_out in
           subst (λ (es : List Entry). At (h ++ es)) (sym says.3)
           (at_then h (entry ∷ []) at (same_goes now (now ++ []) (lines h) (lines h ++ []) (sym (append-nil now)) (sym (append-nil (lines h))) at.goes) (inl (still_none h (entry ∷ []) none refl))
-          (record { front = tooks h; rest = []; is = refl; has_begun = all.begun; task_of = there }, tt))
+          (record { front = tooks h; rest = []; is = refl; has_begun = all.begun; task_of = there }, tt)
+          (λ line last. absurd (no_last_line h entry [] (λ l bad. claimed_no_line x says.0.number order.kept_log order.kept_out order.keep_out l bad) line last)))
       claim_at x (claim.Idle busy) new says = at_same h new at says.3
       claim_at x claim.Rest new says = at_same h new at says.2
       claim_at x claim.Stopped new says = absurd says
@@ -415,47 +527,116 @@ module _ {T : Type 0} (stance : T → Stance) (setting : Setting) (proper : IsPr
       shown_all : (h : List Entry) (b : Parts T) → IsShown stance opening (tooks h) b → ShowsAll b (before ++ tooks h)
       shown_all h b shown = shows_shown opening b before (tooks h) opened shown
 
-      answers_at : (h : List Entry) (at : At h) (none : kept_fault h ≡ None) (a : Ask) (r : Reply) (new : List Entry) → Answers stance opening h a r new → AllAre (IsGrantOr Reported) (tooks new) → ∥ At (h ++ new) ∥₁
-      answers_at h at none (ask.Take e) (reply.Taken r) new says explained = ∥∥₁_map says.1 (λ shown. take_at h at none says.0 (shown_all h says.0 shown) e r new says.2.0 says.2.1 explained)
-      answers_at h at none (ask.Take e) (reply.Claimed c) new says explained = absurd says
-      answers_at h at none (ask.Take e) (reply.Inputs i) new says explained = absurd says
-      answers_at h at none (ask.Take e) (reply.Heard r) new says explained = absurd says
-      answers_at h at none (ask.Take e) (reply.Progress p) new says explained = absurd says
-      answers_at h at none (ask.Take e) reply.Halted new says explained = absurd says
-      answers_at h at none (ask.Claim x) (reply.Taken r) new says explained = absurd says
-      answers_at h at none (ask.Claim x) (reply.Claimed c) new says explained = ∥∥₁_map says.1 (λ shown. claim_at h at none says.0 (shown_all h says.0 shown) x c new says.2)
-      answers_at h at none (ask.Claim x) (reply.Inputs i) new says explained = absurd says
-      answers_at h at none (ask.Claim x) (reply.Heard r) new says explained = absurd says
-      answers_at h at none (ask.Claim x) (reply.Progress p) new says explained = absurd says
-      answers_at h at none (ask.Claim x) reply.Halted new says explained = absurd says
-      answers_at h at none ask.Inputs (reply.Taken r) new says explained = absurd says
-      answers_at h at none ask.Inputs (reply.Claimed c) new says explained = absurd says
-      answers_at h at none ask.Inputs (reply.Inputs i) new says explained = ∣ at_same h new at says.1 ∣₁
-      answers_at h at none ask.Inputs (reply.Heard r) new says explained = absurd says
-      answers_at h at none ask.Inputs (reply.Progress p) new says explained = absurd says
-      answers_at h at none ask.Inputs reply.Halted new says explained = absurd says
-      answers_at h at none (ask.Answer line) (reply.Taken r) new says explained = absurd says
-      answers_at h at none (ask.Answer line) (reply.Claimed c) new says explained = absurd says
-      answers_at h at none (ask.Answer line) (reply.Inputs i) new says explained = absurd says
-      answers_at h at none (ask.Answer line) (reply.Heard r) new says explained = ∥∥₁_map says.1 (λ shown. answer_at h at none says.0 (shown_all h says.0 shown) line r new says.2.0 says.2.1)
-      answers_at h at none (ask.Answer line) (reply.Progress p) new says explained = absurd says
-      answers_at h at none (ask.Answer line) reply.Halted new says explained = absurd says
-      answers_at h at none ask.Look (reply.Taken r) new says explained = absurd says
-      answers_at h at none ask.Look (reply.Claimed c) new says explained = absurd says
-      answers_at h at none ask.Look (reply.Inputs i) new says explained = absurd says
-      answers_at h at none ask.Look (reply.Heard r) new says explained = absurd says
-      answers_at h at none ask.Look (reply.Progress p) new says explained = ∣ at_same h new at says.1 ∣₁
-      answers_at h at none ask.Look reply.Halted new says explained = absurd says
-      answers_at h at none ask.Halt (reply.Taken r) new says explained = absurd says
-      answers_at h at none ask.Halt (reply.Claimed c) new says explained = absurd says
-      answers_at h at none ask.Halt (reply.Inputs i) new says explained = absurd says
-      answers_at h at none ask.Halt (reply.Heard r) new says explained = absurd says
-      answers_at h at none ask.Halt (reply.Progress p) new says explained = absurd says
-      answers_at h at none ask.Halt reply.Halted new says explained = ∣ at_failed h new Memory None at none says refl ∣₁
+      abbrev Its : List Entry → Ask → Reply → List Entry → Type 0
+      Its history a r new = Says stance opening history a r new
 
-      says_at : (h : List Entry) (at : At h) (f : Option TakeFault) → kept_fault h ≡ f → (a : Ask) (r : Reply) (new : List Entry) → SaysAt stance opening h f a r new → AllAre (IsGrantOr Reported) (tooks new) → ∥ At (h ++ new) ∥₁
-      says_at h at (Some f) is a r new says explained = ∣ at_same h new at says.1 ∣₁
-      says_at h at None is a r new says explained = answers_at h at is a r new says explained
+      -- what a state said where no fault is kept
+      said_none : (h : List Entry) → kept_fault h ≡ None → (a : Ask) (r : Reply) (new : List Entry) → Says stance opening h a r new → Answers stance opening h a r new
+      said_none h none a r new says = subst (λ (f : Option TakeFault). SaysAt stance opening h f a r new) none says
+
+      -- a decision that was taken came by its line
+      decided_goes : (h : List Entry) (at : At h) (none : kept_fault h ≡ None) (e : Event) (b : Parts T) (all : ShowsAll b (before ++ tooks h)) → answer_of b e ≡ Accepted → BehindItsLine Its h e → ∥ Goes ((before ++ tooks h) ++ e ∷ []) (lines h) ∥₁
+      decided_goes h at none e b all accepted w =
+          let front_none : kept_fault w.front ≡ None = kept_first w.front (Line w.line ∷ []) (ap kept_fault (sym w.is) ∙ none) in
+          let says = said_none w.front front_none (ask.Answer w.line) (reply.Heard (Ok (Decided w.request))) (Line w.line ∷ Took e ∷ w.grants) w.said in
+          let decides = says.2.1 in
+          let same : decides.0 ≡ e = took_same w.line e decides.0 w.grants decides.3.1 decides.1 decides.4 decides.3.4 in
+          let back = at.back w.line (ap last_is w.is ∙ last-append w.front (Line w.line) []) in
+          let events : tooks w.front ≡ tooks h = sym (append-nil (tooks w.front)) ∙ sym (tooks-append w.front (Line w.line ∷ [])) ∙ ap tooks (sym w.is) in
+          ∥∥₁_map says.1 (λ shown.
+          let there : ShowsAll says.0 (before ++ tooks h) = subst (λ (es : List Event). ShowsAll says.0 (before ++ es)) events (shown_all w.front says.0 shown) in
+          subst (Goes ((before ++ tooks h) ++ e ∷ [])) (sym back.1)
+          (takes e back.2 (subst (λ (x : Event). Comes setting Reported (before ++ tooks h) x (w.line ∷ [])) same (line_comes says.0 (before ++ tooks h) there Reported w.line w.request decides.0 says.2.0 decides.2))
+          (accepted_is b (before ++ tooks h) all e accepted)))
+
+      -- and so did one that failed
+      LineFor : List Entry → Event → Type 0
+      LineFor h e = (heard : List (List ℕ)) × Comes setting (λ x. Unit {0}) (before ++ tooks h) e heard
+
+      line_for : (h : List Entry) (e : Event) (line : List ℕ) (request : ℕ) (event : Event) (b : Parts T) → event ≡ e → ShowsAll b (before ++ tooks h) → IsSettled b → hearing.Decides b line request event → LineFor h e
+      unfolding LineFor
+      line_for h e line request event b same all settled d =
+          (line ∷ [], subst (λ (x : Event). Comes setting (λ x. Unit {0}) (before ++ tooks h) x (line ∷ [])) same (line_comes b (before ++ tooks h) all (λ x. Unit {0}) line request event settled d))
+
+      decided_disk : (h : List Entry) → kept_fault h ≡ None → (e : Event) → FailedSo Its h Disk (Some e) → is_decision e ≡ true → ∥ LineFor h e ∥₁
+      decided_disk h none e failed is =
+          let w = failed is in
+          let says = said_none h none (ask.Answer w.0) (reply.Heard (Err Disk)) (Failed Disk (Some e) ∷ []) w.1 in
+          let d = says.2.1 in
+          ∥∥₁_map says.1 (λ shown. line_for h e w.0 d.0 d.1 says.0 (failed_same Disk e d.1 d.3.1) (shown_all h says.0 shown) says.2.0 d.2)
+
+      decided_full : (h : List Entry) → kept_fault h ≡ None → (len add : ℕ) (e : Event) → FailedSo Its h (Full len add) (Some e) → is_decision e ≡ true → ∥ LineFor h e ∥₁
+      decided_full h none len add e failed is =
+          let w = failed is in
+          let says = said_none h none (ask.Answer w.0) (reply.Heard (Err (Full len add))) (Failed (Full len add) (Some e) ∷ []) w.1 in
+          let d = says.2.1 in
+          ∥∥₁_map says.1 (λ shown. line_for h e w.0 d.0 d.1 says.0 (failed_same (Full len add) e d.1 d.3.1) (shown_all h says.0 shown) says.2.0 d.2)
+
+      -- a promise under a condition that can be tried is known where what it promises is
+      if_known : (X : Type 0) (d : Bool) → (d ≡ true → ∥ X ∥₁) → ∥ (d ≡ true → X) ∥₁
+      if_known X true known = ∥∥₁_map (known refl) (λ x is. x)
+      if_known X false known = ∣ (λ is. let bad : false ≡ true = is in absurd (cc)) ∣₁
+
+      take_known : (h : List Entry) (at : At h) (none : kept_fault h ≡ None) (b : Parts T) (all : ShowsAll b (before ++ tooks h)) (e : Event) (r : Result Taken TakeFault) (new : List Entry) → TakeSays stance b e r new → EachIs (Came Its) h new
+          → ∥ Deciding h at none b all e r ∥₁
+      unfolding LineFor
+      take_known h at none b all e (Ok Accepted) new says came =
+          let here = (subst (EachIs (Came Its) h) says.4 came).0 in
+          if_known (Goes ((before ++ tooks h) ++ e ∷ []) (lines h)) (is_decision e) (λ is. decided_goes h at none e b all says.2.accepted (here is))
+      take_known h at none b all e (Ok NotOpen) new says came = ∣ tt ∣₁
+      take_known h at none b all e (Ok (WrongPlace kept)) new says came = ∣ tt ∣₁
+      take_known h at none b all e (Ok Finished) new says came = ∣ tt ∣₁
+      take_known h at none b all e (Err Memory) new says came = ∣ tt ∣₁
+      take_known h at none b all e (Err Disk) new says came =
+          let here = (subst (EachIs (Came Its) h) says.1 came).0 in
+          if_known (LineFor h e) (is_decision e) (λ is. decided_disk h none e here is)
+      take_known h at none b all e (Err (Full len add)) new says came =
+          let here = (subst (EachIs (Came Its) h) says.1 came).0 in
+          if_known (LineFor h e) (is_decision e) (λ is. decided_full h none len add e here is)
+      take_known h at none b all e (Err Stopped) new says came = absurd says.0
+
+      answers_at : (h : List Entry) (at : At h) (none : kept_fault h ≡ None) (a : Ask) (r : Reply) (new : List Entry) → Answers stance opening h a r new → AllAre (IsGrantOr Reported) (tooks new) → EachIs (Came Its) h new → ∥ At (h ++ new) ∥₁
+      answers_at h at none (ask.Take e) (reply.Taken r) new says explained came = ∥∥₁_elim says.1 ∥∥₁_prop (λ shown. ∥∥₁_map (take_known h at none says.0 (shown_all h says.0 shown) e r new says.2.1 came)
+          (λ decided. take_at h at none says.0 (shown_all h says.0 shown) e r new says.2.0 says.2.1 explained decided))
+      answers_at h at none (ask.Take e) (reply.Claimed c) new says explained came = absurd says
+      answers_at h at none (ask.Take e) (reply.Inputs i) new says explained came = absurd says
+      answers_at h at none (ask.Take e) (reply.Heard r) new says explained came = absurd says
+      answers_at h at none (ask.Take e) (reply.Progress p) new says explained came = absurd says
+      answers_at h at none (ask.Take e) reply.Halted new says explained came = absurd says
+      answers_at h at none (ask.Claim x) (reply.Taken r) new says explained came = absurd says
+      answers_at h at none (ask.Claim x) (reply.Claimed c) new says explained came = ∥∥₁_map says.1 (λ shown. claim_at h at none says.0 (shown_all h says.0 shown) x c new says.2)
+      answers_at h at none (ask.Claim x) (reply.Inputs i) new says explained came = absurd says
+      answers_at h at none (ask.Claim x) (reply.Heard r) new says explained came = absurd says
+      answers_at h at none (ask.Claim x) (reply.Progress p) new says explained came = absurd says
+      answers_at h at none (ask.Claim x) reply.Halted new says explained came = absurd says
+      answers_at h at none ask.Inputs (reply.Taken r) new says explained came = absurd says
+      answers_at h at none ask.Inputs (reply.Claimed c) new says explained came = absurd says
+      answers_at h at none ask.Inputs (reply.Inputs i) new says explained came = ∣ at_same h new at says.1 ∣₁
+      answers_at h at none ask.Inputs (reply.Heard r) new says explained came = absurd says
+      answers_at h at none ask.Inputs (reply.Progress p) new says explained came = absurd says
+      answers_at h at none ask.Inputs reply.Halted new says explained came = absurd says
+      answers_at h at none (ask.Answer line) (reply.Taken r) new says explained came = absurd says
+      answers_at h at none (ask.Answer line) (reply.Claimed c) new says explained came = absurd says
+      answers_at h at none (ask.Answer line) (reply.Inputs i) new says explained came = absurd says
+      answers_at h at none (ask.Answer line) (reply.Heard r) new says explained came = ∥∥₁_map says.1 (λ shown. answer_at h at none says.0 (shown_all h says.0 shown) line r new says.2.0 says.2.1)
+      answers_at h at none (ask.Answer line) (reply.Progress p) new says explained came = absurd says
+      answers_at h at none (ask.Answer line) reply.Halted new says explained came = absurd says
+      answers_at h at none ask.Look (reply.Taken r) new says explained came = absurd says
+      answers_at h at none ask.Look (reply.Claimed c) new says explained came = absurd says
+      answers_at h at none ask.Look (reply.Inputs i) new says explained came = absurd says
+      answers_at h at none ask.Look (reply.Heard r) new says explained came = absurd says
+      answers_at h at none ask.Look (reply.Progress p) new says explained came = ∣ at_same h new at says.1 ∣₁
+      answers_at h at none ask.Look reply.Halted new says explained came = absurd says
+      answers_at h at none ask.Halt (reply.Taken r) new says explained came = absurd says
+      answers_at h at none ask.Halt (reply.Claimed c) new says explained came = absurd says
+      answers_at h at none ask.Halt (reply.Inputs i) new says explained came = absurd says
+      answers_at h at none ask.Halt (reply.Heard r) new says explained came = absurd says
+      answers_at h at none ask.Halt (reply.Progress p) new says explained came = absurd says
+      answers_at h at none ask.Halt reply.Halted new says explained came = ∣ at_failed h new Memory None at none says refl ∣₁
+
+      says_at : (h : List Entry) (at : At h) (f : Option TakeFault) → kept_fault h ≡ f → (a : Ask) (r : Reply) (new : List Entry) → SaysAt stance opening h f a r new → AllAre (IsGrantOr Reported) (tooks new) → EachIs (Came Its) h new → ∥ At (h ++ new) ∥₁
+      says_at h at (Some f) is a r new says explained came = ∣ at_same h new at says.1 ∣₁
+      says_at h at None is a r new says explained came = answers_at h at is a r new says explained came
 
       -- all entries of these asks
       abbrev added : List (Ask × Reply × List Entry) → List Entry
@@ -468,17 +649,19 @@ module _ {T : Type 0} (stance : T → Stance) (setting : Setting) (proper : IsPr
         run_adds h (x ∷ xs) to run = sym (append_assoc h x.2 (added xs)) ∙ run_adds (h ++ x.2) xs to run.1
 
         run_at : (h : List Entry) (asked : List (Ask × Reply × List Entry)) (to : List Entry) → IsRun (λ b history x y new. Says stance (build_of b) history x y new) base h asked to
-            → AllAre (IsGrantOr Reported) (tooks (added asked)) → ∥ At h ∥₁ → ∥ At to ∥₁
-        run_at h [] to run explained at = subst (λ (es : List Entry). ∥ At es ∥₁) run at
-        run_at h (x ∷ xs) to run explained at =
+            → AllAre (IsGrantOr Reported) (tooks (added asked)) → EachIs (Came Its) h (added asked) → ∥ At h ∥₁ → ∥ At to ∥₁
+        run_at h [] to run explained came at = subst (λ (es : List Entry). ∥ At es ∥₁) run at
+        run_at h (x ∷ xs) to run explained came at =
             let both : AllAre (IsGrantOr Reported) (tooks x.2 ++ tooks (added xs)) = subst (AllAre (IsGrantOr Reported)) (tooks-append x.2 (added xs)) explained in
             let says : Says stance opening h x.0 x.1 x.2 = subst (λ (b : Parts T). Says stance b h x.0 x.1 x.2) is run.0 in
-            run_at (h ++ x.2) xs to run.1 (all_behind (IsGrantOr Reported) (tooks x.2) (tooks (added xs)) both)
-            (∥∥₁_elim at ∥∥₁_prop (λ here. says_at h here (kept_fault h) refl x.0 x.1 x.2 says (all_front (IsGrantOr Reported) (tooks x.2) (tooks (added xs)) both)))
+            run_at (h ++ x.2) xs to run.1 (all_behind (IsGrantOr Reported) (tooks x.2) (tooks (added xs)) both) (each_rest (Came Its) h x.2 (added xs) came)
+            (∥∥₁_elim at ∥∥₁_prop (λ here. says_at h here (kept_fault h) refl x.0 x.1 x.2 says (all_front (IsGrantOr Reported) (tooks x.2) (tooks (added xs)) both) (each_first (Came Its) h x.2 (added xs) came)))
 
         at_first : At []
-        at_first = record { goes = same_goes before (before ++ []) [] [] (sym (append-nil before)) refl begins; stops = inl refl; given = tt }
+        at_first = record { goes = same_goes before (before ++ []) [] [] (sym (append-nil before)) refl begins; stops = inl refl; given = tt; back = λ line last. absurd (none_entry (Line line) last) }
 
         -- A legal history tells this at its end, where each event in it that is no grant was reported so.
-        pub legal_at : (h : List Entry) → IsLegal (λ b history x y new. Says stance (build_of b) history x y new) base h → AllAre (IsGrantOr Reported) (tooks h) → ∥ At h ∥₁
-        legal_at h legal explained = run_at [] legal.0 h legal.1 (subst (λ (es : List Entry). AllAre (IsGrantOr Reported) (tooks es)) (sym (run_adds [] legal.0 h legal.1)) explained) ∣ at_first ∣₁
+        pub legal_at : (h : List Entry) → IsLegal (λ b history x y new. Says stance (build_of b) history x y new) base h → AllAre (IsGrantOr Reported) (tooks h) → EachIs (Came Its) [] h → ∥ At h ∥₁
+        legal_at h legal explained came =
+            let all : added legal.0 ≡ h = run_adds [] legal.0 h legal.1 in
+            run_at [] legal.0 h legal.1 (subst (λ (es : List Entry). AllAre (IsGrantOr Reported) (tooks es)) (sym all) explained) (subst (EachIs (Came Its) []) (sym all) came) ∣ at_first ∣₁

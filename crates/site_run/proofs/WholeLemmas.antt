@@ -1,5 +1,5 @@
 -- A life with hosts, from its opening to its end.
-use Rattle.std.proofs.Common.{◌≡◌, ◌⊎◌, ◌∙◌, ◌≤◌, inl, inr, ℕ, ℤ, Bool, true, false, List, [], ◌∷◌, ◌++◌, Option, Some, None, Result, Ok, Err, refl, sym, ap, subst, append-nil}
+use Rattle.std.proofs.Common.{◌≡◌, ◌⊎◌, ◌∙◌, ◌≤◌, inl, inr, ℕ, zero, suc, ℤ, Bool, true, false, List, [], ◌∷◌, ◌++◌, Option, Some, None, Result, Ok, Err, refl, sym, ap, subst, append-nil, arith}
 use Rattle.std.specs.Prelude.{IfOk, IfSome, if◌then◌else◌}
 use Rattle.std.specs.List.{AllByRecursion as AllAre}
 use Rattle.std.proofs.lemmas.List.{append_cancel_left}
@@ -40,6 +40,10 @@ use Rattle.site_state.specs.Says.{Answers as AnswersOf, SaysAt, Says}
 use Rattle.site_state.proofs.HistoryLaws.{kept_fault-append, no_fault, tooks-append}
 use Rattle.site_gate.specs.Tales.{is_grant, told_of}
 use Rattle.site_gate.proofs.TaleLemmas.{grants_silent, told-append}
+use Rattle.site_life.specs.Coming.{Came, EachIs}
+use Rattle.site_life.specs.Waiting.{Waited, operators}
+use Rattle.site_run.specs.Telling.{HeardInTime, IsOrderOf, orders_in}
+use Rattle.site_run.proofs.CallLemmas.{CallsAnswered, heard_in_time, life_asked, turns_ordered}
 use Rattle.site_life.specs.Lives.{Life, EndsWith}
 use Rattle.site_life.specs.Rounds.{turns_of}
 use Rattle.site_life.specs.Turns.{Turn}
@@ -52,6 +56,12 @@ use Rattle.site_run.proofs.StoreLemmas.{lasts_on, fails_on, wants, wants_on}
 use Rattle.site_run.proofs.EndLemmas.{rests_so, goes_then, goes_taken}
 use Rattle.site_run.proofs.FitLemmas.{told_taken, life_serves, once_fit, came_all, fit_life}
 use Rattle.model_syntax.specs.TreeNodes.{tree_node}
+
+-- a promise where there are few is known where what it promises is
+few_known : (n : ℕ) (X : Type 0) → (n ≤ 1 → ∥ X ∥₁) → ∥ (n ≤ 1 → X) ∥₁
+few_known zero X known = ∥∥₁_map (known (omega arith)) (λ x few. x)
+few_known (suc zero) X known = ∥∥₁_map (known (omega arith)) (λ x few. x)
+few_known (suc (suc n)) X known = ∣ (λ few. absurd (omega (arith, few))) ∣₁
 
 some_none : (e : Event) → Some e ≡ None → ⊥
 some_none e is = cc
@@ -78,8 +88,8 @@ module _ (setting : Setting) (Refused : Event → Type 0) (events : List Event) 
 
   refused_comes : (e : Event) (heard : List (List ℕ)) → ComesNext setting events e → Comes setting (λ x. Unit {0}) events e heard → IsGrantOr Refused e → IsGrantOr Refused e × ((line : List (List ℕ)) × Comes setting Refused events e line)
   refused_comes e heard next (by_grant request executor is) why = (why, ([], by_grant request executor is))
-  refused_comes e heard next (by_report x none r) (inl grant) = (inl grant, ([], granted_comes x grant next))
-  refused_comes e heard next (by_report x none r) (inr told) = (inr told, ([], by_report x none told))
+  refused_comes e heard next (by_report x none other r) (inl grant) = (inl grant, ([], granted_comes x grant next))
+  refused_comes e heard next (by_report x none other r) (inr told) = (inr told, ([], by_report x none other told))
   refused_comes e heard next (by_line line x none d) why = (why, (line ∷ [], by_line line x none d))
 
   caused_by : (fault : TakeFault) (event : Option Event) → IsFaultOf setting events fault event → ((e : Event) → event ≡ Some e → IsGrantOr Refused e) → IfSome event (λ e. IsGrantOr Refused e × ((line : List (List ℕ)) × Comes setting Refused events e line))
@@ -215,7 +225,8 @@ module _ {D T : Type 0} (reads : D → Option (List ℕ)) (may_leave : D → Lis
           now = begun ++ tooks h
 
           told : ∥ At stance setting lasts.goes.proper Reported begun h ∥₁
-          told = legal_at stance setting lasts.goes.proper Reported begun opened.build shown_opened opening base is_base h life.legal life.explained
+          told = ∥∥₁_elim life.came ∥∥₁_prop (λ came. legal_at stance setting lasts.goes.proper Reported begun opened.build shown_opened opening base is_base h life.legal life.explained
+              (subst (λ (b : Parts T). EachIs (Came (λ history x y more. Says stance b history x y more)) [] h) is_base came))
 
           module _ (at : At stance setting lasts.goes.proper Reported begun h) (site : Facts reads may_leave clock since disk_faults stance opened kept h) where
             goes_all : GoesBy setting Reported events now (lines h)
@@ -267,15 +278,17 @@ module _ {D T : Type 0} (reads : D → Option (List ℕ)) (may_leave : D → Lis
             ends_by (inr s) rests =
                 subst (λ (f : Option TakeFault). EndsBehind reads may_leave clock since stance setting entry origin before Refused now new kept (ended_as f how new)) (sym (ap kept_fault s.is ∙ kept_last s.front s.fault s.event s.none)) (breaks_so s)
 
-            ends_so : (ended : Result Rest TakeFault) → ended ≡ ended_as (kept_fault h) how new → (kept_fault h ≡ None → IfOk how (λ come. RestsWith (rest_of come new) setting (W.world_in setting now) new))
+            ends_so : (ended : Result Rest TakeFault) → AllAre (λ (turn : Turn H A). AllAre (IsOrderOf setting begun (tooks h)) (orders_in turn.calls)) turns → (operators old ≤ 1 → EachIs (HeardInTime setting begun) [] h) → ended ≡ ended_as (kept_fault h) how new → (kept_fault h ≡ None → IfOk how (λ come. RestsWith (rest_of come new) setting (W.world_in setting now) new))
                 → Ends reads may_leave clock since stance honest faults calls launches dirs output exited left source_faults looks turns setting entry origin before events old new h kept ended
-            ends_so ended is rests = record {
+            ends_so ended orders in_time is rests = record {
               granted = tooks made;
               are_grants = grants_are grants;
               now = now;
               is = refl;
               goes = goes_all;
               claims = at.given;
+              orders = orders;
+              in_time = in_time;
               ends = subst (EndsBehind reads may_leave clock since stance setting entry origin before Refused now new kept) (sym is) (ends_by at.stops rests);
               fits = fits_all;
               fits_next = λ are fit e accepted. next_fit Reported now (lines h) goes_all (hosts_of launches dirs new) (fits_all are fit) e accepted;
@@ -286,27 +299,41 @@ module _ {D T : Type 0} (reads : D → Option (List ℕ)) (may_leave : D → Lis
 
           -- what the last look said, of a state that no fault stopped
           look_rests : IsSite reads may_leave clock since disk_faults stance opened kept h capacity → kept_fault h ≡ None → (r : Result Progress NoMemory)
-              → EndsWith (λ b history x y more. Says stance (opening b) history x y more) base life.last life.members life.before new h r → ∥ IfOk r (λ come. RestsWith (rest_of come new) setting (W.world_in setting now) new) ∥₁
+              → EndsWith (λ b history x y more. Says stance (opening b) history x y more) base life.last life.members life.before new life.part h r → ∥ IfOk r (λ come. RestsWith (rest_of come new) setting (W.world_in setting now) new) ∥₁
           look_rests site calm (Err memory) ends = ∣ tt ∣₁
           look_rests site calm (Ok come) ends =
               let says : AnswersOf stance opened.build h Look (reply.Progress come) [] =
-              subst (λ (f : Option TakeFault). SaysAt stance opened.build h f Look (reply.Progress come) []) calm (subst (λ (b : Parts T). Says stance b h Look (reply.Progress come) []) is_base ends.2) in
+              subst (λ (f : Option TakeFault). SaysAt stance opened.build h f Look (reply.Progress come) []) calm (subst (λ (b : Parts T). Says stance b h Look (reply.Progress come) []) is_base ends.4) in
               ∥∥₁_map says.0.1 (λ shown. rests_so stance setting lasts.goes.proper now says.0.0 kept.build new come (shows_shown stance setting lasts.goes.proper opened.build says.0.0 begun (tooks h) shown_opened shown)
-              (shows_shown stance setting lasts.goes.proper opened.build kept.build begun (tooks h) shown_opened (site.facts.shown calm)) (site.settled calm) says.0.2 ends.3)
+              (shows_shown stance setting lasts.goes.proper opened.build kept.build begun (tooks h) shown_opened (site.facts.shown calm)) (site.settled calm) says.0.2 ends.5)
+
+          -- the orders that were given, and when lines were heard
+          asked : ∥ AllAre (CallsAnswered (λ history x y more. Says stance opened.build history x y more) h) turns ∥₁
+          asked = subst (λ (b : Parts T). ∥ AllAre (CallsAnswered (λ history x y more. Says stance b history x y more) h) turns ∥₁) is_base
+              (life_asked (λ b history x y more. Says stance (opening b) history x y more) base h life.rounds life.last old life.members life.before new life.part how life.went_on life.ends)
+
+          ordered : ∥ AllAre (λ (turn : Turn H A). AllAre (IsOrderOf setting begun (tooks h)) (orders_in turn.calls)) turns ∥₁
+          ordered = ∥∥₁_elim asked ∥∥₁_prop (λ all. turns_ordered stance opened.build h setting lasts.goes.proper begun shown_opened turns all)
+
+          timed : ∥ (operators old ≤ 1 → EachIs (HeardInTime setting begun) [] h) ∥₁
+          timed = few_known (operators old) (EachIs (HeardInTime setting begun) [] h) (λ few.
+              ∥∥₁_elim (life.waited few) ∥∥₁_prop (λ waited. heard_in_time stance opened.build h setting lasts.goes.proper begun shown_opened [] h
+              (subst (λ (b : Parts T). EachIs (Waited (λ history x y more. Says stance b history x y more)) [] h) is_base waited)))
 
           -- A life, by what its members did and by what is known of the state behind it.
           pub life_ends : ∥ IsSite reads may_leave clock since disk_faults stance opened kept h capacity ∥₁ → (ended : Result Rest TakeFault) → ended ≡ ended_as (kept_fault h) how new
               → ∥ Ends reads may_leave clock since stance honest faults calls launches dirs output exited left source_faults looks turns setting entry origin before events old new h kept ended ∥₁
-          life_ends known ended is = ∥∥₁_elim known ∥∥₁_prop (λ site. ∥∥₁_elim told ∥∥₁_prop (λ at. by site at (calm_or_not (kept_fault h))))
+          life_ends known ended is = ∥∥₁_elim known ∥∥₁_prop (λ site. ∥∥₁_elim told ∥∥₁_prop (λ at. ∥∥₁_elim ordered ∥∥₁_prop (λ orders. ∥∥₁_elim timed ∥∥₁_prop (λ in_time. by site at orders in_time (calm_or_not (kept_fault h))))))
             where
               calm_or_not : (f : Option TakeFault) → (f ≡ None) ⊎ (f ≡ None → ⊥)
               calm_or_not None = inl refl
               calm_or_not (Some f) = inr (λ none. no_fault f none)
 
-              by : IsSite reads may_leave clock since disk_faults stance opened kept h capacity → At stance setting lasts.goes.proper Reported begun h → (kept_fault h ≡ None) ⊎ (kept_fault h ≡ None → ⊥)
+              by : IsSite reads may_leave clock since disk_faults stance opened kept h capacity → At stance setting lasts.goes.proper Reported begun h → AllAre (λ (turn : Turn H A). AllAre (IsOrderOf setting begun (tooks h)) (orders_in turn.calls)) turns
+                  → (operators old ≤ 1 → EachIs (HeardInTime setting begun) [] h) → (kept_fault h ≡ None) ⊎ (kept_fault h ≡ None → ⊥)
                   → ∥ Ends reads may_leave clock since stance honest faults calls launches dirs output exited left source_faults looks turns setting entry origin before events old new h kept ended ∥₁
-              by site at (inl calm) = ∥∥₁_map (look_rests site calm how life.ends) (λ rests. ends_so at site.facts ended is (λ none. rests))
-              by site at (inr fault) = ∣ ends_so at site.facts ended is (λ none. absurd (fault none)) ∣₁
+              by site at orders in_time (inl calm) = ∥∥₁_map (look_rests site calm how life.ends) (λ rests. ends_so at site.facts ended orders in_time is (λ none. rests))
+              by site at orders in_time (inr fault) = ∣ ends_so at site.facts ended orders in_time is (λ none. absurd (fault none)) ∣₁
 
     -- An opening that was refused, either way.
     pub opening_refused : (made : List Entry) (k : Kept D T) (fault : TakeFault) (disk : D) → OpenRefuses stance durable k made fault → Facts reads may_leave clock since disk_faults stance durable k made → disk ≡ k.journal.disk

@@ -1,5 +1,6 @@
 -- Which events come in a life with hosts, and in which order (this product's own): after each event all grants that are due, one by one;
 -- while none is due, what an executor reports, or the decision of an answer line.
+use Rattle.site_life.specs.Coming.{is_decision}
 use Rattle.std.specs.Prelude.{◌≡◌, ℕ, Bool, true, false, List, [], ◌∷◌, ◌++◌, Some, None}
 use Rattle.agent_worker.specs.AnswerBytes.{begun_after, last_line, lines_of}
 use Rattle.agent_worker.specs.AnswerLine.{Answers}
@@ -22,11 +23,11 @@ pub data IsPassedOver (b : Build) (line : List ℕ) : Type 0 where
   no_answer : ((proceed : Bool) (id name : List ℕ) → ¬ (Answers line proceed id name)) → IsPassedOver b line
   nothing_open : (proceed : Bool) (id name : List ℕ) → Answers line proceed id name → input_of id b.shared.requests ≡ None → IsPassedOver b line
 
--- Why an event comes next, and the line that was heard for it: it is the grant that is due; or, while none is due, it was reported so, or is
--- the decision of this line.
+-- Why an event comes next, and the line that was heard for it: it is the grant that is due; or, while none is due, it was reported so, and is
+-- no decision; or is the decision of this line.
 pub data Comes (setting : Setting) (Reported : Event → Type 0) (events : List Event) : Event → List (List ℕ) → Type 0 where
   by_grant : (request executor : ℕ) → next_grant setting (world_in setting events) ≡ Some (request, executor) → Comes setting Reported events (GrantedEvent request executor) []
-  by_report : (e : Event) → next_grant setting (world_in setting events) ≡ None → Reported e → Comes setting Reported events e []
+  by_report : (e : Event) → next_grant setting (world_in setting events) ≡ None → is_decision e ≡ false → Reported e → Comes setting Reported events e []
   by_line : (line : List ℕ) (e : Event) → next_grant setting (world_in setting events) ≡ None → Decides (world_in setting events) line e → Comes setting Reported events e (line ∷ [])
 
 -- The events so far, which begin with those from before, and the answer lines that were heard for them and between them.

@@ -1,5 +1,5 @@
 -- How a life with hosts ended, and what it was (this product's own).
-use Rattle.std.specs.Prelude.{◌≡◌, ◌⊎◌, ℕ, ℤ, nat_eq, true, false, List, [], ◌∷◌, ◌++◌, Option, None, IfSome, Result, Ok, Err}
+use Rattle.std.specs.Prelude.{◌≡◌, ◌≤◌, ◌⊎◌, ℕ, ℤ, nat_eq, true, false, List, [], ◌∷◌, ◌++◌, Option, None, IfOk, IfSome, Result, Ok, Err}
 use Rattle.program_lock.specs.declared.program.Memory.{Memory}
 use Rattle.program_lock.specs.Legal.{Answers}
 use Rattle.task_host.specs.declared.call.Call.{Call}
@@ -25,6 +25,9 @@ use Rattle.site_life.specs.Rounds.{turns_of}
 use Rattle.site_life.specs.Turns.{Turn, Explains, HoldsOfOne}
 use Rattle.site_run.specs.Ending.{RestsWith, ended_as}
 use Rattle.site_run.specs.Going.{Comes, GoesBy}
+use Rattle.site_run.specs.Telling.{AreHeard, HeardInTime, IsOrderOf, orders_in}
+use Rattle.site_life.specs.Coming.{EachIs}
+use Rattle.site_life.specs.Waiting.{operators}
 use Rattle.site_run.specs.Serving.{AreHonest, AllFit, hosts_of}
 use Rattle.launch_laws.specs.Fitting as fitting
 use Rattle.launch_laws.specs.Fitting.{AreApart, ExecutorHost, all_launches}
@@ -93,6 +96,10 @@ module _ {D T H A : Type 0} (reads : D → Option (List ℕ)) (may_leave : D →
     pub goes : GoesBy setting (IsReported turns) events now (lines history)
     -- each task was claimed while it was open, for its executor
     pub claims : AllAre (λ (c : ClaimedTask). InLife setting (events ++ granted) (tooks history) c.executor c.task) (claimed_of history)
+    -- each order that an executor was given is that of a task which was open then
+    pub orders : AllAre (λ (turn : Turn H A). AllAre (IsOrderOf setting (events ++ granted) (tooks history)) (orders_in turn.calls)) turns
+    -- each line was heard only where an input was open since the line before it
+    pub in_time : operators old ≤ 1 → EachIs (HeardInTime setting (events ++ granted)) [] history
     pub ends : EndsBehind reads may_leave clock since stance setting entry origin before (IsRefused turns) now new kept ended
     pub fits : AreHonest honest old → AllFit launches dirs setting events old → AllFit launches dirs setting now new
     -- and with one event more that is accepted, as that which the disk may have though its take failed
@@ -109,6 +116,8 @@ module _ {D T H A : Type 0} (reads : D → Option (List ℕ)) (may_leave : D →
     pub how : Result Progress Memory
     pub life : Life honest faults calls launches dirs output exited left source_faults looks answers base base old new history how
     pub told : ended ≡ ended_as (kept_fault history) how new
+    -- where the life rests, which lines were heard
+    pub heard : IfOk ended (λ rest. ∥ AreHeard left (lines history) old new ∥₁)
     -- what is known of the store from before the opening to the end, whatever its records tell
     pub whole : ∥ Facts reads may_leave clock since disk_faults stance durable kept (opened.0 ++ history) ∥₁
     pub comes : (setting : Setting) (entry : Option (List ℕ)) (origin : D) (before events : List Event) → Lasts reads may_leave clock since stance setting entry origin before events durable

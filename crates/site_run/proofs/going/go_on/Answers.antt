@@ -6,6 +6,7 @@ use Rattle.site_state.specs.Histories.{kept_fault}
 use Rattle.site_run.proofs.CloseLemmas.{disk_counts, err_tells, failed_so, known_from, opening_counts, opening_tells, same_start}
 use Rattle.site_run.proofs.FactLemmas.{facts_all, rests_keep}
 use Rattle.site_run.proofs.FitLemmas.{life_serves}
+use Rattle.site_run.proofs.HeardLemmas.{life_heard}
 use Rattle.site_run.proofs.WholeLemmas.{life_ends, opening_refused}
 use Rattle.site_run.proofs.going.go_on.Goals as goal
 
@@ -25,6 +26,7 @@ returns-in-Ok-clause-lives g c =
       how = e.0;
       life = life;
       told = e.2;
+      heard = life_heard H.honest H.faults H.calls H.launches H.dirs H.output H.exited A.left A.faults c.args.looks stance (λ b. b.value.build) l.site.base l.site.base c.args.members.now c.live_on.new.members l.site.history.items e.0 life l.ended e.2;
       whole = facts_all D.reads D.may_leave D.clock D.may_have_left_since D.faults stance c.args.durable site.durable l.site.durable made.0 l.site.history.items _ made.2 made.3
           (known_from D.reads D.may_leave D.clock D.may_have_left_since D.faults stance (λ b. b.value) site.base l.site.base site.durable l.site.durable l.site.history.items _ e.1.base_stays c.in-Ok.ensures.fresh.1 l.site.stands);
       comes = λ setting entry origin before events lasts.
