@@ -31,7 +31,7 @@ use Rattle.site_state.specs.declared.ask.Progress.{Progress}
 use Rattle.site_state.specs.declared.ask.Reply.{Reply}
 use Rattle.site_state.specs.declared.ask.Reply.TheVariants as reply
 use Rattle.site_state.specs.Claims.{first_free, is_free, order_as, within_u32}
-use Rattle.site_state.specs.Histories.{kept_fault, lines, tooks}
+use Rattle.site_state.specs.Histories.{kept_fault, tooks}
 use Rattle.site_state.specs.Says.{Answers, SaysAt, Says}
 use Rattle.site_state.proofs.HistoryLaws.{kept_fault-append, no_fault, tooks-append}
 use Rattle.site_gate.specs.Saying.{AnswersCall}
@@ -39,8 +39,8 @@ use Rattle.site_life.specs.Coming.{EachIs}
 use Rattle.site_life.specs.Lives.{EndsWith}
 use Rattle.site_life.specs.Rounds.{AllAsked, Round, RoundsFrom, WereAsked, turns_of}
 use Rattle.site_life.specs.Turns.{Turn}
-use Rattle.site_life.specs.Waiting.{InputWasOpen, Waited}
-use Rattle.site_run.specs.Telling.{HadInput, HeardInTime, IsOrderOf, orders_in}
+use Rattle.site_life.specs.Waiting.{Waited}
+use Rattle.site_run.specs.Telling.{HeardInTime, IsOrderOf, orders_in}
 use Rattle.site_run.proofs.WalkLemmas.{ShowsAll, kept_first, requests_are, shows_shown}
 
 -- what is known of each is known of all

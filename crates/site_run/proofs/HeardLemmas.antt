@@ -1,6 +1,6 @@
 -- Which lines an operator heard in a life: those that it read.
-use Rattle.std.proofs.Common.{◌≡◌, ◌⊎◌, ◌≤◌, ◌∙◌, ⊎_elim, inl, inr, ℕ, suc, ℤ, Bool, true, false, List, [], ◌∷◌, ◌++◌, map, Option, Some, None, Result, Ok, Err, refl, sym, ap, subst, append_assoc, append-nil, arith}
-use Rattle.std.specs.Prelude.{IfOk, ◌||◌, not, if◌then◌else◌}
+use Rattle.std.proofs.Common.{◌≡◌, ◌⊎◌, ◌≤◌, ◌∙◌, ⊎_elim, inl, inr, ℕ, suc, ℤ, Bool, true, false, List, [], ◌∷◌, ◌++◌, map, Option, None, Result, Ok, Err, refl, sym, ap, subst, append_assoc, append-nil, arith}
+use Rattle.std.specs.Prelude.{IfOk, not, if◌then◌else◌}
 use Rattle.std.specs.List.{AllByRecursion as AllAre}
 use Rattle.std.specs.Io.KnownBytes.{Consumes}
 use Rattle.std.proofs.KnownBytes.{Consumes-nil, Consumes-trans}
@@ -11,18 +11,17 @@ use Rattle.program_lock.specs.Legal.{Answers as AnswersOf}
 use Rattle.program_lock.specs.Merge.{IsMergeOf}
 use Rattle.script_run.specs.declared.rest.Rest.{Rest}
 use Rattle.agent_worker.specs.declared.fault.TakeFault.{TakeFault}
-use Rattle.agent_worker.specs.declared.fault.TakeFault.TheVariants.{Memory, Disk, Full, Stopped}
 use Rattle.agent_worker.specs.declared.gate.GateCall.{GateCall}
 use Rattle.agent_worker.specs.declared.gate.GateCall.TheVariants as gate_call
-use Rattle.agent_worker.specs.declared.gate.Heard.{Heard}
 use Rattle.agent_worker.specs.declared.gate.Said.{Said}
 use Rattle.agent_worker.specs.declared.gate.Said.TheVariants.{Nothing}
+use Rattle.agent_worker.specs.declared.operator.LineEnd.{LineEnd}
+use Rattle.agent_worker.specs.declared.operator.LineEnd.TheVariants as line_end
 use Rattle.agent_worker.specs.declared.member.Member.{Member}
 use Rattle.agent_worker.specs.declared.member.Member.TheVariants.{Executor, Operator}
 use Rattle.agent_worker.specs.declared.worked.Worked.{Worked}
 use Rattle.agent_worker.specs.declared.worked.Worked.TheVariants as worked
 use Rattle.agent_worker.specs.AnswerBytes.{begun_after, last_line, lines_of, short}
-use Rattle.agent_worker.specs.Gate.{heard_of}
 use Rattle.agent_worker.specs.Operating.{Ask, Asked, Reads, Given, Halted, FoundInput, IsOperating, IsReadToEnd, NoMore, LastHeeded, MayAsk, First, Busy, PassedOver, Heeded, Operates, OperatorEnds, ReadLine, GivesLines, given_in, has_ended, read_in, operator_calls}
 use Rattle.agent_worker.specs.Operating as operating
 use Rattle.agent_worker.proofs.AnswerLemmas.{begun-on, lines-on}
@@ -50,7 +49,7 @@ use Rattle.site_run.proofs.CallLemmas.{Answered, CallsAnswered, life_asked, no_h
 use Rattle.site_run.proofs.FactLemmas.{rest_calm}
 use Rattle.site_run.proofs.FitLemmas.{steps_all}
 use Rattle.site_run.proofs.WalkLemmas.{all_behind, all_front}
-use Rattle.site_run.proofs.MemberLemmas.{Steps}
+use Rattle.site_run.proofs.MemberLemmas.{Steps, said_failed}
 
 -- what an operator did last is no line that was refused, and no halt
 abbrev IsWell : List Ask → Type 0
@@ -88,6 +87,60 @@ well_ended old_ended past worked.Rest (inr (inr nothing)) going some = subst IsW
 well_ended old_ended past worked.Stopped ends going some = absurd (going refl)
 well_ended old_ended past worked.Memory ends going some = absurd (some refl)
 well_ended old_ended past worked.AnswersFailed ends going some = subst IsWell (sym ends.2) tt
+
+-- what an operator did last is no reading that broke off, and no halt
+abbrev IsWhole : List Ask → Type 0
+IsWhole [] = Unit {0}
+IsWhole (Asked inputs ∷ past) = Unit {0}
+IsWhole (Reads bytes line_end.Line ∷ past) = Unit {0}
+IsWhole (Reads bytes line_end.End ∷ past) = Unit {0}
+IsWhole (Reads bytes line_end.Failed ∷ past) = ⊥
+IsWhole (Reads bytes line_end.Memory ∷ past) = ⊥
+IsWhole (Given line answer ∷ past) = Unit {0}
+IsWhole (Halted ∷ past) = ⊥
+
+whole_asked : (past : List Ask) → MayAsk past → IsWhole past
+whole_asked past First = tt
+whole_asked past (Busy inputs before none some) = tt
+whole_asked past (PassedOver bytes before) = tt
+whole_asked past (Heeded line heard bytes before) = tt
+
+whole_line : (past : List Ask) → ReadLine past → IsWhole past
+whole_line past read = subst IsWhole (sym read.3) (by read.1 read.4)
+  where
+    by : (end : LineEnd) → (end ≡ line_end.Line) ⊎ (end ≡ line_end.End) → IsWhole (Reads read.0 end ∷ read.2)
+    by line_end.Line is = tt
+    by line_end.End is = tt
+    by line_end.Failed (inl is) = absurd (cc)
+    by line_end.Failed (inr is) = absurd (cc)
+    by line_end.Memory (inl is) = absurd (cc)
+    by line_end.Memory (inr is) = absurd (cc)
+
+whole_read : (past : List Ask) → IsReadToEnd past → IsWhole past
+whole_read past (NoMore bytes before) = tt
+whole_read past (LastHeeded line heard bytes before) = tt
+
+whole_ended : (old_ended : Bool) (past : List Ask) (w : Worked) → OperatorEnds old_ended past w → (w ≡ worked.Stopped → ⊥) → (w ≡ worked.Memory → ⊥) → (w ≡ worked.AnswersFailed → ⊥) → IsWhole past
+whole_ended old_ended past worked.Rest (inl over) going some told = subst IsWhole (sym over.1) tt
+whole_ended old_ended past worked.Rest (inr (inl read)) going some told = whole_read past read
+whole_ended old_ended past worked.Rest (inr (inr nothing)) going some told = subst IsWhole (sym nothing.2) tt
+whole_ended old_ended past worked.Stopped ends going some told = absurd (going refl)
+whole_ended old_ended past worked.Memory ends going some told = absurd (some refl)
+whole_ended old_ended past worked.AnswersFailed ends going some told = absurd (told refl)
+
+-- so nothing was read of a line that is not whole
+reads_whole : (begun : List ℕ) → begun ≡ [] → (past : List Ask) → IsOperating past → IsWhole past → has_ended past ≡ false → begun_after begun (read_in past) ≡ []
+reads_whole begun none [] lawful whole going = none
+reads_whole begun none (Asked inputs ∷ past) lawful whole going = reads_whole begun none past lawful.1 (whole_asked past lawful.0) going
+reads_whole begun none (Reads bytes line_end.Line ∷ past) lawful whole going = begun-on begun (read_in past) (bytes ++ 10 ∷ []) ∙ begun-on (begun_after begun (read_in past)) bytes (10 ∷ [])
+reads_whole begun none (Reads bytes line_end.End ∷ past) lawful whole going = let bad : true ≡ false = going in absurd (cc)
+reads_whole begun none (Reads bytes line_end.Failed ∷ past) lawful whole going = absurd whole
+reads_whole begun none (Reads bytes line_end.Memory ∷ past) lawful whole going = absurd whole
+reads_whole begun none (Given line answer ∷ past) lawful whole going = reads_whole begun none past lawful.1 (whole_line past lawful.0) going
+reads_whole begun none (Halted ∷ past) lawful whole going = absurd whole
+
+true_not_false : (b : Bool) → b ≡ true → b ≡ false → ⊥
+true_not_false b is other = let bad : true ≡ false = sym is ∙ other in absurd (cc)
 
 -- the lines of two that are merged, where one has none
 lines_one : (z : Entry) (zs : List Entry) → lines (z ∷ zs) ≡ lines (z ∷ []) ++ lines zs
@@ -159,16 +212,17 @@ module _ {H A : Type 0} (honest : H → Type 0) (faults : H → ℕ) (calls : H 
       wants worked.AnswersFailed past are ends is = absurd (cc)
 
   -- What an operator has read so far, what it keeps of the next line, and which lines were heard.
-  record HeardSo (heard : List (List ℕ)) (answers next : A) (kept : List ℕ) (now_ended : Bool) : Type 0 where
+  record HeardSo (heard : List (List ℕ)) (answers next : A) (kept : List ℕ) (now_ended now_failed : Bool) : Type 0 where
     read : List ℕ
     consumes : Consumes (left answers) (left next) read
     keeps : kept ≡ short (if now_ended then [] else begun_after [] read)
     lines_are : heard ≡ heard_in read (not now_ended)
+    whole : now_failed ≡ false → now_ended ≡ false → begun_after [] read ≡ []
 
   abbrev AllHeard : List (List ℕ) → List (Member H A) → List (Member H A) → Type 0
   AllHeard heard [] [] = heard ≡ []
   AllHeard heard (Executor number host ∷ old) (Executor now next ∷ new) = AllHeard heard old new
-  AllHeard heard (Operator answers line ended failed ∷ []) (Operator next kept now_ended now_failed ∷ []) = line ≡ [] → ended ≡ false → HeardSo heard answers next kept now_ended
+  AllHeard heard (Operator answers line ended failed ∷ []) (Operator next kept now_ended now_failed ∷ []) = line ≡ [] → ended ≡ false → HeardSo heard answers next kept now_ended now_failed
   AllHeard heard (Operator answers line ended failed ∷ (o ∷ old)) (Operator next kept now_ended now_failed ∷ (m ∷ new)) = Unit {0}
   AllHeard heard (Executor number host ∷ old) (Operator next kept now_ended now_failed ∷ new) = ⊥
   AllHeard heard (Operator answers line ended failed ∷ old) (Executor now next ∷ new) = ⊥
@@ -185,14 +239,16 @@ module _ {H A : Type 0} (honest : H → Type 0) (faults : H → ℕ) (calls : H 
     consumes = Consumes-nil (left answers);
     keeps = fresh ∙ sym (take-nil 1026) ∙ ap (λ (e : Bool). short (if e then [] else [])) (sym going);
     lines_are = ap (λ (e : Bool). heard_in [] (not e)) (sym going);
+    whole = λ calm more. refl;
   }
   heard_first (Operator answers line ended failed ∷ (m ∷ ms)) = tt
 
   -- one turn of the operator
-  one_turn : (heard : List (List ℕ)) (answers next last : A) (kept held : List ℕ) (now_ended then_ended : Bool) (w : Worked) (own : List Entry) (gate_calls : List GateCall) (said : Said) (is_open : Bool)
+  one_turn : (heard : List (List ℕ)) (answers next last : A) (kept held : List ℕ) (now_ended then_ended now_failed then_failed : Bool) (w : Worked) (own : List Entry) (gate_calls : List GateCall) (said : Said) (is_open : Bool)
       → Operates (tells_of [] [] Nothing false) (tells_of own gate_calls said is_open) (left next) (left last) kept held now_ended then_ended w → (w ≡ worked.Stopped → ⊥) × (w ≡ worked.Memory → ⊥)
-      → HeardSo heard answers next kept now_ended → HeardSo (heard ++ lines own) answers last held then_ended
-  one_turn heard answers next last kept held true then_ended w own gate_calls said is_open o well h =
+      → (w ≡ worked.AnswersFailed → then_failed ≡ true) → ((w ≡ worked.AnswersFailed → ⊥) → then_failed ≡ now_failed)
+      → HeardSo heard answers next kept now_ended now_failed → HeardSo (heard ++ lines own) answers last held then_ended then_failed
+  one_turn heard answers next last kept held true then_ended now_failed then_failed w own gate_calls said is_open o well fails same h =
       let over = o.over refl in
       let nothing : lines own ≡ [] = o.so_far.lines ∙ ap operating.heard_in over.0 in
       let still : then_ended ≡ true = o.ended_so in
@@ -201,8 +257,9 @@ module _ {H A : Type 0} (honest : H → Type 0) (faults : H → ℕ) (calls : H 
         consumes = subst (λ (l : Option (List ℕ)). Consumes (left answers) l h.read) (sym over.1) h.consumes;
         keeps = over.2 ∙ h.keeps ∙ ap (λ (e : Bool). short (if e then [] else begun_after [] h.read)) (sym still);
         lines_are = ap (λ (l : List (List ℕ)). heard ++ l) nothing ∙ append-nil heard ∙ h.lines_are ∙ ap (λ (e : Bool). heard_in h.read (not e)) (sym still);
+        whole = λ calm going. absurd (true_not_false then_ended still going);
       }
-  one_turn heard answers next last kept held false then_ended w own gate_calls said is_open o well h =
+  one_turn heard answers next last kept held false then_ended now_failed then_failed w own gate_calls said is_open o well fails same h =
       let x : List ℕ = read_in o.past in
       let begun : List ℕ = begun_after [] h.read in
       let gives : GivesLines begun held o.past w = o.gives begun h.keeps in
@@ -216,8 +273,14 @@ module _ {H A : Type 0} (honest : H → Type 0) (faults : H → ℕ) (calls : H 
         consumes = Consumes-trans (left answers) (left next) (left last) h.read x h.consumes o.read;
         keeps = gives.kept well.1 ∙ ap (λ (l : List ℕ). short (if has_ended o.past then [] else l)) (sym rest) ∙ ap (λ (e : Bool). short (if e then [] else begun_after [] (h.read ++ x))) (sym still);
         lines_are = all ∙ sum (has_ended o.past) h.read x begun rest whole ∙ ap (λ (e : Bool). heard_in (h.read ++ x) (not e)) (sym still);
+        whole = λ calm going. rest ∙ by calm (sym still ∙ going) (said_failed w);
       }
     where
+      by : then_failed ≡ false → has_ended o.past ≡ false → (w ≡ worked.AnswersFailed) ⊎ ¬ (w ≡ worked.AnswersFailed) → begun_after (begun_after [] h.read) (read_in o.past) ≡ []
+      by calm going (inl is) = absurd (true_not_false then_failed (fails is) calm)
+      by calm going (inr other) =
+          reads_whole (begun_after [] h.read) (h.whole (sym (same other) ∙ calm) refl) o.past o.so_far.lawful (whole_ended false o.past w o.ends well.0 well.1 other) going
+
       sum : (e : Bool) (r x begun : List ℕ) → begun_after [] (r ++ x) ≡ begun_after begun x → lines_of [] (r ++ x) ≡ lines_of [] r ++ lines_of begun x
           → lines_of [] r ++ (lines_of begun x ++ (if e then last_line (begun_after begun x) else [])) ≡ heard_in (r ++ x) (not e)
       sum true r x begun rest whole = sym (append_assoc (lines_of [] r) (lines_of begun x) (last_line (begun_after begun x))) ∙ ap (λ (l : List (List ℕ)). l ++ last_line (begun_after begun x)) (sym whole) ∙ ap (λ (l : List ℕ). lines_of [] (r ++ x) ++ last_line l) (sym rest)
@@ -235,7 +298,7 @@ module _ {H A : Type 0} (honest : H → Type 0) (faults : H → ℕ) (calls : H 
   heard_turn heard (Executor number host ∷ os) (Executor now next ∷ front) back m n w own gate_calls said is_open works well h = heard_turn heard os front back m n w own gate_calls said is_open works well h
   heard_turn heard (Executor number host ∷ os) (Operator next kept now_ended now_failed ∷ front) back m n w own gate_calls said is_open works well h = absurd h
   heard_turn heard (Operator answers line ended failed ∷ []) [] [] (Operator next kept now_ended now_failed) (Operator last held then_ended then_failed) w own gate_calls said is_open works well h =
-      λ fresh going. one_turn heard answers next last kept held now_ended then_ended w own gate_calls said is_open works.0 well (h fresh going)
+      λ fresh going. one_turn heard answers next last kept held now_ended then_ended now_failed then_failed w own gate_calls said is_open works.0 well works.2 works.3 (h fresh going)
   heard_turn heard (Operator answers line ended failed ∷ []) [] [] (Operator next kept now_ended now_failed) (Executor after last) w own gate_calls said is_open works well h = absurd works
   heard_turn heard (Operator answers line ended failed ∷ []) [] [] (Executor now next) n w own gate_calls said is_open works well h = absurd h
   heard_turn heard (Operator answers line ended failed ∷ []) [] (b ∷ back) (Operator next kept now_ended now_failed) n w own gate_calls said is_open works well h = absurd h
@@ -271,7 +334,7 @@ module _ {H A : Type 0} (honest : H → Type 0) (faults : H → ℕ) (calls : H 
   heard_at_end : (heard : List (List ℕ)) (os ns : List (Member H A)) → AllHeard heard os ns → AreHeard left heard os ns
   heard_at_end heard [] [] h = h
   heard_at_end heard (Executor number host ∷ os) (Executor now next ∷ ns) h = heard_at_end heard os ns h
-  heard_at_end heard (Operator answers line ended failed ∷ []) (Operator next kept now_ended now_failed ∷ []) h = λ fresh going. let s = h fresh going in (s.read, s.consumes, s.lines_are)
+  heard_at_end heard (Operator answers line ended failed ∷ []) (Operator next kept now_ended now_failed ∷ []) h = λ fresh going. let s = h fresh going in (s.read, s.consumes, s.lines_are, s.whole)
   heard_at_end heard (Operator answers line ended failed ∷ (o ∷ os)) (Operator next kept now_ended now_failed ∷ (m ∷ ns)) h = tt
   heard_at_end heard (Executor number host ∷ os) (Operator next kept now_ended now_failed ∷ ns) h = absurd h
   heard_at_end heard (Operator answers line ended failed ∷ os) (Executor now next ∷ ns) h = absurd h
@@ -360,7 +423,7 @@ module _ {H A : Type 0} (honest : H → Type 0) (faults : H → ℕ) (calls : H 
   heard_same : (heard told : List (List ℕ)) (os ns : List (Member H A)) → (operators os ≤ 1 → heard ≡ told) → AreHeard left told os ns → AreHeard left heard os ns
   heard_same heard told [] [] same h = same (omega arith) ∙ h
   heard_same heard told (Executor number host ∷ os) (Executor now next ∷ ns) same h = heard_same heard told os ns same h
-  heard_same heard told (Operator answers line ended failed ∷ []) (Operator next kept now_ended now_failed ∷ []) same h = λ fresh going. let s = h fresh going in (s.0, s.1, same (omega arith) ∙ s.2)
+  heard_same heard told (Operator answers line ended failed ∷ []) (Operator next kept now_ended now_failed ∷ []) same h = λ fresh going. let s = h fresh going in (s.0, s.1, same (omega arith) ∙ s.2, s.3)
   heard_same heard told (Operator answers line ended failed ∷ (o ∷ os)) (Operator next kept now_ended now_failed ∷ (m ∷ ns)) same h = tt
   heard_same heard told (Executor number host ∷ os) (Operator next kept now_ended now_failed ∷ ns) same h = absurd h
   heard_same heard told (Operator answers line ended failed ∷ os) (Executor now next ∷ ns) same h = absurd h

@@ -122,6 +122,13 @@ stays_then h0 h1 h2 f0 f1 f2 c0 c1 c2 stays same below past becomes = record {
       (first.0, first.1 ++ mid.1, first.2, mid.3 ∙ ap (λ (l : List Call). l ++ mid.1) first.3 ∙ append_assoc first.0 first.1 mid.1);
 }
 
+-- whether it said that the answers could not be read
+pub said_failed : (w : Worked) → (w ≡ worked.AnswersFailed) ⊎ ¬ (w ≡ worked.AnswersFailed)
+said_failed worked.Rest = inr (λ e. cc)
+said_failed worked.Stopped = inr (λ e. cc)
+said_failed worked.Memory = inr (λ e. cc)
+said_failed worked.AnswersFailed = inl refl
+
 -- what the entries of a turn say
 abbrev pub SaysSo : {H A : Type 0} → (Told → Type 0) → (ClaimedTask → Type 0) → Turn H A → Type 0
 SaysSo IsTold IsGiven turn = AllAre IsTold (told_of turn.own) × AllAre IsGiven (claimed_of turn.own)
@@ -195,12 +202,6 @@ module _ {H A : Type 0} (honest : H → Type 0) (faults : H → ℕ) (calls : H 
   end_then : (was has : Bool) (mid last : Option (List ℕ)) → (was ≡ true → IsAtEnd mid) → (was ≡ true → last ≡ mid) → (has ≡ true → IsAtEnd last) → (was || has) ≡ true → IsAtEnd last
   end_then true has mid last before same now is = subst IsAtEnd (sym (same refl)) (before refl)
   end_then false has mid last before same now is = now is
-
-  said_failed : (w : Worked) → (w ≡ worked.AnswersFailed) ⊎ ¬ (w ≡ worked.AnswersFailed)
-  said_failed worked.Rest = inr (λ e. cc)
-  said_failed worked.Stopped = inr (λ e. cc)
-  said_failed worked.Memory = inr (λ e. cc)
-  said_failed worked.AnswersFailed = inl refl
 
   -- one turn more
   came_turn : (o m n : Member H A) (w : Worked) (own : List Entry) (gate_calls : List GateCall) (said : Said) (is_open : Bool) (seen : List ℕ) → Work honest faults calls launches dirs output exited left source_faults looks m n w (tells_of [] [] Nothing false) (tells_of own gate_calls said is_open)

@@ -1,7 +1,8 @@
 -- What the members of a life were told, and what was heard of the operator, said of the events (this product's own).
-use Rattle.std.specs.Prelude.{◌≡◌, ◌<◌, ℕ, Bool, true, false, not, List, [], ◌∷◌, ◌++◌, Option, Some}
+use Rattle.std.specs.Prelude.{◌≡◌, ◌<◌, ℕ, false, not, List, [], ◌∷◌, ◌++◌, Option, Some}
 use Rattle.std.specs.Io.KnownBytes.{Consumes}
 use Rattle.task_host.specs.declared.order.Order.{Order}
+use Rattle.agent_worker.specs.AnswerBytes.{begun_after}
 use Rattle.agent_worker.specs.declared.gate.Claim.TheVariants as claim
 use Rattle.agent_worker.specs.declared.gate.GateCall.{GateCall}
 use Rattle.agent_worker.specs.declared.gate.GateCall.TheVariants.{Claim, Report, Inputs, Answer, Halt}
@@ -56,12 +57,14 @@ HeardInTime setting begun before (Failed fault event) = Unit {0}
 
 module _ {H A : Type 0} (left : A → Option (List ℕ)) where
   -- These lines were heard: the whole lines, each of at most 1,024 bytes, in what an operator read of its answers; and the last one, where they
-  -- ended within it. It is said of an operator behind whom no other member stands, of whose answers nothing was read before.
+  -- ended within it. Nothing of another line was read, but where the answers could not be read. It is said of an operator behind whom no other
+  -- member stands, of whose answers nothing was read before.
   abbrev pub AreHeard : List (List ℕ) → List (Member H A) → List (Member H A) → Type 0
   AreHeard heard [] [] = heard ≡ []
   AreHeard heard (Executor number host ∷ old) (Executor now next ∷ new) = AreHeard heard old new
   AreHeard heard (Operator answers line ended failed ∷ []) (Operator next kept now_ended now_failed ∷ []) =
       line ≡ [] → ended ≡ false → (read : List ℕ) × Consumes (left answers) (left next) read × (heard ≡ heard_in read (not now_ended))
+      × (now_failed ≡ false → now_ended ≡ false → begun_after [] read ≡ [])
   AreHeard heard (Operator answers line ended failed ∷ (o ∷ old)) (Operator next kept now_ended now_failed ∷ (m ∷ new)) = Unit {0}
   AreHeard heard (Executor number host ∷ old) (Operator next kept now_ended now_failed ∷ new) = ⊥
   AreHeard heard (Operator answers line ended failed ∷ old) (Executor now next ∷ new) = ⊥
