@@ -153,7 +153,7 @@ module _ {D T H A : Type 0} (reads : D → Option (List ℕ)) (may_leave : D →
   BegunWith = members_of setting.site.executors hosts answers
 
   abbrev HeardHere : List Entry → Type 0
-  HeardHere history = ∥ HeardOf left answers unread (lines history) ∥₁
+  HeardHere history = ∥ HeardOf left source_faults answers unread (lines history) ∥₁
 
   abbrev LifeSo : List (Member H A) → List (Turn H A) → List Entry → Type 0
   LifeSo new turns history = LifeOf honest faults calls launches dirs output exited left source_faults looks BegunWith new turns history

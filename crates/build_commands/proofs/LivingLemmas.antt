@@ -127,17 +127,25 @@ module _ {H A : Type 0} where
     not_more true is = refl
     not_more false is = absurd (cc)
 
-    operator_heard : (heard : List (List ℕ)) (answers next : A) (new : List (Member H A)) → Served (Operator answers [] false false ∷ []) new → AreHeard left heard (Operator answers [] false false ∷ []) new → answers_in new ≡ next ∷ [] → HeardOf left answers next heard
+    still_more : (ended : Bool) → not ended ≡ true → ended ≡ false
+    still_more true is = absurd (cc)
+    still_more false is = refl
+
+    not_true : (b : Bool) → (b ≡ true → ⊥) → b ≡ false
+    not_true true never = absurd (never refl)
+    not_true false never = refl
+
+    operator_heard : (heard : List (List ℕ)) (answers next : A) (new : List (Member H A)) → Served (Operator answers [] false false ∷ []) new → AreHeard left heard (Operator answers [] false false ∷ []) new → answers_in new ≡ next ∷ [] → HeardOf left faults answers next heard
     operator_heard heard answers next [] served told are = absurd served
     operator_heard heard answers next (Executor now host ∷ new) served told are = absurd served
     operator_heard heard answers next (Operator unread kept ended failed ∷ []) served told are =
         let so = told refl refl in
-        subst (λ (a : A). HeardOf left answers a heard) (same_answers unread next are)
-        (record { read = so.0; more = not ended; taken = so.1; at_end = λ is. served.0.at_end refl (not_more ended is); is = so.2 })
+        subst (λ (a : A). HeardOf left faults answers a heard) (same_answers unread next are)
+        (record { read = so.0; more = not ended; taken = so.1; at_end = λ is. served.0.at_end refl (not_more ended is); is = so.2; nothing_left = λ calm more. so.3 (not_true failed (λ bad. calm ((served.0.counts refl).failed bad))) (still_more ended more) })
     operator_heard heard answers next (Operator unread kept ended failed ∷ (m ∷ new)) served told are = absurd served.1
 
     crew_heard : (heard : List (List ℕ)) (xs : List SiteExecutor) (hosts : List H) (answers next : A) (new : List (Member H A)) → Served (members_of xs hosts answers) new → AreHeard left heard (members_of xs hosts answers) new
-        → answers_in new ≡ next ∷ [] → HeardOf left answers next heard
+        → answers_in new ≡ next ∷ [] → HeardOf left faults answers next heard
     crew_heard heard [] hosts answers next new served told are = operator_heard heard answers next new served told are
     crew_heard heard (x ∷ xs) [] answers next new served told are = operator_heard heard answers next new served told are
     crew_heard heard (x ∷ xs) (host ∷ hosts) answers next [] served told are = absurd served
@@ -145,7 +153,7 @@ module _ {H A : Type 0} where
     crew_heard heard (x ∷ xs) (host ∷ hosts) answers next (Operator unread kept ended failed ∷ new) served told are = absurd served
 
     pub rest_heard : (heard : List (List ℕ)) (xs : List SiteExecutor) (hosts : List H) (answers next : A) (new : List (Member H A)) → Served (members_of xs hosts answers) new → answers_in new ≡ next ∷ []
-        → (ended : Result Rest TakeFault) → IfOk ended (λ rest. ∥ AreHeard left heard (members_of xs hosts answers) new ∥₁) → IfOk ended (λ rest. ∥ HeardOf left answers next heard ∥₁)
+        → (ended : Result Rest TakeFault) → IfOk ended (λ rest. ∥ AreHeard left heard (members_of xs hosts answers) new ∥₁) → IfOk ended (λ rest. ∥ HeardOf left faults answers next heard ∥₁)
     rest_heard heard xs hosts answers next new served are (Ok rest) told = ∥∥₁_map told (λ t. crew_heard heard xs hosts answers next new served t are)
     rest_heard heard xs hosts answers next new served are (Err fault) told = tt
 

@@ -2,8 +2,10 @@
 use Rattle.std.specs.Prelude.{◌≡◌, ◌⊎◌, ◌++◌, ◌∷◌, ℕ, ℤ, nat_eq, Bool, List, [], Option, true, false}
 use Rattle.std.specs.Io.KnownBytes.{Consumes, IsAtEnd}
 use Rattle.std.specs.List.{AllByRecursion as AllAre, AllZip, IsDistinct}
+use Rattle.device_faults.specs.Faults.{Rose}
 use Rattle.task_host.specs.declared.call.Call.{Call}
 use Rattle.task_host.specs.declared.order.Stream.{Stream}
+use Rattle.agent_worker.specs.AnswerBytes.{begun_after}
 use Rattle.agent_worker.specs.declared.member.Member.{Member}
 use Rattle.agent_worker.specs.Gate.{Claimed as ClaimedTask}
 use Rattle.model_run.specs.declared.event.Event.{Event}
@@ -32,13 +34,14 @@ abbrev pub HostsStay : {H : Type 0} → (H → Type 0) → (H → ℕ) → (H �
 HostsStay honest faults calls hosts rest = AllZip (λ host now. HostStays (honest host) (honest now) (faults host) (faults now) (calls host) (calls now)) hosts rest
 
 -- What was read of the answers, and that these lines were heard of it: the whole lines, each of at most 1,024 bytes, and the last one, where the answers ended
--- within it. Where they may have no more, they are at their end.
-pub record HeardOf {A : Type 0} (left : A → Option (List ℕ)) (answers unread : A) (heard : List (List ℕ)) : Type 0 where
+-- within it. Where they may have no more, they are at their end; else nothing of another line was read, where their source counted no fault.
+pub record HeardOf {A : Type 0} (left : A → Option (List ℕ)) (faults : A → ℕ) (answers unread : A) (heard : List (List ℕ)) : Type 0 where
   pub read : List ℕ
   pub more : Bool
   pub taken : Consumes (left answers) (left unread) read
   pub at_end : more ≡ false → IsAtEnd (left unread)
   pub is : heard ≡ heard_in read more
+  pub nothing_left : ¬ (Rose (faults answers) (faults unread)) → more ≡ true → begun_after [] read ≡ []
 
 module _ {H A : Type 0} (honest : H → Type 0) (faults : H → ℕ) (calls : H → Option (List Call)) (launches dirs : H → List ℕ) (output : H → ℕ → Stream → List ℕ) (exited : H → ℕ → Option ℤ)
     (left : A → Option (List ℕ)) (source_faults : A → ℕ) (looks : ℕ) where
@@ -104,5 +107,5 @@ module _ {D H A : Type 0} (reads : D → Option (List ℕ)) (may_leave : D → L
         (LivedBy honest faults calls launches dirs output exited left source_faults looks setting before lived)
         (ComesBy honest faults calls launches dirs output exited left source_faults looks setting lived.turns)
         (λ events. RestsWith Waits setting (world_in setting events) lived.new) (λ events. RestsWith AnswersFailed setting (world_in setting events) lived.new)
-        (∥ HeardOf left answers unread (lines lived.history) ∥₁)
+        (∥ HeardOf left source_faults answers unread (lines lived.history) ∥₁)
         setting entry origin before disk disk_before disk_after (source_faults answers) (source_faults unread) written now sink_before sink_after status

@@ -120,7 +120,7 @@ module _ {D H A : Type 0} (v : Devices D H A) (told_image : (d : D) → IfSome (
     not_shown events risked breaks run = absurd (says_unrun (breaks_say breaks) run)
 
     broke : {n : ℕ} {text : List ℕ} → BreaksSo n text → Gone n
-    broke (finish.answers_failed {events = events} made rests rose) = of_made 6 (λ calm. refl) (not_shown events None (finish.answers_failed made rests heard rose)) made
+    broke (finish.answers_failed {events = events} made rests heard rose) = of_made 6 (λ calm. refl) (not_shown events None (finish.answers_failed made rests heard rose)) made
     broke (finish.disk_failed {events = events} {risked = risked} made going rose) = of_made 5 (λ calm. absurd (calm (rose_here rose))) (not_shown events risked (finish.disk_failed made going rose)) made
     broke (finish.full {events = events} len add made going is) = of_made 14 (λ calm. refl) (not_shown events None (finish.full len add made going is)) made
     broke (finish.no_memory {events = events} made) = of_made 8 (λ calm. refl) (not_shown events None (finish.no_memory made)) made
@@ -155,6 +155,7 @@ module _ {D H A : Type 0} (v : Devices D H A) (told_image : (d : D) → IfSome (
     -- one that rests has its log
     rests_delivered : {events : List Event} {n : ℕ} → RestsSo events
         → writing.Writes c.old c.new c.sink_before c.sink_after (world_in setting events).shared.log (world_status (world_in setting events)) n → n ≡ c.status → (more : List Event) × Delivers v setting before (before ++ more) c
+    unfolding takes_of
     rests_delivered {events = events} rests writes is =
         let so = goes_more rests.made.takes.goes in (
           so.0,

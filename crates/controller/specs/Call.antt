@@ -145,7 +145,7 @@ module _ {D H A : Type 0} (v : Devices D H A) where
 
   -- What was read of the answers in that life, and that the lines of its history are those that were read.
   abbrev pub HeardIn : (setting : Setting) → (c : Call D H A) → LifeIn setting c → Type 0
-  HeardIn setting c life = ∥ HeardOf v.left c.answers c.answers_now (lines life.history) ∥₁
+  HeardIn setting c life = ∥ HeardOf v.left v.source_faults c.answers c.answers_now (lines life.history) ∥₁
 
   -- nobody goes on with the build: no grant is due, no task is open, and no input is open or the answers were read to their end
   pub record IsIdle (setting : Setting) (events : List Event) (c : Call D H A) : Type 0 where
