@@ -1,6 +1,6 @@
 -- How a command ends that lets a build go on, put together.
 use Rattle.std.proofs.Common.{◌≡◌, ◌⊎◌, ◌+◌, ◌<◌, ◌^◌, ◌∙◌, ℕ, ℤ, List, [], ◌∷◌, ◌++◌, Option, Some, None, Result, Ok, Err, inl, inr, refl, sym, ap, subst}
-use Rattle.std.specs.Prelude.{Bool, true, false, IfErr, IfSome, IsSomeAnd, if◌then◌else◌}
+use Rattle.std.specs.Prelude.{Bool, true, false, IfErr, IfOk, IfSome, IsSomeAnd, if◌then◌else◌}
 use Rattle.std.proofs.Props.{props}
 use Rattle.std.proofs.Math.Logic.{∥∥₁_elim}
 use Rattle.device_faults.specs.Faults.{CountsFault, Rose}
@@ -24,6 +24,7 @@ use Rattle.saved_run.specs.Lives.{image_after, IsFull as IsFullOf, IsNext, Lasts
 use Rattle.saved_run.specs.Saved.{Stores, Survives}
 use Rattle.saved_run.proofs.LifeLemmas.{saved_image}
 use Rattle.site_state.specs.declared.ask.Entry.{Entry}
+use Rattle.site_state.specs.Histories.{lines}
 use Rattle.site_life.specs.Turns.{Turn}
 use Rattle.site_run.specs.Ending.{RestsWith}
 use Rattle.site_run.specs.Lives.{BreaksBehind, EndsBehind}
@@ -32,7 +33,7 @@ use Rattle.build_commands.specs.declared.refusal.Refusal.TheVariants.{DiskFailed
 use Rattle.build_commands.specs.Refusals.{SaysTake, refusal_status, refusal_text}
 use Rattle.build_commands.specs.Finishing.{ComesNext, Made, Breaks, answers_failed, disk_failed, full, no_memory, Finishes, by_rest, by_break, TellsEnd, TellsRest}
 use Rattle.site_crew.specs.Crews.{answers_in, hosts_in, members_of, others_of}
-use Rattle.build_commands.specs.Living.{ComesBy, Finished, IsRefused, LifeOf, TakesBy}
+use Rattle.build_commands.specs.Living.{ComesBy, Finished, HeardOf, IsRefused, LifeOf, TakesBy}
 use Rattle.build_commands.specs.Reporting.{Reports}
 use Rattle.build_commands.specs.Reporting as report
 use Rattle.build_commands.specs.Texts.{full_text, out_of_memory_text}
@@ -58,7 +59,7 @@ at_some o e P is all = subst (λ (x : Option Event). IfSome x P) is all
 module _ {D T H A : Type 0} (reads : D → Option (List ℕ)) (may_leave : D → List ℕ → Type 0) (clock : D → ℕ) (since : D → ℕ → List ℕ → Type 0) (stance : T → Stance)
     (honest : H → Type 0) (faults : H → ℕ) (calls : H → Option (List Call)) (launches dirs : H → List ℕ) (output : H → ℕ → Stream → List ℕ) (exited : H → ℕ → Option ℤ)
     (left : A → Option (List ℕ)) (source_faults : A → ℕ) (looks : ℕ)
-    (setting : Setting) (entry : Option (List ℕ)) (origin : D) (before : List Event) (old new : List (Member H A)) (turns : List (Turn H A)) (history : List Entry) (kept : Kept D T) where
+    (setting : Setting) (entry : Option (List ℕ)) (origin : D) (before : List Event) (old new : List (Member H A)) (turns : List (Turn H A)) (history : List Entry) (kept : Kept D T) (HeardSo : Type 0) where
   abbrev TakesSo : List Event → Type 0
   TakesSo = TakesBy honest faults calls launches dirs output exited left source_faults looks setting before old new turns history
 
@@ -75,7 +76,7 @@ module _ {D T H A : Type 0} (reads : D → Option (List ℕ)) (may_leave : D →
   NextSo = ComesNext ComesSo setting
 
   abbrev MadeSo : List Event → Option Event → Type 0
-  MadeSo = Made reads may_leave clock since TakesSo ComesSo IdlesSo UnheardSo setting entry origin before kept.journal.disk
+  MadeSo = Made reads may_leave clock since TakesSo ComesSo IdlesSo UnheardSo HeardSo setting entry origin before kept.journal.disk
 
   abbrev FailsSo : List Event → TakeFault → Type 0
   FailsSo now f = BreaksBehind reads may_leave clock since stance setting entry origin before (IsRefused honest faults calls launches dirs output exited left source_faults looks turns) now f kept
@@ -99,10 +100,10 @@ module _ {D T H A : Type 0} (reads : D → Option (List ℕ)) (may_leave : D →
 
   module _ (a b x y : ℕ) (wrote now_written : Option (List ℕ)) (c d : ℕ) where
     abbrev EndsSo : ℕ → Type 0
-    EndsSo status = Finishes reads may_leave clock since TakesSo ComesSo IdlesSo UnheardSo setting entry origin before kept.journal.disk a b x y wrote now_written c d status
+    EndsSo status = Finishes reads may_leave clock since TakesSo ComesSo IdlesSo UnheardSo HeardSo setting entry origin before kept.journal.disk a b x y wrote now_written c d status
 
     abbrev BreaksSo : ℕ → List ℕ → Type 0
-    BreaksSo = Breaks reads may_leave clock since TakesSo ComesSo IdlesSo UnheardSo setting entry origin before kept.journal.disk a b x y
+    BreaksSo = Breaks reads may_leave clock since TakesSo ComesSo IdlesSo UnheardSo HeardSo setting entry origin before kept.journal.disk a b x y
 
     broke : (r : Refusal) (status : ℕ) → status ≡ refusal_status r → BreaksSo (refusal_status r) (refusal_text r) → Tells wrote now_written c d (refusal_text r) → EndsSo status
     broke r status is breaks told = subst EndsSo (sym is) (by_break breaks told)
@@ -128,18 +129,18 @@ module _ {D T H A : Type 0} (reads : D → Option (List ℕ)) (may_leave : D →
         let next = some_next (IsNext setting now) (ComesSo now) k.fails.refused k.fails.is_next k.caused in
         absurd (at_some k.fails.refused next.0 (λ e. IsFullOf e (image_after setting (now ++ e ∷ [])) kept.journal.len take.Stopped) next.3 k.fails.full)
 
-    finishes_rested : (now : List Event) (status : ℕ) → MadeSo now None → ((world_in setting now).ended ≡ true) ⊎ IdlesSo now → StandsFor stance kept.build (world_in setting now) → TellsRest (StandsFor stance kept.build) wrote now_written c d status → EndsSo status
-    finishes_rested now status made rests stands told =
+    finishes_rested : (now : List Event) (status : ℕ) → HeardSo → MadeSo now None → ((world_in setting now).ended ≡ true) ⊎ IdlesSo now → StandsFor stance kept.build (world_in setting now) → TellsRest (StandsFor stance kept.build) wrote now_written c d status → EndsSo status
+    finishes_rested now status heard made rests stands told =
         let w = world_in setting now in
         let same = told.is w stands in
-        by_rest (record { made = made; rests = rests }) (subst (λ (n : ℕ). Writes wrote now_written c d w.shared.log n status) same.1 (subst (λ (l : List ℕ). Writes wrote now_written c d l told.ended status) same.0 told.wrote))
+        by_rest (record { made = made; rests = rests; heard = heard }) (subst (λ (n : ℕ). Writes wrote now_written c d w.shared.log n status) same.1 (subst (λ (l : List ℕ). Writes wrote now_written c d l told.ended status) same.0 told.wrote))
 
-    pub finishes_ended : (now : List Event) (ended : Result Rest TakeFault) (status : ℕ) → TakesSo now → EndsBehind reads may_leave clock since stance setting entry origin before (IsRefused honest faults calls launches dirs output exited left source_faults looks turns) now new kept ended
+    pub finishes_ended : (now : List Event) (ended : Result Rest TakeFault) (status : ℕ) → IfOk ended (λ rest. HeardSo) → TakesSo now → EndsBehind reads may_leave clock since stance setting entry origin before (IsRefused honest faults calls launches dirs output exited left source_faults looks turns) now new kept ended
         → TellsEnd (StandsFor stance kept.build) wrote now_written c d ended status → (ended ≡ Ok AnswersFailed → Rose x y) → (ended ≡ Err take.Disk → Rose a b) → EndsSo status
-    finishes_ended now (Ok Ended) status takes r told answers disk = finishes_rested now status (made_lasting now takes r.lasts) (inl r.rests) r.lasts.goes.stands told
-    finishes_ended now (Ok Waits) status takes r told answers disk = finishes_rested now status (made_lasting now takes r.lasts) (inr r.rests) r.lasts.goes.stands told
-    finishes_ended now (Ok AnswersFailed) status takes r told answers disk = subst EndsSo (sym told.0) (by_break (answers_failed (made_lasting now takes r.lasts) r.rests (answers refl)) told.1)
-    finishes_ended now (Err f) status takes k told answers disk = finishes_broken now f told.0 status takes k told.1 (λ e. disk (ap Err e)) told.2 told.3
+    finishes_ended now (Ok Ended) status heard takes r told answers disk = finishes_rested now status heard (made_lasting now takes r.lasts) (inl r.rests) r.lasts.goes.stands told
+    finishes_ended now (Ok Waits) status heard takes r told answers disk = finishes_rested now status heard (made_lasting now takes r.lasts) (inr r.rests) r.lasts.goes.stands told
+    finishes_ended now (Ok AnswersFailed) status heard takes r told answers disk = subst EndsSo (sym told.0) (by_break (answers_failed (made_lasting now takes r.lasts) r.rests heard (answers refl)) told.1)
+    finishes_ended now (Err f) status heard takes k told answers disk = finishes_broken now f told.0 status takes k told.1 (λ e. disk (ap Err e)) told.2 told.3
 
 module _ {D T H A : Type 0} (reads : D → Option (List ℕ)) (may_leave : D → List ℕ → Type 0) (clock : D → ℕ) (since : D → ℕ → List ℕ → Type 0) (stance : T → Stance) (disk_faults : D → ℕ)
     (honest : H → Type 0) (faults : H → ℕ) (calls : H → Option (List Call)) (launches dirs : H → List ℕ) (output : H → ℕ → Stream → List ℕ) (exited : H → ℕ → Option ℤ)
@@ -151,6 +152,9 @@ module _ {D T H A : Type 0} (reads : D → Option (List ℕ)) (may_leave : D →
   abbrev BegunWith : List (Member H A)
   BegunWith = members_of setting.site.executors hosts answers
 
+  abbrev HeardHere : List Entry → Type 0
+  HeardHere history = ∥ HeardOf left source_faults answers unread (lines history) ∥₁
+
   abbrev LifeSo : List (Member H A) → List (Turn H A) → List Entry → Type 0
   LifeSo new turns history = LifeOf honest faults calls launches dirs output exited left source_faults looks BegunWith new turns history
 
@@ -160,13 +164,13 @@ module _ {D T H A : Type 0} (reads : D → Option (List ℕ)) (may_leave : D →
   -- a life of members that ended so
   pub finished_by : (new : List (Member H A)) (turns : List (Turn H A)) (history : List Entry) (kept : Kept D T) (disk : D) → disk ≡ kept.journal.disk
       → LifeSo new turns history → rest ≡ hosts_in new ++ others_of setting.site.executors hosts → answers_in new ≡ unread ∷ []
-      → (now : List Event) (ended : Result Rest TakeFault) → TookSo new turns history now
+      → (now : List Event) (ended : Result Rest TakeFault) → IfOk ended (λ rest. HeardHere history) → TookSo new turns history now
       → EndsBehind reads may_leave clock since stance setting entry origin before (IsRefused honest faults calls launches dirs output exited left source_faults looks turns) now new kept ended
       → TellsEnd (StandsFor stance kept.build) wrote now_written c d ended status → (ended ≡ Ok AnswersFailed → Rose (source_faults answers) (source_faults unread)) → (ended ≡ Err take.Disk → Rose before_faults (disk_faults kept.journal.disk)) → FinishedSo disk
-  finished_by new turns history kept disk same life hosts_are answers_are now ended takes ends told failed rose = subst FinishedSo (sym same) (record {
+  finished_by new turns history kept disk same life hosts_are answers_are now ended heard takes ends told failed rose = subst FinishedSo (sym same) (record {
     lived = record { new = new; turns = turns; history = history; life = life; hosts_are = hosts_are; answers_are = answers_are };
-    finishes = finishes_ended reads may_leave clock since stance honest faults calls launches dirs output exited left source_faults looks setting entry origin before BegunWith new turns history kept before_faults (disk_faults kept.journal.disk) (source_faults answers) (source_faults unread)
-        wrote now_written c d now ended status takes ends told failed rose;
+    finishes = finishes_ended reads may_leave clock since stance honest faults calls launches dirs output exited left source_faults looks setting entry origin before BegunWith new turns history kept (HeardHere history) before_faults (disk_faults kept.journal.disk) (source_faults answers) (source_faults unread)
+        wrote now_written c d now ended status heard takes ends told failed rose;
   })
 
   -- there was no memory for the members, and nothing was done
@@ -174,9 +178,9 @@ module _ {D T H A : Type 0} (reads : D → Option (List ℕ)) (may_leave : D →
       → TookSo BegunWith [] [] before → Lasts reads may_leave clock since stance setting entry origin before before kept → status ≡ 8 → Tells wrote now_written c d out_of_memory_text → FinishedSo disk
   finished_wanting kept disk same life hosts_are answers_are takes lasts eight told = subst FinishedSo (sym same) (record {
     lived = record { new = BegunWith; turns = []; history = []; life = life; hosts_are = hosts_are; answers_are = answers_are };
-    finishes = subst (λ (n : ℕ). EndsSo reads may_leave clock since stance honest faults calls launches dirs output exited left source_faults looks setting entry origin before BegunWith BegunWith [] [] kept before_faults (disk_faults kept.journal.disk)
+    finishes = subst (λ (n : ℕ). EndsSo reads may_leave clock since stance honest faults calls launches dirs output exited left source_faults looks setting entry origin before BegunWith BegunWith [] [] kept (HeardHere []) before_faults (disk_faults kept.journal.disk)
         (source_faults answers) (source_faults unread) wrote now_written c d n) (sym eight)
-        (by_break (no_memory (made_lasting reads may_leave clock since stance honest faults calls launches dirs output exited left source_faults looks setting entry origin before BegunWith BegunWith [] [] kept before takes lasts)) told);
+        (by_break (no_memory (made_lasting reads may_leave clock since stance honest faults calls launches dirs output exited left source_faults looks setting entry origin before BegunWith BegunWith [] [] kept (HeardHere []) before takes lasts)) told);
   })
 
 less_prop : (m n : ℕ) → IsProp (m < n)

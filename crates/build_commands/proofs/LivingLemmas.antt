@@ -1,5 +1,7 @@
 -- The members of a build at the end of a life, and what became of them.
-use Rattle.std.proofs.Common.{◌≡◌, ◌∙◌, ◌++◌, ◌||◌, ℕ, ℤ, suc, Bool, true, false, List, [], ◌∷◌, Option, Result, length, take, drop, refl, sym, ap, subst, append-nil, arith}
+use Rattle.std.proofs.Common.{◌≡◌, ◌≤◌, ◌∙◌, ◌++◌, ◌||◌, ℕ, ℤ, suc, Bool, true, false, List, [], ◌∷◌, not, Option, Result, Ok, Err, length, take, drop, refl, sym, ap, subst, append-nil, arith}
+use Rattle.std.specs.Prelude.{IfOk}
+use Rattle.std.proofs.Math.Logic.{∥∥₁_map}
 use Rattle.std.proofs.Math.Seq.{take-append_seam}
 use Rattle.std.specs.Io.KnownBytes.{IsAtEnd}
 use Rattle.std.specs.List.{AllZip, IsDistinct}
@@ -22,15 +24,17 @@ use Rattle.settle_laws.specs.Stances.{Stance}
 use Rattle.launch_laws.proofs.LifeLaws.{all_fit_more}
 use Rattle.site_state.specs.declared.ask.Entry.{Entry}
 use Rattle.site_life.specs.Turns.{DidTurn, Turn}
+use Rattle.site_life.specs.Waiting.{operators}
 use Rattle.site_life.specs.Ways.{Way}
 use Rattle.site_run.specs.Ending.{AllReadOut, any_failed}
 use Rattle.site_run.specs.Going.{begins}
 use Rattle.site_run.specs.Lives.{Ends, OpeningBreaks}
 use Rattle.site_run.specs.Serving.{AreServed, ReadOn, hosts_of}
+use Rattle.site_run.specs.Telling.{AreHeard}
 use Rattle.site_run.proofs.MemberLemmas.{all_came, all_served}
 use Rattle.site_run.proofs.WalkLemmas.{of_tree, small}
 use Rattle.site_crew.specs.Crews.{answers_in, hosts_in, IsCrew, members_of, others_of}
-use Rattle.build_commands.specs.Living.{HostsStay, LifeOf, TakesBy}
+use Rattle.build_commands.specs.Living.{HeardOf, HostsStay, LifeOf, TakesBy}
 
 same_answers : {A : Type 0} (a b : A) → a ∷ [] ≡ b ∷ [] → a ≡ b
 same_answers a b is = cc
@@ -49,6 +53,11 @@ module _ {H A : Type 0} where
   one_answer [] hosts answers = refl
   one_answer (x ∷ xs) [] answers = refl
   one_answer (x ∷ xs) (host ∷ hosts) answers = one_answer xs hosts answers
+
+  pub one_operator : (xs : List SiteExecutor) (hosts : List H) (answers : A) → operators (members_of xs hosts answers) ≤ 1
+  one_operator [] hosts answers = omega arith
+  one_operator (x ∷ xs) [] answers = omega arith
+  one_operator (x ∷ xs) (host ∷ hosts) answers = one_operator xs hosts answers
 
   pub is_crew : (xs : List SiteExecutor) (hosts : List H) (answers : A) → IsCrew (members_of xs hosts answers)
   is_crew [] hosts answers = refl
@@ -112,6 +121,41 @@ module _ {H A : Type 0} where
     crew_read xs hosts answers next new served are out =
         let came = crew_came xs hosts answers next new served are in
         came.reads.at_end refl (came.read_out out)
+
+    -- what was heard of the answers
+    not_more : (ended : Bool) → not ended ≡ false → ended ≡ true
+    not_more true is = refl
+    not_more false is = absurd (cc)
+
+    still_more : (ended : Bool) → not ended ≡ true → ended ≡ false
+    still_more true is = absurd (cc)
+    still_more false is = refl
+
+    not_true : (b : Bool) → (b ≡ true → ⊥) → b ≡ false
+    not_true true never = absurd (never refl)
+    not_true false never = refl
+
+    operator_heard : (heard : List (List ℕ)) (answers next : A) (new : List (Member H A)) → Served (Operator answers [] false false ∷ []) new → AreHeard left heard (Operator answers [] false false ∷ []) new → answers_in new ≡ next ∷ [] → HeardOf left faults answers next heard
+    operator_heard heard answers next [] served told are = absurd served
+    operator_heard heard answers next (Executor now host ∷ new) served told are = absurd served
+    operator_heard heard answers next (Operator unread kept ended failed ∷ []) served told are =
+        let so = told refl refl in
+        subst (λ (a : A). HeardOf left faults answers a heard) (same_answers unread next are)
+        (record { read = so.0; more = not ended; taken = so.1; at_end = λ is. served.0.at_end refl (not_more ended is); is = so.2; nothing_left = λ calm more. so.3 (not_true failed (λ bad. calm ((served.0.counts refl).failed bad))) (still_more ended more) })
+    operator_heard heard answers next (Operator unread kept ended failed ∷ (m ∷ new)) served told are = absurd served.1
+
+    crew_heard : (heard : List (List ℕ)) (xs : List SiteExecutor) (hosts : List H) (answers next : A) (new : List (Member H A)) → Served (members_of xs hosts answers) new → AreHeard left heard (members_of xs hosts answers) new
+        → answers_in new ≡ next ∷ [] → HeardOf left faults answers next heard
+    crew_heard heard [] hosts answers next new served told are = operator_heard heard answers next new served told are
+    crew_heard heard (x ∷ xs) [] answers next new served told are = operator_heard heard answers next new served told are
+    crew_heard heard (x ∷ xs) (host ∷ hosts) answers next [] served told are = absurd served
+    crew_heard heard (x ∷ xs) (host ∷ hosts) answers next (Executor now h ∷ new) served told are = crew_heard heard xs hosts answers next new served.1 told are
+    crew_heard heard (x ∷ xs) (host ∷ hosts) answers next (Operator unread kept ended failed ∷ new) served told are = absurd served
+
+    pub rest_heard : (heard : List (List ℕ)) (xs : List SiteExecutor) (hosts : List H) (answers next : A) (new : List (Member H A)) → Served (members_of xs hosts answers) new → answers_in new ≡ next ∷ []
+        → (ended : Result Rest TakeFault) → IfOk ended (λ rest. ∥ AreHeard left heard (members_of xs hosts answers) new ∥₁) → IfOk ended (λ rest. ∥ HeardOf left faults answers next heard ∥₁)
+    rest_heard heard xs hosts answers next new served are (Ok rest) told = ∥∥₁_map told (λ t. crew_heard heard xs hosts answers next new served t are)
+    rest_heard heard xs hosts answers next new served are (Err fault) told = tt
 
     -- each host is at its place, and those that no member had are as they were
     pub stay_same : (hosts : List H) → HostsStay honest host_faults calls hosts hosts
@@ -177,6 +221,8 @@ module _ {H A : Type 0} (honest : H → Type 0) (faults : H → ℕ) (calls : H 
     are_grants = tt;
     is = sym (append-nil (before ++ []) ∙ append-nil before);
     claims = tt;
+    orders = tt;
+    in_time = tt;
     fits = λ are fit. fit;
     fits_next = λ are fit e accepted.
         all_fit_more setting (tree_node proper.tree) (of_tree stance setting proper) (small stance setting proper) before (e ∷ []) (hosts_of launches dirs members) begun (record { begun = begun; accepted = accepted }, tt) fit;
@@ -194,6 +240,8 @@ module _ {H A : Type 0} (honest : H → Type 0) (faults : H → ℕ) (calls : H 
     are_grants = b.are_grants;
     is = sym (append-nil (events ++ b.granted));
     claims = tt;
+    orders = tt;
+    in_time = tt;
     fits = λ are fit. b.fits (hosts_of launches dirs members) fit;
     fits_next = λ are fit e accepted. b.fits_next (hosts_of launches dirs members) fit e accepted;
     others = b.fits;
@@ -203,14 +251,16 @@ module _ {H A : Type 0} (honest : H → Type 0) (faults : H → ℕ) (calls : H 
   -- those of a life that was led
   pub life_events : {D T : Type 0} (reads : D → Option (List ℕ)) (may_leave : D → List ℕ → Type 0) (clock : D → ℕ) (since : D → ℕ → List ℕ → Type 0) (stance : T → Stance) (turns : List (Turn H A)) (setting : Setting) (entry : Option (List ℕ)) (origin : D)
       (before events : List Event) (old new : List (Member H A)) (history : List Entry) (kept : Kept D T) (ended : Result Rest TakeFault)
-      (e : Ends reads may_leave clock since stance honest faults calls launches dirs output exited left source_faults looks turns setting entry origin before events old new history kept ended) → (world_in setting events).started ≡ true → TakesSo setting events old new turns history e.now
-  life_events reads may_leave clock since stance turns setting entry origin before events old new history kept ended e begun = record {
+      (e : Ends reads may_leave clock since stance honest faults calls launches dirs output exited left source_faults looks turns setting entry origin before events old new history kept ended) → (world_in setting events).started ≡ true → operators old ≤ 1 → TakesSo setting events old new turns history e.now
+  life_events reads may_leave clock since stance turns setting entry origin before events old new history kept ended e begun one = record {
     begun = begun;
     goes = e.goes;
     granted = e.granted;
     are_grants = e.are_grants;
     is = e.is;
     claims = e.claims;
+    orders = e.orders;
+    in_time = e.in_time one;
     fits = e.fits;
     fits_next = e.fits_next;
     others = e.others;

@@ -33,10 +33,10 @@ pub record IsFull (Comes : List Event → Event → Type 0) (setting : Setting) 
   pub adds : add ≡ added event (image_after setting (events ++ event ∷ []))
   pub length_is : IsSome entry → IfSome now (λ file. len ≡ journal_length file)
 
--- What a life is, is open here: which events it may have taken, why one comes next behind them, and behind which nobody goes on, or the answers could not be
--- read.
+-- What a life is, is open here: which events it may have taken, why one comes next behind them, behind which nobody goes on, or the answers could not be
+-- read; and what was heard of the answers.
 module _ {D : Type 0} (reads : D → Option (List ℕ)) (may_leave : D → List ℕ → Type 0) (clock : D → ℕ) (since : D → ℕ → List ℕ → Type 0)
-    (Takes : List Event → Type 0) (Comes : List Event → Event → Type 0) (Idles Unheard : List Event → Type 0) (setting : Setting) (entry : Option (List ℕ)) (origin : D) (before : List Event) (disk : D) where
+    (Takes : List Event → Type 0) (Comes : List Event → Event → Type 0) (Idles Unheard : List Event → Type 0) (Heard : Type 0) (setting : Setting) (entry : Option (List ℕ)) (origin : D) (before : List Event) (disk : D) where
   -- What a life has taken: these events; perhaps, where the disk failed, the next one is on it too. Where the disk told its bytes, which `entry` is, a crash
   -- since `origin`, over which there were the events from before, leaves the first of them; one now leaves all of them; or, both, them and that one.
   pub record Made (events : List Event) (risked : Option Event) : Type 0 where
@@ -49,10 +49,11 @@ module _ {D : Type 0} (reads : D → Option (List ℕ)) (may_leave : D → List 
   pub record Rests (events : List Event) : Type 0 where
     pub made : Made events None
     pub rests : ((world_in setting events).ended ≡ true) ⊎ Idles events
+    pub heard : Heard
 
   -- It cannot go on. Want of memory may come behind the end of the build too.
   pub data Breaks (disk_before disk_after answers_before answers_after : ℕ) : ℕ → List ℕ → Type 0 where
-    answers_failed : {events : List Event} → Made events None → Unheard events → Rose answers_before answers_after → Breaks disk_before disk_after answers_before answers_after 6 read_failed_text
+    answers_failed : {events : List Event} → Made events None → Unheard events → Heard → Rose answers_before answers_after → Breaks disk_before disk_after answers_before answers_after 6 read_failed_text
     disk_failed : {events : List Event} {risked : Option Event} → Made events risked → (world_in setting events).ended ≡ false → Rose disk_before disk_after → Breaks disk_before disk_after answers_before answers_after 5 disk_failed_text
     full : {events : List Event} (len add : ℕ) → Made events None → (world_in setting events).ended ≡ false → IsFull Comes setting entry (reads disk) events len add → Breaks disk_before disk_after answers_before answers_after 14 (full_text len add)
     no_memory : {events : List Event} → Made events None → Breaks disk_before disk_after answers_before answers_after 8 out_of_memory_text

@@ -1,8 +1,11 @@
 -- The life of a build with its members, as a command sees it that lets it go on (this product's own).
-use Rattle.std.specs.Prelude.{◌≡◌, ◌⊎◌, ◌++◌, ◌∷◌, ℕ, ℤ, nat_eq, List, [], Option, true, false}
+use Rattle.std.specs.Prelude.{◌≡◌, ◌⊎◌, ◌++◌, ◌∷◌, ℕ, ℤ, nat_eq, Bool, List, [], Option, true, false}
+use Rattle.std.specs.Io.KnownBytes.{Consumes, IsAtEnd}
 use Rattle.std.specs.List.{AllByRecursion as AllAre, AllZip, IsDistinct}
+use Rattle.device_faults.specs.Faults.{Rose}
 use Rattle.task_host.specs.declared.call.Call.{Call}
 use Rattle.task_host.specs.declared.order.Stream.{Stream}
+use Rattle.agent_worker.specs.AnswerBytes.{begun_after}
 use Rattle.agent_worker.specs.declared.member.Member.{Member}
 use Rattle.agent_worker.specs.Gate.{Claimed as ClaimedTask}
 use Rattle.model_run.specs.declared.event.Event.{Event}
@@ -17,9 +20,11 @@ use Rattle.site_state.specs.declared.ask.Entry.{Entry}
 use Rattle.site_state.specs.Histories.{lines, tooks}
 use Rattle.site_gate.specs.Tales.{claimed_of, is_grant}
 use Rattle.site_life.specs.Turns.{DidTurn, Explains, HoldsOfOne, Turn, launches_of}
+use Rattle.site_life.specs.Coming.{EachIs}
 use Rattle.site_life.specs.Ways.{Way}
 use Rattle.site_run.specs.Ending.{RestsWith}
-use Rattle.site_run.specs.Going.{Comes, GoesBy}
+use Rattle.site_run.specs.Going.{Comes, GoesBy, heard_in}
+use Rattle.site_run.specs.Telling.{HeardInTime, IsOrderOf, orders_in}
 use Rattle.site_run.specs.Serving.{AllFit, AreHonest, AreServed, HostStays}
 use Rattle.site_crew.specs.Crews.{answers_in, hosts_in, members_of, others_of}
 use Rattle.build_commands.specs.Finishing.{Finishes}
@@ -27,6 +32,16 @@ use Rattle.build_commands.specs.Finishing.{Finishes}
 -- Each host comes back at its place: honest where it was, its count of faults not lower, and with its calls behind those from before.
 abbrev pub HostsStay : {H : Type 0} → (H → Type 0) → (H → ℕ) → (H → Option (List Call)) → List H → List H → Type 0
 HostsStay honest faults calls hosts rest = AllZip (λ host now. HostStays (honest host) (honest now) (faults host) (faults now) (calls host) (calls now)) hosts rest
+
+-- What was read of the answers, and that these lines were heard of it: the whole lines, each of at most 1,024 bytes, and the last one, where the answers ended
+-- within it. Where they may have no more, they are at their end; else nothing of another line was read, where their source counted no fault.
+pub record HeardOf {A : Type 0} (left : A → Option (List ℕ)) (faults : A → ℕ) (answers unread : A) (heard : List (List ℕ)) : Type 0 where
+  pub read : List ℕ
+  pub more : Bool
+  pub taken : Consumes (left answers) (left unread) read
+  pub at_end : more ≡ false → IsAtEnd (left unread)
+  pub is : heard ≡ heard_in read more
+  pub nothing_left : ¬ (Rose (faults answers) (faults unread)) → more ≡ true → begun_after [] read ≡ []
 
 module _ {H A : Type 0} (honest : H → Type 0) (faults : H → ℕ) (calls : H → Option (List Call)) (launches dirs : H → List ℕ) (output : H → ℕ → Stream → List ℕ) (exited : H → ℕ → Option ℤ)
     (left : A → Option (List ℕ)) (source_faults : A → ℕ) (looks : ℕ) where
@@ -48,7 +63,7 @@ module _ {H A : Type 0} (honest : H → Type 0) (faults : H → ℕ) (calls : H 
 
   -- A life from these events on, with which its build had begun: by grants that were due, by what executors reported with their cause, and by the decisions of the lines that were heard. Those
   -- at its end are those at its beginning, the grants that a stop had left out, and those of the history. Each task was claimed while it was open, for its
-  -- executor. The members' hosts, where they are honest, and all others fit the events at the end, and with one event more that is accepted, where they fitted
+  -- executor, and each order that an executor got is that of a task which was open then; each line was heard only where an input was open since the line before it. The members' hosts, where they are honest, and all others fit the events at the end, and with one event more that is accepted, where they fitted
   -- those at the beginning.
   pub record TakesBy (setting : Setting) (before : List Event) (old new : List (Member H A)) (turns : List (Turn H A)) (history : List Entry) (events : List Event) : Type 0 where
     pub begun : (world_in setting before).started ≡ true
@@ -57,6 +72,8 @@ module _ {H A : Type 0} (honest : H → Type 0) (faults : H → ℕ) (calls : H 
     pub are_grants : AllAre (λ e. is_grant e ≡ true) granted
     pub is : events ≡ (before ++ granted) ++ tooks history
     pub claims : AllAre (λ (c : ClaimedTask). InLife setting (before ++ granted) (tooks history) c.executor c.task) (claimed_of history)
+    pub orders : AllAre (λ (turn : Turn H A). AllAre (IsOrderOf setting (before ++ granted) (tooks history)) (orders_in turn.calls)) turns
+    pub in_time : EachIs (HeardInTime setting (before ++ granted)) [] history
     pub fits : AreHonest honest old → AllFit launches dirs setting before old → AllFit launches dirs setting events new
     pub fits_next : AreHonest honest old → AllFit launches dirs setting before old → (e : Event) → answer_to setting (world_in setting events) e ≡ Accepted → AllFit launches dirs setting (events ++ e ∷ []) new
     pub others : (hosts : List ExecutorHost) → fitting.AllFit setting before hosts → fitting.AllFit setting events hosts
@@ -90,4 +107,5 @@ module _ {D H A : Type 0} (reads : D → Option (List ℕ)) (may_leave : D → L
         (LivedBy honest faults calls launches dirs output exited left source_faults looks setting before lived)
         (ComesBy honest faults calls launches dirs output exited left source_faults looks setting lived.turns)
         (λ events. RestsWith Waits setting (world_in setting events) lived.new) (λ events. RestsWith AnswersFailed setting (world_in setting events) lived.new)
+        (∥ HeardOf left source_faults answers unread (lines lived.history) ∥₁)
         setting entry origin before disk disk_before disk_after (source_faults answers) (source_faults unread) written now sink_before sink_after status

@@ -18,7 +18,7 @@ use Rattle.build_commands.specs.Finishing as finish
 use Rattle.build_commands.specs.Living.{LivedBy}
 use Rattle.build_commands.specs.Writing as writing
 use Rattle.build_commands.proofs.LivingLemmas.{crew_read}
-use Rattle.controller.specs.Call.{Call, ComesIn, Devices, IsIdle, LifeIn, Takes, Tells}
+use Rattle.controller.specs.Call.{Call, ComesIn, Devices, HeardIn, IsIdle, LifeIn, Takes, Tells}
 use Rattle.controller.specs.Causes.{Stops, ended, waits, cut, unheard, disk_failed, full, no_memory, WentOn}
 use Rattle.controller.specs.Output as output
 use Rattle.controller.specs.Output.{Says, Delivers}
@@ -83,18 +83,21 @@ module _ {D H A : Type 0} (v : Devices D H A) (told_image : (d : D) → IfSome (
     abbrev UnheardSo : List Event → Type 0
     UnheardSo events = RestsWith why.AnswersFailed setting (world_in setting events) life.new
 
+    abbrev HeardSo : Type 0
+    HeardSo = HeardIn v setting c life
+
     abbrev MadeSo : List Event → Option Event → Type 0
-    MadeSo events risked = Made v.reads v.may_leave v.clock v.since TakesSo ComesSo IdlesSo UnheardSo setting (v.reads c.disk) origin before c.now events risked
+    MadeSo events risked = Made v.reads v.may_leave v.clock v.since TakesSo ComesSo IdlesSo UnheardSo HeardSo setting (v.reads c.disk) origin before c.now events risked
 
     abbrev RestsSo : List Event → Type 0
-    RestsSo events = Rests v.reads v.may_leave v.clock v.since TakesSo ComesSo IdlesSo UnheardSo setting (v.reads c.disk) origin before c.now events
+    RestsSo events = Rests v.reads v.may_leave v.clock v.since TakesSo ComesSo IdlesSo UnheardSo HeardSo setting (v.reads c.disk) origin before c.now events
 
     abbrev BreaksSo : ℕ → List ℕ → Type 0
-    BreaksSo n text = Breaks v.reads v.may_leave v.clock v.since TakesSo ComesSo IdlesSo UnheardSo setting (v.reads c.disk) origin before c.now
+    BreaksSo n text = Breaks v.reads v.may_leave v.clock v.since TakesSo ComesSo IdlesSo UnheardSo HeardSo setting (v.reads c.disk) origin before c.now
         (v.faults origin) (v.faults c.now) (v.source_faults c.answers) (v.source_faults c.answers_now) n text
 
     abbrev FinishesSo : ℕ → Type 0
-    FinishesSo n = Finishes v.reads v.may_leave v.clock v.since TakesSo ComesSo IdlesSo UnheardSo setting (v.reads c.disk) origin before c.now
+    FinishesSo n = Finishes v.reads v.may_leave v.clock v.since TakesSo ComesSo IdlesSo UnheardSo HeardSo setting (v.reads c.disk) origin before c.now
         (v.faults origin) (v.faults c.now) (v.source_faults c.answers) (v.source_faults c.answers_now) c.old c.new c.sink_before c.sink_after n
 
     takes_of : {events : List Event} {risked : Option Event} → MadeSo events risked → Takes v setting before events c
@@ -107,7 +110,7 @@ module _ {D H A : Type 0} (v : Devices D H A) (told_image : (d : D) → IfSome (
         record { taken = events; more = so.0; is = so.1; risked = risked; takes = takes_of made; next = made.next; moments = made.moments; images = made.images; sure = sure; shown = shown }
 
     breaks_say : {n : ℕ} {text : List ℕ} → BreaksSo n text → Says n text
-    breaks_say (finish.answers_failed made rests rose) = output.read_failed
+    breaks_say (finish.answers_failed made rests heard rose) = output.read_failed
     breaks_say (finish.disk_failed made going rose) = output.disk_failed
     breaks_say (finish.full len add made going is) = output.full len add is.too_long
     breaks_say (finish.no_memory made) = output.no_memory
@@ -117,7 +120,7 @@ module _ {D H A : Type 0} (v : Devices D H A) (told_image : (d : D) → IfSome (
     not_shown events risked breaks run = absurd (says_unrun (breaks_say breaks) run)
 
     broke : {n : ℕ} {text : List ℕ} → BreaksSo n text → Gone n
-    broke (finish.answers_failed {events = events} made rests rose) = of_made 6 (λ calm. refl) (not_shown events None (finish.answers_failed made rests rose)) made
+    broke (finish.answers_failed {events = events} made rests heard rose) = of_made 6 (λ calm. refl) (not_shown events None (finish.answers_failed made rests heard rose)) made
     broke (finish.disk_failed {events = events} {risked = risked} made going rose) = of_made 5 (λ calm. absurd (calm (rose_here rose))) (not_shown events risked (finish.disk_failed made going rose)) made
     broke (finish.full {events = events} len add made going is) = of_made 14 (λ calm. refl) (not_shown events None (finish.full len add made going is)) made
     broke (finish.no_memory {events = events} made) = of_made 8 (λ calm. refl) (not_shown events None (finish.no_memory made)) made
@@ -152,12 +155,14 @@ module _ {D H A : Type 0} (v : Devices D H A) (told_image : (d : D) → IfSome (
     -- one that rests has its log
     rests_delivered : {events : List Event} {n : ℕ} → RestsSo events
         → writing.Writes c.old c.new c.sink_before c.sink_after (world_in setting events).shared.log (world_status (world_in setting events)) n → n ≡ c.status → (more : List Event) × Delivers v setting before (before ++ more) c
+    unfolding takes_of
     rests_delivered {events = events} rests writes is =
         let so = goes_more rests.made.takes.goes in (
           so.0,
           subst (λ (es : List Event). Delivers v setting before es c) so.1 (record {
             takes = takes_of rests.made;
             rests = done_so rests;
+            heard = rests.heard;
             log = subst (λ (m : ℕ). writing.Writes c.old c.new c.sink_before c.sink_after (world_in setting events).shared.log (world_status (world_in setting events)) m) is writes;
             stores = stored rests.made;
             durable = durable rests.made;
@@ -169,9 +174,9 @@ module _ {D H A : Type 0} (v : Devices D H A) (told_image : (d : D) → IfSome (
     delivers (finish.by_break breaks tells) is run = absurd (says_unrun (breaks_say breaks) run)
 
     -- why it stopped
-    rest_stops : (events : List Event) → ((world_in setting events).ended ≡ true) ⊎ IsIdle v setting events c → Stops v setting events c life (world_status (world_in setting events))
-    rest_stops events (inl done) = ended done
-    rest_stops events (inr idle) = subst (Stops v setting events c life) (sym (going_status (world_in setting events) idle.going)) (waits idle)
+    rest_stops : (events : List Event) → HeardSo → ((world_in setting events).ended ≡ true) ⊎ IsIdle v setting events c → Stops v setting events c life (world_status (world_in setting events))
+    rest_stops events heard (inl done) = ended done heard
+    rest_stops events heard (inr idle) = subst (Stops v setting events c life) (sym (going_status (world_in setting events) idle.going)) (waits idle heard)
 
     went_so : {events : List Event} {risked : Option Event} (n : ℕ) → MadeSo events risked → ImagesSo life events n → Stops v setting events c life n → Went n
     unfolding takes_of
@@ -190,8 +195,8 @@ module _ {D H A : Type 0} (v : Devices D H A) (told_image : (d : D) → IfSome (
         one (Some e) next (inr with_it) = inr (five, e, next, with_it)
 
     breaks_went : {n : ℕ} {text : List ℕ} → BreaksSo n text → Tells text c → Went n
-    breaks_went (finish.answers_failed made rests rose) tells =
-        went_so 6 made (λ known image left. inl (durable made known image left)) (unheard (record { going = rests.0; granted = rests.1; no_task = rests.2; waits = rests.3 }) rose)
+    breaks_went (finish.answers_failed made rests heard rose) tells =
+        went_so 6 made (λ known image left. inl (durable made known image left)) (unheard (record { going = rests.0; granted = rests.1; no_task = rests.2; waits = rests.3 }) heard rose)
     breaks_went (finish.disk_failed made going rose) tells = went_so 5 made (risked_images 5 refl made) (disk_failed going (rose_here rose))
     breaks_went (finish.full len add made going is) tells = went_so 14 made (λ known image left. inl (durable made known image left)) (full len add going is tells)
     breaks_went (finish.no_memory made) tells = went_so 8 made (λ known image left. inl (durable made known image left)) no_memory
@@ -200,7 +205,7 @@ module _ {D H A : Type 0} (v : Devices D H A) (told_image : (d : D) → IfSome (
     went {n = n} (finish.by_rest {events = events} rests writes) =
         let done = done_so rests in
         went_so n rests.made (λ known image left. inl (durable rests.made known image left))
-        (⊎_elim (λ is. subst (Stops v setting events c life) (sym is) (rest_stops events done)) (λ failed. subst (Stops v setting events c life) (sym failed.0) (cut done failed.1)) (written writes))
+        (⊎_elim (λ is. subst (Stops v setting events c life) (sym is) (rest_stops events rests.heard done)) (λ failed. subst (Stops v setting events c life) (sym failed.0) (cut done rests.heard failed.1)) (written writes))
     went (finish.by_break breaks tells) = breaks_went breaks tells
 
   pub gone : {n : ℕ} → FinishedSo n → Gone n

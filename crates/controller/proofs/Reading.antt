@@ -45,10 +45,10 @@ module _ {D H A : Type 0} (v : Devices D H A) (c : Call D H A) where
     pub stored : IfSome (v.reads c.now) (λ file. len ≡ journal_length file)
 
   stops_full : (setting : Setting) (events : List Event) (life : LifeIn v setting c) (n : ℕ) → is_some (v.reads c.disk) ≡ true → Stops v setting events c life n → n ≡ 14 → IsTrulyFull
-  stops_full setting events life n known (ended done) e = absurd (unrun 14 (world_status (world_in setting events)) e refl (inl (world_log (world_in setting events))))
-  stops_full setting events life n known (waits idle) e = absurd (omega (arith, e))
-  stops_full setting events life n known (cut done rose) e = absurd (omega (arith, e))
-  stops_full setting events life n known (unheard unread failed) e = absurd (omega (arith, e))
+  stops_full setting events life n known (ended done heard) e = absurd (unrun 14 (world_status (world_in setting events)) e refl (inl (world_log (world_in setting events))))
+  stops_full setting events life n known (waits idle heard) e = absurd (omega (arith, e))
+  stops_full setting events life n known (cut done heard rose) e = absurd (omega (arith, e))
+  stops_full setting events life n known (unheard unread heard failed) e = absurd (omega (arith, e))
   stops_full setting events life n known (disk_failed going rose) e = absurd (omega (arith, e))
   stops_full setting events life n known (full len add going is tells) e = record { len = len; add = add; told = tells; too_long = is.too_long; stored = is.length_is known }
   stops_full setting events life n known no_memory e = absurd (omega (arith, e))

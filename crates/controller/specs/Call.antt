@@ -10,8 +10,9 @@ use Rattle.model_run.specs.declared.event.Event.{Event}
 use Rattle.model_run.specs.State.{Setting}
 use Rattle.model_run.specs.World.{next_grant, world_in}
 use Rattle.saved_run.specs.Saved.{Stores}
+use Rattle.site_state.specs.Histories.{lines}
 use Rattle.run_command.specs.Inputs.{Input, HasFailed, taken_from}
-use Rattle.build_commands.specs.Living.{ComesBy, Lived, LivedBy}
+use Rattle.build_commands.specs.Living.{ComesBy, HeardOf, Lived, LivedBy}
 use Rattle.build_commands.specs.Plans.{Hold}
 use Rattle.build_commands.specs.Resuming.{GivesBack}
 use Rattle.build_commands.specs.Writing as writing
@@ -141,6 +142,10 @@ module _ {D H A : Type 0} (v : Devices D H A) where
   -- behind these events this one came next in that life, and there is a cause for it
   abbrev pub ComesIn : (setting : Setting) → (c : Call D H A) → LifeIn setting c → List Event → Event → Type 0
   ComesIn setting c life events event = ComesBy v.honest v.host_faults v.calls v.launches v.dirs v.output v.exited v.left v.source_faults (max setting.site.looks 1) setting life.turns events event
+
+  -- What was read of the answers in that life, and that the lines of its history are those that were read.
+  abbrev pub HeardIn : (setting : Setting) → (c : Call D H A) → LifeIn setting c → Type 0
+  HeardIn setting c life = ∥ HeardOf v.left v.source_faults c.answers c.answers_now (lines life.history) ∥₁
 
   -- nobody goes on with the build: no grant is due, no task is open, and no input is open or the answers were read to their end
   pub record IsIdle (setting : Setting) (events : List Event) (c : Call D H A) : Type 0 where

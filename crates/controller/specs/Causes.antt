@@ -24,7 +24,7 @@ use Rattle.build_commands.specs.Resuming.{IsUntouched}
 use Rattle.build_commands.specs.Texts.{full_text, has_build_text}
 use Rattle.build_commands.specs.Showing as showing
 use Rattle.build_commands.specs.Showing.{HasNone, NotTold}
-use Rattle.controller.specs.Call.{AreRead, Call, ComesIn, Devices, Is, IsIdle, IsUnheard, IsUnled, Finds, LifeIn, Takes, Tells, WithFiles, answered}
+use Rattle.controller.specs.Call.{AreRead, Call, ComesIn, Devices, HeardIn, Is, IsIdle, IsUnheard, IsUnled, Finds, LifeIn, Takes, Tells, WithFiles, answered}
 
 -- the status of a build that has ended or waits; or want of memory, or a store that is full
 abbrev pub HasWorked : ℕ → Type 0
@@ -38,12 +38,13 @@ module _ {D H A : Type 0} (v : Devices D H A) where
   SinkFailed c = Rose c.sink_before c.sink_after
 
   -- With which status a call stops whose build has these events. Where it has ended or waits, the status is 7 where the sink failed. Memory may be wanted behind
-  -- the end too; every other fault stops a build that has not ended.
+  -- the end too; every other fault stops a build that has not ended. But for want of memory, a fault of the disk and a full store, the lines that were heard are
+  -- those that were read.
   pub data Stops (setting : Setting) (events : List Event) (c : Call D H A) (life : LifeIn v setting c) : ℕ → Type 0 where
-    ended : (world_in setting events).ended ≡ true → Stops setting events c life (world_status (world_in setting events))
-    waits : IsIdle v setting events c → Stops setting events c life 3
-    cut : ((world_in setting events).ended ≡ true) ⊎ IsIdle v setting events c → SinkFailed c → Stops setting events c life 7
-    unheard : IsUnheard setting events → HasFailed (answered v c) → Stops setting events c life 6
+    ended : (world_in setting events).ended ≡ true → HeardIn v setting c life → Stops setting events c life (world_status (world_in setting events))
+    waits : IsIdle v setting events c → HeardIn v setting c life → Stops setting events c life 3
+    cut : ((world_in setting events).ended ≡ true) ⊎ IsIdle v setting events c → HeardIn v setting c life → SinkFailed c → Stops setting events c life 7
+    unheard : IsUnheard setting events → HeardIn v setting c life → HasFailed (answered v c) → Stops setting events c life 6
     disk_failed : (world_in setting events).ended ≡ false → DiskFailed c → Stops setting events c life 5
     -- the text tells the length of the store's journal, and what the record of the next event would add
     full : (len add : ℕ) → (world_in setting events).ended ≡ false → IsFull (ComesIn v setting c life) setting (v.reads c.disk) (v.reads c.now) events len add → Tells (full_text len add) c → Stops setting events c life 14

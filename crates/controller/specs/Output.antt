@@ -21,7 +21,7 @@ use Rattle.run_command.specs.Statuses.{HasRun, world_status}
 use Rattle.run_command.specs.Texts as run
 use Rattle.build_commands.specs.Showing.{ShowsLast}
 use Rattle.build_commands.specs.Texts as store
-use Rattle.controller.specs.Call.{Call, Devices, Is, IsIdle, Finds, Takes, Tells, WithFiles, Writes, usage_text}
+use Rattle.controller.specs.Call.{Call, Devices, HeardIn, Is, IsIdle, Finds, Takes, Tells, WithFiles, Writes, usage_text}
 
 -- the status and the text of a call that does not do what its command is for
 pub data Says : ℕ → List ℕ → Type 0 where
@@ -38,12 +38,13 @@ pub data Says : ℕ → List ℕ → Type 0 where
   full : (len add : ℕ) → 2 ^ 30 < len + add → Says 14 (store.full_text len add)
 
 module _ {D H A : Type 0} (v : Devices D H A) where
-  -- The build went on from the events before to these, until it had ended or nobody went on with it; and the log of their world was written, with the status of
+  -- The build went on from the events before to these, until it had ended or nobody went on with it; the lines that it heard are those read of the answers; and the log of their world was written, with the status of
   -- that world, or the front of the log, and then with 7. Where the disk told its bytes, all these events are durable: a read gives a consistent store of just
   -- them, and so does a crash.
   pub record Delivers (setting : Setting) (before events : List Event) (c : Call D H A) : Type 0 where
     pub takes : Takes v setting before events c
     pub rests : ((world_in setting events).ended ≡ true) ⊎ IsIdle v setting events c
+    pub heard : HeardIn v setting c takes.life
     pub log : Writes (world_in setting events).shared.log (world_status (world_in setting events)) c
     pub stores : IsSome (v.reads c.disk) → IfSome (v.reads c.now) (Stores setting events)
     pub durable : IsSome (v.reads c.disk) → (image : List ℕ) → v.may_leave c.now image → Stores setting events image

@@ -1,17 +1,21 @@
-use Rattle.std.proofs.Common.{◌≡◌, ◌∙◌, ◌++◌, ℕ, List, [], ◌∷◌, Err, sym, ap, subst, length, reverse}
+use Rattle.std.proofs.Common.{◌≡◌, ◌≤◌, ◌∙◌, ◌++◌, ℕ, List, [], ◌∷◌, Err, sym, ap, subst, length, reverse}
+use Rattle.std.specs.Prelude.{IfOk}
 use Rattle.std.proofs.lemmas.List.{reverse-reverse}
 use Rattle.std.proofs.Math.Logic.{∥∥₁_map}
 use Rattle.device_faults.specs.Faults.{Rose}
 use Rattle.agent_worker.specs.declared.member.Member.{Member}
 use Rattle.build_core.specs.Builds.{Parts, StandsFor}
+use Rattle.site_state.specs.Histories.{lines}
 use Rattle.site_life.specs.Rounds.{turns_of}
+use Rattle.site_life.specs.Waiting.{operators}
 use Rattle.site_run.specs.Serving.{AreServed}
+use Rattle.site_run.specs.Telling.{AreHeard}
 use Rattle.site_crew.specs.Crews.{answers_in, hosts_in, IsCrew, members_of, others_of}
 use Rattle.build_commands.specs.Finishing.{TellsEnd}
 use Rattle.build_commands.specs.Living.{HostsStay, LifeOf, TakesBy}
 use Rattle.build_commands.specs.Reporting.{Reports}
 use Rattle.build_commands.proofs.FinishLemmas.{ended_long, finished_by, reports, reports_broken, told_long}
-use Rattle.build_commands.proofs.LivingLemmas.{crew_failed, crew_stay, hosts_all, life_events, no_life, opening_events, served_crew, served_length, stay_same, whole_slice}
+use Rattle.build_commands.proofs.LivingLemmas.{crew_failed, crew_stay, hosts_all, life_events, no_life, one_operator, opening_events, rest_heard, served_crew, served_length, stay_same, whole_slice}
 use Rattle.build_commands.proofs.finishing.live.Goals as goal
 
 pub dismiss-hosts-requires-clause-crew : goal.dismiss-hosts-requires-clause-crew
@@ -97,8 +101,10 @@ returns-in-Ok-clause-finishes g c = λ hosts answers setting entry origin before
     finished_by D.reads D.may_leave D.clock D.may_have_left_since g.R.ScriptThread.stance D.faults H.honest H.faults H.calls H.launches H.dirs H.output H.exited A.left A.faults c.args.looks
     setting entry origin before hosts c.dismiss-hosts.result.0.items answers c.dismiss-hosts.result.1 (K.written c.args.out.now) (K.written c.tell_end-status.new.out) (K.faults c.args.out.now) (K.faults c.tell_end-status.new.out) c.tell_end-status.result (D.faults c.args.durable.journal.disk)
     new turns site.history.items site.durable c.close-disk.result.0 c.close-disk.ensures.disk life hosts_are are e.now c.in-Ok.field-0.ended
+    (rest_heard H.honest H.faults H.calls A.left A.faults (lines site.history.items) setting.site.executors hosts answers c.dismiss-hosts.result.1 new served are c.in-Ok.field-0.ended
+    (subst (λ (ms : Members). IfOk c.in-Ok.field-0.ended (λ rest. ∥ AreHeard A.left (lines site.history.items) ms new ∥₁)) is lives.heard))
     (subst (λ (ms : Members). TakesBy H.honest H.faults H.calls H.launches H.dirs H.output H.exited A.left A.faults c.args.looks setting before ms new turns site.history.items e.now) is
-    (life_events H.honest H.faults H.calls H.launches H.dirs H.output H.exited A.left A.faults c.args.looks D.reads D.may_leave D.clock D.may_have_left_since g.R.ScriptThread.stance turns setting entry origin before before old new site.history.items site.durable c.in-Ok.field-0.ended e lasts.goes.begun)) e.ends
+    (life_events H.honest H.faults H.calls H.launches H.dirs H.output H.exited A.left A.faults c.args.looks D.reads D.may_leave D.clock D.may_have_left_since g.R.ScriptThread.stance turns setting entry origin before before old new site.history.items site.durable c.in-Ok.field-0.ended e lasts.goes.begun (subst (λ (ms : Members). operators ms ≤ 1) (sym is) (one_operator setting.site.executors hosts answers)))) e.ends
     told (λ failed. crew_failed g.H.Host.honest g.H.Host.faults g.H.Host.calls A.left A.faults setting.site.executors hosts answers c.dismiss-hosts.result.1 new served are (c.in-Ok.ensures.failed failed)) c.in-Ok.ensures.disk.failed)
 
 pub returns-in-Err-clause-reports : goal.returns-in-Err-clause-reports
@@ -130,6 +136,6 @@ returns-in-Err-clause-finishes g c = λ hosts answers setting entry origin befor
     let b = c.in-Err.ensures.breaks setting entry origin before before lasts in
     ∣ finished_by D.reads D.may_leave D.clock D.may_have_left_since g.R.ScriptThread.stance D.faults H.honest H.faults H.calls H.launches H.dirs H.output H.exited A.left A.faults c.args.looks
     setting entry origin before hosts c.dismiss-hosts-in-Err.result.0.items answers c.dismiss-hosts-in-Err.result.1 (K.written c.args.out.now) (K.written c.tell-status.new.out) (K.faults c.args.out.now) (K.faults c.tell-status.new.out) c.tell-status.result (D.faults c.args.durable.journal.disk)
-    begun [] [] b.kept c.in-Err.disk b.same (no_life H.honest H.faults H.calls H.launches H.dirs H.output H.exited A.left A.faults c.args.looks begun) hosts_are are (before ++ b.granted) (Err c.in-Err.fault)
+    begun [] [] b.kept c.in-Err.disk b.same (no_life H.honest H.faults H.calls H.launches H.dirs H.output H.exited A.left A.faults c.args.looks begun) hosts_are are (before ++ b.granted) (Err c.in-Err.fault) tt
     (opening_events H.honest H.faults H.calls H.launches H.dirs H.output H.exited A.left A.faults c.args.looks D.reads D.may_leave D.clock D.may_have_left_since g.R.ScriptThread.stance setting entry origin before before c.in-Err.fault c.in-Err.disk b lasts.goes.begun begun) b.breaks
     (c.of_take.result, c.of_take.ensures, c.tell-status.ensures.status, c.tell-status.ensures.text) (λ failed. absurd (cc)) (λ is_disk. subst (λ (d : g.row.D.Denot). Rose (D.faults c.args.durable.journal.disk) (D.faults d)) b.same (c.in-Err.ensures.disk.failed (cc))) ∣₁
