@@ -5,6 +5,10 @@ use Rattle.agent_worker.specs.declared.member.Member.{Member}
 use Rattle.agent_worker.specs.declared.member.Member.TheVariants.{Executor, Operator}
 use Rattle.site_state.specs.declared.ask.Progress.{Progress}
 
+-- by how far the build has come, and whether an operator can read on
+abbrev pub goes_by : Progress → Bool → Bool
+goes_by come can_answer = not (come.ended || come.stopped) && (nat_lt 0 come.tasks || (nat_lt 0 come.waiting && can_answer))
+
 module _ {H A : Type 0} where
   -- an operator whose answers are neither at their end nor failed
   abbrev pub can_read : Member H A → Bool
@@ -17,4 +21,4 @@ module _ {H A : Type 0} where
   can_answer (member ∷ members) = can_read member || can_answer members
 
   abbrev pub goes_on : Progress → List (Member H A) → Bool
-  goes_on come members = not (come.ended || come.stopped) && (nat_lt 0 come.tasks || (nat_lt 0 come.waiting && can_answer members))
+  goes_on come members = goes_by come (can_answer members)

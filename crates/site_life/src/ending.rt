@@ -1,12 +1,12 @@
 //! Whether there is another round.
 ghost use Rattle.std.specs.Prelude.{◌≡◌};
-ghost use Rattle.site_life.specs.Ending.{can_read, can_answer, goes_on};
+ghost use Rattle.site_life.specs.Ending.{can_read, can_answer, goes_by};
 
 use agent_worker::Member;
 use site_state::Progress;
 
 /// Whether the answers of an operator among the members are neither at their end nor failed.
-fn can_answer<H, A>(members: &[Member<H, A>]) -> bool
+pub(crate) fn can_answer<H, A>(members: &[Member<H, A>]) -> bool
     ensures { result ≡ can_answer members.now }
 {
     for member in members {
@@ -18,7 +18,7 @@ fn can_answer<H, A>(members: &[Member<H, A>]) -> bool
 }
 
 /// Whether it is an operator whose answers are neither at their end nor failed.
-fn can_read<H, A>(member: &Member<H, A>) -> bool
+pub fn can_read<H, A>(member: &Member<H, A>) -> bool
     ensures { result ≡ can_read member.now }
 {
     match member {
@@ -27,12 +27,13 @@ fn can_read<H, A>(member: &Member<H, A>) -> bool
     }
 }
 
-/// Whether the members have another round behind one after which the build has come so far.
-pub(crate) fn goes_on<H, A>(come: Progress, members: &[Member<H, A>]) -> bool
-    ensures { result ≡ goes_on come members.now }
+/// Whether the members have another round behind one after which the build has come so far, where `can_answer` says whether the
+/// answers of an operator among them are neither at their end nor failed.
+pub fn goes_on(come: Progress, can_answer: bool) -> bool
+    ensures { result ≡ goes_by come can_answer }
 {
     if come.ended || come.stopped {
         return false;
     }
-    come.tasks > 0 || come.waiting > 0 && can_answer(members)
+    come.tasks > 0 || come.waiting > 0 && can_answer
 }

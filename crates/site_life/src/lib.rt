@@ -17,5 +17,6 @@ mod ending;
 mod life;
 mod round;
 
-pub use life::live;
+pub use ending::{can_read, goes_on};
+pub use life::{live, look, pause};
 pub use round::take_round;

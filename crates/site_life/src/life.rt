@@ -10,7 +10,7 @@ ghost use Rattle.site_life.specs.Lives.{Life};
 ghost use Rattle.site_life.specs.Passing.{IsProgress, TakesRounds};
 ghost use Rattle.site_life.specs.Turns.{DidTurn};
 
-use crate::ending::goes_on;
+use crate::ending::{can_answer, goes_on};
 use crate::round::take_round;
 use agent_worker::Member;
 use jp_disk::Disk;
@@ -41,7 +41,7 @@ fn progress_of(reply: Reply) -> Progress
 }
 
 /// Asks how far the build has come.
-fn look<W: Wait, D: Disk, R: SavedThread + Drop>(
+pub fn look<W: Wait, D: Disk, R: SavedThread + Drop>(
     rt: &W,
     program: &Program<SiteState<D, R>>,
     pass: &mut Pass<SiteState<D, R>>,
@@ -54,8 +54,8 @@ fn look<W: Wait, D: Disk, R: SavedThread + Drop>(
     progress_of(program.step(rt, pass, Ask::Look))
 }
 
-/// Sleeps, where the build has come no further since the last look.
-fn pause<W: Wait + Clock>(rt: &W, last: Option<Progress>, come: Progress) {
+/// Sleeps for 20 milliseconds, where the build has come no further since the last look.
+pub fn pause<W: Wait + Clock>(rt: &W, last: Option<Progress>, come: Progress) {
     if last == Some(come) {
         thread::sleep(rt, Duration::from_millis(PAUSE));
     }
@@ -92,7 +92,7 @@ fn take_rounds<
     for _ in rt.forever() {
         take_round::<B, W, D, R, H, A>(rt, alloc, program, pass, members, looks)?;
         let come = look(rt, program, pass);
-        if !goes_on(come, members) {
+        if !goes_on(come, can_answer(members)) {
             return Ok(come);
         }
         pause(rt, last, come);
