@@ -160,6 +160,10 @@ module _ {S B X : Type 0} (pass : X → Option (PassOf S Entry B)) (old items : 
   vacant_step is inside all = subst (AllAre (λ (o : Option (PassOf S Entry B)). o ≡ None)) (sym (ap (take (i + 1)) (map-set pass items i new) ∙ take_more_set (map pass items) i (pass new) (subst (λ (n : ℕ). i < n) (sym (length-map items pass)) inside)))
       (all_append (λ (o : Option (PassOf S Entry B)). o ≡ None) (take i (map pass items)) (pass new ∷ []) all (is, tt))
 
+-- lists of which each item keeps something are of one length
+pub same_length : {X Y : Type 0} (f : X → Y) (xs ys : List X) → map f xs ≡ map f ys → length xs ≡ length ys
+same_length f xs ys same = sym (length-map xs f) ∙ ap length same ∙ length-map ys f
+
 module _ {X Y : Type 0} (f : X → Y) (old items : List X) (i : ℕ) (new d : X) where
   -- what a seat keeps all seats keep
   pub kept_step : f new ≡ f (slice_index_or items i d) → map f items ≡ map f old → map f (slice_set items i new) ≡ map f old
@@ -169,7 +173,7 @@ module _ {X Y : Type 0} (f : X → Y) (old items : List X) (i : ℕ) (new d : X)
   over_step P same all inside = at_index P f items i d (subst (AllAre P) (sym same) all) inside
 
   pub within_old : map f items ≡ map f old → i < length items → i < length old
-  within_old same inside = subst (λ (n : ℕ). i < n) (sym (length-map items f) ∙ ap length same ∙ length-map old f) inside
+  within_old same inside = subst (λ (n : ℕ). i < n) (same_length f items old same) inside
 
 module _ {S B X : Type 0} (pass : X → Option (PassOf S Entry B)) (old items : List X) (i : ℕ) (v w u : Known Entry B) (new d : X) where
   -- one was refused
@@ -187,6 +191,9 @@ module _ {X : Type 0} where
   zip_map R f keeps [] (y ∷ ys) all = absurd all
   zip_map R f keeps (x ∷ xs) [] all = absurd all
   zip_map R f keeps (x ∷ xs) (y ∷ ys) all = λ i. keeps x y all.0 i ∷ zip_map R f keeps xs ys all.1 i
+
+  pub zip_length : (R : X → X → Type 0) (xs ys : List X) → AllZip R xs ys → length ys ≡ length xs
+  zip_length R xs ys all = let none : X → ℕ = λ x. 0 in same_length none ys xs (zip_map R none (λ a b r. refl) xs ys all)
 
   pub zip_weaker : (R Q : X → X → Type 0) → ((a b : X) → R a b → Q a b) → (xs ys : List X) → AllZip R xs ys → AllZip Q xs ys
   zip_weaker R Q so [] [] all = tt
