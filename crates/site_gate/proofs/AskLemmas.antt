@@ -1,10 +1,11 @@
 -- What each ask adds to what a gate tells, and which reply it gets.
-use Rattle.std.proofs.Common.{◌≡◌, ◌<◌, ℕ, Bool, true, false, List, [], ◌∷◌, ◌++◌, Option, Some, None, Result, Ok, Err, refl, sym, ap, ◌∙◌, subst, append-nil}
+use Rattle.std.proofs.Common.{◌≡◌, ◌<◌, ℕ, Bool, true, false, List, [], ◌∷◌, ◌++◌, Option, Some, None, Result, Ok, Err, inl, inr, refl, sym, ap, ◌∙◌, subst, append-nil}
 use Rattle.program_lock.specs.declared.view.Known.{Known}
 use Rattle.program_lock.specs.History.{entries, entries_of}
 use Rattle.program_lock.specs.Calls.{Steps}
 use Rattle.program_lock.proofs.EntryLemmas.{entries_of-step}
 use Rattle.model_run.specs.declared.event.Event.{Event}
+use Rattle.model_run.specs.declared.event.Event.TheVariants.{Start, Granted, Output, Exited, Lost, Decided as DecidedEvent}
 use Rattle.model_run.specs.declared.request.OpenRequest.{OpenRequest}
 use Rattle.model_run.specs.declared.taken.Taken.{Taken}
 use Rattle.model_run.specs.declared.taken.Taken.TheVariants.{Accepted}
@@ -28,10 +29,22 @@ use Rattle.site_state.specs.Histories.{kept_fault, lines}
 use Rattle.site_state.specs.Claims.{ClaimSays}
 use Rattle.site_state.specs.Hearing.{AnswerSays}
 use Rattle.site_state.specs.Says.{Says, SaysAt}
-use Rattle.site_gate.specs.Asking.{Asked, IsTaken, IsClaimed, IsInputs, IsHeard}
-use Rattle.site_gate.specs.Tales.{is_grant, told_of, claimed_of}
+use Rattle.agent_worker.specs.declared.gate.GateCall.TheVariants as gate_call
+use Rattle.agent_worker.specs.declared.gate.GateCall.{GateCall}
+use Rattle.site_gate.specs.Asking.{WasCalled, IsTaken, IsClaimed, IsInputs, IsHeard}
+use Rattle.site_gate.specs.Saying.{AnswersCall}
+use Rattle.site_gate.specs.Tales.{is_grant, is_of_task, told_of, claimed_of}
 use Rattle.site_gate.proofs.TaleLemmas.{Adds, adds_entries, IsSilent, none_silent, told_if_any, TellsTake, take_tells}
 use Rattle.site_gate.proofs.ClaimLaws.{free_order}
+
+-- One ask through a pass: the state replied at some history since its opening, and the entries of the ask are added to those of the
+-- pass.
+pub record Asked {T : Type 0} (stance : T → Stance) (ask : Ask) (r : Reply) (old now : List Entry) : Type 0 where
+  pub opening : Parts T
+  pub before : List Entry
+  pub new : List Entry
+  pub says : Says stance opening before ask r new
+  pub own : now ≡ old ++ new
 
 -- A step of the lock is an ask.
 pub asked_step : {B T : Type 0} (stance : T → Stance) (opening : B → Parts T) (v w : Known Entry B) (a : Ask) (r : Reply)
@@ -297,3 +310,68 @@ told_take {old = old} e r a = a.told_so ∙ told_added (told_of old) e r
 pub claim_added : {old now : List Entry} {told : List Told} {heard : List (List ℕ)} (x : ℕ) (c : Claim) → IsOf x c → Adds old now told (claimed_in c) heard
     → AddsClaim x c (Some (claimed_of old)) (Some (claimed_of now))
 claim_added x c own a = record { told = a.claimed_so; own = λ some. own }
+
+-- what is asked for of a task is no grant
+pub task_plain : (e : Event) → is_of_task e ≡ true → is_grant e ≡ false
+task_plain (Output task stream place bytes) is = refl
+task_plain (Exited task code) is = refl
+task_plain (Lost task why) is = refl
+task_plain (Start script agents) is = refl
+task_plain (Granted request executor) is = absurd (cc)
+task_plain (DecidedEvent request proceed name) is = refl
+
+-- What each call of a gate adds to what it tells.
+module _ {B T : Type 0} (stance : T → Stance) (opening : B → Parts T) (v w : Known Entry B) where
+  abbrev answers : B → List Entry → Ask → Reply → List Entry → Type 0
+  answers base history a r new = Says stance (opening base) history a r new
+
+  abbrev had : List Entry
+  had = entries_of v.numbers v.seen
+
+  abbrev has_now : List Entry
+  has_now = entries_of w.numbers w.seen
+
+  nothing_more : (call : GateCall) (c : WasCalled answers v call w) → c.new ≡ [] → Adds had has_now [] [] []
+  nothing_more call c none = adds_nothing had c.new has_now c.own (subst IsSilent (sym none) none_silent)
+
+  abbrev pub called_claim : (x : ℕ) (r : Claim) → WasCalled answers v (gate_call.Claim x r) w → Asked stance (ask.Claim x) (reply.Claimed r) had has_now
+  called_claim x r c = record { opening = opening c.base; before = entries c.before; new = c.new; says = c.answered; own = c.own }
+
+  pub claim_called : (x : ℕ) (r : Claim) → WasCalled answers v (gate_call.Claim x r) w → Adds had has_now [] (claimed_in r) []
+  claim_called x r c = claim_adds x (reply.Claimed r) r refl (called_claim x r c)
+
+  pub claim_is : (x : ℕ) (r : Claim) (c : WasCalled answers v (gate_call.Claim x r) w) → TellsClaim x r c.new
+  claim_is x r c = claim_told x (reply.Claimed r) r refl (called_claim x r c)
+
+  pub inputs_called : (there : Inputs) → WasCalled answers v (gate_call.Inputs there) w → Adds had has_now [] [] []
+  inputs_called there c = inputs_adds (reply.Inputs there) there refl (record { opening = opening c.base; before = entries c.before; new = c.new; says = c.answered; own = c.own })
+
+  pub halt_called : WasCalled answers v gate_call.Halt w → Adds had has_now [] [] []
+  halt_called c = halt_adds reply.Halted (record { opening = opening c.base; before = entries c.before; new = c.new; says = c.answered; own = c.own })
+
+  pub report_called : (e : Event) (r : Result Taken TakeFault) → WasCalled answers v (gate_call.Report e r) w → Adds had has_now (told_if_any e r) [] []
+  report_called e r c = by c.answered
+    where
+      by : AnswersCall (answers c.base) (entries c.before) (gate_call.Report e r) c.new → Adds had has_now (told_if_any e r) [] []
+      by (inl said) = take_adds e (reply.Taken r) r (task_plain e said.0) refl (record { opening = opening c.base; before = entries c.before; new = c.new; says = said.1; own = c.own })
+      by (inr none) = subst (λ (x : Result Taken TakeFault). Adds had has_now (told_if_any e x) [] []) (sym none.1) (nothing_more (gate_call.Report e r) c none.2)
+
+  pub answer_called : (line : List ℕ) (r : Result Heard TakeFault) → WasCalled answers v (gate_call.Answer line r) w → (more : List Told) × IsToldOf line r more × Adds had has_now more [] (heard_of line r)
+  answer_called line r c = by c.answered
+    where
+      by : AnswersCall (answers c.base) (entries c.before) (gate_call.Answer line r) c.new → (more : List Told) × IsToldOf line r more × Adds had has_now more [] (heard_of line r)
+      by (inl said) = answer_adds line (reply.Heard r) r refl (record { opening = opening c.base; before = entries c.before; new = c.new; says = said; own = c.own })
+      by (inr none) = subst (λ (x : Result Heard TakeFault). (more : List Told) × IsToldOf line x more × Adds had has_now more [] (heard_of line x)) (sym none.0) ([], refl, nothing_more (gate_call.Answer line r) c none.1)
+
+-- a halt is answered with that
+halted_at : {T : Type 0} (stance : T → Stance) (opening : Parts T) (h : List Entry) (f : Option TakeFault) (r : Reply) (new : List Entry) → SaysAt stance opening h f ask.Halt r new → r ≡ reply.Halted
+halted_at stance opening h (Some f) r new says = says.0
+halted_at stance opening h None reply.Halted new says = refl
+halted_at stance opening h None (reply.Taken r) new says = absurd says
+halted_at stance opening h None (reply.Claimed c) new says = absurd says
+halted_at stance opening h None (reply.Inputs i) new says = absurd says
+halted_at stance opening h None (reply.Heard r) new says = absurd says
+halted_at stance opening h None (reply.Progress p) new says = absurd says
+
+pub halt_replies : {T : Type 0} {stance : T → Stance} {old now : List Entry} (r : Reply) → Asked stance ask.Halt r old now → r ≡ reply.Halted
+halt_replies {stance = stance} r a = halted_at stance a.opening a.before (kept_fault a.before) r a.new a.says

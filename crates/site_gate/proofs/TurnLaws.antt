@@ -12,6 +12,7 @@ use Rattle.task_host.specs.declared.order.Stream.{Stream}
 use Rattle.agent_worker.specs.declared.fault.TakeFault.{TakeFault}
 use Rattle.agent_worker.specs.declared.gate.Claim.{Claim}
 use Rattle.agent_worker.specs.declared.gate.Claim.TheVariants as claim
+use Rattle.agent_worker.specs.declared.gate.GateCall.{GateCall}
 use Rattle.agent_worker.specs.declared.gate.Said.{Said}
 use Rattle.agent_worker.specs.declared.gate.Said.TheVariants.{Nothing}
 use Rattle.agent_worker.specs.declared.task.Served.{Served}
@@ -160,10 +161,10 @@ work_removed looks (Serves order acts answer ∷ past) lawful = acts_removed ord
 
 module _ {H : Type 0} (calls : H → Option (List Call)) (launches dirs : H → List ℕ) (output : H → ℕ → Stream → List ℕ) (exit : H → ℕ → Option ℤ) where
   -- An executor's work over a gate that was new is a turn.
-  pub executor_turn : (number looks : ℕ) (honest : Type 0) (own : List Entry) (said : Said) (is_open : Bool) (old now : H) (worked : Worked)
-      → Works number looks honest (telling calls launches dirs output exit (λ t. t) old (tells_of [] Nothing false)) (telling calls launches dirs output exit (λ t. t) now (tells_of own said is_open)) worked
-      → ExecutorTurn number looks honest own (calls old) (calls now) (on_host launches dirs output exit old) (on_host launches dirs output exit now) worked
-  executor_turn number looks honest own said is_open old now worked w =
+  pub executor_turn : (number looks : ℕ) (honest : Type 0) (own : List Entry) (gate_calls : List GateCall) (said : Said) (is_open : Bool) (old now : H) (worked : Worked)
+      → Works number looks honest (telling calls launches dirs output exit (λ t. t) old (tells_of [] [] Nothing false)) (telling calls launches dirs output exit (λ t. t) now (tells_of own gate_calls said is_open)) worked
+      → ExecutorTurn number looks honest own gate_calls (calls old) (calls now) (on_host launches dirs output exit old) (on_host launches dirs output exit now) worked
+  executor_turn number looks honest own gate_calls said is_open old now worked w =
       let so = w.so_far in
       record {
         past = w.past;
@@ -171,6 +172,7 @@ module _ {H : Type 0} (calls : H → Option (List Call)) (launches dirs : H → 
         orders = so.own refl;
         called = so.calls;
         told = so.told;
+        reports = so.reports;
         claimed = so.claimed;
         ends = w.ends;
         launched = subst (λ (c : List ClaimedTask). LaunchesClaimed c (launches old) (launches now)) (sym so.claimed) (work_launches looks w.past (launches old) (launches now) so.lawful so.launched);

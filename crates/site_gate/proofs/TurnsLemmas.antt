@@ -1,12 +1,18 @@
 -- A turn of a member, put together from its calls on the lock.
-use Rattle.std.proofs.Common.{◌≡◌, ℕ, ℤ, Bool, false, List, [], ◌++◌, Option, sym, ap, ◌∙◌, subst, append_assoc}
+use Rattle.std.proofs.Common.{◌≡◌, ◌<◌, ◌+◌, arith, ℕ, ℤ, Bool, false, List, [], ◌∷◌, ◌++◌, length, Option, Some, refl, sym, ap, ◌∙◌, subst, append_assoc}
+use Rattle.std.proofs.Math.Logic.{∥∥₁_map}
 use Rattle.program_lock.specs.declared.view.Known.{Known}
-use Rattle.program_lock.specs.History.{entries_of}
-use Rattle.program_lock.specs.Merge.{IsMergeOf}
+use Rattle.program_lock.specs.History.{entries, entries_of, under, NoneUnder}
 use Rattle.program_lock.specs.Calls.{Splits, Joins}
-use Rattle.program_lock.proofs.EntryLemmas.{entries_of-split, entries_of-split_off, entries_of-join}
+use Rattle.program_lock.proofs.EntryLemmas.{entries_of-split_off, entries_of-join_theirs}
+use Rattle.program_lock.proofs.HistoryLemmas.{entries-append, none_append, none_behind, under-append, under-none}
+use Rattle.program_lock.proofs.NumberLemmas.{among_itself}
+use Rattle.program_lock.proofs.PartLemmas.{parts-split, parts-join}
+use Rattle.program_lock.specs.Views.{all_parts}
+use Rattle.program_lock.specs.Legal.{Answers}
 use Rattle.task_host.specs.declared.call.Call.{Call}
 use Rattle.task_host.specs.declared.order.Stream.{Stream}
+use Rattle.agent_worker.specs.declared.gate.GateCall.{GateCall}
 use Rattle.agent_worker.specs.declared.gate.Said.{Said}
 use Rattle.agent_worker.specs.declared.gate.Said.TheVariants.{Nothing}
 use Rattle.agent_worker.specs.declared.member.Member.{Member}
@@ -15,14 +21,34 @@ use Rattle.agent_worker.specs.declared.worked.Worked.{Worked}
 use Rattle.agent_worker.specs.Gate.{GateTells}
 use Rattle.agent_worker.specs.MemberWork.{WorksAs}
 use Rattle.agent_worker.specs.Working.{telling}
+use Rattle.site_state.specs.declared.ask.Ask.{Ask}
 use Rattle.site_state.specs.declared.ask.Entry.{Entry}
+use Rattle.site_state.specs.declared.ask.Reply.{Reply}
+use Rattle.site_gate.specs.Saying.{AreAnswered, WereAnswered}
 use Rattle.site_gate.specs.Tales.{tells_of}
-use Rattle.site_gate.specs.Turns.{TakesTurn, Executed}
-use Rattle.settle_laws.specs.Stances.{Stance}
-use Rattle.build_core.specs.Builds.{Parts}
-use Rattle.site_gate.specs.Saying.{SaidSo}
-use Rattle.site_gate.proofs.SayLemmas.{stays}
+use Rattle.site_gate.specs.Turns.{WorksThrough, TakesTurn, Executed}
+use Rattle.site_gate.proofs.TrailLemmas.{none_of, none_first, under-first, under-second, entries_of-append, same_front, answered_later, answered_sooner}
 use Rattle.site_gate.proofs.TurnLaws.{executor_turn}
+
+-- The calls of a gate whose pass was taken in: what was seen of the history then, and what the pass had seen before, are beginnings of one
+-- history. They were answered behind the latter.
+pub answered_joined : {B : Type 0} (answers : Answers B Entry Ask Reply) (ns : List ℕ) (n : ℕ) (had : List (ℕ × Entry)) (other w : Known Entry B) (calls : List GateCall) (theirs mine : List (ℕ × Entry))
+    → other.base ≡ w.base → other.seen ++ theirs ≡ w.seen → NoneUnder ns theirs → had ++ mine ≡ w.seen → WereAnswered answers ns n (length had) other calls
+    → (base : B) → w.base ≡ Some base → AreAnswered (answers base) ns n had calls mine
+answered_joined answers ns n had other w calls theirs mine same on none begins s base is =
+    let fronts = same_front s.front had (s.rest ++ theirs) mine
+    (sym (append_assoc s.front s.rest theirs) ∙ ap (λ (l : List (ℕ × Entry)). l ++ theirs) s.begins ∙ on ∙ sym begins) s.long in
+    subst (λ (l : List (ℕ × Entry)). AreAnswered (answers base) ns n had calls l) fronts.1
+    (subst (λ (l : List (ℕ × Entry)). AreAnswered (answers base) ns n l calls (s.rest ++ theirs)) fronts.0
+    (answered_later (answers base) ns n s.front calls s.rest theirs none (s.answered base (same ∙ is))))
+
+-- a pass that had all parts has them again
+pub whole_again : {B : Type 0} (v u new other w : Known Entry B) → Splits v u new → other.parts ≡ new.parts → Joins u other w → v.parts ≡ all_parts → w.parts ≡ all_parts
+whole_again v u new other w s same j whole =
+    let some : 1 < v.parts = omega arith in
+    let both = parts-split v u new s some in
+    let joined = parts-join u other w j in
+    omega arith
 
 module _ {H A : Type 0} (honest : H → Type 0) (faults : H → ℕ) (calls : H → Option (List Call)) (launches dirs : H → List ℕ) (output : H → ℕ → Stream → List ℕ) (exit : H → ℕ → Option ℤ)
     (left : A → Option (List ℕ)) (source_faults : A → ℕ) (looks : ℕ) where
@@ -37,33 +63,83 @@ module _ {H A : Type 0} (honest : H → Type 0) (faults : H → ℕ) (calls : H 
   works_by tells (Executor number host) (Operator next kept now_ended now_failed) g g' worked w = absurd w
   works_by tells (Operator answers line ended failed) (Executor now next) g g' worked w = absurd w
 
-  pub executed : (m m' : Member H A) (own : List Entry) (said : Said) (is_open : Bool) (worked : Worked) → Work m m' worked (tells_of [] Nothing false) (tells_of own said is_open)
-      → Executed honest calls launches dirs output exit looks m m' worked own
-  executed (Executor number host) (Executor now next) own said is_open worked w = executor_turn calls launches dirs output exit number looks (honest host) own said is_open host next worked w.3
-  executed (Operator answers line ended failed) (Operator next kept now_ended now_failed) own said is_open worked w = tt
-  executed (Executor number host) (Operator next kept now_ended now_failed) own said is_open worked w = absurd w
-  executed (Operator answers line ended failed) (Executor now next) own said is_open worked w = absurd w
+  pub executed : (m m' : Member H A) (own : List Entry) (gate_calls : List GateCall) (said : Said) (is_open : Bool) (worked : Worked) → Work m m' worked (tells_of [] [] Nothing false) (tells_of own gate_calls said is_open)
+      → Executed honest calls launches dirs output exit looks m m' worked own gate_calls
+  executed (Executor number host) (Executor now next) own gate_calls said is_open worked w = executor_turn calls launches dirs output exit number looks (honest host) own gate_calls said is_open host next worked w.3
+  executed (Operator answers line ended failed) (Operator next kept now_ended now_failed) own gate_calls said is_open worked w = tt
+  executed (Executor number host) (Operator next kept now_ended now_failed) own gate_calls said is_open worked w = absurd w
+  executed (Operator answers line ended failed) (Executor now next) own gate_calls said is_open worked w = absurd w
+
+  -- Work through a pass, by that over its gate.
+  pub works_through : {B : Type 0} (answers : Answers B Entry Ask Reply) (v w k : Known Entry B) (m m' : Member H A) (gate_calls : List GateCall) (said : Said) (is_open : Bool) (worked : Worked) (old now : GateTells) (ns : List ℕ) (n parts since : ℕ)
+      → v.numbers ≡ ns → v.number ≡ n → v.parts ≡ parts → length v.seen ≡ since → k.numbers ≡ ns → k.parts ≡ parts → w ≡ k
+      → old ≡ tells_of (entries_of v.numbers v.seen) [] Nothing false → now ≡ tells_of (entries_of k.numbers k.seen) gate_calls said is_open → Work m m' worked old now → ∥ WereAnswered answers ns n since k gate_calls ∥₁
+      → WorksThrough answers (Work m m' worked) v w
+  works_through {B} answers v w k m m' gate_calls said is_open worked old now ns n parts since numbers number shared long k_numbers k_parts same from_new to_now did so = record {
+    numbers = ap (λ x. x.numbers) same ∙ k_numbers ∙ sym numbers;
+    parts = ap (λ x. x.parts) same ∙ k_parts ∙ sym shared;
+    calls = gate_calls;
+    said = said;
+    is_open = is_open;
+    worked = subst (λ (x : Known Entry B). Work m m' worked (tells_of (entries_of v.numbers v.seen) [] Nothing false) (tells_of (entries_of x.numbers x.seen) gate_calls said is_open)) (sym same)
+        (subst (λ (t : GateTells). Work m m' worked t (tells_of (entries_of k.numbers k.seen) gate_calls said is_open)) from_new (subst (Work m m' worked old) to_now did));
+    answered = subst (λ (x : Known Entry B). ∥ WereAnswered answers v.numbers v.number (length v.seen) x gate_calls ∥₁) (sym same)
+        (subst (λ (l : ℕ). ∥ WereAnswered answers v.numbers v.number l k gate_calls ∥₁) (sym long)
+        (subst (λ (l : ℕ). ∥ WereAnswered answers v.numbers l since k gate_calls ∥₁) (sym number)
+        (subst (λ (l : List ℕ). ∥ WereAnswered answers l n since k gate_calls ∥₁) (sym numbers) so)));
+  }
 
   -- A pass was split off, work was done through it, and it was taken in again.
-  pub did_turn : {B T : Type 0} (stance : T → Stance) (opening : B → Parts T) (v u new other w : Known Entry B) (m m' : Member H A) (said : Said) (is_open : Bool) (worked : Worked) (old now : GateTells) → Splits v u new → Joins u other w
-      → old ≡ tells_of (entries_of new.numbers new.seen) Nothing false → now ≡ tells_of (entries_of other.numbers other.seen) said is_open → Work m m' worked old now → ∥ SaidSo stance opening other said ∥₁
-      → TakesTurn (Work m m' worked) (Executed honest calls launches dirs output exit looks m m' worked) (λ (s : Said). ∥ SaidSo stance opening w s ∥₁) v w
-  did_turn stance opening v u new other w m m' said is_open worked old now s j from_new to_other did so =
-      let works : Work m m' worked (tells_of (entries_of new.numbers new.seen) Nothing false) (tells_of (entries_of other.numbers other.seen) said is_open) =
-      subst (λ (t : GateTells). Work m m' worked t (tells_of (entries_of other.numbers other.seen) said is_open)) from_new (subst (Work m m' worked old) to_other did) in
-      let own = entries_of other.numbers other.seen in
-      let from_none : Work m m' worked (tells_of [] Nothing false) (tells_of own said is_open) =
-      subst (λ (es : List Entry). Work m m' worked (tells_of es Nothing false) (tells_of own said is_open)) (entries_of-split_off v u new s) works in
-      let begins : v.seen ++ (s.begins.0 ++ j.mine.0) ≡ w.seen =
-      sym (append_assoc v.seen s.begins.0 j.mine.0) ∙ ap (λ (es : List (ℕ × Entry)). es ++ j.mine.0) (s.begins.1 ∙ ap (λ k. k.seen) (sym s.now)) ∙ j.mine.1 in
+  pub did_turn : {B : Type 0} (answers : Answers B Entry Ask Reply) (v u new other w : Known Entry B) (m m' : Member H A) (worked : Worked) → Splits v u new → WorksThrough answers (Work m m' worked) new other → Joins u other w
+      → TakesTurn answers (Work m m' worked) (Executed honest calls launches dirs output exit looks m m' worked) v w
+  did_turn {B} answers v u new other w m m' worked s t j =
+      let n = s.number in
+      let mine = j.mine.0 in
+      let more : List (ℕ × Entry) = s.begins.0 ++ mine in
+      let new_numbers : new.numbers ≡ n ∷ [] = ap (λ (k : Known Entry B). k.numbers) s.made in
+      let new_number : new.number ≡ n = ap (λ (k : Known Entry B). k.number) s.made in
+      let new_seen : new.seen ≡ s.log = ap (λ (k : Known Entry B). k.seen) s.made in
+      let u_numbers : u.numbers ≡ v.numbers = ap (λ (k : Known Entry B). k.numbers) s.now in
+      let u_seen : u.seen ≡ s.log = ap (λ (k : Known Entry B). k.seen) s.now in
+      let others : other.numbers ≡ n ∷ [] = t.numbers ∙ new_numbers in
+      let begins : v.seen ++ more ≡ w.seen =
+      sym (append_assoc v.seen s.begins.0 mine) ∙ ap (λ (l : List (ℕ × Entry)). l ++ mine) (s.begins.1 ∙ sym u_seen) ∙ j.mine.1 in
+      let none_more : NoneUnder v.numbers more = none_append v.numbers s.begins.0 mine s.begins.2 (subst (λ (ns : List ℕ). NoneUnder ns mine) u_numbers j.mine.2) in
+      let none_log : NoneUnder (n ∷ []) (v.seen ++ s.begins.0) = subst (NoneUnder (n ∷ [])) (sym s.begins.1) (none_of (n ∷ []) s.log (sym (λ i. under (new_numbers i) (new_seen i)) ∙ s.none_yet)) in
+      let fresh : NoneUnder (n ∷ []) v.seen = none_first (n ∷ []) v.seen s.begins.0 none_log in
+      let own : List Entry = entries_of (n ∷ []) more in
+      let own_so : entries_of other.numbers other.seen ≡ own =
+      sym (entries_of-join_theirs u other w j other.numbers (among_itself other.numbers)) ∙ ap (λ (ns : List ℕ). entries_of ns w.seen) others ∙ ap (entries_of (n ∷ [])) (sym begins)
+      ∙ entries_of-append (n ∷ []) v.seen more ∙ ap (λ (l : List Entry). l ++ own) (ap entries (under-none (n ∷ []) v.seen fresh)) in
+      let w_numbers : w.numbers ≡ v.numbers ++ n ∷ [] = ap (λ (k : Known Entry B). k.numbers) j.now ∙ (λ i. u_numbers i ++ others i) in
+      let worked_so : Work m m' worked (tells_of [] [] Nothing false) (tells_of own t.calls t.said t.is_open) =
+      subst (λ (es : List Entry). Work m m' worked (tells_of [] [] Nothing false) (tells_of es t.calls t.said t.is_open)) own_so
+      (subst (λ (es : List Entry). Work m m' worked (tells_of es [] Nothing false) (tells_of (entries_of other.numbers other.seen) t.calls t.said t.is_open)) (entries_of-split_off v u new s) t.worked) in
       record {
-        base_stays = ap (λ k. k.base) j.now ∙ ap (λ k. k.base) s.now;
-        begins = (s.begins.0 ++ j.mine.0, begins);
+        base_stays = ap (λ (k : Known Entry B). k.base) j.now ∙ ap (λ (k : Known Entry B). k.base) s.now;
+        number = n;
+        numbers = w_numbers;
+        more = more;
+        begins = begins;
+        others = none_more;
+        fresh = fresh;
         own = own;
-        merged = subst (λ (es : List Entry). IsMergeOf es own (entries_of w.numbers w.seen)) (entries_of-split v u new s) (entries_of-join u other w j);
-        said = said;
-        is_open = is_open;
-        worked = from_none;
-        executed = executed m m' own said is_open worked from_none;
-        said_so = stays stance opening other w (ap (λ k. k.base) j.now ∙ sym j.base) j.theirs.0 j.theirs.1 said so;
+        own_is = refl;
+        added = (λ i. entries_of (w_numbers i) (sym begins i)) ∙ entries_of-append (v.numbers ++ n ∷ []) v.seen more
+            ∙ (λ i. entries (under-first v.numbers (n ∷ []) v.seen fresh i) ++ entries (under-second v.numbers (n ∷ []) more none_more i));
+        calls = t.calls;
+        said = t.said;
+        is_open = t.is_open;
+        worked = worked_so;
+        executed = executed m m' own t.calls t.said t.is_open worked worked_so;
+        answered = ∥∥₁_map t.answered (λ (a : WereAnswered answers new.numbers new.number (length new.seen) other t.calls). λ (base : B) is.
+            let joined : AreAnswered (answers base) new.numbers new.number u.seen t.calls mine =
+            answered_joined answers new.numbers new.number u.seen other w t.calls j.theirs.0 mine (j.base ∙ sym (ap (λ (k : Known Entry B). k.base) j.now)) j.theirs.1
+            (subst (λ (ns : List ℕ). NoneUnder ns j.theirs.0) t.numbers j.theirs.2) j.mine.1
+            (subst (λ (l : ℕ). WereAnswered answers new.numbers new.number l other t.calls) (ap length (new_seen ∙ sym u_seen)) a) base is in
+            let named : AreAnswered (answers base) (n ∷ []) n u.seen t.calls mine =
+            subst (λ (ns : List ℕ). AreAnswered (answers base) ns n u.seen t.calls mine) new_numbers
+            (subst (λ (k : ℕ). AreAnswered (answers base) new.numbers k u.seen t.calls mine) new_number joined) in
+            answered_sooner (answers base) (n ∷ []) n v.seen s.begins.0 t.calls mine (none_behind (n ∷ []) v.seen s.begins.0 none_log)
+            (subst (λ (l : List (ℕ × Entry)). AreAnswered (answers base) (n ∷ []) n l t.calls mine) (u_seen ∙ sym s.begins.1) named));
       }

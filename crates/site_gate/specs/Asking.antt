@@ -1,21 +1,26 @@
 -- What an ask of a site state is, and which reply it gets (this product's own).
-use Rattle.std.specs.Prelude.{◌≡◌, List, ◌++◌}
-use Rattle.settle_laws.specs.Stances.{Stance}
-use Rattle.build_core.specs.Builds.{Parts}
+use Rattle.std.specs.Prelude.{◌≡◌, ℕ, List, ◌++◌, Some}
+use Rattle.program_lock.specs.declared.view.Known.{Known}
+use Rattle.program_lock.specs.Legal.{Answers}
+use Rattle.program_lock.specs.History.{entries, entries_of, numbered, GoesOnWithout}
+use Rattle.agent_worker.specs.declared.gate.GateCall.{GateCall}
 use Rattle.site_state.specs.declared.ask.Ask.{Ask}
 use Rattle.site_state.specs.declared.ask.Entry.{Entry}
 use Rattle.site_state.specs.declared.ask.Reply.{Reply}
 use Rattle.site_state.specs.declared.ask.Reply.TheVariants as reply
-use Rattle.site_state.specs.Says.{Says}
+use Rattle.site_gate.specs.Saying.{AnswersCall}
 
--- One ask through a pass: the state replied at some history since its opening, and the entries of the ask are added to those of the
--- pass.
-pub record Asked {T : Type 0} (stance : T → Stance) (ask : Ask) (r : Reply) (old now : List Entry) : Type 0 where
-  pub opening : Parts T
-  pub before : List Entry
+-- A call through a pass, which knew v before it and knows w behind it: it was answered so at a history that goes on from all that the
+-- pass had seen, with no further entry of its own; its entries stand behind that history, under the number of the pass.
+pub record WasCalled {B : Type 0} (answers : Answers B Entry Ask Reply) (v : Known Entry B) (call : GateCall) (w : Known Entry B) : Type 0 where
+  pub base : B
+  pub base_is : v.base ≡ Some base
+  pub before : List (ℕ × Entry)
+  pub begins : GoesOnWithout v.numbers v.seen before
   pub new : List Entry
-  pub says : Says stance opening before ask r new
-  pub own : now ≡ old ++ new
+  pub answered : AnswersCall (answers base) (entries before) call new
+  pub now : w ≡ record v { seen = before ++ numbered v.number new }
+  pub own : entries_of w.numbers w.seen ≡ entries_of v.numbers v.seen ++ new
 
 -- the kinds of replies
 abbrev pub IsTaken : Reply → Type 0

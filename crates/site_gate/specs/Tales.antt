@@ -2,6 +2,7 @@
 use Rattle.std.specs.Prelude.{Bool, true, false, if◌then◌else◌, List, [], ◌∷◌, ◌++◌, Option, Some, None}
 use Rattle.model_run.specs.declared.event.Event.{Event}
 use Rattle.model_run.specs.declared.event.Event.TheVariants.{Start, Granted, Output, Exited, Lost, Decided}
+use Rattle.agent_worker.specs.declared.gate.GateCall.{GateCall}
 use Rattle.agent_worker.specs.declared.gate.Said.{Said}
 use Rattle.agent_worker.specs.Gate.{Told, told_at, Claimed as ClaimedTask, GateTells}
 use Rattle.site_state.specs.declared.ask.Entry.{Entry}
@@ -16,6 +17,15 @@ is_grant (Output task stream place bytes) = false
 is_grant (Exited task code) = false
 is_grant (Lost task why) = false
 is_grant (Decided request proceed name) = false
+
+-- an event of a task, which the executor that serves it reports
+abbrev pub is_of_task : Event → Bool
+is_of_task (Output task stream place bytes) = true
+is_of_task (Exited task code) = true
+is_of_task (Lost task why) = true
+is_of_task (Start script agents) = false
+is_of_task (Granted request executor) = false
+is_of_task (Decided request proceed name) = false
 
 -- an event that was asked for, with whether it was accepted
 abbrev pub asked_for : Event → Bool → List Told
@@ -43,6 +53,6 @@ claimed_of (Claimed executor task keep_out kept_log kept_out ∷ es) =
 claimed_of (Line line ∷ es) = claimed_of es
 claimed_of (Failed fault event ∷ es) = claimed_of es
 
--- What a gate tells whose pass has these entries. Its calls it does not tell: an ask that adds no entry is not among them.
-abbrev pub tells_of : List Entry → Said → Bool → GateTells
-tells_of own said is_open = record { told = Some (told_of own); lines = Some (lines own); claimed = Some (claimed_of own); calls = None; said = said; is_open = is_open }
+-- What a gate tells whose pass has these entries, and through which these calls were made.
+abbrev pub tells_of : List Entry → List GateCall → Said → Bool → GateTells
+tells_of own calls said is_open = record { told = Some (told_of own); lines = Some (lines own); claimed = Some (claimed_of own); calls = Some calls; said = said; is_open = is_open }

@@ -7,11 +7,12 @@ use Rattle.model_run.specs.declared.event.Event.TheVariants.{Start, Granted, Out
 use Rattle.task_host.specs.declared.call.Call.{Call}
 use Rattle.task_host.specs.declared.call.Call.TheVariants as call
 use Rattle.task_host.specs.declared.order.Order.{Order}
+use Rattle.agent_worker.specs.declared.gate.GateCall.{GateCall}
 use Rattle.agent_worker.specs.declared.worked.Worked.{Worked}
 use Rattle.agent_worker.specs.Acts.{Act, Called, Reported}
 use Rattle.agent_worker.specs.Causes.{IsCaused}
 use Rattle.agent_worker.specs.Gate.{Told, Claimed as ClaimedTask, Becomes}
-use Rattle.agent_worker.specs.Working.{Deed, Claims, Serves, Pauses, Halts, IsWork, AreOf, WorkEnds, WorksOnHost, AllDelivered, OnHost, work_calls, work_told, work_claims}
+use Rattle.agent_worker.specs.Working.{Deed, Claims, Serves, Pauses, Halts, IsWork, AreOf, WorkEnds, WorksOnHost, AllDelivered, OnHost, work_calls, work_told, work_reports, work_claims}
 use Rattle.site_state.specs.declared.ask.Entry.{Entry}
 use Rattle.site_gate.specs.Tales.{told_of, claimed_of}
 
@@ -79,12 +80,14 @@ pub record LaunchesClaimed (claimed : List ClaimedTask) (old now : List ℕ) : T
   pub part : IsPart more (tasks_of claimed)
 
 -- An executor's turn: what it did, the latest first, is what its entries and its host's list of calls tell.
-pub record ExecutorTurn (number looks : ℕ) (honest : Type 0) (own : List Entry) (old_calls calls : Option (List Call)) (old now : OnHost) (worked : Worked) : Type 0 where
+pub record ExecutorTurn (number looks : ℕ) (honest : Type 0) (own : List Entry) (gate_calls : List GateCall) (old_calls calls : Option (List Call)) (old now : OnHost) (worked : Worked) : Type 0 where
   pub past : List Deed
   pub lawful : IsWork looks past
   pub orders : AreOf number past
   pub called : Becomes (work_calls past) old_calls calls
   pub told : told_of own ≡ work_told past []
+  -- its claims with the orders that they gave, its reports and its halts are the calls of its gate
+  pub reports : gate_calls ≡ work_reports number past []
   pub claimed : claimed_of own ≡ work_claims past []
   pub ends : WorkEnds past worked
   -- a task is launched only after its claim, and at most once for it

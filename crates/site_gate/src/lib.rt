@@ -4,10 +4,12 @@
 //! its own. What it tells contracts is read off the entries that its pass has in the history.
 #![tactic(auto)]
 
+mod asks;
+mod calls;
 mod gate;
 mod place;
 mod turn;
 
 pub use gate::SiteGate;
 pub use place::Place;
-pub use turn::take_turn;
+pub use turn::{take_turn, work_through};

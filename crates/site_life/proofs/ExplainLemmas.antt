@@ -9,6 +9,7 @@ use Rattle.agent_worker.specs.declared.fault.TakeFault.{TakeFault}
 use Rattle.agent_worker.specs.declared.fault.TakeFault.TheVariants.{Memory, Disk, Full, Stopped}
 use Rattle.agent_worker.specs.declared.gate.Heard.{Heard}
 use Rattle.agent_worker.specs.declared.gate.Heard.TheVariants.{Decided, Skipped}
+use Rattle.agent_worker.specs.declared.gate.GateCall.{GateCall}
 use Rattle.agent_worker.specs.declared.gate.Said.{Said}
 use Rattle.agent_worker.specs.declared.member.Member.{Member}
 use Rattle.agent_worker.specs.declared.member.Member.TheVariants.{Executor, Operator}
@@ -145,22 +146,22 @@ module _ {H A : Type 0} (honest : H → Type 0) (faults : H → ℕ) (calls : H 
   ExplainedBy turns t = HoldsOfOne (Explains honest faults calls launches dirs output exited left source_faults looks t.accepted t.event) turns
 
   -- each event of a turn comes from its member
-  turn_told : (old new : Member H A) (worked : Worked) (own : List Entry) (said : Said) (is_open : Bool) (launched : List ℕ)
-      → Did (record { old = old; now = new; worked = worked; own = own; said = said; is_open = is_open; launches = launched })
-      → (t : Told) → IsIn t (told_of own) → Explained (record { old = old; now = new; worked = worked; own = own; said = said; is_open = is_open; launches = launched }) t
-  turn_told (Executor number host) (Executor now next) worked own said is_open launched d t is = record {
+  turn_told : (old new : Member H A) (worked : Worked) (own : List Entry) (gate_calls : List GateCall) (said : Said) (is_open : Bool) (launched : List ℕ)
+      → Did (record { old = old; now = new; worked = worked; own = own; calls = gate_calls; said = said; is_open = is_open; launches = launched })
+      → (t : Told) → IsIn t (told_of own) → Explained (record { old = old; now = new; worked = worked; own = own; calls = gate_calls; said = said; is_open = is_open; launches = launched }) t
+  turn_told (Executor number host) (Executor now next) worked own gate_calls said is_open launched d t is = record {
     told = is;
     comes = (d.executed, of_one (λ (x : Told). IsCausedBy looks d.executed.past x.event) t (told_of own) d.executed.caused is);
   }
-  turn_told (Operator answers line ended failed) (Operator next kept now_ended now_failed) worked own said is_open launched d t is = record {
+  turn_told (Operator answers line ended failed) (Operator next kept now_ended now_failed) worked own gate_calls said is_open launched d t is = record {
     told = is;
     comes = (d.works.0, operator_told d.works.0.past d.works.0.so_far.events t d.works.0.so_far.decided (subst (IsIn t) d.works.0.so_far.told is));
   }
-  turn_told (Executor number host) (Operator next kept now_ended now_failed) worked own said is_open launched d t is = absurd d.works
-  turn_told (Operator answers line ended failed) (Executor now next) worked own said is_open launched d t is = absurd d.works
+  turn_told (Executor number host) (Operator next kept now_ended now_failed) worked own gate_calls said is_open launched d t is = absurd d.works
+  turn_told (Operator answers line ended failed) (Executor now next) worked own gate_calls said is_open launched d t is = absurd d.works
 
   turn_explains : (turn : Turn H A) → Did turn → AllAre (EntryIs (Explained turn)) turn.own
-  turn_explains turn d = entries_are (Explained turn) turn.own (turn_told turn.old turn.now turn.worked turn.own turn.said turn.is_open turn.launches d)
+  turn_explains turn d = entries_are (Explained turn) turn.own (turn_told turn.old turn.now turn.worked turn.own turn.calls turn.said turn.is_open turn.launches d)
 
   made_explained : (turns all : List (Turn H A)) (before after : List Entry) → ((t : Told) → ExplainedBy turns t → ExplainedBy all t) → AllAre Did turns → MadeOf before turns after
       → AllAre (EntryIs (ExplainedBy all)) before → AllAre (EntryIs (ExplainedBy all)) after

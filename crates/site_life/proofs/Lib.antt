@@ -1,8 +1,12 @@
 pub mod MadeLemmas
+pub mod AskedLemmas
+pub mod ComeLemmas
+pub mod GoingLemmas
 pub mod RoundLemmas
 pub mod LookLemmas
 pub mod RoundsLemmas
 pub mod WayLemmas
+pub mod WaitLemmas
 pub mod ExplainLemmas
 pub mod LaunchLaws
 pub mod LifeLemmas

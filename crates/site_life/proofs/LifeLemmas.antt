@@ -1,11 +1,11 @@
 -- What is known of a life when its lock is closed.
-use Rattle.std.proofs.Common.{◌≡◌, ◌∙◌, ℕ, ℤ, List, [], ◌++◌, Option, Some, Result, Ok, Err, sym, ap, subst, append-nil}
+use Rattle.std.proofs.Common.{◌≡◌, ◌∙◌, ℕ, ℤ, List, [], ◌++◌, Option, Some, Result, Ok, Err, sym, ap, subst}
+use Rattle.std.proofs.Math.Logic.{∥∥₁_map}
 use Rattle.std.specs.List.{AllZip, AllByRecursion as AllAre}
 use Rattle.program_lock.specs.declared.program.Memory.{Memory}
 use Rattle.program_lock.specs.declared.view.Known.{Known}
-use Rattle.program_lock.specs.History.{entries, entries_of}
+use Rattle.program_lock.specs.History.{entries_of}
 use Rattle.program_lock.specs.Calls.{Ends}
-use Rattle.program_lock.proofs.EntryLemmas.{entries_of-ends}
 use Rattle.settle_laws.specs.Stances.{Stance}
 use Rattle.build_core.specs.Builds.{Parts}
 use Rattle.task_host.specs.declared.call.Call.{Call}
@@ -15,19 +15,22 @@ use Rattle.site_state.specs.declared.ask.Ask.{Ask}
 use Rattle.site_state.specs.declared.ask.Entry.{Entry}
 use Rattle.site_state.specs.declared.ask.Progress.{Progress}
 use Rattle.site_state.specs.declared.ask.Reply.{Reply}
-use Rattle.site_state.specs.Says.{Says}
 use Rattle.site_gate.proofs.ClaimLaws.{claims_differ}
 use Rattle.site_gate.proofs.PartLemmas.{all_map}
 use Rattle.site_life.specs.Lives.{EndsWith, Life}
-use Rattle.site_life.specs.Passing.{TakesRounds}
+use Rattle.site_gate.proofs.CallLemmas.{site_says}
+use Rattle.site_life.specs.Coming.{Came, EachIs, EachUnder}
+use Rattle.site_life.specs.Passing.{CameUnder, TakesRounds}
+use Rattle.site_life.proofs.GoingLemmas.{each_all}
 use Rattle.site_life.specs.Rounds.{RoundsFrom, turns_of}
 use Rattle.site_life.specs.Turns.{Turn, MadeOf, Launches, DidTurn}
 use Rattle.site_life.specs.Ways.{Way}
 use Rattle.site_life.proofs.ExplainLemmas.{events_explained}
 use Rattle.site_life.proofs.LaunchLaws.{launches_differ}
 use Rattle.site_life.proofs.LookLemmas.{same_base}
-use Rattle.site_life.proofs.MadeLemmas.{made_join}
+use Rattle.site_life.proofs.MadeLemmas.{made_behind, made_join}
 use Rattle.site_life.proofs.RoundsLemmas.{rounds_made}
+use Rattle.site_life.proofs.WaitLemmas.{life_waited}
 use Rattle.site_life.proofs.WayLemmas.{no_way, are_ways, rounds_ways}
 
 module _ {H A : Type 0} (honest : H → Type 0) (faults : H → ℕ) (calls : H → Option (List Call)) (launches dirs : H → List ℕ) (output : H → ℕ → Stream → List ℕ) (exited : H → ℕ → Option ℤ)
@@ -37,18 +40,22 @@ module _ {H A : Type 0} (honest : H → Type 0) (faults : H → ℕ) (calls : H 
 
   module _ {S B T : Type 0} (stance : T → Stance) (opening : B → Parts T) (history : S → List Entry) (base : S → B) where
     abbrev answers : B → List Entry → Ask → Reply → List Entry → Type 0
-    answers b h ask r new = Says stance (opening b) h ask r new
+    answers = site_says stance opening
 
     -- the entries of the last turns, whole round or not
-    last_made : (b : B) (last : List (Turn H A)) (members : List (Member H A)) (before : List Entry) (now : List (Member H A)) (all : List Entry) (how : Result Progress Memory)
-        → EndsWith answers b last members before now all how → MadeOf before last all
-    last_made b last members before now all (Ok come) e = e.1
-    last_made b last members before now all (Err memory) e = e.2
+    last_made : (b : B) (last : List (Turn H A)) (members : List (Member H A)) (before : List Entry) (now : List (Member H A)) (part all : List Entry) (how : Result Progress Memory)
+        → EndsWith answers b last members before now part all how → MadeOf before last all
+    last_made b last members before now part all (Ok come) e = subst (MadeOf before last) e.2 (made_behind before last part e.1)
+    last_made b last members before now part all (Err memory) e = subst (MadeOf before last) e.3 (made_behind before last part e.2)
 
-    last_ways : (b : B) (olds : List (Member H A)) (last : List (Turn H A)) (members : List (Member H A)) (before : List Entry) (now : List (Member H A)) (all : List Entry) (how : Result Progress Memory)
-        → EndsWith answers b last members before now all how → AllAre Did last → AllZip (Way Did before) olds members → AllZip (Way Did all) olds now
-    last_ways b olds last members before now all (Ok come) e did w = are_ways Did last [] olds members now before all e.0 e.1 did w
-    last_ways b olds last members before now all (Err memory) e did w = are_ways Did last e.0 olds members now before all e.1 e.2 did w
+    last_ways : (b : B) (olds : List (Member H A)) (last : List (Turn H A)) (members : List (Member H A)) (before : List Entry) (now : List (Member H A)) (part all : List Entry) (how : Result Progress Memory)
+        → EndsWith answers b last members before now part all how → AllAre Did last → AllZip (Way Did before) olds members → AllZip (Way Did all) olds now
+    last_ways b olds last members before now part all (Ok come) e did w = are_ways Did last [] olds members now before all e.0 (last_made b last members before now part all (Ok come) e) did w
+    last_ways b olds last members before now part all (Err memory) e did w = are_ways Did last e.0 olds members now before all e.1 (last_made b last members before now part all (Err memory) e) did w
+
+    -- of no entry
+    none_came : (v : Known Entry B) → v.seen ≡ [] → CameUnder answers v
+    none_came v first b is = subst (EachUnder (Came (answers b)) v.numbers []) (sym first) tt
 
     -- Rounds over a lock that was just opened, and its closing, are a life.
     pub lives : (old now : List (Member H A)) (v w : Known Entry B) (state : S) (start : B) (how : Result Progress Memory) → v.base ≡ Some start → v.seen ≡ []
@@ -56,16 +63,14 @@ module _ {H A : Type 0} (honest : H → Type 0) (faults : H → ℕ) (calls : H 
         → Life honest faults calls launches dirs output exited left source_faults looks answers start (base state) old now (history state) how
     lives old now v w state start how is first r e =
         let begun : entries_of v.numbers v.seen ≡ [] = ap (entries_of v.numbers) first in
-        let own : entries_of w.numbers w.seen ≡ history state = entries_of-ends history base answers w state e in
-        let went = subst (λ (es : List Entry). RoundsFrom answers (base state) (history state) r.rounds old es r.members r.before) begun
-        (r.went_on (base state) e.start [] (history state) (append-nil (entries w.seen) ∙ sym e.past)) in
-        let ended : EndsWith answers (base state) r.last r.members r.before now (history state) how =
-        subst (λ (es : List Entry). EndsWith answers (base state) r.last r.members r.before now es how) (sym e.past) (r.ends (base state) e.start (own ∙ e.past)) in
+        let went = subst (λ (es : List Entry). RoundsFrom answers (base state) r.rounds old es r.members r.before) begun (r.went_on (base state) e.start e.own) in
+        let ended : EndsWith answers (base state) r.last r.members r.before now r.part (history state) how =
+        subst (λ (es : List Entry). EndsWith answers (base state) r.last r.members r.before now r.part es how) (sym e.past) (r.ends (base state) e.start e.own) in
         let made : MadeOf [] (turns_of r.rounds ++ r.last) (history state) = made_join (turns_of r.rounds) r.last [] r.before (history state)
-        (rounds_made answers (base state) (history state) r.rounds old r.members [] r.before went)
-        (last_made (base state) r.last r.members r.before now (history state) how ended) in
+        (rounds_made answers (base state) r.rounds old r.members [] r.before went)
+        (last_made (base state) r.last r.members r.before now r.part (history state) how ended) in
         let events = events_explained honest faults calls launches dirs output exited left source_faults looks (turns_of r.rounds ++ r.last) (history state) r.did made in
-        let ways = rounds_ways Did answers (base state) (history state) r.rounds r.last old old r.members [] r.before r.did went (no_way Did old) in
+        let ways = rounds_ways Did answers (base state) r.rounds r.last old old r.members [] r.before r.did went (no_way Did old) in
         record {
           base_stays = same_base (base state) start (sym e.start ∙ r.goes.base_stays ∙ is);
           legal = e.legal;
@@ -73,14 +78,19 @@ module _ {H A : Type 0} (honest : H → Type 0) (faults : H → ℕ) (calls : H 
           last = r.last;
           members = r.members;
           before = r.before;
+          part = r.part;
           went_on = went;
           ends = ended;
           turns = r.did;
-          ways = last_ways (base state) old r.last r.members r.before now (history state) how ended ways.1 ways.0;
+          ways = last_ways (base state) old r.last r.members r.before now r.part (history state) how ended ways.1 ways.0;
           claimed_once = claims_differ stance opening (base state) (history state) e.legal;
           launched_once = launches_differ stance opening (base state) launches (turns_of r.rounds ++ r.last) (history state) e.legal made
               (all_map Did (λ (turn : Turn H A). Launches launches turn.old turn.now turn.own turn.launches) (turns_of r.rounds ++ r.last) (λ turn d. d.launched) r.did);
           told = events.0;
+          came = ∥∥₁_map r.goes.came (λ (f : CameUnder answers v → CameUnder answers w).
+              subst (EachIs (Came (answers (base state))) []) (sym e.past)
+              (each_all (Came (answers (base state))) w.numbers [] w.seen e.own (f (none_came v first) (base state) e.start)));
+          waited = life_waited honest faults calls launches dirs output exited left source_faults looks stance opening (base state) r.rounds r.last old r.members now r.before r.part (history state) how r.did went ended;
           explained = events.1;
           at_risk = events.2;
         }

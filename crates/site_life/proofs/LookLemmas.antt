@@ -2,7 +2,6 @@
 use Rattle.std.proofs.Common.{◌≡◌, ◌∙◌, ℕ, List, [], ◌++◌, Option, Some, None, sym, ap, subst, append-nil}
 use Rattle.program_lock.specs.declared.view.Known.{Known}
 use Rattle.program_lock.specs.History.{entries, numbered, entries_of}
-use Rattle.program_lock.specs.Merge.{IsMergeOf}
 use Rattle.program_lock.specs.Calls.{Steps}
 use Rattle.program_lock.proofs.EntryLemmas.{entries_of-step}
 use Rattle.settle_laws.specs.Stances.{Stance}
@@ -17,7 +16,8 @@ use Rattle.site_state.specs.declared.ask.Reply.TheVariants as reply
 use Rattle.site_state.specs.Histories.{kept_fault}
 use Rattle.site_state.specs.Says.{Says, SaysAt}
 use Rattle.site_life.specs.Passing.{IsProgress, GoesOn}
-use Rattle.site_life.proofs.MadeLemmas.{own_among}
+use Rattle.site_gate.proofs.CallLemmas.{site_says}
+use Rattle.site_life.proofs.GoingLemmas.{goes_without}
 
 -- A look is told how far the build has come, and adds nothing.
 pub record OnlyLooks (r : Reply) (new : List Entry) : Type 0 where
@@ -42,10 +42,9 @@ same_base a b e = cc
 
 -- What a pass knows behind a look: it has seen more, and none of it is its own.
 pub record SawProgress {B T : Type 0} (stance : T → Stance) (opening : B → Parts T) (v w : Known Entry B) (come : Progress) : Type 0 where
-  pub goes : GoesOn v w
+  pub goes : GoesOn (site_says stance opening) v w
   pub parts : w.parts ≡ v.parts
   pub own : entries_of w.numbers w.seen ≡ entries_of v.numbers v.seen
-  pub among : (others : List Entry) × IsMergeOf (entries_of v.numbers v.seen) others (entries w.seen)
   pub said : (base : B) → w.base ≡ Some base → Says stance (opening base) (entries w.seen) Look (reply.Progress come) []
 
 module _ {B T : Type 0} (stance : T → Stance) (opening : B → Parts T) (v w : Known Entry B) where
@@ -58,12 +57,10 @@ module _ {B T : Type 0} (stance : T → Stance) (opening : B → Parts T) (v w :
       let seen : w.seen ≡ s.before = ap (λ k. k.seen) s.now ∙ ap (λ (es : List Entry). s.before ++ numbered v.number es) none ∙ append-nil s.before in
       let own : entries_of w.numbers w.seen ≡ entries_of v.numbers v.seen =
       entries_of-step answers v Look (reply.Progress come) w s ∙ ap (λ (es : List Entry). entries_of v.numbers v.seen ++ es) none ∙ append-nil (entries_of v.numbers v.seen) in
-      let all : (others : List Entry) × IsMergeOf (entries_of w.numbers w.seen) others (entries w.seen) = own_among w.numbers w.seen in
       record {
-        goes = record { base_stays = ap (λ k. k.base) s.now; begins = (s.begins.0, s.begins.1 ∙ sym seen) };
+        goes = goes_without answers v w s.begins.0 (ap (λ k. k.base) s.now) (ap (λ k. k.numbers) s.now) (s.begins.1 ∙ sym seen) s.begins.2;
         parts = ap (λ k. k.parts) s.now;
         own = own;
-        among = (all.0, subst (λ (es : List Entry). IsMergeOf es all.0 (entries w.seen)) own all.1);
         said = λ base is. subst (λ (b : B). Says stance (opening b) (entries w.seen) Look (reply.Progress come) []) (same_base s.base base (sym s.base_is ∙ sym (ap (λ k. k.base) s.now) ∙ is))
             (subst (λ (log : List (ℕ × Entry)). Says stance (opening s.base) (entries log) Look (reply.Progress come) []) (sym seen)
             (subst (λ (es : List Entry). Says stance (opening s.base) (entries s.before) Look (reply.Progress come) es) none s.answered));

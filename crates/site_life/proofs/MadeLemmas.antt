@@ -1,7 +1,6 @@
 -- Entries among which turns put theirs.
-use Rattle.std.proofs.Common.{◌≡◌, ⊎_elim, inl, inr, ℕ, Bool, true, false, List, [], ◌∷◌, ◌++◌, refl, sym, subst}
+use Rattle.std.proofs.Common.{◌≡◌, ⊎_elim, inl, inr, List, [], ◌∷◌, ◌++◌, refl, sym, ap, subst, append-nil}
 use Rattle.std.specs.List.{AllByRecursion as AllAre}
-use Rattle.program_lock.specs.History.{has, keep_if, entries, under, entries_of}
 use Rattle.program_lock.specs.Merge.{IsMergeOf}
 use Rattle.site_state.specs.declared.ask.Entry.{Entry}
 use Rattle.site_life.specs.Turns.{Turn, MadeOf}
@@ -25,12 +24,27 @@ module _ {A : Type 0} where
       (λ (r : (vs : List A) × (ys ≡ z ∷ vs) × IsMergeOf xs vs zs). let here : AllAre P (z ∷ r.0) = subst (AllAre P) r.1 two in (here.0, all_merged P xs r.0 zs r.2 one here.1))
       m
 
--- The entries of some numbers stand among all.
-among_more : {E : Type 0} (ns : List ℕ) (x : ℕ × E) (xs : List (ℕ × E)) (b : Bool) → (others : List E) × IsMergeOf (entries_of ns xs) others (entries xs)
-    → (others : List E) × IsMergeOf (entries (keep_if b x (under ns xs))) others (entries (x ∷ xs))
-among_more ns x xs true r = (r.0, inl (entries_of ns xs, refl, r.1))
-among_more ns x xs false r = (x.1 ∷ r.0, inr (r.0, refl, r.1))
+  merge_only : (zs : List A) → IsMergeOf [] zs zs
+  merge_only [] = (refl, refl)
+  merge_only (z ∷ zs) = inr (zs, refl, merge_only zs)
 
-pub own_among : {E : Type 0} (ns : List ℕ) (xs : List (ℕ × E)) → (others : List E) × IsMergeOf (entries_of ns xs) others (entries xs)
-own_among ns [] = ([], (refl, refl))
-own_among ns (x ∷ xs) = among_more ns x xs (has ns x.0) (own_among ns xs)
+  -- behind others
+  pub merge_behind : (xs ys : List A) → IsMergeOf xs ys (xs ++ ys)
+  merge_behind [] ys = merge_only ys
+  merge_behind (x ∷ xs) ys = inl (xs, refl, merge_behind xs ys)
+
+  pub merge_front : (front xs ys zs : List A) → IsMergeOf xs ys zs → IsMergeOf (front ++ xs) ys (front ++ zs)
+  merge_front [] xs ys zs m = m
+  merge_front (f ∷ front) xs ys zs m = inl (front ++ xs, refl, merge_front front xs ys zs m)
+
+  pub same_rest : (xs ys zs : List A) → xs ++ ys ≡ xs ++ zs → ys ≡ zs
+  same_rest [] ys zs e = e
+  same_rest (x ∷ xs) ys zs e = let tails : xs ++ ys ≡ xs ++ zs = cc in same_rest xs ys zs tails
+
+-- what turns make of none they make of any, behind it
+made_front : {H A : Type 0} (front : List Entry) (turns : List (Turn H A)) (xs ys : List Entry) → MadeOf xs turns ys → MadeOf (front ++ xs) turns (front ++ ys)
+made_front front [] xs ys m = ap (λ (l : List Entry). front ++ l) m
+made_front front (turn ∷ turns) xs ys m = (front ++ m.0, merge_front front xs turn.own m.0 m.1, made_front front turns m.0 ys m.2)
+
+pub made_behind : {H A : Type 0} (before : List Entry) (turns : List (Turn H A)) (part : List Entry) → MadeOf [] turns part → MadeOf before turns (before ++ part)
+made_behind before turns part m = subst (λ (l : List Entry). MadeOf l turns (before ++ part)) (append-nil before) (made_front before turns [] part m)

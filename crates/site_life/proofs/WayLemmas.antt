@@ -11,7 +11,7 @@ use Rattle.site_gate.proofs.PartLemmas.{all_append}
 use Rattle.site_life.specs.Rounds.{Round, AreTurnsOf, RoundsFrom, turns_of}
 use Rattle.site_life.specs.Turns.{Turn, MadeOf}
 use Rattle.site_life.specs.Ways.{Chained, Way}
-use Rattle.site_life.proofs.MadeLemmas.{made_more}
+use Rattle.site_life.proofs.MadeLemmas.{made_behind, made_more}
 
 module _ {A : Type 0} where
   -- Where one list is made of two, and another of it and a third, the other is made of the first with the third, and the second; and of the
@@ -128,7 +128,7 @@ module _ {H A : Type 0} (Did : Turn H A → Type 0) where
       → ways before olds ms → ways after olds ns
   are_ways turns others olds ms ns before after are m did w = subst (ways after olds) (sym are.1) (turns_ways turns others olds before after m did (subst (ways before olds) are.0 w))
 
-  all_two : (xs ys : List (Turn H A)) → AllAre Did (xs ++ ys) → AllAre Did xs × AllAre Did ys
+  pub all_two : (xs ys : List (Turn H A)) → AllAre Did (xs ++ ys) → AllAre Did xs × AllAre Did ys
   all_two [] ys all = (tt, all)
   all_two (x ∷ xs) ys all = let rest = all_two xs ys all.1 in ((all.0, rest.0), rest.1)
 
@@ -136,10 +136,10 @@ module _ {H A : Type 0} (Did : Turn H A → Type 0) where
   no_way [] = tt
   no_way (o ∷ olds) = (record { turns = []; chain = refl; did = tt; own = []; made = refl; others = []; part = (refl, refl) }, no_way olds)
 
-  module _ {B : Type 0} (answers : Answers B Entry Ask Reply) (base : B) (history : List Entry) where
+  module _ {B : Type 0} (answers : Answers B Entry Ask Reply) (base : B) where
     pub rounds_ways : (rounds : List (Round H A)) (last : List (Turn H A)) (olds ms ns : List (Member H A)) (before after : List Entry) → AllAre Did (turns_of rounds ++ last)
-        → RoundsFrom answers base history rounds ms before ns after → ways before olds ms → ways after olds ns × AllAre Did last
+        → RoundsFrom answers base rounds ms before ns after → ways before olds ms → ways after olds ns × AllAre Did last
     rounds_ways [] last olds ms ns before after did r w = (subst (λ (es : List Entry). ways es olds ns) (sym r.1) (subst (ways before olds) (sym r.0) w), did)
     rounds_ways (round ∷ rounds) last olds ms ns before after did r w =
         let two = all_two round.turns (turns_of rounds ++ last) (subst (AllAre Did) (append_assoc round.turns (turns_of rounds) last) did) in
-        rounds_ways rounds last olds r.0 ns r.1 after two.1 r.6 (are_ways round.turns [] olds ms r.0 before r.1 r.2 r.3 two.0 w)
+        rounds_ways rounds last olds r.0 ns (before ++ r.1) after two.1 r.7 (are_ways round.turns [] olds ms r.0 before (before ++ r.1) r.2 (made_behind before round.turns r.1 r.3) two.0 w)

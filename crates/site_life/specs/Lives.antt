@@ -1,5 +1,5 @@
 -- What a life with members is: from the opening of the lock to its closing (this product's own).
-use Rattle.std.specs.Prelude.{◌≡◌, ℕ, ℤ, true, false, nat_eq, List, [], ◌++◌, Option, Result, Ok, Err}
+use Rattle.std.specs.Prelude.{◌≡◌, ◌≤◌, ℕ, ℤ, true, false, nat_eq, List, [], ◌++◌, Option, Result, Ok, Err}
 use Rattle.std.specs.List.{IsDistinct, AllZip, AllByRecursion as AllAre}
 use Rattle.program_lock.specs.declared.program.Memory.{Memory}
 use Rattle.program_lock.specs.Legal.{Answers, IsLegal}
@@ -17,16 +17,21 @@ use Rattle.site_state.specs.Histories.{pending, tooks}
 use Rattle.site_gate.specs.Tales.{claimed_of, told_of}
 use Rattle.site_gate.specs.Turning.{tasks_of}
 use Rattle.site_life.specs.Ending.{goes_on}
-use Rattle.site_life.specs.Rounds.{Round, AreTurnsOf, IsRound, RoundsFrom, turns_of}
+use Rattle.site_life.specs.Coming.{Came, EachIs}
+use Rattle.site_life.specs.Rounds.{Round, AllAsked, AreTurnsOf, IsRound, RoundsFrom, turns_of}
 use Rattle.site_life.specs.Turns.{Turn, MadeOf, launches_of, HoldsOfOne, DidTurn, Explains, IsExplained}
+use Rattle.site_life.specs.Waiting.{Waited, operators}
 use Rattle.site_life.specs.Ways.{Way}
 
 -- How it ended: behind a whole round, where a look said of the state at the closing that there is no other; or within a round, where memory
--- was wanted before the next member's turn.
-abbrev pub EndsWith : {H A B : Type 0} → Answers B Entry Ask Reply → B → List (Turn H A) → List (Member H A) → List Entry → List (Member H A) → List Entry → Result Progress Memory → Type 0
-EndsWith answers base last members before now history (Ok come) =
-    IsRound last members now × MadeOf before last history × answers base history Look (reply.Progress come) [] × (goes_on come now ≡ false)
-EndsWith {H} {A} answers base last members before now history (Err memory) = (others : List (Member H A)) × AreTurnsOf last others members now × MadeOf before last history
+-- was wanted before the next member's turn. `part` has the entries of that round, which stand behind all others; each answer that a member was
+-- given in it is the state's reply behind these.
+abbrev pub EndsWith : {H A B : Type 0} → Answers B Entry Ask Reply → B → List (Turn H A) → List (Member H A) → List Entry → List (Member H A) → List Entry → List Entry → Result Progress Memory → Type 0
+EndsWith answers base last members before now part history (Ok come) =
+    IsRound last members now × MadeOf [] last part × (before ++ part ≡ history) × ∥ AllAsked (answers base) before part last ∥₁
+    × answers base history Look (reply.Progress come) [] × (goes_on come now ≡ false)
+EndsWith {H} {A} answers base last members before now part history (Err memory) =
+    (others : List (Member H A)) × AreTurnsOf last others members now × MadeOf [] last part × (before ++ part ≡ history) × ∥ AllAsked (answers base) before part last ∥₁
 
 module _ {H A : Type 0} (honest : H → Type 0) (faults : H → ℕ) (calls : H → Option (List Call)) (launches dirs : H → List ℕ) (output : H → ℕ → Stream → List ℕ) (exited : H → ℕ → Option ℤ)
     (left : A → Option (List ℕ)) (source_faults : A → ℕ) (looks : ℕ) where
@@ -39,8 +44,9 @@ module _ {H A : Type 0} (honest : H → Type 0) (faults : H → ℕ) (calls : H 
     pub last : List (Turn H A)
     pub members : List (Member H A)
     pub before : List Entry
-    pub went_on : RoundsFrom answers base history rounds old [] members before
-    pub ends : EndsWith answers base last members before now history how
+    pub part : List Entry
+    pub went_on : RoundsFrom answers base rounds old [] members before
+    pub ends : EndsWith answers base last members before now part history how
     -- what each turn was
     pub turns : AllAre (DidTurn honest faults calls launches dirs output exited left source_faults looks) (turns_of rounds ++ last)
     -- and so each member's own way, from what it was to what it became
@@ -50,6 +56,10 @@ module _ {H A : Type 0} (honest : H → Type 0) (faults : H → ℕ) (calls : H 
     pub launched_once : IsDistinct nat_eq (launches_of (turns_of rounds ++ last))
     -- each event that was reported or decided, and was taken or kept by the disk or the limit, comes from a member
     pub told : AllAre (λ (t : Told). HoldsOfOne (Explains honest faults calls launches dirs output exited left source_faults looks t.accepted t.event) (turns_of rounds ++ last)) (told_of history)
+    -- each decision stands directly behind its line, which decided it there; and one that failed is that of a line
+    pub came : ∥ EachIs (Came (answers base)) [] history ∥₁
+    -- where at most one of them is an operator: each answer line was heard only where an input was open since the line before it
+    pub waited : operators old ≤ 1 → ∥ EachIs (Waited (answers base)) [] history ∥₁
     -- so each event that was taken is explained, and the one whose record the disk may have though it failed
     pub explained : AllAre (IsExplained honest faults calls launches dirs output exited left source_faults looks (turns_of rounds ++ last) true) (tooks history)
     pub at_risk : AllAre (IsExplained honest faults calls launches dirs output exited left source_faults looks (turns_of rounds ++ last) false) (pending history)

@@ -1,7 +1,8 @@
 -- The rounds of a life (this product's own).
 use Rattle.std.specs.Prelude.{◌≡◌, true, List, [], ◌∷◌, ◌++◌, map}
+use Rattle.std.specs.List.{AllByRecursion as AllAre}
 use Rattle.program_lock.specs.Legal.{Answers}
-use Rattle.program_lock.specs.Merge.{IsMergeOf}
+use Rattle.agent_worker.specs.declared.gate.GateCall.{GateCall}
 use Rattle.agent_worker.specs.declared.member.Member.{Member}
 use Rattle.site_state.specs.declared.ask.Ask.{Ask}
 use Rattle.site_state.specs.declared.ask.Ask.TheVariants.{Look}
@@ -9,6 +10,7 @@ use Rattle.site_state.specs.declared.ask.Entry.{Entry}
 use Rattle.site_state.specs.declared.ask.Progress.{Progress}
 use Rattle.site_state.specs.declared.ask.Reply.{Reply}
 use Rattle.site_state.specs.declared.ask.Reply.TheVariants as reply
+use Rattle.site_gate.specs.Saying.{AnswersCall}
 use Rattle.site_life.specs.Ending.{goes_on}
 use Rattle.site_life.specs.Turns.{Turn, MadeOf}
 
@@ -31,19 +33,24 @@ module _ {H A : Type 0} where
   turns_of [] = []
   turns_of (round ∷ rounds) = round.turns ++ turns_of rounds
 
--- A look said this, at a beginning of the history that has all entries so far.
-pub record Looked {B : Type 0} (answers : Answers B Entry Ask Reply) (base : B) (history so_far : List Entry) (come : Progress) : Type 0 where
-  pub at : List Entry
-  pub later : List Entry
-  pub begins : at ++ later ≡ history
-  pub others : List Entry
-  pub has : IsMergeOf so_far others at
-  pub said : answers base at Look (reply.Progress come) []
+-- Behind this beginning of a history and within what follows it each of these calls was answered so, one behind the other; the entries of
+-- each stand there, and they are these.
+abbrev pub WereAsked : (List Entry → Ask → Reply → List Entry → Type 0) → List Entry → List GateCall → List Entry → List Entry → Type 0
+WereAsked says front [] own rest = own ≡ []
+WereAsked says front (call ∷ calls) own rest =
+    (others : List Entry) × (new : List Entry) × (mine : List Entry) × (later : List Entry) × (rest ≡ others ++ (new ++ later)) × (own ≡ new ++ mine)
+    × AnswersCall says (front ++ others) call new × WereAsked says (front ++ (others ++ new)) calls mine later
 
-module _ {H A B : Type 0} (answers : Answers B Entry Ask Reply) (base : B) (history : List Entry) where
-  -- Rounds after each of which the work goes on, as a look behind it says: from these members and entries to those.
+-- The calls of each of these turns were answered so behind these entries and within these.
+abbrev pub AllAsked : {H A : Type 0} → (List Entry → Ask → Reply → List Entry → Type 0) → List Entry → List Entry → List (Turn H A) → Type 0
+AllAsked {H} {A} says before part turns = AllAre (λ (turn : Turn H A). WereAsked says before turn.calls turn.own part) turns
+
+module _ {H A B : Type 0} (answers : Answers B Entry Ask Reply) (base : B) where
+  -- Rounds after each of which the work goes on, as a look behind it says: from these members and entries to those. The entries of each round
+  -- stand behind those of the rounds before it; and each answer that a member was given in it is the state's reply behind these.
   abbrev pub RoundsFrom : List (Round H A) → List (Member H A) → List Entry → List (Member H A) → List Entry → Type 0
   RoundsFrom [] old before now after = (now ≡ old) × (after ≡ before)
   RoundsFrom (round ∷ rounds) old before now after =
-      (members : List (Member H A)) × (mid : List Entry) × IsRound round.turns old members × MadeOf before round.turns mid
-      × Looked answers base history mid round.come × (goes_on round.come members ≡ true) × RoundsFrom rounds members mid now after
+      (members : List (Member H A)) × (part : List Entry) × IsRound round.turns old members × MadeOf [] round.turns part
+      × answers base (before ++ part) Look (reply.Progress round.come) [] × (goes_on round.come members ≡ true) × ∥ AllAsked (answers base) before part round.turns ∥₁
+      × RoundsFrom rounds members (before ++ part) now after

@@ -4,6 +4,7 @@ use Rattle.program_lock.specs.Merge.{IsMergeOf}
 use Rattle.model_run.specs.declared.event.Event.{Event}
 use Rattle.task_host.specs.declared.call.Call.{Call}
 use Rattle.task_host.specs.declared.order.Stream.{Stream}
+use Rattle.agent_worker.specs.declared.gate.GateCall.{GateCall}
 use Rattle.agent_worker.specs.declared.gate.Said.{Said}
 use Rattle.agent_worker.specs.declared.gate.Said.TheVariants.{Nothing}
 use Rattle.agent_worker.specs.declared.member.Member.{Member}
@@ -18,13 +19,14 @@ use Rattle.site_gate.specs.Tales.{claimed_of, is_grant, tells_of, told_of}
 use Rattle.site_gate.specs.Turning.{tasks_of, IsPart, IsCausedBy, ExecutorTurn}
 use Rattle.site_gate.specs.Turns.{Executed}
 
--- A turn: the member before it and behind it, how its work ended, the entries that it left in the history, what its gate said last and
--- whether a line could still be given to it, and what it added to the launches of its host.
+-- A turn: the member before it and behind it, how its work ended, the entries that it left in the history, the calls of its gate, what
+-- that said last and whether a line could still be given to it, and what it added to the launches of its host.
 pub record Turn (H A : Type 0) : Type 0 where
   pub old : Member H A
   pub now : Member H A
   pub worked : Worked
   pub own : List Entry
+  pub calls : List GateCall
   pub said : Said
   pub is_open : Bool
   pub launches : List ℕ
@@ -66,23 +68,23 @@ module _ {H A : Type 0} (honest : H → Type 0) (faults : H → ℕ) (calls : H 
 
   -- What a turn was: the member did its work over a gate that was new, and this is what the entries of the turn tell.
   pub record DidTurn (turn : Turn H A) : Type 0 where
-    pub works : Work turn.old turn.now turn.worked (tells_of [] Nothing false) (tells_of turn.own turn.said turn.is_open)
-    pub executed : Executed honest calls launches dirs output exited looks turn.old turn.now turn.worked turn.own
+    pub works : Work turn.old turn.now turn.worked (tells_of [] [] Nothing false) (tells_of turn.own turn.calls turn.said turn.is_open)
+    pub executed : Executed honest calls launches dirs output exited looks turn.old turn.now turn.worked turn.own turn.calls
     pub launched : Launches launches turn.old turn.now turn.own turn.launches
 
   -- An executor reported the event in one of its serves, with its cause there; a line that the operator read and gave decides it.
-  abbrev pub ComesFrom : Event → Member H A → Member H A → Worked → List Entry → GateTells → Type 0
-  ComesFrom e (Executor number host) (Executor now next) worked own told =
-      (did : ExecutorTurn number looks (honest host) own (calls host) (calls next) (on_host launches dirs output exited host) (on_host launches dirs output exited next) worked) × IsCausedBy looks did.past e
-  ComesFrom e (Operator answers line ended failed) (Operator next kept now_ended now_failed) worked own told =
-      (did : Operates (tells_of [] Nothing false) told (left answers) (left next) line kept ended now_ended worked) × ((given : List ℕ) × IsIn given (given_in did.past) × ((request : ℕ) × Decides given request e))
-  ComesFrom e (Executor number host) (Operator next kept now_ended now_failed) worked own told = ⊥
-  ComesFrom e (Operator answers line ended failed) (Executor now next) worked own told = ⊥
+  abbrev pub ComesFrom : Event → Member H A → Member H A → Worked → List Entry → List GateCall → GateTells → Type 0
+  ComesFrom e (Executor number host) (Executor now next) worked own gate_calls told =
+      (did : ExecutorTurn number looks (honest host) own gate_calls (calls host) (calls next) (on_host launches dirs output exited host) (on_host launches dirs output exited next) worked) × IsCausedBy looks did.past e
+  ComesFrom e (Operator answers line ended failed) (Operator next kept now_ended now_failed) worked own gate_calls told =
+      (did : Operates (tells_of [] [] Nothing false) told (left answers) (left next) line kept ended now_ended worked) × ((given : List ℕ) × IsIn given (given_in did.past) × ((request : ℕ) × Decides given request e))
+  ComesFrom e (Executor number host) (Operator next kept now_ended now_failed) worked own gate_calls told = ⊥
+  ComesFrom e (Operator answers line ended failed) (Executor now next) worked own gate_calls told = ⊥
 
   -- The event was taken in this turn, or its take was kept from the disk by a fault, as `accepted` says; and it comes from the member.
   pub record Explains (accepted : Bool) (event : Event) (turn : Turn H A) : Type 0 where
     pub told : IsIn (told_at event accepted) (told_of turn.own)
-    pub comes : ComesFrom event turn.old turn.now turn.worked turn.own (tells_of turn.own turn.said turn.is_open)
+    pub comes : ComesFrom event turn.old turn.now turn.worked turn.own turn.calls (tells_of turn.own turn.calls turn.said turn.is_open)
 
   -- the event is a grant, which the build makes behind another event; or it is so explained by one of these turns
   abbrev pub IsExplained : List (Turn H A) → Bool → Event → Type 0

@@ -1,8 +1,8 @@
 //! A life of members.
-ghost use Rattle.std.specs.Prelude.{◌≡◌, ◌<◌, ℕ, [], IfOk, IfErr, Some};
+ghost use Rattle.std.specs.Prelude.{◌≡◌, ◌<◌, [], IfOk, IfErr, Some};
 ghost use Rattle.program_lock.specs.Calls.{Steps};
 ghost use Rattle.program_lock.specs.Passes.{known, IsPassOf};
-ghost use Rattle.program_lock.specs.Views.{all_parts, handed_on};
+ghost use Rattle.program_lock.specs.Views.{all_parts};
 ghost use Rattle.site_state.specs.Says.{Says};
 ghost use Rattle.site_state.specs.declared.ask.Ask.TheVariants as asks;
 ghost use Rattle.site_state.specs.declared.ask.Reply.TheVariants as says;
@@ -17,10 +17,8 @@ use jp_disk::Disk;
 use jp_io::Source;
 use program_lock::{Memory, Pass, Program};
 use saved_thread::SavedThread;
-use site_gate::Place;
 use site_state::{Ask, Progress, Reply, SiteState};
 use std::alloc::{AllocGlobal, Global};
-use std::marker::Brand;
 use std::sync::Wait;
 use std::thread;
 use std::time::{Clock, Duration};
@@ -62,14 +60,7 @@ pub fn pause<W: Wait + Clock>(rt: &W, last: Option<Progress>, come: Progress) {
 }
 
 /// Gives the members rounds over an open lock, until there is no other.
-fn take_rounds<
-    B: Place,
-    W: Wait + Clock + AllocGlobal,
-    D: Disk,
-    R: SavedThread + Drop,
-    H: Host,
-    A: Source,
->(
+fn take_rounds<W: Wait + Clock + AllocGlobal, D: Disk, R: SavedThread + Drop, H: Host, A: Source>(
     rt: &W,
     alloc: Global,
     program: &Program<SiteState<D, R>>,
@@ -79,8 +70,6 @@ fn take_rounds<
 ) -> Result<Progress, Memory>
     requires looks { 0 < looks }
     requires belongs { IsPassOf program.now pass.old }
-    requires placed { pass.old.seat.table_id ≡ B.table }
-    requires shared { (n : ℕ) → B.share n ≡ handed_on all_parts }
     requires whole { (known pass.old).parts ≡ all_parts }
     ensures belongs { IsPassOf program.now pass.new }
     ensures whole { (known pass.new).parts ≡ all_parts }
@@ -90,7 +79,7 @@ fn take_rounds<
 {
     let mut last = None;
     for _ in rt.forever() {
-        take_round::<B, W, D, R, H, A>(rt, alloc, program, pass, members, looks)?;
+        take_round(rt, alloc, program, pass, members, looks)?;
         let come = look(rt, program, pass);
         if !goes_on(come, can_answer(members)) {
             return Ok(come);
@@ -102,14 +91,7 @@ fn take_rounds<
 }
 
 /// Gives the members their rounds over an open lock, and closes it.
-fn live_in<
-    B: Place,
-    W: Wait + Clock + AllocGlobal,
-    D: Disk,
-    R: SavedThread + Drop,
-    H: Host,
-    A: Source,
->(
+fn live_in<W: Wait + Clock + AllocGlobal, D: Disk, R: SavedThread + Drop, H: Host, A: Source>(
     rt: &W,
     alloc: Global,
     program: Program<SiteState<D, R>>,
@@ -119,8 +101,6 @@ fn live_in<
 ) -> (SiteState<D, R>, Result<Progress, Memory>)
     requires looks { 0 < looks }
     requires belongs { IsPassOf program pass }
-    requires placed { pass.seat.table_id ≡ B.table }
-    requires shared { (n : ℕ) → B.share n ≡ handed_on all_parts }
     requires whole { (known pass).parts ≡ all_parts }
     requires first { (known pass).seen ≡ [] }
     ensures lives { (start : _) → (known pass).base ≡ Some start → Life H.honest H.faults H.calls H.launches H.dirs H.output H.exited A.left A.faults looks
@@ -128,7 +108,7 @@ fn live_in<
         start result.0.base members.old members.new result.0.history.items result.1 }
 {
     let mut pass = pass;
-    let how = take_rounds::<B, W, D, R, H, A>(rt, alloc, &program, &mut pass, members, looks);
+    let how = take_rounds(rt, alloc, &program, &mut pass, members, looks);
     match program.close(pass) {
         Ok(state) => (state, how),
         Err(_out) => unreachable!(),
@@ -166,9 +146,7 @@ pub fn live<W: Wait + Clock + AllocGlobal, D: Disk, R: SavedThread + Drop, H: Ho
     ensures back { IfErr result (λ e. (e.1 ≡ state) × (members.new ≡ members.old)) }
 {
     match Program::open(alloc, state) {
-        Ok((program, pass)) => {
-            Ok(live_in::<Brand, W, D, R, H, A>(rt, alloc, program, pass, members, looks))
-        }
+        Ok((program, pass)) => { Ok(live_in(rt, alloc, program, pass, members, looks)) }
         Err((memory, state)) => Err((memory, state)),
     }
 }

@@ -1,7 +1,8 @@
 //! A round of turns.
-ghost use Rattle.std.specs.Prelude.{◌≡◌, ◌<◌, ℕ};
+ghost use Rattle.std.specs.Prelude.{◌≡◌, ◌<◌};
 ghost use Rattle.program_lock.specs.Passes.{known, IsPassOf};
-ghost use Rattle.program_lock.specs.Views.{all_parts, handed_on};
+ghost use Rattle.program_lock.specs.Views.{all_parts};
+ghost use Rattle.site_state.specs.Says.{Says};
 ghost use Rattle.site_life.specs.Passing.{TakesRound};
 ghost use Rattle.site_life.specs.Turns.{DidTurn};
 
@@ -10,7 +11,7 @@ use jp_disk::Disk;
 use jp_io::Source;
 use program_lock::{Memory, Pass, Program};
 use saved_thread::SavedThread;
-use site_gate::{Place, take_turn};
+use site_gate::take_turn;
 use site_state::SiteState;
 use std::alloc::{AllocGlobal, Global};
 use std::sync::Wait;
@@ -27,7 +28,6 @@ use task_host::Host;
 /// `Memory` comes for want of a further pass; then the members before the one that had no turn have had theirs,
 /// and the others are as they were.
 pub fn take_round<
-    B: Place,
     W: Wait + Clock + AllocGlobal,
     D: Disk,
     R: SavedThread + Drop,
@@ -43,16 +43,14 @@ pub fn take_round<
 ) -> Result<(), Memory>
     requires looks { 0 < looks }
     requires belongs { IsPassOf program.now pass.old }
-    requires placed { pass.old.seat.table_id ≡ B.table }
-    requires shared { (n : ℕ) → B.share n ≡ handed_on all_parts }
     requires whole { (known pass.old).parts ≡ all_parts }
     ensures belongs { IsPassOf program.now pass.new }
     ensures whole { (known pass.new).parts ≡ all_parts }
     ensures round { TakesRound (DidTurn H.honest H.faults H.calls H.launches H.dirs H.output H.exited A.left A.faults looks)
-        members.old members.new (known pass.old) (known pass.new) result }
+        (λ base history ask reply new. Says R.stance base.value.build history ask reply new) members.old members.new (known pass.old) (known pass.new) result }
 {
     for member in members.iter_mut() {
-        take_turn::<B, W, D, R, H, A>(rt, alloc, program, pass, member, looks)?;
+        take_turn(rt, alloc, program, pass, member, looks)?;
     }
     Ok(())
 }

@@ -1,4 +1,4 @@
-use Rattle.std.proofs.Common.{rules, ◌∙◌, sym}
+use Rattle.std.proofs.Common.{rules, ◌∙◌}
 use Rattle.program_lock.specs.Passes.{known}
 use Rattle.site_state.specs.Says.{Says}
 use Rattle.site_life.specs.Passing.{TakesRounds}
@@ -14,7 +14,6 @@ loop-init g c =
     let A = g.A.Source in
     record {
       belongs = c.requires.belongs;
-      placed = c.requires.placed;
       whole = c.requires.whole;
       so_far = no_round (DidTurn H.honest H.faults H.calls H.launches H.dirs H.output H.exited A.left A.faults c.args.looks) g.R.ScriptThread.stance (λ b. b.value.build) c.args.members.now (known c.args.pass.now);
     }
@@ -31,7 +30,6 @@ loop-preserved g c =
     let saw = saw_progress stance (λ b. b.value.build) u x c.look-come.result c.look-come.ensures.said in
     record {
       belongs = c.look-come.ensures.belongs;
-      placed = c.look-come.ensures.belongs ∙ sym l.invariant.belongs ∙ l.invariant.placed;
       whole = saw.parts ∙ r.ensures.whole;
       so_far = one_round (DidTurn H.honest H.faults H.calls H.launches H.dirs H.output H.exited A.left A.faults c.args.looks) stance (λ b. b.value.build) c.args.members.now (known c.args.pass.now)
           l.members c.take_round.new.members (known l.pass) u x c.look-come.result r.ensures.round saw (search rules) l.invariant.so_far;

@@ -11,7 +11,6 @@ invariant-loop g l =
     let A = g.A.Source in
     record {
       belongs : IsPassOf l.program l.pass;
-      placed : l.pass.seat.table_id ≡ g.B.Place.table;
       whole : (known l.pass).parts ≡ all_parts;
       so_far : RoundsSoFar (DidTurn H.honest H.faults H.calls H.launches H.dirs H.output H.exited A.left A.faults l.looks) g.R.ScriptThread.stance (λ b. b.value.build) l.fn.members (known l.fn.pass) l.members (known l.pass);
     }

@@ -1,6 +1,7 @@
 use Rattle.std.proofs.Common.{◌≡◌}
 use Rattle.program_lock.specs.Passes.{known, IsPassOf}
 use Rattle.program_lock.specs.Views.{all_parts}
+use Rattle.site_gate.proofs.CallLemmas.{site_says}
 use Rattle.site_life.specs.Turns.{DidTurn}
 use Rattle.site_life.proofs.RoundLemmas.{TurnsSoFar}
 use Rattle.site_life.proofs.round.take_round.Given as goal
@@ -11,7 +12,6 @@ invariant-loop-member g l =
     let A = g.A.Source in
     record {
       belongs : IsPassOf l.program l.pass;
-      placed : l.pass.seat.table_id ≡ g.B.Place.table;
       whole : (known l.pass).parts ≡ all_parts;
-      so_far : TurnsSoFar (DidTurn H.honest H.faults H.calls H.launches H.dirs H.output H.exited A.left A.faults l.looks) l.fn.members l.members l.member-index (known l.fn.pass) (known l.pass);
+      so_far : TurnsSoFar (DidTurn H.honest H.faults H.calls H.launches H.dirs H.output H.exited A.left A.faults l.looks) (site_says g.R.ScriptThread.stance (λ b. b.value.build)) l.fn.members l.members l.member-index (known l.fn.pass) (known l.pass);
     }
