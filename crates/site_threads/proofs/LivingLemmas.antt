@@ -1,9 +1,11 @@
 -- Rounds of members who work in threads, and what a vector has behind a call on its slice.
-use Rattle.std.proofs.Common.{◌≡◌, ◌∙◌, ℕ, List, [], ◌++◌, length, take, drop, Result, Ok, Err, refl, sym, ap, subst}
+use Rattle.std.proofs.Common.{◌≡◌, ◌∙◌, ℕ, List, [], ◌++◌, length, take, drop, Result, Ok, Err, refl, sym, ap, subst, append-nil}
 use Rattle.std.specs.Prelude.{IfOk, IfErr}
 use Rattle.std.proofs.Math.Seq.{take-append_seam}
 use Rattle.program_lock.specs.declared.program.Memory.{Memory}
 use Rattle.program_lock.specs.declared.view.Known.{Known}
+use Rattle.program_lock.specs.History.{entries_of}
+use Rattle.program_lock.specs.Legal.{Answers}
 use Rattle.settle_laws.specs.Stances.{Stance}
 use Rattle.build_core.specs.Builds.{Parts}
 use Rattle.agent_worker.specs.declared.member.Member.{Member}
@@ -11,22 +13,22 @@ use Rattle.site_state.specs.declared.ask.Ask.{Ask}
 use Rattle.site_state.specs.declared.ask.Entry.{Entry}
 use Rattle.site_state.specs.declared.ask.Progress.{Progress}
 use Rattle.site_state.specs.declared.ask.Reply.{Reply}
-use Rattle.site_state.specs.Says.{Says}
+use Rattle.site_gate.proofs.CallLemmas.{site_says}
 use Rattle.site_life.specs.Passing.{TakesRounds}
 use Rattle.site_life.specs.Turns.{Turn}
-use Rattle.site_life.proofs.RoundLemmas.{goes_same}
+use Rattle.site_life.proofs.GoingLemmas.{goes_same}
 use Rattle.site_life.proofs.RoundsLemmas.{no_round, cut_round}
 
 module _ {H A B T : Type 0} (Did : Turn H A → Type 0) (stance : T → Stance) (opening : B → Parts T) where
-  abbrev answers : B → List Entry → Ask → Reply → List Entry → Type 0
-  answers base history ask reply new = Says stance (opening base) history ask reply new
+  abbrev answers : Answers B Entry Ask Reply
+  answers = site_says stance opening
 
   -- memory was wanted before the first round
   pub nothing_taken : (members now : List (Member H A)) (v : Known Entry B) (memory : Memory) → now ≡ members → TakesRounds Did answers members now v v (Err memory)
   nothing_taken members now v memory same =
       subst (λ (ms : List (Member H A)). TakesRounds Did answers members ms v v (Err memory)) (sym same)
       (cut_round Did stance opening members v members members v v memory
-      (record { goes = goes_same v; turns = []; others = members; are = (refl, refl); all = tt; made = refl; did = tt })
+      (record { goes = goes_same answers v; turns = []; others = members; are = (refl, refl); all = tt; part = []; made = refl; added = sym (append-nil (entries_of v.numbers v.seen)); did = tt; asked = ∣ (λ base is. tt) ∣₁ })
       (no_round Did stance opening members v))
 
   -- the members are these

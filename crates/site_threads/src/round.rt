@@ -4,6 +4,7 @@ ghost use Rattle.std.specs.List.{AllZip, AllByRecursion as AllAre};
 ghost use Rattle.program_lock.specs.Calls.{Splits, Joins};
 ghost use Rattle.program_lock.specs.Passes.{known};
 ghost use Rattle.program_lock.specs.Views.{all_parts};
+ghost use Rattle.site_state.specs.Says.{Says};
 ghost use Rattle.site_life.specs.Passing.{TakesRound};
 ghost use Rattle.site_life.specs.Turns.{DidTurn};
 ghost use Rattle.site_threads.specs.Ready.{AreReady};
@@ -109,7 +110,7 @@ fn work_all<
     A: Source + Send,
 >(rt: &T, seats: &mut [Seat<'a, T, D, R, H, A>])
     ensures work { AllZip (λ a b. (b.program ≡ a.program) × (b.looks ≡ a.looks)
-        × Serves (DidTurn H.honest H.faults H.calls H.launches H.dirs H.output H.exited A.left A.faults a.looks) a.pass b.pass a.member b.member) seats.old seats.new }
+        × Serves (DidTurn H.honest H.faults H.calls H.launches H.dirs H.output H.exited A.left A.faults a.looks) (λ base history ask reply new. Says R.stance base.value.build history ask reply new) a.pass b.pass a.member b.member) seats.old seats.new }
 {
     let threads = seats.len().max(1);
     work_in_threads(rt, threads, seats);
@@ -145,6 +146,7 @@ pub fn take_round_in_threads<
     ensures ready { AreReady pass.new.seat.table_id looks seats.new }
     ensures len { length seats.new ≡ length seats.old }
     ensures round { TakesRound (DidTurn H.honest H.faults H.calls H.launches H.dirs H.output H.exited A.left A.faults looks)
+        (λ base history ask reply new. Says R.stance base.value.build history ask reply new)
         (map (λ seat. seat.member) seats.old) (map (λ seat. seat.member) seats.new) (known pass.old) (known pass.new) result }
 {
     match hand_out(pass, seats) {
