@@ -1,18 +1,21 @@
 -- A member's work through a pass of its own, by what its gate told.
-use Rattle.std.proofs.Common.{◌≡◌, ◌∙◌, ℕ, ℤ, Bool, false, List, [], Option, Some, refl, sym, ap, subst}
+use Rattle.std.proofs.Common.{◌≡◌, ◌∙◌, ℕ, ℤ, false, List, [], Option, Some, refl, sym, ap, subst}
 use Rattle.program_lock.specs.declared.program.PassOf.{PassOf}
 use Rattle.program_lock.specs.declared.view.Known.{Known}
+use Rattle.program_lock.specs.Legal.{Answers}
 use Rattle.program_lock.specs.Passes.{known, own_entries}
 use Rattle.program_lock.specs.History.{entries_of}
 use Rattle.task_host.specs.declared.call.Call.{Call}
 use Rattle.task_host.specs.declared.order.Stream.{Stream}
-use Rattle.agent_worker.specs.declared.gate.Said.{Said}
 use Rattle.agent_worker.specs.declared.gate.Said.TheVariants.{Nothing}
 use Rattle.agent_worker.specs.declared.member.Member.{Member}
 use Rattle.agent_worker.specs.declared.worked.Worked.{Worked}
 use Rattle.agent_worker.specs.Gate.{GateTells}
+use Rattle.site_state.specs.declared.ask.Ask.{Ask}
 use Rattle.site_state.specs.declared.ask.Entry.{Entry}
+use Rattle.site_state.specs.declared.ask.Reply.{Reply}
 use Rattle.site_gate.specs.Tales.{tells_of}
+use Rattle.site_gate.specs.Turns.{WorksThrough}
 use Rattle.site_gate.proofs.TurnsLemmas.{executed}
 use Rattle.site_life.specs.Turns.{Turn, Work, DidTurn}
 use Rattle.site_life.proofs.RoundLemmas.{launched_in}
@@ -23,30 +26,30 @@ module _ {H A : Type 0} (honest : H → Type 0) (faults : H → ℕ) (calls : H 
   abbrev Works : Member H A → Member H A → Worked → GateTells → GateTells → Type 0
   Works m n worked from to = Work honest faults calls launches dirs output exited left source_faults looks m n worked from to
 
-  pub served : {B : Type 0} (v w : Known Entry B) (m n : Member H A) (said : Said) (is_open : Bool) (worked : Worked) (old now : GateTells) → entries_of v.numbers v.seen ≡ []
-      → old ≡ tells_of (entries_of v.numbers v.seen) Nothing false → now ≡ tells_of (entries_of w.numbers w.seen) said is_open → Works m n worked old now → w.parts ≡ v.parts
-      → Served (DidTurn honest faults calls launches dirs output exited left source_faults looks) m n v w
-  served v w m n said is_open worked old now none from_new to_other did parts =
+  pub served : {B : Type 0} (answers : Answers B Entry Ask Reply) (v w : Known Entry B) (m n : Member H A) (worked : Worked) → entries_of v.numbers v.seen ≡ [] → WorksThrough answers (Works m n worked) v w
+      → Served (DidTurn honest faults calls launches dirs output exited left source_faults looks) answers m n v w
+  served answers v w m n worked none t =
       let own : List Entry = entries_of w.numbers w.seen in
-      let works : Works m n worked (tells_of [] Nothing false) (tells_of own said is_open) =
-      subst (λ (es : List Entry). Works m n worked (tells_of es Nothing false) (tells_of own said is_open)) none
-      (subst (λ (t : GateTells). Works m n worked t (tells_of own said is_open)) from_new (subst (Works m n worked old) to_other did)) in
-      let done = executed honest faults calls launches dirs output exited left source_faults looks m n own said is_open worked works in
-      let added = launched_in honest faults calls launches dirs output exited left source_faults looks m n worked own done in
+      let works : Works m n worked (tells_of [] [] Nothing false) (tells_of own t.calls t.said t.is_open) =
+      subst (λ (es : List Entry). Works m n worked (tells_of es [] Nothing false) (tells_of own t.calls t.said t.is_open)) none t.worked in
+      let done = executed honest faults calls launches dirs output exited left source_faults looks m n own t.calls t.said t.is_open worked works in
+      let added = launched_in honest faults calls launches dirs output exited left source_faults looks m n worked own t.calls done in
       record {
-        turn = record { old = m; now = n; worked = worked; own = own; said = said; is_open = is_open; launches = added.0 };
+        turn = record { old = m; now = n; worked = worked; own = own; calls = t.calls; said = t.said; is_open = t.is_open; launches = added.0 };
         old_is = refl;
         now_is = refl;
         own = refl;
         did = record { works = works; executed = done; launched = added.1 };
-        parts = parts;
+        numbers = t.numbers;
+        parts = t.parts;
+        answered = t.answered;
       }
 
 some_same : {X : Type 0} (a b : X) → Some a ≡ Some b → a ≡ b
 some_same a b e = cc
 
 -- a pass that was there is the one that was taken
-pub serves_seat : {S B H A : Type 0} (Did : Turn H A → Type 0) (before : Option (PassOf S Entry B)) (taken q : PassOf S Entry B) (m n : Member H A) → before ≡ Some taken → q.seat.table_id ≡ taken.seat.table_id
-    → (own_entries taken ≡ [] → Served Did m n (known taken) (known q)) → Serves Did before (Some q) m n
-serves_seat Did before taken q m n is table did = λ p has fresh. let same = some_same taken p (sym is ∙ has) in
-    (q, refl, table ∙ ap (λ x. x.seat.table_id) same, subst (λ x. Served Did m n (known x) (known q)) same (did (ap own_entries same ∙ fresh)))
+pub serves_seat : {S B H A : Type 0} (Did : Turn H A → Type 0) (answers : Answers B Entry Ask Reply) (before : Option (PassOf S Entry B)) (taken q : PassOf S Entry B) (m n : Member H A) → before ≡ Some taken
+    → q.seat.table_id ≡ taken.seat.table_id → (own_entries taken ≡ [] → Served Did answers m n (known taken) (known q)) → Serves Did answers before (Some q) m n
+serves_seat Did answers before taken q m n is table did = λ p has fresh. let same = some_same taken p (sym is ∙ has) in
+    (q, refl, table ∙ ap (λ x. x.seat.table_id) same, subst (λ x. Served Did answers m n (known x) (known q)) same (did (ap own_entries same ∙ fresh)))

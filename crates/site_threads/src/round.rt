@@ -4,8 +4,10 @@ ghost use Rattle.std.specs.List.{AllZip, AllByRecursion as AllAre};
 ghost use Rattle.program_lock.specs.Calls.{Splits, Joins};
 ghost use Rattle.program_lock.specs.Passes.{known};
 ghost use Rattle.program_lock.specs.Views.{all_parts};
+ghost use Rattle.site_state.specs.Says.{Says};
 ghost use Rattle.site_life.specs.Passing.{TakesRound};
 ghost use Rattle.site_life.specs.Turns.{DidTurn};
+ghost use Rattle.site_threads.specs.Ready.{AreReady};
 ghost use Rattle.site_threads.specs.Seats.{HandsOut, TakesIn};
 ghost use Rattle.site_threads.specs.Serving.{Serves};
 
@@ -108,7 +110,7 @@ fn work_all<
     A: Source + Send,
 >(rt: &T, seats: &mut [Seat<'a, T, D, R, H, A>])
     ensures work { AllZip (λ a b. (b.program ≡ a.program) × (b.looks ≡ a.looks)
-        × Serves (DidTurn H.honest H.faults H.calls H.launches H.dirs H.output H.exited A.left A.faults a.looks) a.pass b.pass a.member b.member) seats.old seats.new }
+        × Serves (DidTurn H.honest H.faults H.calls H.launches H.dirs H.output H.exited A.left A.faults a.looks) (λ base history ask reply new. Says R.stance base.value.build history ask reply new) a.pass b.pass a.member b.member) seats.old seats.new }
 {
     let threads = seats.len().max(1);
     work_in_threads(rt, threads, seats);
@@ -136,17 +138,15 @@ pub fn take_round_in_threads<
     seats: &mut [Seat<'a, T, D, R, H, A>],
     looks: u32,
 ) -> Result<(), Memory>
-    requires over { AllAre (λ program. program.now.table.shared.table_id ≡ pass.old.seat.table_id) (map (λ seat. seat.program) seats.old) }
-    requires looks { AllAre (λ own. own ≡ looks) (map (λ seat. seat.looks) seats.old) }
-    requires vacant { AllAre (λ own. own ≡ None) (map (λ seat. seat.pass) seats.old) }
+    requires ready { AreReady pass.old.seat.table_id looks seats.old }
     requires few { length seats.old ≤ 127 }
     requires whole { (known pass.old).parts ≡ all_parts }
     ensures same { pass.new.seat.table_id ≡ pass.old.seat.table_id }
     ensures whole { (known pass.new).parts ≡ all_parts }
-    ensures vacant { AllAre (λ own. own ≡ None) (map (λ seat. seat.pass) seats.new) }
-    ensures looks { map (λ seat. seat.looks) seats.new ≡ map (λ seat. seat.looks) seats.old }
-    ensures programs { map (λ seat. seat.program) seats.new ≡ map (λ seat. seat.program) seats.old }
+    ensures ready { AreReady pass.new.seat.table_id looks seats.new }
+    ensures len { length seats.new ≡ length seats.old }
     ensures round { TakesRound (DidTurn H.honest H.faults H.calls H.launches H.dirs H.output H.exited A.left A.faults looks)
+        (λ base history ask reply new. Says R.stance base.value.build history ask reply new)
         (map (λ seat. seat.member) seats.old) (map (λ seat. seat.member) seats.new) (known pass.old) (known pass.new) result }
 {
     match hand_out(pass, seats) {

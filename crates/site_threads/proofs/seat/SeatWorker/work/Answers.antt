@@ -1,8 +1,20 @@
-use Rattle.std.proofs.Common.{refl, sym, ◌∙◌}
-use Rattle.site_threads.proofs.ServeLemmas.{serves_seat}
+use Rattle.std.proofs.Common.{◌∙◌, refl, sym}
+use Rattle.program_lock.specs.Passes.{known}
+use Rattle.site_gate.proofs.CallLemmas.{site_says}
+use Rattle.site_life.specs.Turns.{DidTurn}
+use Rattle.site_threads.proofs.ServeLemmas.{served, serves_seat}
 use Rattle.site_threads.proofs.seat.SeatWorker.work.Goals as goal
 
 pub returns : goal.returns
 returns g c =
+    let H = g.H.Host in
+    let A = g.A.Source in
+    let me = c.args.self.now in
     let is = sym c.take.ensures.value ∙ c.in-Some.is in
-    (refl, refl, serves_seat _ c.args.self.now.pass c.in-Some.pass c.serve-pass.result c.args.self.now.member c.serve-pass.new.member is (c.serve-pass.ensures.belongs ∙ sym (c.args.self.now.belongs c.in-Some.pass is)) c.serve-pass.ensures.served)
+    let e = c.work_through-pass.ensures in (
+      refl,
+      refl,
+      serves_seat (DidTurn H.honest H.faults H.calls H.launches H.dirs H.output H.exited A.left A.faults me.looks) (site_says g.R.ScriptThread.stance (λ b. b.value.build)) me.pass c.in-Some.pass c.work_through-pass.result.1 me.member c.work_through-pass.new.member is
+          (e.belongs ∙ sym (me.belongs c.in-Some.pass is))
+          (λ fresh. served H.honest H.faults H.calls H.launches H.dirs H.output H.exited A.left A.faults me.looks (site_says g.R.ScriptThread.stance (λ b. b.value.build)) (known c.in-Some.pass) (known c.work_through-pass.result.1) me.member c.work_through-pass.new.member c.work_through-pass.result.0 fresh e.worked),
+    )
