@@ -24,6 +24,7 @@ use site_crew::Crew;
 use site_run::{Lived, go_on};
 use std::alloc::Global;
 use std::sync::Wait;
+use std::thread::Threads;
 use std::time::Clock;
 use task_host::Host;
 
@@ -41,11 +42,11 @@ use task_host::Host;
 ///
 /// It may wait for ever, as the answers and the tasks may.
 pub fn finish<
-    D: Disk,
-    R: SavedThread + Drop,
-    W: Wait + Clock + AllocGlobal,
-    H: Host + Drop,
-    A: Source + Drop,
+    D: Disk + Send,
+    R: SavedThread + Drop + Send,
+    W: Threads + Wait + Sync + Clock + AllocGlobal,
+    H: Host + Drop + Send,
+    A: Source + Drop + Send,
     K: Sink,
 >(rt: &W, durable: DurableBuild<D, R>, hosts: Vec<H>, answers: A, out: &mut K) -> Ended<D, H, A>
     requires running { durable.stopped ≡ false }
@@ -77,11 +78,11 @@ pub fn finish<
 
 /// The same with these members.
 fn live<
-    D: Disk,
-    R: SavedThread + Drop,
-    W: Wait + Clock + AllocGlobal,
-    H: Host + Drop,
-    A: Source + Drop,
+    D: Disk + Send,
+    R: SavedThread + Drop + Send,
+    W: Threads + Wait + Sync + Clock + AllocGlobal,
+    H: Host + Drop + Send,
+    A: Source + Drop + Send,
     K: Sink,
 >(rt: &W, durable: DurableBuild<D, R>, crew: Crew<H, A>, looks: u32, out: &mut K) -> Ended<D, H, A>
     requires looks { 0 < looks }
@@ -101,7 +102,7 @@ fn live<
 {
     let alloc = rt.alloc();
     let mut crew = crew;
-    match go_on(rt, alloc, durable, crew.members.as_mut_slice(), looks) {
+    match go_on(rt, alloc, durable, &mut crew.members, looks) {
         Ok(Lived { site, ended }) => {
             let status = tell_end(alloc, out, site.build(), ended);
             let (disk, _) = site.close();

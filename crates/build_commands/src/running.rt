@@ -15,6 +15,7 @@ use jp_io::{Sink, Source};
 use saved_run::Life;
 use saved_thread::SavedThread;
 use std::sync::Wait;
+use std::thread::Threads;
 use std::time::Clock;
 use task_host::Host;
 
@@ -36,12 +37,12 @@ use task_host::Host;
 /// The disk is called only where script and agents file are without a fault. Each of their sources is asked for at most one byte
 /// more than its file may have. It may wait for ever, as the answers may.
 pub fn run<
-    D: Disk,
-    R: SavedThread + Drop,
-    W: Wait + Clock + AllocGlobal,
+    D: Disk + Send,
+    R: SavedThread + Drop + Send,
+    W: Threads + Wait + Sync + Clock + AllocGlobal,
     S: Source,
-    H: Host + Drop,
-    A: Source + Drop,
+    H: Host + Drop + Send,
+    A: Source + Drop + Send,
     K: Sink,
 >(
     rt: &W,
@@ -73,11 +74,11 @@ pub fn run<
 
 /// The same where script and agents file can be built.
 fn begin<
-    D: Disk,
-    R: SavedThread + Drop,
-    W: Wait + Clock + AllocGlobal,
-    H: Host + Drop,
-    A: Source + Drop,
+    D: Disk + Send,
+    R: SavedThread + Drop + Send,
+    W: Threads + Wait + Sync + Clock + AllocGlobal,
+    H: Host + Drop + Send,
+    A: Source + Drop + Send,
     K: Sink,
 >(rt: &W, plan: Plan, disk: D, hosts: Vec<H>, answers: A, out: &mut K) -> Ended<D, H, A>
     requires builds { Builds plan.script plan.agents plan.tree plan.site }

@@ -13,6 +13,7 @@ use jp_io::{Sink, Source, write_all};
 use saved_thread::SavedThread;
 use std::alloc::Global;
 use std::sync::Wait;
+use std::thread::Threads;
 use std::time::Clock;
 use task_host::Host;
 
@@ -48,12 +49,12 @@ use task_host::Host;
 /// file, it still holds that `run` writes the log of the build that it has begun, with the status of that build. It may wait for
 /// ever, as the answers and the tasks may.
 pub fn controller<
-    R: SavedThread + Drop,
-    W: Wait + Clock + AllocGlobal,
-    D: Disk,
+    R: SavedThread + Drop + Send,
+    W: Threads + Wait + Sync + Clock + AllocGlobal,
+    D: Disk + Send,
     S: Source,
-    H: Host + Drop,
-    A: Source + Drop,
+    H: Host + Drop + Send,
+    A: Source + Drop + Send,
     K: Sink,
 >(
     rt: &W,
@@ -77,12 +78,12 @@ pub fn controller<
 
 /// Does the command that the words give.
 fn do_command<
-    R: SavedThread + Drop,
-    W: Wait + Clock + AllocGlobal,
-    D: Disk,
+    R: SavedThread + Drop + Send,
+    W: Threads + Wait + Sync + Clock + AllocGlobal,
+    D: Disk + Send,
     S: Source,
-    H: Host + Drop,
-    A: Source + Drop,
+    H: Host + Drop + Send,
+    A: Source + Drop + Send,
     K: Sink,
 >(
     rt: &W,

@@ -23,6 +23,7 @@ use std::io::ErrorKind;
 use std::process::{ExitCode, Processes};
 use std::rt::{Env, Files};
 use std::sync::Wait;
+use std::thread::Threads;
 use std::time::Clock;
 use std::{env, io};
 
@@ -39,8 +40,8 @@ fn main(rt: HostRuntime) -> ExitCode {
 /// Makes the one call for these words and paths: over the files of the folder and the hosts of this machine, with these answers and this
 /// sink. Answers the exit status.
 fn do_call<
-    W: Wait + Clock + Files<File = File> + Env + AllocGlobal + Eprint + Processes,
-    A: Source + Drop,
+    W: Threads + Wait + Sync + Clock + Files<File = File> + Env + AllocGlobal + Eprint + Processes,
+    A: Source + Drop + Send,
     K: Sink,
 >(rt: &W, alloc: Global, call: Call, answers: A, out: &mut K) -> u8 {
     let Call {
