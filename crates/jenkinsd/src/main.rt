@@ -66,6 +66,7 @@ fn do_call<
         &mut agents,
         disk,
         hosts,
+        WORKERS,
         answers,
         out,
     );
@@ -74,6 +75,9 @@ fn do_call<
 
 /// How many hosts there are: one for each executor that a site may have.
 const HOSTS: usize = 64;
+
+/// How many work at once: an executor on each host, and the operator.
+const WORKERS: usize = HOSTS + 1;
 
 /// The hosts of this machine, in this life of the build.
 fn hosts_of<'a, R: Files + Env + AllocGlobal + Eprint + Clock + Processes>(

@@ -84,6 +84,7 @@ fn call<
         &mut agents,
         disk,
         hosts,
+        1,
         answers,
         &mut out,
     );

@@ -46,8 +46,8 @@ pub struct Lived<D: Disk, R: SavedThread + Drop> {
 /// Goes on with a saved build that has begun: makes the grants that a stop left out, and lets the members work on it until it has
 /// ended or nobody can go on.
 ///
-/// The members have rounds of turns, each member one turn a round, in a thread of its own as far as threads can be made, else in
-/// their order. Another round follows while the build has
+/// The members have rounds of turns, each member one turn a round, of whom as many work at once as `threads`
+/// says, each in a thread of its own as far as threads can be made; with 1 they work one after the other, in their order. Another round follows while the build has
 /// neither ended nor been stopped by a fault, and a task is open, or an input is open while an operator's answers are neither at
 /// their end nor failed. So a life rests where the build has ended (`Ended`); where no task is open, and no input is open or all
 /// answers were read to their end (`Waits`); and where no task is open, and an input whose answers could not be read
@@ -72,6 +72,7 @@ pub fn go_on<
 >(
     rt: &W,
     alloc: Global,
+    threads: usize,
     durable: DurableBuild<D, R>,
     members: &mut Vec<Member<H, A>>,
     looks: u32,
@@ -101,7 +102,7 @@ pub fn go_on<
         (λ e. CountsFault (D.faults durable.journal.disk) (D.faults e.1) (e.0 ≡ TakeFault.Disk)) }
 {
     match SiteState::open(alloc, durable) {
-        Ok(site) => Ok(live_on(rt, alloc, site, members, looks)),
+        Ok(site) => Ok(live_on(rt, alloc, threads, site, members, looks)),
         Err(refused) => Err(refused),
     }
 }
@@ -116,6 +117,7 @@ fn live_on<
 >(
     rt: &W,
     alloc: Global,
+    threads: usize,
     site: SiteState<D, R>,
     members: &mut Vec<Member<H, A>>,
     looks: u32,
@@ -126,7 +128,7 @@ fn live_on<
         (λ base history ask reply new. Says R.stance base.value.build history ask reply new) site.base result.site.base members.old.items members.new.items result.site.history.items how
         × (result.ended ≡ ended_as (kept_fault result.site.history.items) how members.new.items) }
 {
-    match live_in_threads(rt, alloc, site, members, looks) {
+    match live_in_threads(rt, alloc, threads, site, members, looks) {
         Ok((site, how)) => Lived {
             ended: ended_of(&site, how, members),
             site,

@@ -112,6 +112,7 @@ fn call_with<
         &mut agents,
         disk,
         hosts,
+        1,
         answers,
         &mut out,
     );
