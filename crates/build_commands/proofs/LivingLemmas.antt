@@ -266,7 +266,3 @@ module _ {H A : Type 0} (honest : H → Type 0) (faults : H → ℕ) (calls : H 
     others = e.others;
     others_next = e.others_next;
   }
-
--- what a slice of a whole list was left as, is the list then
-pub whole_slice : {M : Type 0} (n : ℕ) (xs ys : List M) → n ≡ length xs → take n (xs ++ drop (length xs) ys) ≡ xs
-whole_slice n xs ys is = ap (λ (m : ℕ). take m (xs ++ drop (length xs) ys)) is ∙ take-append_seam xs (drop (length xs) ys)

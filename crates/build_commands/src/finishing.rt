@@ -24,6 +24,7 @@ use site_crew::Crew;
 use site_run::{Lived, go_on};
 use std::alloc::Global;
 use std::sync::Wait;
+use std::thread::Threads;
 use std::time::Clock;
 use task_host::Host;
 
@@ -39,15 +40,23 @@ use task_host::Host;
 /// | 3 | only where no grant is due, and no input is open or the answers were read to their end | the log so far |
 /// | 8 | want of memory | `controller: out of memory` |
 ///
-/// It may wait for ever, as the answers and the tasks may.
+/// `threads` says how many members work at once; with 1 they work one after the other, in their order. It may wait for ever, as the
+/// answers and the tasks may.
 pub fn finish<
-    D: Disk,
-    R: SavedThread + Drop,
-    W: Wait + Clock + AllocGlobal,
-    H: Host + Drop,
-    A: Source + Drop,
+    D: Disk + Send,
+    R: SavedThread + Drop + Send,
+    W: Threads + Wait + Sync + Clock + AllocGlobal,
+    H: Host + Drop + Send,
+    A: Source + Drop + Send,
     K: Sink,
->(rt: &W, durable: DurableBuild<D, R>, hosts: Vec<H>, answers: A, out: &mut K) -> Ended<D, H, A>
+>(
+    rt: &W,
+    durable: DurableBuild<D, R>,
+    hosts: Vec<H>,
+    threads: usize,
+    answers: A,
+    out: &mut K,
+) -> Ended<D, H, A>
     requires running { durable.stopped ≡ false }
     requires begun { has_begun durable.build.phase ≡ true }
     ensures stay { HostsStay H.honest H.faults H.calls hosts.items result.hosts.items }
@@ -62,7 +71,7 @@ pub fn finish<
     let looks = durable.build().site().looks.max(1);
     let executors = durable.build().site().executors.as_slice();
     match Crew::gather(alloc, executors, hosts, answers) {
-        Ok(crew) => live(rt, durable, crew, looks, out),
+        Ok(crew) => live(rt, durable, crew, threads, looks, out),
         Err((hosts, answers)) => {
             let status = tell(out, &Refusal::OutOfMemory);
             Ended {
@@ -77,13 +86,20 @@ pub fn finish<
 
 /// The same with these members.
 fn live<
-    D: Disk,
-    R: SavedThread + Drop,
-    W: Wait + Clock + AllocGlobal,
-    H: Host + Drop,
-    A: Source + Drop,
+    D: Disk + Send,
+    R: SavedThread + Drop + Send,
+    W: Threads + Wait + Sync + Clock + AllocGlobal,
+    H: Host + Drop + Send,
+    A: Source + Drop + Send,
     K: Sink,
->(rt: &W, durable: DurableBuild<D, R>, crew: Crew<H, A>, looks: u32, out: &mut K) -> Ended<D, H, A>
+>(
+    rt: &W,
+    durable: DurableBuild<D, R>,
+    crew: Crew<H, A>,
+    threads: usize,
+    looks: u32,
+    out: &mut K,
+) -> Ended<D, H, A>
     requires looks { 0 < looks }
     requires running { durable.stopped ≡ false }
     requires begun { has_begun durable.build.phase ≡ true }
@@ -101,7 +117,7 @@ fn live<
 {
     let alloc = rt.alloc();
     let mut crew = crew;
-    match go_on(rt, alloc, durable, crew.members.as_mut_slice(), looks) {
+    match go_on(rt, alloc, threads, durable, &mut crew.members, looks) {
         Ok(Lived { site, ended }) => {
             let status = tell_end(alloc, out, site.build(), ended);
             let (disk, _) = site.close();

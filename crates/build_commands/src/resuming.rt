@@ -14,6 +14,7 @@ use jp_io::{Sink, Source};
 use saved_run::Life;
 use saved_thread::SavedThread;
 use std::sync::Wait;
+use std::thread::Threads;
 use std::time::Clock;
 use task_host::Host;
 
@@ -30,15 +31,16 @@ use task_host::Host;
 /// | 3 | only where no grant is due, and no input is open or the answers were read to their end | the log so far |
 /// | 8 | want of memory | `controller: out of memory` |
 ///
-/// It may wait for ever, as the answers may.
+/// `threads` says how many members work at once; with 1 they work one after the other, in their order. It may wait for ever, as the
+/// answers may.
 pub fn resume<
-    D: Disk,
-    R: SavedThread + Drop,
-    W: Wait + Clock + AllocGlobal,
-    H: Host + Drop,
-    A: Source + Drop,
+    D: Disk + Send,
+    R: SavedThread + Drop + Send,
+    W: Threads + Wait + Sync + Clock + AllocGlobal,
+    H: Host + Drop + Send,
+    A: Source + Drop + Send,
     K: Sink,
->(rt: &W, disk: D, hosts: Vec<H>, answers: A, out: &mut K) -> Ended<D, H, A>
+>(rt: &W, disk: D, hosts: Vec<H>, threads: usize, answers: A, out: &mut K) -> Ended<D, H, A>
     ensures reopens { Reopens D.reads D.may_leave D.clock D.may_have_left_since D.faults H.honest H.faults H.calls H.launches H.dirs H.output H.exited A.left A.faults hosts.items result.hosts.items answers result.answers
         disk result.disk (K.written out.old) (K.written out.new) (K.faults out.old) (K.faults out.new) result.status }
     ensures resumes { (file : List ℕ) → D.reads disk ≡ Some file → (setting : Setting) (events : List AnEvent) → Stores setting events file
@@ -47,7 +49,7 @@ pub fn resume<
 {
     let alloc = rt.alloc();
     match Life::<D, R>::reopen(alloc, disk) {
-        Ok(life) => finish(rt, life.into_durable(), hosts, answers, out),
+        Ok(life) => finish(rt, life.into_durable(), hosts, threads, answers, out),
         Err((fault, disk)) => {
             let status = tell(out, &Refusal::of_store(alloc, fault));
             Ended {

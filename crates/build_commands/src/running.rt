@@ -15,6 +15,7 @@ use jp_io::{Sink, Source};
 use saved_run::Life;
 use saved_thread::SavedThread;
 use std::sync::Wait;
+use std::thread::Threads;
 use std::time::Clock;
 use task_host::Host;
 
@@ -34,14 +35,15 @@ use task_host::Host;
 /// | 8 | want of memory | `controller: out of memory` |
 ///
 /// The disk is called only where script and agents file are without a fault. Each of their sources is asked for at most one byte
-/// more than its file may have. It may wait for ever, as the answers may.
+/// more than its file may have. `threads` says how many members work at once; with 1 they work one after the other, in their order. It
+/// may wait for ever, as the answers may.
 pub fn run<
-    D: Disk,
-    R: SavedThread + Drop,
-    W: Wait + Clock + AllocGlobal,
+    D: Disk + Send,
+    R: SavedThread + Drop + Send,
+    W: Threads + Wait + Sync + Clock + AllocGlobal,
     S: Source,
-    H: Host + Drop,
-    A: Source + Drop,
+    H: Host + Drop + Send,
+    A: Source + Drop + Send,
     K: Sink,
 >(
     rt: &W,
@@ -49,6 +51,7 @@ pub fn run<
     agents: &mut S,
     disk: D,
     hosts: Vec<H>,
+    threads: usize,
     answers: A,
     out: &mut K,
 ) -> Ended<D, H, A>
@@ -58,7 +61,7 @@ pub fn run<
     ensures most_agents { TakesAtMost (agents_limit + 1) (S.left agents.old) (S.left agents.new) }
 {
     match read_plan(rt.alloc(), script, agents) {
-        Ok(plan) => begin::<D, R, W, H, A, K>(rt, plan, disk, hosts, answers, out),
+        Ok(plan) => begin::<D, R, W, H, A, K>(rt, plan, disk, hosts, threads, answers, out),
         Err(refusal) => {
             let status = tell(out, &refusal);
             Ended {
@@ -73,13 +76,21 @@ pub fn run<
 
 /// The same where script and agents file can be built.
 fn begin<
-    D: Disk,
-    R: SavedThread + Drop,
-    W: Wait + Clock + AllocGlobal,
-    H: Host + Drop,
-    A: Source + Drop,
+    D: Disk + Send,
+    R: SavedThread + Drop + Send,
+    W: Threads + Wait + Sync + Clock + AllocGlobal,
+    H: Host + Drop + Send,
+    A: Source + Drop + Send,
     K: Sink,
->(rt: &W, plan: Plan, disk: D, hosts: Vec<H>, answers: A, out: &mut K) -> Ended<D, H, A>
+>(
+    rt: &W,
+    plan: Plan,
+    disk: D,
+    hosts: Vec<H>,
+    threads: usize,
+    answers: A,
+    out: &mut K,
+) -> Ended<D, H, A>
     requires builds { Builds plan.script plan.agents plan.tree plan.site }
     ensures { Begins D.reads D.may_leave D.clock D.may_have_left_since R.stance D.faults H.honest H.faults H.calls H.launches H.dirs H.output H.exited A.left A.faults disk result.disk hosts.items result.hosts.items answers result.answers
         (K.written out.old) (K.written out.new) (K.faults out.old) (K.faults out.new) plan.script plan.agents plan.tree plan.site result.status }
@@ -92,7 +103,7 @@ fn begin<
         site,
     } = plan;
     match Life::<D, R>::begin(alloc, disk, tree, site, script, agents) {
-        Ok(life) => finish(rt, life.into_durable(), hosts, answers, out),
+        Ok(life) => finish(rt, life.into_durable(), hosts, threads, answers, out),
         Err((fault, disk)) => {
             let status = tell(out, &Refusal::of_begin(alloc, fault));
             Ended {

@@ -13,6 +13,7 @@ use jp_io::{Sink, Source, write_all};
 use saved_thread::SavedThread;
 use std::alloc::Global;
 use std::sync::Wait;
+use std::thread::Threads;
 use std::time::Clock;
 use task_host::Host;
 
@@ -42,18 +43,19 @@ use task_host::Host;
 /// memory.
 ///
 /// There are 64 hosts: host i runs the tasks of executor i, and each comes back at its place. A command that lets no build go on
-/// hands hosts and answers back as they were.
+/// hands hosts and answers back as they were. `threads` says how many of the executors and the operator work at once, each in a thread
+/// of its own as far as threads can be made; with 1 they work one after the other, in their order.
 ///
 /// What is said of the bytes of a source, the sink or the disk holds where it tells them. Of a disk that tells nothing, as a real
 /// file, it still holds that `run` writes the log of the build that it has begun, with the status of that build. It may wait for
 /// ever, as the answers and the tasks may.
 pub fn controller<
-    R: SavedThread + Drop,
-    W: Wait + Clock + AllocGlobal,
-    D: Disk,
+    R: SavedThread + Drop + Send,
+    W: Threads + Wait + Sync + Clock + AllocGlobal,
+    D: Disk + Send,
     S: Source,
-    H: Host + Drop,
-    A: Source + Drop,
+    H: Host + Drop + Send,
+    A: Source + Drop + Send,
     K: Sink,
 >(
     rt: &W,
@@ -63,6 +65,7 @@ pub fn controller<
     agents: &mut S,
     disk: D,
     hosts: Vec<H>,
+    threads: usize,
     answers: A,
     out: &mut K,
 ) -> Ended<D, H, A>
@@ -72,17 +75,19 @@ pub fn controller<
         (call_of (map string_bytes words.items) (taken_from S.left S.faults script.old script.new) (taken_from S.left S.faults agents.old agents.new)
         disk result.disk hosts.items result.hosts.items answers result.answers (K.written out.old) (K.written out.new) (K.faults out.old) (K.faults out.new) result.status) }
 {
-    do_command::<R, W, D, S, H, A, K>(rt, alloc, &words, script, agents, disk, hosts, answers, out)
+    do_command::<R, W, D, S, H, A, K>(
+        rt, alloc, &words, script, agents, disk, hosts, threads, answers, out,
+    )
 }
 
 /// Does the command that the words give.
 fn do_command<
-    R: SavedThread + Drop,
-    W: Wait + Clock + AllocGlobal,
-    D: Disk,
+    R: SavedThread + Drop + Send,
+    W: Threads + Wait + Sync + Clock + AllocGlobal,
+    D: Disk + Send,
     S: Source,
-    H: Host + Drop,
-    A: Source + Drop,
+    H: Host + Drop + Send,
+    A: Source + Drop + Send,
     K: Sink,
 >(
     rt: &W,
@@ -92,6 +97,7 @@ fn do_command<
     agents: &mut S,
     disk: D,
     hosts: Vec<H>,
+    threads: usize,
     answers: A,
     out: &mut K,
 ) -> Ended<D, H, A>
@@ -102,9 +108,11 @@ fn do_command<
 {
     match command_in(words) {
         Some((Command::Run, _)) => {
-            run::<D, R, W, S, H, A, K>(rt, script, agents, disk, hosts, answers, out)
+            run::<D, R, W, S, H, A, K>(rt, script, agents, disk, hosts, threads, answers, out)
         }
-        Some((Command::Resume, _)) => resume::<D, R, W, H, A, K>(rt, disk, hosts, answers, out),
+        Some((Command::Resume, _)) => {
+            resume::<D, R, W, H, A, K>(rt, disk, hosts, threads, answers, out)
+        }
         Some((Command::Log, _)) => {
             let Done { status, disk } = log::<D, R, K>(alloc, disk, out);
             Ended {

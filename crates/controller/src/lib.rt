@@ -6,7 +6,7 @@
 //! `SavedThread`, the disk of any that meets `Disk`, and the hosts of any that meets `Host`.
 //!
 //! ```text
-//! let ended = controller::<Thread, _, _, _, _, _, _>(&rt, alloc, words, &mut script, &mut agents, disk, hosts, answers, &mut out);
+//! let ended = controller::<Thread, _, _, _, _, _, _>(&rt, alloc, words, &mut script, &mut agents, disk, hosts, 65, answers, &mut out);
 //! ExitCode::from(ended.status)
 //! ```
 #![tactic(auto)]

@@ -23,6 +23,7 @@ use std::io::ErrorKind;
 use std::process::{ExitCode, Processes};
 use std::rt::{Env, Files};
 use std::sync::Wait;
+use std::thread::Threads;
 use std::time::Clock;
 use std::{env, io};
 
@@ -39,8 +40,8 @@ fn main(rt: HostRuntime) -> ExitCode {
 /// Makes the one call for these words and paths: over the files of the folder and the hosts of this machine, with these answers and this
 /// sink. Answers the exit status.
 fn do_call<
-    W: Wait + Clock + Files<File = File> + Env + AllocGlobal + Eprint + Processes,
-    A: Source + Drop,
+    W: Threads + Wait + Sync + Clock + Files<File = File> + Env + AllocGlobal + Eprint + Processes,
+    A: Source + Drop + Send,
     K: Sink,
 >(rt: &W, alloc: Global, call: Call, answers: A, out: &mut K) -> u8 {
     let Call {
@@ -65,6 +66,7 @@ fn do_call<
         &mut agents,
         disk,
         hosts,
+        WORKERS,
         answers,
         out,
     );
@@ -73,6 +75,9 @@ fn do_call<
 
 /// How many hosts there are: one for each executor that a site may have.
 const HOSTS: usize = 64;
+
+/// How many work at once: an executor on each host, and the operator.
+const WORKERS: usize = HOSTS + 1;
 
 /// The hosts of this machine, in this life of the build.
 fn hosts_of<'a, R: Files + Env + AllocGlobal + Eprint + Clock + Processes>(

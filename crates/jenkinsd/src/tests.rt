@@ -6,6 +6,7 @@ use jp_io::{MemorySink, MemorySource};
 use saved_thread::SavedThread;
 use std::sync::Wait;
 use std::test::Fail;
+use std::thread::Threads;
 use task_host::{Host, MemoryHost};
 
 const AGENTS: &str = r#"{"job":"demo","agents":[{"name":"m","root":"/w","executors":1}]}"#;
@@ -60,12 +61,11 @@ fn echoing_hosts(alloc: Global) -> Result<Vec<MemoryHost>, AllocError>
 }
 
 /// The status of a call over an empty store, and what it writes.
-fn call<R: SavedThread + Drop, W: Wait + Clock + AllocGlobal, H: Host + Drop>(
-    rt: &W,
-    words: Vec<String>,
-    streams: Streams,
-    hosts: Vec<H>,
-) -> (u8, MemorySink)
+fn call<
+    R: SavedThread + Drop + Send,
+    W: Threads + Wait + Sync + Clock + AllocGlobal,
+    H: Host + Drop + Send,
+>(rt: &W, words: Vec<String>, streams: Streams, hosts: Vec<H>) -> (u8, MemorySink)
     requires { length hosts.items ≡ 64 }
 {
     let Streams {
@@ -84,6 +84,7 @@ fn call<R: SavedThread + Drop, W: Wait + Clock + AllocGlobal, H: Host + Drop>(
         &mut agents,
         disk,
         hosts,
+        1,
         answers,
         &mut out,
     );
@@ -91,7 +92,7 @@ fn call<R: SavedThread + Drop, W: Wait + Clock + AllocGlobal, H: Host + Drop>(
 }
 
 /// Whether a `run` over these files ends with this status and writes this text, where these calls fail.
-fn ends_with<R: SavedThread + Drop, W: Wait + Clock + AllocGlobal>(
+fn ends_with<R: SavedThread + Drop + Send, W: Threads + Wait + Sync + Clock + AllocGlobal>(
     rt: &W,
     files: [&str; 3],
     fails: [u64; 4],

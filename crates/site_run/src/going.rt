@@ -1,5 +1,5 @@
 //! A life with hosts.
-ghost use Rattle.std.specs.Prelude.{◌≡◌, ◌<◌, ℕ, Option, List, [], false, true, Result, Ok, Err, IfOk, IfErr, MatchResult};
+ghost use Rattle.std.specs.Prelude.{◌≡◌, ◌<◌, ℕ, Option, List, [], false, true, Result, Ok, Err, IfOk, IfErr, MatchResult, length};
 ghost use Rattle.device_faults.specs.Faults.{CountsFault};
 ghost use Rattle.build_core.specs.Phases.{has_begun};
 ghost use Rattle.model_run.specs.declared.event.Event.{Event as AnEvent};
@@ -26,10 +26,11 @@ use jp_io::Source;
 use program_lock::Memory;
 use saved_thread::SavedThread;
 use script_run::Rest;
-use site_life::live;
 use site_state::{Progress, SiteState};
+use site_threads::live_in_threads;
 use std::alloc::{AllocGlobal, Global};
 use std::sync::Wait;
+use std::thread::Threads;
 use std::time::Clock;
 use task_host::Host;
 
@@ -45,7 +46,8 @@ pub struct Lived<D: Disk, R: SavedThread + Drop> {
 /// Goes on with a saved build that has begun: makes the grants that a stop left out, and lets the members work on it until it has
 /// ended or nobody can go on.
 ///
-/// The members have rounds of turns, each member one turn a round, in their order. Another round follows while the build has
+/// The members have rounds of turns, each member one turn a round, of whom as many work at once as `threads`
+/// says, each in a thread of its own as far as threads can be made; with 1 they work one after the other, in their order. Another round follows while the build has
 /// neither ended nor been stopped by a fault, and a task is open, or an input is open while an operator's answers are neither at
 /// their end nor failed. So a life rests where the build has ended (`Ended`); where no task is open, and no input is open or all
 /// answers were read to their end (`Waits`); and where no task is open, and an input whose answers could not be read
@@ -61,11 +63,18 @@ pub struct Lived<D: Disk, R: SavedThread + Drop> {
 /// would have added to it, together more than 1,073,741,824: over a store of one build, of the event that came next; `Memory`
 /// where memory was refused. `Stopped` does not come. Where one of the grants that a stop left out is refused so, the disk alone
 /// is handed back, and no member has had a turn.
-pub fn go_on<W: Wait + Clock + AllocGlobal, D: Disk, R: SavedThread + Drop, H: Host, A: Source>(
+pub fn go_on<
+    W: Threads + Wait + Sync + Clock + AllocGlobal,
+    D: Disk + Send,
+    R: SavedThread + Drop + Send,
+    H: Host + Send,
+    A: Source + Send,
+>(
     rt: &W,
     alloc: Global,
+    threads: usize,
     durable: DurableBuild<D, R>,
-    members: &mut [Member<H, A>],
+    members: &mut Vec<Member<H, A>>,
     looks: u32,
 ) -> Result<Lived<D, R>, (TakeFault, D)>
     requires looks { 0 < looks }
@@ -74,44 +83,52 @@ pub fn go_on<W: Wait + Clock + AllocGlobal, D: Disk, R: SavedThread + Drop, H: H
     ensures lives { IfOk result (λ l. LivesOn D.reads D.may_leave D.clock D.may_have_left_since R.stance
         H.honest H.faults H.calls H.launches H.dirs H.output H.exited A.left A.faults looks
         D.faults (λ base. base.value) (λ base history ask reply new. Says R.stance base.value.build history ask reply new)
-        durable members.old members.new l.site.base l.site.history.items l.site.durable l.ended) }
+        durable members.old.items members.new.items l.site.base l.site.history.items l.site.durable l.ended) }
     ensures refused { IfErr result (λ e. (made : List Entry) × (now : Kept D R) × OpenRefuses R.stance durable now made e.0
         × Facts D.reads D.may_leave D.clock D.may_have_left_since D.faults R.stance durable now made × (e.1 ≡ now.journal.disk)
         × TellsFault R.stance now e.0) }
     ensures breaks { IfErr result (λ e. (setting : Setting) (entry : Option (List ℕ)) (origin : D) (before events : List AnEvent)
         → Lasts D.reads D.may_leave D.clock D.may_have_left_since R.stance setting entry origin before events durable
         → OpeningBreaks D.reads D.may_leave D.clock D.may_have_left_since R.stance setting entry origin before events e.0 e.1) }
-    ensures back { IfErr result (λ e. members.new ≡ members.old) }
-    ensures served { IfOk result (λ l. AreServed H.honest H.faults H.calls A.left A.faults members.old members.new) }
+    ensures back { IfErr result (λ e. members.new.items ≡ members.old.items) }
+    ensures len { length members.new.items ≡ length members.old.items }
+    ensures served { IfOk result (λ l. AreServed H.honest H.faults H.calls A.left A.faults members.old.items members.new.items) }
     ensures keeps { IfOk result (λ l. IfOk l.ended (λ rest. (payloads : List (List ℕ)) → Keeps D.reads D.may_leave R.stance durable payloads
         → ∥ KeepsOn D.reads D.may_leave D.clock D.may_have_left_since R.stance durable l.site.durable payloads ∥₁)) }
     ensures faults { IfOk result (λ l. IfErr l.ended (λ fault. ∥ TellsFault R.stance l.site.durable fault ∥₁)) }
-    ensures failed { IfOk result (λ l. l.ended ≡ Ok Rest.AnswersFailed → any_failed members.new ≡ true) }
+    ensures failed { IfOk result (λ l. l.ended ≡ Ok Rest.AnswersFailed → any_failed members.new.items ≡ true) }
     ensures disk { MatchResult result
         (λ l. CountsFault (D.faults durable.journal.disk) (D.faults l.site.durable.journal.disk) (l.ended ≡ Err TakeFault.Disk))
         (λ e. CountsFault (D.faults durable.journal.disk) (D.faults e.1) (e.0 ≡ TakeFault.Disk)) }
 {
     match SiteState::open(alloc, durable) {
-        Ok(site) => Ok(live_on(rt, alloc, site, members, looks)),
+        Ok(site) => Ok(live_on(rt, alloc, threads, site, members, looks)),
         Err(refused) => Err(refused),
     }
 }
 
 /// Lets the members work on a state that was opened, and says how that ended.
-fn live_on<W: Wait + Clock + AllocGlobal, D: Disk, R: SavedThread + Drop, H: Host, A: Source>(
+fn live_on<
+    W: Threads + Wait + Sync + Clock + AllocGlobal,
+    D: Disk + Send,
+    R: SavedThread + Drop + Send,
+    H: Host + Send,
+    A: Source + Send,
+>(
     rt: &W,
     alloc: Global,
+    threads: usize,
     site: SiteState<D, R>,
-    members: &mut [Member<H, A>],
+    members: &mut Vec<Member<H, A>>,
     looks: u32,
 ) -> Lived<D, R>
     requires looks { 0 < looks }
     requires fresh { site.history.items ≡ [] }
     ensures lives { (how : Result Come NoMemory) × Life H.honest H.faults H.calls H.launches H.dirs H.output H.exited A.left A.faults looks
-        (λ base history ask reply new. Says R.stance base.value.build history ask reply new) site.base result.site.base members.old members.new result.site.history.items how
-        × (result.ended ≡ ended_as (kept_fault result.site.history.items) how members.new) }
+        (λ base history ask reply new. Says R.stance base.value.build history ask reply new) site.base result.site.base members.old.items members.new.items result.site.history.items how
+        × (result.ended ≡ ended_as (kept_fault result.site.history.items) how members.new.items) }
 {
-    match live(rt, alloc, site, members, looks) {
+    match live_in_threads(rt, alloc, threads, site, members, looks) {
         Ok((site, how)) => Lived {
             ended: ended_of(&site, how, members),
             site,

@@ -9,7 +9,7 @@
 //! after the other in `specs/ManyLives`.
 //!
 //! ```text
-//! match go_on(&rt, alloc, durable, &mut members, 5) {
+//! match go_on(&rt, alloc, 8, durable, &mut members, 5) {
 //!     Ok(Lived { site, ended: Ok(rest) }) => {}     // the build of `site` rests for this
 //!     Ok(Lived { site, ended: Err(fault) }) => {}   // it was stopped by this fault
 //!     Err((fault, disk)) => {}                      // a grant that a stop had left out was refused

@@ -4,7 +4,7 @@
 //! ([`take_round_in_threads`]). It keeps the same contract: no sentence of it speaks of the order of two members' entries.
 //!
 //! ```text
-//! match live_in_threads(&rt, alloc, state, &mut members, 5) {
+//! match live_in_threads(&rt, alloc, 8, state, &mut members, 5) {
 //!     Ok((state, Ok(come))) => {}     // `come` is how far the build of `state` has come
 //!     Ok((state, Err(Memory))) => {}  // memory was wanted before a round
 //!     Err((Memory, state)) => {}      // nothing was done

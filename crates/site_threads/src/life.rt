@@ -37,6 +37,7 @@ fn take_rounds<
     A: Source + Send,
 >(
     rt: &T,
+    threads: usize,
     program: &Program<SiteState<D, R>>,
     pass: &mut Pass<SiteState<D, R>>,
     seats: &mut [Seat<'a, T, D, R, H, A>],
@@ -55,7 +56,7 @@ fn take_rounds<
 {
     let mut last = None;
     for _ in rt.forever() {
-        take_round_in_threads(rt, pass, seats, looks)?;
+        take_round_in_threads(rt, threads, pass, seats, looks)?;
         let come = look(rt, program, pass);
         if !goes_on(come, can_answer(seats)) {
             return Ok(come);
@@ -77,6 +78,7 @@ fn live_over<
 >(
     rt: &'a T,
     alloc: Global,
+    threads: usize,
     program: &'a Program<SiteState<D, R>>,
     pass: &mut Pass<SiteState<D, R>>,
     members: &mut Vec<Member<H, A>>,
@@ -94,7 +96,7 @@ fn live_over<
 {
     match seated(rt, alloc, program, members, looks) {
         Ok(mut seats) => {
-            let how = take_rounds(rt, program, pass, seats.as_mut_slice(), looks);
+            let how = take_rounds(rt, threads, program, pass, seats.as_mut_slice(), looks);
             unseat(seats, members);
             how
         }
@@ -112,6 +114,7 @@ fn live_in<
 >(
     rt: &T,
     alloc: Global,
+    threads: usize,
     program: Program<SiteState<D, R>>,
     pass: Pass<SiteState<D, R>>,
     members: &mut Vec<Member<H, A>>,
@@ -127,17 +130,18 @@ fn live_in<
         start result.0.base members.old.items members.new.items result.0.history.items result.1 }
 {
     let mut pass = pass;
-    let how = live_over(rt, alloc, &program, &mut pass, members, looks);
+    let how = live_over(rt, alloc, threads, &program, &mut pass, members, looks);
     match program.close(pass) {
         Ok(state) => (state, how),
         Err(_out) => unreachable!(),
     }
 }
 
-/// The life of a build with these members, who work in threads: what [`live`] is, with the members of a round each in a thread of
-/// its own as far as threads can be made. Nothing else is different, and its contract is the same.
+/// The life of a build with these members, who work in threads: what [`live`] is, with as many members of a round at work at once as
+/// `threads` says, each in a thread of its own as far as threads can be made. Nothing else is different, and its contract is the same.
 ///
-/// The members stay in their order. More than 127 members have their turns one after the other.
+/// With 1 thread, or none, the members have their turns one after the other, in their order; so have more than 127 members. The
+/// members stay in their order.
 ///
 /// `looks`, at least 1, is as for [`agent_worker::work`]. It may wait for ever.
 ///
@@ -154,6 +158,7 @@ pub fn live_in_threads<
 >(
     rt: &T,
     alloc: Global,
+    threads: usize,
     state: SiteState<D, R>,
     members: &mut Vec<Member<H, A>>,
     looks: u32,
@@ -169,7 +174,7 @@ pub fn live_in_threads<
         return live(rt, alloc, state, members.as_mut_slice(), looks);
     }
     match Program::open(alloc, state) {
-        Ok((program, pass)) => Ok(live_in(rt, alloc, program, pass, members, looks)),
+        Ok((program, pass)) => Ok(live_in(rt, alloc, threads, program, pass, members, looks)),
         Err((memory, state)) => Err((memory, state)),
     }
 }

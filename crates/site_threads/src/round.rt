@@ -100,7 +100,7 @@ fn take_in<'a, W: Wait, D: Disk, R: SavedThread + Drop, H, A>(
     }
 }
 
-/// All members with a pass work, each in a thread of its own as far as threads can be made.
+/// All members with a pass work, at most so many at once.
 fn work_all<
     'a,
     T: Threads + Wait + Sync + Clock + AllocGlobal,
@@ -108,16 +108,15 @@ fn work_all<
     R: SavedThread + Drop + Send,
     H: Host + Send,
     A: Source + Send,
->(rt: &T, seats: &mut [Seat<'a, T, D, R, H, A>])
+>(rt: &T, threads: usize, seats: &mut [Seat<'a, T, D, R, H, A>])
     ensures work { AllZip (λ a b. (b.program ≡ a.program) × (b.looks ≡ a.looks)
         × Serves (DidTurn H.honest H.faults H.calls H.launches H.dirs H.output H.exited A.left A.faults a.looks) (λ base history ask reply new. Says R.stance base.value.build history ask reply new) a.pass b.pass a.member b.member) seats.old seats.new }
 {
-    let threads = seats.len().max(1);
-    work_in_threads(rt, threads, seats);
+    work_in_threads(rt, threads.max(1), seats);
 }
 
-/// Gives each of the members of these seats a turn, in a thread of its own as far as threads can be made; else they have their turns one
-/// after the other.
+/// Gives each of the members of these seats a turn. As many work at once as `threads` says, each in a thread of its own as far as
+/// threads can be made; with 1, or none, and where no thread can be made, they have their turns one after the other, in their order.
 ///
 /// Each member has a pass of its own, which is split off before and taken in behind. `TakesRound` says what each turn was, as
 /// `take_round` of `site_life` does, and which entries of them the pass has. It has all parts of the right to close before and behind it.
@@ -134,6 +133,7 @@ pub fn take_round_in_threads<
     A: Source + Send,
 >(
     rt: &T,
+    threads: usize,
     pass: &mut Pass<SiteState<D, R>>,
     seats: &mut [Seat<'a, T, D, R, H, A>],
     looks: u32,
@@ -151,7 +151,7 @@ pub fn take_round_in_threads<
 {
     match hand_out(pass, seats) {
         Ok(()) => {
-            work_all(rt, seats);
+            work_all(rt, threads, seats);
             take_in(pass, seats);
             Ok(())
         }

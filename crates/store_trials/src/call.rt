@@ -10,6 +10,7 @@ use jp_io::{MemorySink, MemorySource};
 use saved_thread::SavedThread;
 use std::alloc::{AllocError, Global};
 use std::sync::Wait;
+use std::thread::Threads;
 use std::time::Clock;
 use task_host::MemoryHost;
 
@@ -60,7 +61,7 @@ struct Streams {
 }
 
 /// Calls the controller with a command over a folder. `AllocError` where the memory was refused.
-pub fn call<R: SavedThread + Drop, W: Wait + Clock + AllocGlobal>(
+pub fn call<R: SavedThread + Drop + Send, W: Threads + Wait + Sync + Clock + AllocGlobal>(
     rt: &W,
     folder: &Folder,
     command: &Command<'_>,
@@ -76,7 +77,7 @@ pub fn call<R: SavedThread + Drop, W: Wait + Clock + AllocGlobal>(
 
 /// Calls the controller with a command over a folder whose store is stretched. `AllocError` where the memory was
 /// refused.
-pub fn call_stretched<R: SavedThread + Drop, W: Wait + Clock + AllocGlobal>(
+pub fn call_stretched<R: SavedThread + Drop + Send, W: Threads + Wait + Sync + Clock + AllocGlobal>(
     rt: &W,
     folder: &Folder,
     stretch: &Stretch<'_>,
@@ -90,13 +91,11 @@ pub fn call_stretched<R: SavedThread + Drop, W: Wait + Clock + AllocGlobal>(
 }
 
 /// Calls the controller with these words over these devices.
-fn call_with<R: SavedThread + Drop, W: Wait + Clock + AllocGlobal, D: Disk>(
-    rt: &W,
-    words: Vec<String>,
-    streams: Streams,
-    disk: D,
-    hosts: Vec<MemoryHost>,
-) -> Called<D>
+fn call_with<
+    R: SavedThread + Drop + Send,
+    W: Threads + Wait + Sync + Clock + AllocGlobal,
+    D: Disk + Send,
+>(rt: &W, words: Vec<String>, streams: Streams, disk: D, hosts: Vec<MemoryHost>) -> Called<D>
     requires { length hosts.items ≡ 64 }
 {
     let Streams {
@@ -113,6 +112,7 @@ fn call_with<R: SavedThread + Drop, W: Wait + Clock + AllocGlobal, D: Disk>(
         &mut agents,
         disk,
         hosts,
+        1,
         answers,
         &mut out,
     );

@@ -8,6 +8,7 @@ use jp_disk::MemoryDisk;
 use saved_thread::SavedThread;
 use std::alloc::{AllocError, Global};
 use std::sync::Wait;
+use std::thread::Threads;
 use std::time::Clock;
 use task_host::MemoryHost;
 
@@ -34,7 +35,7 @@ pub struct Case<'a> {
 /// Crashes in each way behind the first life, and where it is to end at each call of the disk in turn, also behind
 /// each of these; and lets the second life go on. Writes what the second comes to where nothing fails and nothing is
 /// lost, and where anything is otherwise. `AllocError` where the memory was refused.
-pub fn write_lives<R: SavedThread + Drop, W: Wait + Clock + AllocGlobal>(
+pub fn write_lives<R: SavedThread + Drop + Send, W: Threads + Wait + Sync + Clock + AllocGlobal>(
     rt: &W,
     case: Case<'_>,
     line: &str,
@@ -51,7 +52,7 @@ pub fn write_lives<R: SavedThread + Drop, W: Wait + Clock + AllocGlobal>(
 
 /// Ends the first life at each call of the disk in turn, and crashes in each way. Writes how many calls there are,
 /// and where the second life is not as wanted. `AllocError` where the memory was refused.
-fn end_each<R: SavedThread + Drop, W: Wait + Clock + AllocGlobal>(
+fn end_each<R: SavedThread + Drop + Send, W: Threads + Wait + Sync + Clock + AllocGlobal>(
     rt: &W,
     case: Case<'_>,
     device: Device,
@@ -70,7 +71,7 @@ fn end_each<R: SavedThread + Drop, W: Wait + Clock + AllocGlobal>(
 
 /// Ends the first life at a call of the disk, and crashes in each way. Writes where the first does not tell it, and
 /// where the second is not as wanted. `AllocError` where the memory was refused.
-fn end_at<R: SavedThread + Drop, W: Wait + Clock + AllocGlobal>(
+fn end_at<R: SavedThread + Drop + Send, W: Threads + Wait + Sync + Clock + AllocGlobal>(
     rt: &W,
     case: Case<'_>,
     fault: Fault,
@@ -111,7 +112,7 @@ fn write_otherwise(
 
 /// Crashes behind a first life with this fault in each way. Writes where the second is not as wanted. `AllocError`
 /// where the memory was refused.
-fn crash_each<R: SavedThread + Drop, W: Wait + Clock + AllocGlobal>(
+fn crash_each<R: SavedThread + Drop + Send, W: Threads + Wait + Sync + Clock + AllocGlobal>(
     rt: &W,
     case: Case<'_>,
     fault: Option<Fault>,
@@ -137,7 +138,7 @@ fn is_same(one: &Called<MemoryDisk>, other: &Called<MemoryDisk>) -> bool {
 }
 
 /// What the first life comes to, on new hosts, where this fails. `AllocError` where the memory was refused.
-fn first<R: SavedThread + Drop, W: Wait + Clock + AllocGlobal>(
+fn first<R: SavedThread + Drop + Send, W: Threads + Wait + Sync + Clock + AllocGlobal>(
     rt: &W,
     case: Case<'_>,
     fault: Option<Fault>,
@@ -148,7 +149,7 @@ fn first<R: SavedThread + Drop, W: Wait + Clock + AllocGlobal>(
 
 /// What the second life comes to, on the hosts of the first one, which had this fault and was crashed by this choice.
 /// `AllocError` where the memory was refused.
-fn second<R: SavedThread + Drop, W: Wait + Clock + AllocGlobal>(
+fn second<R: SavedThread + Drop + Send, W: Threads + Wait + Sync + Clock + AllocGlobal>(
     rt: &W,
     case: Case<'_>,
     fault: Option<Fault>,
@@ -162,7 +163,7 @@ fn second<R: SavedThread + Drop, W: Wait + Clock + AllocGlobal>(
 
 /// What a build comes to that is gone on with; where there is none it is begun. `AllocError` where the memory was
 /// refused.
-fn gone_on<R: SavedThread + Drop, W: Wait + Clock + AllocGlobal>(
+fn gone_on<R: SavedThread + Drop + Send, W: Threads + Wait + Sync + Clock + AllocGlobal>(
     rt: &W,
     folder: &Folder,
     answers: &str,

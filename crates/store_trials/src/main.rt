@@ -48,6 +48,7 @@ use std::io;
 use std::io::Write;
 use std::process::ExitCode;
 use std::sync::Wait;
+use std::thread::Threads;
 use std::time::Clock;
 use stores::run_trial;
 
@@ -59,7 +60,7 @@ fn main(rt: HostRuntime) -> ExitCode {
 }
 
 /// Runs all trials of standard input.
-fn run_trials<R: Input + Print + Wait + Clock + AllocGlobal>(
+fn run_trials<R: Input + Print + Threads + Wait + Sync + Clock + AllocGlobal>(
     rt: &R,
     alloc: Global,
 ) -> io::Result<()> {

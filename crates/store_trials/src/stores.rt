@@ -9,6 +9,7 @@ use saved_thread::SavedThread;
 use std::alloc::{AllocError, Global};
 use std::mem;
 use std::sync::Wait;
+use std::thread::Threads;
 use std::time::Clock;
 use task_host::MemoryHost;
 use trial_text::{Trial, read_trial};
@@ -23,7 +24,7 @@ struct Place<'a> {
 }
 
 /// What a trial writes: each command, with its output and its status. `AllocError` where the memory was refused.
-pub fn run_trial<R: SavedThread + Drop, W: Wait + Clock + AllocGlobal>(
+pub fn run_trial<R: SavedThread + Drop + Send, W: Threads + Wait + Sync + Clock + AllocGlobal>(
     rt: &W,
     text: &str,
 ) -> Result<Vec<u8>, AllocError> {
@@ -39,7 +40,7 @@ pub fn run_trial<R: SavedThread + Drop, W: Wait + Clock + AllocGlobal>(
 }
 
 /// Does what the orders say, on one folder. `AllocError` where the memory was refused.
-fn do_orders<'a, R: SavedThread + Drop, W: Wait + Clock + AllocGlobal>(
+fn do_orders<'a, R: SavedThread + Drop + Send, W: Threads + Wait + Sync + Clock + AllocGlobal>(
     rt: &W,
     folder: Folder,
     orders: &[&'a str],
@@ -66,7 +67,7 @@ fn do_orders<'a, R: SavedThread + Drop, W: Wait + Clock + AllocGlobal>(
 
 /// Does what an order says. What fails at the next command fails at a command of its own alone. `AllocError` where
 /// the memory was refused.
-fn do_order<'a, R: SavedThread + Drop, W: Wait + Clock + AllocGlobal>(
+fn do_order<'a, R: SavedThread + Drop + Send, W: Threads + Wait + Sync + Clock + AllocGlobal>(
     rt: &W,
     place: &mut Place<'a>,
     line: &'a str,
@@ -120,7 +121,7 @@ fn do_change<'a>(
 }
 
 /// Calls the controller over a store that is stretched. `AllocError` where the memory was refused.
-fn do_stretched<R: SavedThread + Drop, W: Wait + Clock + AllocGlobal>(
+fn do_stretched<R: SavedThread + Drop + Send, W: Threads + Wait + Sync + Clock + AllocGlobal>(
     rt: &W,
     folder: &Folder,
     stretch: &Stretch<'_>,
@@ -134,7 +135,7 @@ fn do_stretched<R: SavedThread + Drop, W: Wait + Clock + AllocGlobal>(
 
 /// Calls the controller, and leaves its store in the folder and its hosts for the next command. `AllocError` where the
 /// memory was refused.
-fn do_command<R: SavedThread + Drop, W: Wait + Clock + AllocGlobal>(
+fn do_command<R: SavedThread + Drop + Send, W: Threads + Wait + Sync + Clock + AllocGlobal>(
     rt: &W,
     place: &mut Place<'_>,
     command: &Command<'_>,

@@ -15,40 +15,40 @@ use Rattle.build_commands.specs.Finishing.{TellsEnd}
 use Rattle.build_commands.specs.Living.{HostsStay, LifeOf, TakesBy}
 use Rattle.build_commands.specs.Reporting.{Reports}
 use Rattle.build_commands.proofs.FinishLemmas.{ended_long, finished_by, reports, reports_broken, told_long}
-use Rattle.build_commands.proofs.LivingLemmas.{crew_failed, crew_stay, hosts_all, life_events, no_life, one_operator, opening_events, rest_heard, served_crew, served_length, stay_same, whole_slice}
+use Rattle.build_commands.proofs.LivingLemmas.{crew_failed, crew_stay, hosts_all, life_events, no_life, one_operator, opening_events, rest_heard, served_crew, served_length, stay_same}
 use Rattle.build_commands.proofs.finishing.live.Goals as goal
 
 pub dismiss-hosts-requires-clause-crew : goal.dismiss-hosts-requires-clause-crew
 dismiss-hosts-requires-clause-crew g c =
     let A = g.A.Source in
-    let new = c.go_on.new.members in
-    let old = c.as_mut_slice.result.now in
-    let here = whole_slice c.args.crew.members.len new c.args.crew.members.items (sym (served_length g.H.Host.honest g.H.Host.faults g.H.Host.calls A.left A.faults old new c.in-Ok.ensures.served ∙ c.as_mut_slice.ensures.len)) in
+    let new = c.go_on.new.members.items in
+    let old = c.args.crew.members.items in
+    let here : new ≡ new = refl in
     subst (λ (ms : List (Member g.row.H.Denot g.row.A.Denot)). IsCrew ms) (sym here)
-    (served_crew g.H.Host.honest g.H.Host.faults g.H.Host.calls A.left A.faults old new c.in-Ok.ensures.served (subst (λ (ms : List (Member g.row.H.Denot g.row.A.Denot)). IsCrew ms) (sym c.as_mut_slice.ensures.value) c.requires.crew))
+    (served_crew g.H.Host.honest g.H.Host.faults g.H.Host.calls A.left A.faults old new c.in-Ok.ensures.served c.requires.crew)
 
 pub returns-in-Ok-clause-stay : goal.returns-in-Ok-clause-stay
 returns-in-Ok-clause-stay g c = λ executors hosts answers made others.
     let A = g.A.Source in
     let H = g.H.Host in
     let Members = List (Member g.row.H.Denot g.row.A.Denot) in
-    let new = c.go_on.new.members in
-    let old = c.as_mut_slice.result.now in
-    let here = whole_slice c.args.crew.members.len new c.args.crew.members.items (sym (served_length H.honest H.faults H.calls A.left A.faults old new c.in-Ok.ensures.served ∙ c.as_mut_slice.ensures.len)) in
+    let new = c.go_on.new.members.items in
+    let old = c.args.crew.members.items in
+    let here : new ≡ new = refl in
     let back : c.dismiss-hosts.result.0.items ≡ hosts_in new ++ others_of executors hosts =
     c.dismiss-hosts.ensures.hosts ∙ ap (λ (ms : Members). hosts_in ms ++ reverse c.args.crew.others.items) here
     ∙ ap (λ (hs : List g.row.H.Denot). hosts_in new ++ hs) (ap (λ (hs : List g.row.H.Denot). reverse hs) others ∙ reverse-reverse (others_of executors hosts)) in
     subst (λ (hs : List g.row.H.Denot). HostsStay H.honest H.faults H.calls hosts hs) (sym back)
-    (crew_stay H.honest H.faults H.calls A.left A.faults executors hosts answers new (subst (λ (ms : Members). AreServed H.honest H.faults H.calls A.left A.faults ms new) (c.as_mut_slice.ensures.value ∙ made) c.in-Ok.ensures.served))
+    (crew_stay H.honest H.faults H.calls A.left A.faults executors hosts answers new (subst (λ (ms : Members). AreServed H.honest H.faults H.calls A.left A.faults ms new) made c.in-Ok.ensures.served))
 
 pub returns-in-Err-clause-stay : goal.returns-in-Err-clause-stay
 returns-in-Err-clause-stay g c = λ executors hosts answers made others.
     let A = g.A.Source in
     let H = g.H.Host in
     let Members = List (Member g.row.H.Denot g.row.A.Denot) in
-    let new = c.go_on.new.members in
-    let here = whole_slice c.args.crew.members.len new c.args.crew.members.items (sym (ap (λ (ms : Members). length ms) c.in-Err.ensures.back ∙ c.as_mut_slice.ensures.len)) in
-    let is : new ≡ members_of executors hosts answers = c.in-Err.ensures.back ∙ c.as_mut_slice.ensures.value ∙ made in
+    let new = c.go_on.new.members.items in
+    let here : new ≡ new = refl in
+    let is : new ≡ members_of executors hosts answers = c.in-Err.ensures.back ∙ made in
     let back : c.dismiss-hosts-in-Err.result.0.items ≡ hosts =
     c.dismiss-hosts-in-Err.ensures.hosts ∙ ap (λ (ms : Members). hosts_in ms ++ reverse c.args.crew.others.items) (here ∙ is)
     ∙ ap (λ (hs : List g.row.H.Denot). hosts_in (members_of executors hosts answers) ++ hs) (ap (λ (hs : List g.row.H.Denot). reverse hs) others ∙ reverse-reverse (others_of executors hosts))
@@ -60,11 +60,11 @@ returns-in-Ok-clause-reports g c = λ executors hosts answers made.
     let A = g.A.Source in
     let D = g.D.Disk in
     let K = g.K.Sink in
-    let new = c.go_on.new.members in
-    let old = c.as_mut_slice.result.now in
-    let here = whole_slice c.args.crew.members.len new c.args.crew.members.items (sym (served_length g.H.Host.honest g.H.Host.faults g.H.Host.calls A.left A.faults old new c.in-Ok.ensures.served ∙ c.as_mut_slice.ensures.len)) in
+    let new = c.go_on.new.members.items in
+    let old = c.args.crew.members.items in
+    let here : new ≡ new = refl in
     let are : answers_in new ≡ c.dismiss-hosts.result.1 ∷ [] = ap (λ (ms : List (Member g.row.H.Denot g.row.A.Denot)). answers_in ms) (sym here) ∙ c.dismiss-hosts.ensures.answers in
-    let served = subst (λ (ms : List (Member g.row.H.Denot g.row.A.Denot)). AreServed g.H.Host.honest g.H.Host.faults g.H.Host.calls A.left A.faults ms new) (c.as_mut_slice.ensures.value ∙ made) c.in-Ok.ensures.served in
+    let served = subst (λ (ms : List (Member g.row.H.Denot g.row.A.Denot)). AreServed g.H.Host.honest g.H.Host.faults g.H.Host.calls A.left A.faults ms new) made c.in-Ok.ensures.served in
     subst (λ (d : g.row.D.Denot). Reports (D.faults c.args.durable.journal.disk) (D.faults d) (A.faults answers) (A.faults c.dismiss-hosts.result.1) (K.written c.args.out.now) (K.written c.tell_end-status.new.out) (K.faults c.args.out.now) (K.faults c.tell_end-status.new.out) c.tell_end-status.result)
     (sym c.close-disk.ensures.disk)
     (reports (D.faults c.args.durable.journal.disk) (D.faults c.in-Ok.field-0.site.durable.journal.disk) (A.faults answers) (A.faults c.dismiss-hosts.result.1) (K.written c.args.out.now) (K.written c.tell_end-status.new.out) (K.faults c.args.out.now) (K.faults c.tell_end-status.new.out)
@@ -79,16 +79,16 @@ returns-in-Ok-clause-finishes g c = λ hosts answers setting entry origin before
     let D = g.D.Disk in
     let K = g.K.Sink in
     let Members = List (Member g.row.H.Denot g.row.A.Denot) in
-    let new = c.go_on.new.members in
-    let old = c.as_mut_slice.result.now in
+    let new = c.go_on.new.members.items in
+    let old = c.args.crew.members.items in
     let begun = members_of setting.site.executors hosts answers in
     let site = c.in-Ok.field-0.site in
-    let here = whole_slice c.args.crew.members.len new c.args.crew.members.items (sym (served_length g.H.Host.honest g.H.Host.faults g.H.Host.calls A.left A.faults old new c.in-Ok.ensures.served ∙ c.as_mut_slice.ensures.len)) in
+    let here : new ≡ new = refl in
     let are : answers_in new ≡ c.dismiss-hosts.result.1 ∷ [] = ap (λ (ms : Members). answers_in ms) (sym here) ∙ c.dismiss-hosts.ensures.answers in
     let hosts_are : c.dismiss-hosts.result.0.items ≡ hosts_in new ++ others_of setting.site.executors hosts =
     c.dismiss-hosts.ensures.hosts ∙ ap (λ (ms : Members). hosts_in ms ++ reverse c.args.crew.others.items) here
     ∙ ap (λ (hs : List g.row.H.Denot). hosts_in new ++ hs) (ap (λ (hs : List g.row.H.Denot). reverse hs) others ∙ reverse-reverse (others_of setting.site.executors hosts)) in
-    let is : old ≡ begun = c.as_mut_slice.ensures.value ∙ made in
+    let is : old ≡ begun = made in
     let served = subst (λ (ms : Members). AreServed g.H.Host.honest g.H.Host.faults g.H.Host.calls A.left A.faults ms new) is c.in-Ok.ensures.served in
     let lives = c.in-Ok.ensures.lives in
     let told = subst (λ (b : Parts g.row.R.Denot). TellsEnd (StandsFor g.R.ScriptThread.stance b) (K.written c.args.out.now) (K.written c.tell_end-status.new.out) (K.faults c.args.out.now) (K.faults c.tell_end-status.new.out) c.in-Ok.field-0.ended c.tell_end-status.result)
@@ -124,11 +124,11 @@ returns-in-Err-clause-finishes g c = λ hosts answers setting entry origin befor
     let D = g.D.Disk in
     let K = g.K.Sink in
     let Members = List (Member g.row.H.Denot g.row.A.Denot) in
-    let new = c.go_on.new.members in
-    let old = c.as_mut_slice.result.now in
+    let new = c.go_on.new.members.items in
+    let old = c.args.crew.members.items in
     let begun = members_of setting.site.executors hosts answers in
-    let here = whole_slice c.args.crew.members.len new c.args.crew.members.items (sym (ap (λ (ms : Members). length ms) c.in-Err.ensures.back ∙ c.as_mut_slice.ensures.len)) in
-    let is : new ≡ begun = c.in-Err.ensures.back ∙ c.as_mut_slice.ensures.value ∙ made in
+    let here : new ≡ new = refl in
+    let is : new ≡ begun = c.in-Err.ensures.back ∙ made in
     let are : answers_in begun ≡ c.dismiss-hosts-in-Err.result.1 ∷ [] = ap (λ (ms : Members). answers_in ms) (sym (here ∙ is)) ∙ c.dismiss-hosts-in-Err.ensures.answers in
     let hosts_are : c.dismiss-hosts-in-Err.result.0.items ≡ hosts_in begun ++ others_of setting.site.executors hosts =
     c.dismiss-hosts-in-Err.ensures.hosts ∙ ap (λ (ms : Members). hosts_in ms ++ reverse c.args.crew.others.items) (here ∙ is)

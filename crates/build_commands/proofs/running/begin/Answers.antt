@@ -35,7 +35,7 @@ returns-in-Ok g c =
     let goes = subst (λ (k : Kept g.row.D.Denot g.row.R.Denot). Goes stance setting first k) back c.in-Ok.ensures.made.goes in
     begun started calm c.finish.ensures.stay
     (subst (λ (n : ℕ). Reports n (D.faults c.finish.result.disk) (A.faults c.args.answers) (A.faults c.finish.result.answers) (K.written c.args.out.now) (K.written c.finish.new.out) (K.faults c.args.out.now) (K.faults c.finish.new.out) c.finish.result.status) calm c.finish.ensures.reports)
-    (c.finish.ensures.finishes setting entry started first (lasts_here D.reads D.may_leave D.clock D.may_have_left_since stance g.met.D.Disk.only_now setting entry first kept goes saves))
+    (c.finish.ensures.finishes setting entry started first (lasts_here D.reads D.may_leave D.clock D.may_have_left_since stance (g.met.D.Disk g.world.𝓛 g.world.𝓜 g.world.𝓡 ((λ s x. x), (λ x. x), (λ x. x), λ x. x)).only_now setting entry first kept goes saves))
     (λ file told. subst (λ (k : Kept g.row.D.Denot g.row.R.Denot). BeginsOver D.reads D.may_leave D.clock D.may_have_left_since stance D.faults H.honest H.faults H.calls H.launches H.dirs H.output H.exited A.left A.faults c.args.disk c.finish.result.disk
     c.args.hosts.items c.finish.result.hosts.items c.args.answers c.finish.result.answers (K.written c.args.out.now) (K.written c.finish.new.out) (K.faults c.args.out.now) (K.faults c.finish.new.out) plan.script plan.agents plan.tree plan.site file k.journal.disk) back
     (let made = c.in-Ok.ensures.begun file told in record { fresh = made.fresh; moments = made.moments }))

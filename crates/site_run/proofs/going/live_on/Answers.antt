@@ -5,7 +5,7 @@ use Rattle.site_run.proofs.CloseLemmas.{nothing_done}
 use Rattle.site_run.proofs.going.live_on.Goals as goal
 
 pub returns-in-Ok : goal.returns-in-Ok
-returns-in-Ok g c = record { lives = (_, c.in-Ok.ensures.lives, c.ended_of.ensures) }
+returns-in-Ok g c = record { lives = (_, c.in-Ok.ensures.lives, c.ended_of.ensures ∙ ap (ended_as (kept_fault c.in-Ok.site.history.items) c.in-Ok.how) c.deref.ensures.value) }
 
 pub returns-in-Err : goal.returns-in-Err
 returns-in-Err g c =
@@ -16,7 +16,7 @@ returns-in-Err g c =
     record {
       lives = (
         Err c.in-Err.field-0-0,
-        nothing_done H.honest H.faults H.calls H.launches H.dirs H.output H.exited A.left A.faults c.args.looks _ c.in-Err.field-0-0 _ _ c.args.members.now c.live.new.members _ (ap (λ s. s.base) back.0) back.1 none,
-        sym (ap (λ h. ended_as (kept_fault h) (Err c.in-Err.field-0-0) c.live.new.members) none),
+        nothing_done H.honest H.faults H.calls H.launches H.dirs H.output H.exited A.left A.faults c.args.looks _ c.in-Err.field-0-0 _ _ c.args.members.now.items c.live_in_threads.new.members.items _ (ap (λ s. s.base) back.0) back.1 none,
+        sym (ap (λ h. ended_as (kept_fault h) (Err c.in-Err.field-0-0) c.live_in_threads.new.members.items) none),
       );
     }
