@@ -65,12 +65,13 @@ module _ {D : Type 0} (reads : D → Option (List ℕ)) (may_leave : D → List 
     by_break : {text : List ℕ} {status : ℕ} → Breaks disk_before disk_after answers_before answers_after status text → writing.Tells old new sink_before sink_after text
         → Finishes disk_before disk_after answers_before answers_after old new sink_before sink_after status
 
--- The log of a build that rests was written, whole or its front, with the status of whatever build of the definitions it stands for.
-pub record TellsRest (Stands : Build → Type 0) (old new : Option (List ℕ)) (sink_before sink_after status : ℕ) : Type 0 where
+-- The log of a build that rests was written, whole or its front, with the status of whatever build of the definitions it stands for; `here` is its log.
+pub record TellsRest (Stands : Build → Type 0) (here : List ℕ) (old new : Option (List ℕ)) (sink_before sink_after status : ℕ) : Type 0 where
   pub log : List ℕ
   pub ended : ℕ
   pub known : HasLog ended
   pub wrote : Writes old new sink_before sink_after log ended status
+  pub shown : log ≡ here
   pub is : (w : Build) → Stands w → (log ≡ w.shared.log) × (ended ≡ world_status w)
 
 -- What was written of a build that broke off by this fault, and with which status.
@@ -78,7 +79,7 @@ abbrev pub TellsBreak : Option (List ℕ) → Option (List ℕ) → ℕ → ℕ 
 TellsBreak old new c d fault status = (refusal : Refusal) × SaysTake fault refusal × (status ≡ refusal_status refusal) × writing.Tells old new c d (refusal_text refusal)
 
 -- What was written of a build that has gone on, and with which status.
-abbrev pub TellsEnd : (Build → Type 0) → Option (List ℕ) → Option (List ℕ) → ℕ → ℕ → Result Rest TakeFault → ℕ → Type 0
-TellsEnd Stands old new c d (Ok AnswersFailed) status = (status ≡ 6) × writing.Tells old new c d read_failed_text
-TellsEnd Stands old new c d (Ok rest) status = TellsRest Stands old new c d status
-TellsEnd Stands old new c d (Err fault) status = TellsBreak old new c d fault status
+abbrev pub TellsEnd : (Build → Type 0) → List ℕ → Option (List ℕ) → Option (List ℕ) → ℕ → ℕ → Result Rest TakeFault → ℕ → Type 0
+TellsEnd Stands here old new c d (Ok AnswersFailed) status = (status ≡ 6) × writing.Tells old new c d read_failed_text
+TellsEnd Stands here old new c d (Ok rest) status = TellsRest Stands here old new c d status
+TellsEnd Stands here old new c d (Err fault) status = TellsBreak old new c d fault status

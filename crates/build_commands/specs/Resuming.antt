@@ -1,13 +1,14 @@
 -- What `resume` does with a consistent store (this product's own).
-use Rattle.std.specs.Prelude.{◌≡◌, ℕ, ℤ, List, [], Option, Some, IfSome, max}
+use Rattle.std.specs.Prelude.{◌≡◌, ◌⊎◌, ℕ, ℤ, List, [], Option, Some, IfSome, max}
 use Rattle.device_faults.specs.Faults.{Rose}
 use Rattle.jp_disk.specs.Moments.{AtEachMoment}
+use Rattle.journal_core.specs.Records.{Has}
 use Rattle.model_run.specs.declared.event.Event.{Event}
 use Rattle.model_run.specs.State.{Setting}
 use Rattle.task_host.specs.declared.call.Call.{Call}
 use Rattle.task_host.specs.declared.order.Stream.{Stream}
 use Rattle.build_commands.specs.Living.{Finished, HostsStay}
-use Rattle.build_commands.specs.Reporting.{Reports}
+use Rattle.build_commands.specs.Reporting.{IsBroken, Reports, ShowsKept}
 use Rattle.build_commands.specs.Showing.{HasBuild, NotTold}
 use Rattle.build_commands.specs.Texts.{disk_failed_text, no_build_text, out_of_memory_text}
 use Rattle.build_commands.specs.Writing as writing
@@ -45,5 +46,8 @@ module _ {D H A : Type 0} (reads : D → Option (List ℕ)) (may_leave : D → L
   pub data Reopens (old disk : D) (written now : Option (List ℕ)) (sink_before sink_after : ℕ) : ℕ → Type 0 where
     unopened : {status : ℕ} {text : List ℕ} → GivesBack hosts rest answers unread → IsUntouched reads may_leave clock since old disk → NotTold (reads old) (faults old) (faults disk) status text → writing.Tells written now sink_before sink_after text
         → Reopens old disk written now sink_before sink_after status
-    goes_on : {status : ℕ} → IfSome (reads old) HasBuild → HostsStay honest host_faults calls hosts rest → Reports (faults old) (faults disk) (source_faults answers) (source_faults unread) written now sink_before sink_after status
+    goes_on : {status : ℕ} → IfSome (reads old) HasBuild → HostsStay honest host_faults calls hosts rest
+        → ((file : List ℕ) → reads old ≡ Some file → (payloads : List (List ℕ)) × (opened : D) × Has payloads file × AtEachMoment clock since old opened (may_leave old)
+        × (IsBroken status ⊎ ∥ ShowsKept may_leave clock since opened payloads disk written now sink_before sink_after status ∥₁))
+        → Reports (faults old) (faults disk) (source_faults answers) (source_faults unread) written now sink_before sink_after status
         → Reopens old disk written now sink_before sink_after status

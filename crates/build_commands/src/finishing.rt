@@ -1,13 +1,14 @@
 //! How a command ends that lets a life go on.
-ghost use Rattle.std.specs.Prelude.{◌≡◌, ◌≤◌, ◌<◌, ◌+◌, false, true, max, ℕ, List, Option, reverse, vec_len, vec_capacity};
+ghost use Rattle.std.specs.Prelude.{◌≡◌, ◌⊎◌, ◌≤◌, ◌<◌, ◌+◌, false, true, max, ℕ, List, Option, reverse, vec_len, vec_capacity};
 ghost use Rattle.build_core.specs.Builds.{StandsFor};
 ghost use Rattle.build_core.specs.Phases.{has_begun};
 ghost use Rattle.model_run.specs.declared.event.Event.{Event as AnEvent};
 ghost use Rattle.model_run.specs.declared.site.Executor.{Executor as SiteExecutor};
 ghost use Rattle.model_run.specs.State.{Setting};
+ghost use Rattle.durable_build.specs.Standing.{Keeps};
 ghost use Rattle.saved_run.specs.Lives.{Lasts};
 ghost use Rattle.site_crew.specs.Crews.{IsCrew, members_of, others_of};
-ghost use Rattle.build_commands.specs.Reporting.{Reports};
+ghost use Rattle.build_commands.specs.Reporting.{IsBroken, Reports, ShowsKept};
 ghost use Rattle.build_commands.specs.Finishing.{TellsEnd, TellsRest};
 ghost use Rattle.build_commands.specs.Living.{Finished, HostsStay};
 
@@ -61,6 +62,8 @@ pub fn finish<
     requires begun { has_begun durable.build.phase ≡ true }
     ensures stay { HostsStay H.honest H.faults H.calls hosts.items result.hosts.items }
     ensures reports { Reports (D.faults durable.journal.disk) (D.faults result.disk) (A.faults answers) (A.faults result.answers) (K.written out.old) (K.written out.new) (K.faults out.old) (K.faults out.new) result.status }
+    ensures last { (payloads : List (List ℕ)) → Keeps D.reads D.may_leave R.stance durable payloads
+        → IsBroken result.status ⊎ ∥ ShowsKept D.may_leave D.clock D.may_have_left_since durable.journal.disk payloads result.disk (K.written out.old) (K.written out.new) (K.faults out.old) (K.faults out.new) result.status ∥₁ }
     ensures finishes { (setting : Setting) (entry : Option (List ℕ)) (origin : D) (before : List AnEvent)
         → Lasts D.reads D.may_leave D.clock D.may_have_left_since R.stance setting entry origin before before durable
         → ∥ Finished D.reads D.may_leave D.clock D.may_have_left_since H.honest H.faults H.calls H.launches H.dirs H.output H.exited A.left A.faults (max setting.site.looks 1)
@@ -109,6 +112,8 @@ fn live<
         → crew.others.items ≡ reverse (others_of executors hosts) → HostsStay H.honest H.faults H.calls hosts result.hosts.items }
     ensures reports { (executors : List SiteExecutor) (hosts : List H) (answers : A) → crew.members.items ≡ members_of executors hosts answers
         → Reports (D.faults durable.journal.disk) (D.faults result.disk) (A.faults answers) (A.faults result.answers) (K.written out.old) (K.written out.new) (K.faults out.old) (K.faults out.new) result.status }
+    ensures last { (payloads : List (List ℕ)) → Keeps D.reads D.may_leave R.stance durable payloads
+        → IsBroken result.status ⊎ ∥ ShowsKept D.may_leave D.clock D.may_have_left_since durable.journal.disk payloads result.disk (K.written out.old) (K.written out.new) (K.faults out.old) (K.faults out.new) result.status ∥₁ }
     ensures finishes { (hosts : List H) (answers : A) (setting : Setting) (entry : Option (List ℕ)) (origin : D) (before : List AnEvent) → crew.members.items ≡ members_of setting.site.executors hosts answers
         → crew.others.items ≡ reverse (others_of setting.site.executors hosts) → Lasts D.reads D.may_leave D.clock D.may_have_left_since R.stance setting entry origin before before durable
         → ∥ Finished D.reads D.may_leave D.clock D.may_have_left_since H.honest H.faults H.calls H.launches H.dirs H.output H.exited A.left A.faults looks
@@ -149,7 +154,7 @@ fn tell_end<R: SavedThread + Drop, K: Sink>(
     build: &Build<R>,
     ended: Result<Rest, TakeFault>,
 ) -> u8
-    ensures { TellsEnd (StandsFor R.stance build.now) (K.written out.old) (K.written out.new) (K.faults out.old) (K.faults out.new) ended result }
+    ensures { TellsEnd (StandsFor R.stance build.now) build.now.shared.log (K.written out.old) (K.written out.new) (K.faults out.old) (K.faults out.new) ended result }
 {
     match ended {
         Ok(Rest::AnswersFailed) => tell(out, &Refusal::ReadFailed),
@@ -160,7 +165,7 @@ fn tell_end<R: SavedThread + Drop, K: Sink>(
 
 /// Writes the log of a build that rests, and answers the exit status.
 fn tell_rest<R: SavedThread + Drop, K: Sink>(out: &mut K, build: &Build<R>) -> u8
-    ensures { TellsRest (StandsFor R.stance build.now) (K.written out.old) (K.written out.new) (K.faults out.old) (K.faults out.new) result }
+    ensures { TellsRest (StandsFor R.stance build.now) build.now.shared.log (K.written out.old) (K.written out.new) (K.faults out.old) (K.faults out.new) result }
 {
     tell_text(out, build.log(), build_status(build))
 }

@@ -219,7 +219,7 @@ module _ {D H A T : Type 0} (v : Devices D H A) (stance : T → Stance) (told_im
   reopens_stay : {n : ℕ} → Reopens v.reads v.may_leave v.clock v.since v.faults v.honest v.host_faults v.calls v.launches v.dirs v.output v.exited v.left v.source_faults c.hosts c.hosts_now c.answers c.answers_now
       c.disk c.now c.old c.new c.sink_before c.sink_after n → HostsStay v.honest v.host_faults v.calls c.hosts c.hosts_now
   reopens_stay (resume.unopened unled same why tells) = subst (λ (hs : List H). HostsStay v.honest v.host_faults v.calls c.hosts hs) (sym unled.0) (stay_same v.honest v.host_faults v.calls v.left v.source_faults c.hosts)
-  reopens_stay (resume.goes_on has stay reports) = stay
+  reopens_stay (resume.goes_on has stay kept reports) = stay
 
   -- a store's setting is that of a script, with executors numbered one after the other
   went_fits : (setting : Setting) (events : List Event) → Finds v setting events c → (opened : D) → v.faults opened ≡ v.faults c.disk → ∥ FinishedIn v c setting opened events c.status ∥₁ → AllAre v.honest c.hosts → FitLeft v c.disk c.hosts

@@ -29,7 +29,7 @@ module _ {D H A : Type 0} (v : Devices D H A) (c : Call D H A) where
   shown_by setting found finds d = record { more = d.0; takes = d.1.takes; log = d.1.log; durable = d.1.durable (ap is_some finds.told) }
 
   pub resume_shows : Output v c → Is Resume c → HasRun c.status → (setting : Setting) (found : List Event) → Finds v setting found c → ∥ Shown setting found ∥₁
-  resume_shows output is run setting found finds = ∥∥₁_map (output.command Resume is run setting found finds) (shown_by setting found finds)
+  resume_shows output is run setting found finds = ∥∥₁_map ((output.command Resume is).0 run setting found finds) (shown_by setting found finds)
 
   -- A `resume` over a store without a record, or a damaged one: 9, 8 or 5, nothing was read or written, and the hosts are as they were.
   pub resume_refuses : Causes v c → Is Resume c → (file : List ℕ) → v.reads c.disk ≡ Some file → HasNone file

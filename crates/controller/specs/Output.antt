@@ -12,6 +12,7 @@ use Rattle.model_run.specs.State.{Setting}
 use Rattle.image_form.specs.declared.image.Image.{Image}
 use Rattle.model_run.specs.World.{Build, world_in}
 use Rattle.store_laws.specs.Store.{Mean}
+use Rattle.jp_disk.specs.Moments.{AtEachMoment}
 use Rattle.journal_core.specs.Records.{Has}
 use Rattle.durable_build.specs.declared.faults.StoreFault.TheVariants.{Damaged}
 use Rattle.durable_build.specs.Opening.{OpenFails}
@@ -19,6 +20,7 @@ use Rattle.saved_run.specs.Saved.{Stores}
 use Rattle.run_command.specs.Files.{HasSite, IsRefused}
 use Rattle.run_command.specs.Statuses.{HasRun, world_status}
 use Rattle.run_command.specs.Texts as run
+use Rattle.build_commands.specs.Reporting.{ShowsKept}
 use Rattle.build_commands.specs.Showing.{ShowsLast}
 use Rattle.build_commands.specs.Texts as store
 use Rattle.controller.specs.Call.{Call, Devices, HeardIn, Is, IsIdle, Finds, Takes, Tells, WithFiles, Writes, usage_text}
@@ -63,10 +65,17 @@ module _ {D H A : Type 0} (v : Devices D H A) where
     pub unchanged : (file : List ℕ) → v.reads c.disk ≡ Some file → v.reads c.now ≡ Some file
     pub refused : c.status ≡ 9 → ((at : ℕ) × Tells (store.damaged_text at) c × IfSome (v.reads c.disk) (λ file. OpenFails file (Damaged at))) ⊎ (Tells store.no_build_text c × IfSome (v.reads c.disk) (Has []))
 
+  -- What `resume` leaves of a store whose build it has gone on with, and shows of it, whatever its records tell: up to a moment a crash leaves what it might have left
+  -- at the beginning; from then on the records of the file and the first of others behind them, and at the end all of these; and the log is that of the image of
+  -- the last record of all.
+  abbrev pub KeepsStore : Call D H A → Type 0
+  KeepsStore c = (file : List ℕ) → v.reads c.disk ≡ Some file → HasRun c.status → (payloads : List (List ℕ)) × (opened : D) × Has payloads file × AtEachMoment v.clock v.since c.disk opened (v.may_leave c.disk)
+      × ∥ ShowsKept v.may_leave v.clock v.since opened payloads c.now c.old c.new c.sink_before c.sink_after c.status ∥₁
+
   -- What a command is for: a build that has ended or waits, whose events begin with those of the store; the log or the graph of the store's build; `ok`.
   abbrev pub OutputOf : Command → Call D H A → Type 0
   OutputOf Run c = HasRun c.status → IsAtEnd c.script.rest × IsAtEnd c.agents.rest × WithFiles c (λ script agents. ∥ DeliversRun c script agents ∥₁)
-  OutputOf Resume c = HasRun c.status → (setting : Setting) (events : List Event) → Finds v setting events c → ∥ ((more : List Event) × Delivers setting events (events ++ more) c) ∥₁
+  OutputOf Resume c = (HasRun c.status → (setting : Setting) (events : List Event) → Finds v setting events c → ∥ ((more : List Event) × Delivers setting events (events ++ more) c) ∥₁) × KeepsStore c
   OutputOf Log c = ShowsStore (λ w. w.shared.log) (λ i. i.log) c
   OutputOf Graph c = ShowsStore (λ w. graph_text w.shared.nodes) (λ i. graph_text i.nodes) c
   OutputOf Check c = HasRun c.status → Writes store.ok_text 0 c × WithFiles c (λ script agents. HasSite agents × ¬ (IsRefused script))

@@ -1,4 +1,4 @@
-use Rattle.std.proofs.Common.{◌∙◌, ℕ, List, [], ◌∷◌, max, sym, ap, subst}
+use Rattle.std.proofs.Common.{inl, inr, ◌∙◌, ℕ, List, [], ◌∷◌, max, sym, ap, subst}
 use Rattle.site_crew.specs.Crews.{members_of}
 use Rattle.build_commands.specs.Living.{HostsStay}
 use Rattle.build_commands.specs.Reporting.{Reports}
@@ -34,3 +34,6 @@ returns-in-Err-clause-finishes g c = λ setting entry origin before lasts.
     setting entry origin before c.args.hosts.items c.in-Err.hosts.items c.args.answers c.in-Err.answers (K.written c.args.out.now) (K.written c.tell-status.new.out) (K.faults c.args.out.now) (K.faults c.tell-status.new.out) c.tell-status.result (D.faults c.args.durable.journal.disk)
     c.args.durable c.close.result c.close.ensures (no_life H.honest H.faults H.calls H.launches H.dirs H.output H.exited A.left A.faults looks begun) hosts_are are
     (no_events H.honest H.faults H.calls H.launches H.dirs H.output H.exited A.left A.faults looks g.R.ScriptThread.stance setting lasts.goes.proper before lasts.goes.begun begun) lasts c.tell-status.ensures.status c.tell-status.ensures.text ∣₁
+
+pub returns-in-Err-clause-last : goal.returns-in-Err-clause-last
+returns-in-Err-clause-last g c = λ payloads keeps. inl (inr (inr (inr c.tell-status.ensures.status)))

@@ -1,4 +1,4 @@
-use Rattle.std.proofs.Common.{◌≡◌, ◌≤◌, ◌∙◌, ◌++◌, ℕ, List, [], ◌∷◌, Err, sym, ap, subst, length, reverse}
+use Rattle.std.proofs.Common.{◌≡◌, ◌⊎◌, inl, ◌≤◌, ◌∙◌, ◌++◌, ℕ, List, [], ◌∷◌, Err, sym, ap, subst, length, reverse}
 use Rattle.std.specs.Prelude.{IfOk}
 use Rattle.std.proofs.lemmas.List.{reverse-reverse}
 use Rattle.std.proofs.Math.Logic.{∥∥₁_map}
@@ -13,8 +13,8 @@ use Rattle.site_run.specs.Telling.{AreHeard}
 use Rattle.site_crew.specs.Crews.{answers_in, hosts_in, IsCrew, members_of, others_of}
 use Rattle.build_commands.specs.Finishing.{TellsEnd}
 use Rattle.build_commands.specs.Living.{HostsStay, LifeOf, TakesBy}
-use Rattle.build_commands.specs.Reporting.{Reports}
-use Rattle.build_commands.proofs.FinishLemmas.{ended_long, finished_by, reports, reports_broken, told_long}
+use Rattle.build_commands.specs.Reporting.{IsBroken, Reports, ShowsKept}
+use Rattle.build_commands.proofs.FinishLemmas.{broken_status, ended_kept, ended_long, finished_by, reports, reports_broken, told_long}
 use Rattle.build_commands.proofs.LivingLemmas.{crew_failed, crew_stay, hosts_all, life_events, no_life, one_operator, opening_events, rest_heard, served_crew, served_length, stay_same}
 use Rattle.build_commands.proofs.finishing.live.Goals as goal
 
@@ -68,7 +68,7 @@ returns-in-Ok-clause-reports g c = λ executors hosts answers made.
     subst (λ (d : g.row.D.Denot). Reports (D.faults c.args.durable.journal.disk) (D.faults d) (A.faults answers) (A.faults c.dismiss-hosts.result.1) (K.written c.args.out.now) (K.written c.tell_end-status.new.out) (K.faults c.args.out.now) (K.faults c.tell_end-status.new.out) c.tell_end-status.result)
     (sym c.close-disk.ensures.disk)
     (reports (D.faults c.args.durable.journal.disk) (D.faults c.in-Ok.field-0.site.durable.journal.disk) (A.faults answers) (A.faults c.dismiss-hosts.result.1) (K.written c.args.out.now) (K.written c.tell_end-status.new.out) (K.faults c.args.out.now) (K.faults c.tell_end-status.new.out)
-    (StandsFor g.R.ScriptThread.stance c.build.result.now) c.in-Ok.field-0.ended c.tell_end-status.result c.tell_end-status.ensures
+    (StandsFor g.R.ScriptThread.stance c.build.result.now) c.build.result.now.shared.log c.in-Ok.field-0.ended c.tell_end-status.result c.tell_end-status.ensures
     (λ is. crew_failed g.H.Host.honest g.H.Host.faults g.H.Host.calls A.left A.faults executors hosts answers c.dismiss-hosts.result.1 new served are (c.in-Ok.ensures.failed is)) c.in-Ok.ensures.disk
     (ended_long g.R.ScriptThread.stance c.in-Ok.field-0.site.durable c.in-Ok.field-0.ended c.in-Ok.ensures.faults))
 
@@ -91,7 +91,7 @@ returns-in-Ok-clause-finishes g c = λ hosts answers setting entry origin before
     let is : old ≡ begun = made in
     let served = subst (λ (ms : Members). AreServed g.H.Host.honest g.H.Host.faults g.H.Host.calls A.left A.faults ms new) is c.in-Ok.ensures.served in
     let lives = c.in-Ok.ensures.lives in
-    let told = subst (λ (b : Parts g.row.R.Denot). TellsEnd (StandsFor g.R.ScriptThread.stance b) (K.written c.args.out.now) (K.written c.tell_end-status.new.out) (K.faults c.args.out.now) (K.faults c.tell_end-status.new.out) c.in-Ok.field-0.ended c.tell_end-status.result)
+    let told = subst (λ (b : Parts g.row.R.Denot). TellsEnd (StandsFor g.R.ScriptThread.stance b) b.shared.log (K.written c.args.out.now) (K.written c.tell_end-status.new.out) (K.faults c.args.out.now) (K.faults c.tell_end-status.new.out) c.in-Ok.field-0.ended c.tell_end-status.result)
     c.build.ensures.build c.tell_end-status.ensures in
     let turns = turns_of lives.life.rounds ++ lives.life.last in
     let life : LifeOf H.honest H.faults H.calls H.launches H.dirs H.output H.exited A.left A.faults c.args.looks begun new turns site.history.items =
@@ -139,3 +139,19 @@ returns-in-Err-clause-finishes g c = λ hosts answers setting entry origin befor
     begun [] [] b.kept c.in-Err.disk b.same (no_life H.honest H.faults H.calls H.launches H.dirs H.output H.exited A.left A.faults c.args.looks begun) hosts_are are (before ++ b.granted) (Err c.in-Err.fault) tt
     (opening_events H.honest H.faults H.calls H.launches H.dirs H.output H.exited A.left A.faults c.args.looks D.reads D.may_leave D.clock D.may_have_left_since g.R.ScriptThread.stance setting entry origin before before c.in-Err.fault c.in-Err.disk b lasts.goes.begun begun) b.breaks
     (c.of_take.result, c.of_take.ensures, c.tell-status.ensures.status, c.tell-status.ensures.text) (λ failed. absurd (cc)) (λ is_disk. subst (λ (d : g.row.D.Denot). Rose (D.faults c.args.durable.journal.disk) (D.faults d)) b.same (c.in-Err.ensures.disk.failed (cc))) ∣₁
+
+pub returns-in-Ok-clause-last : goal.returns-in-Ok-clause-last
+returns-in-Ok-clause-last g c = λ payloads keeps.
+    let D = g.D.Disk in
+    let K = g.K.Sink in
+    let stance = g.R.ScriptThread.stance in
+    let site = c.in-Ok.field-0.site in
+    let told = subst (λ (b : Parts g.row.R.Denot). TellsEnd (StandsFor stance b) b.shared.log (K.written c.args.out.now) (K.written c.tell_end-status.new.out) (K.faults c.args.out.now) (K.faults c.tell_end-status.new.out) c.in-Ok.field-0.ended c.tell_end-status.result)
+    c.build.ensures.build c.tell_end-status.ensures in
+    subst (λ (d : g.row.D.Denot). IsBroken c.tell_end-status.result ⊎ ∥ ShowsKept D.may_leave D.clock D.may_have_left_since c.args.durable.journal.disk payloads d (K.written c.args.out.now) (K.written c.tell_end-status.new.out) (K.faults c.args.out.now) (K.faults c.tell_end-status.new.out) c.tell_end-status.result ∥₁)
+    (sym c.close-disk.ensures.disk)
+    (ended_kept D.reads D.may_leave D.clock D.may_have_left_since stance c.args.durable site.durable payloads (K.written c.args.out.now) (K.written c.tell_end-status.new.out) (K.faults c.args.out.now) (K.faults c.tell_end-status.new.out) c.tell_end-status.result
+    c.in-Ok.field-0.ended told c.in-Ok.ensures.keeps keeps)
+
+pub returns-in-Err-clause-last : goal.returns-in-Err-clause-last
+returns-in-Err-clause-last g c = λ payloads keeps. inl (subst IsBroken (sym c.tell-status.ensures.status) (broken_status c.in-Err.fault c.of_take.result c.of_take.ensures))

@@ -6,5 +6,6 @@ returns g c = record {
   ended = c.build_status.result;
   known = c.build_status.ensures.log;
   wrote = c.tell_text.ensures;
+  shown = c.log.ensures.here;
   is = λ w s. (c.log.ensures.world w s, c.build_status.ensures.world w s);
 }

@@ -1,7 +1,7 @@
 use Rattle.std.proofs.Common.{◌∙◌, ℕ, refl, sym, ap, subst}
 use Rattle.jp_disk.specs.Moments.{AtEachMoment}
 use Rattle.durable_build.specs.Opening.{OpenFails}
-use Rattle.durable_build.specs.Standing.{Kept}
+use Rattle.durable_build.specs.Standing.{Keeps, Kept}
 use Rattle.saved_run.specs.Lives.{Stands}
 use Rattle.saved_run.proofs.LifeLemmas.{lasts_here}
 use Rattle.build_commands.specs.Reporting.{Reports}
@@ -20,6 +20,15 @@ returns-in-Ok-clause-reopens g c =
     let K = g.K.Sink in
     let life = c.in-Ok.life in
     goes_on (if_told (D.reads c.args.disk) HasBuild (λ file at. has_build D.reads D.may_leave g.R.ScriptThread.stance file life.durable (c.in-Ok.ensures.opened file at) c.in-Ok.ensures.whole)) c.finish.ensures.stay
+    (λ file at.
+    let o = c.in-Ok.ensures.opened file at in
+    let kept = c.into_durable.result in (
+      o.payloads,
+      kept.journal.disk,
+      o.has,
+      subst (λ (k : Kept g.row.D.Denot g.row.R.Denot). AtEachMoment D.clock D.may_have_left_since c.args.disk k.journal.disk (D.may_leave c.args.disk)) (sym c.into_durable.ensures) c.in-Ok.ensures.any_moment,
+      c.finish.ensures.last o.payloads (subst (λ (k : Kept g.row.D.Denot g.row.R.Denot). Keeps D.reads D.may_leave g.R.ScriptThread.stance k o.payloads) (sym c.into_durable.ensures) o.keeps),
+    ))
     (subst (λ (n : ℕ). Reports n (D.faults c.finish.result.disk) (A.faults c.args.answers) (A.faults c.finish.result.answers) (K.written c.args.out.now) (K.written c.finish.new.out) (K.faults c.args.out.now) (K.faults c.finish.new.out) c.finish.result.status)
     (ap (λ (k : Kept g.row.D.Denot g.row.R.Denot). D.faults k.journal.disk) c.into_durable.ensures ∙ c.in-Ok.ensures.cause.calm (λ e. e)) c.finish.ensures.reports)
 
