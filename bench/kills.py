@@ -109,7 +109,11 @@ class Build:
         return subprocess.Popen(words, stdin=subprocess.DEVNULL, stdout=subprocess.PIPE, stderr=subprocess.DEVNULL)
 
     def ended(self, controller):
-        log, _ = controller.communicate(timeout=300)
+        try:
+            log, _ = controller.communicate(timeout=300)
+        except subprocess.TimeoutExpired:
+            controller.kill()
+            raise Wrong("a controller had not ended after 300 seconds") from None
         return log.decode(errors="replace").replace(self.room, "ROOM"), controller.returncode
 
     def ran(self, command):
@@ -185,7 +189,7 @@ def trial(program, seed, kills):
         second, count = killed(disturbed, kills, seconds, choose)
         lost = judged(first, undisturbed.launches(), second, disturbed.launches())
         return count, sum(disturbed.launches().values()), lost, seconds, None
-    except (Wrong, subprocess.TimeoutExpired) as why:
+    except Wrong as why:
         return 0, 0, False, 0, f"seed {seed}: {why}\n{script}"
     finally:
         shutil.rmtree(room, ignore_errors=True)
@@ -243,6 +247,8 @@ def main():
     parser.add_argument("--program", default=PROGRAM)
     parser.add_argument("--calls", action="store_true")
     asked = parser.parse_args()
+    if not os.access(asked.program, os.X_OK):
+        raise SystemExit(f"{asked.program} is not there: './controller build' makes it")
     return at_each_call(asked) if asked.calls else campaign(asked)
 
 
