@@ -6,6 +6,10 @@ controller is killed (SIGKILL) at random moments, N times or until the build has
 has to begin with the one before, its last log and its status have to be those of the undisturbed run, and each of its tasks, which
 leaves its name in a file when it is launched, has to have been launched once.
 
+Executors take turns, and those of a new life begin with the first one. So where branches begin while a later executor has its turn,
+the lines of branches may come in another order, and their nodes on other executors, behind a kill. A fourth of the scripts are of
+that kind, and are compared by their lines in any order.
+
 A kill between the making of a task's control folder and the start of its shell costs that step: it ends with code -2 or -1 and is not
 launched again (docs/HOSTS.md). Such builds are counted for themselves; in them no task may have been launched twice.
 
@@ -16,6 +20,7 @@ The same seed gives the same scripts and times. The status is 0 where all is so.
 import argparse
 import collections
 import concurrent.futures
+import difflib
 import os
 import random
 import re
@@ -41,6 +46,8 @@ class Scripts:
 
     def __init__(self, choose):
         self.choose, self.count = choose, 0
+        # Whether no branches begin in the turn of another executor than the first one.
+        self.is_ordered = choose.randrange(4) > 0
 
     def shell(self, *lines):
         """The script of a step that leaves its name, and takes up to an eighth of a second."""
@@ -68,14 +75,14 @@ class Scripts:
     def steps(self, most):
         return [line for _ in range(self.choose.randrange(1, most + 1)) for line in self.step()]
 
-    def node(self, most):
-        label = self.choose.choice(["", "'one'", "'two'", "'small'"])
+    def node(self, most, is_branch=False):
+        label = self.choose.choice(["", "'one'", "'two'", "'small'"]) if is_branch or not self.is_ordered else "'one'"
         return [f"node{'(' + label + ')' if label else ''} {{", *self.steps(most), "}"]
 
     def stage(self, name):
         if self.choose.randrange(3) > 0:
             return [f"stage('{name}') {{", *self.node(3), "}"]
-        branches = [["{", *self.node(2), "}"] for _ in range(self.choose.randrange(2, 5))]
+        branches = [["{", *self.node(2, is_branch=True), "}"] for _ in range(self.choose.randrange(2, 5))]
         inside = ",\n".join(f"b{at}: " + "\n".join(branch) for at, branch in enumerate(branches))
         return [f"stage('{name}') {{", f"parallel(\n{inside}\n)", "}"]
 
@@ -162,22 +169,35 @@ def killed(build, kills, seconds, choose):
     return build.ran(command), kills
 
 
-def judged(first, first_launches, second, launches):
-    """Whether a step was lost; or Wrong."""
+SAME, REORDERED, COST = "as the undisturbed run", "as the undisturbed run in another order", "with a step that a kill cost"
+
+
+def in_any_order(ended, launches):
+    """The lines of a log, without the places of nodes, with the status and the number of launches."""
+    log, status = ended
+    return sorted(re.sub("^Running on .*", "Running", log, flags=re.M).split("\n")), status, sum(launches.values())
+
+
+def judged(first, first_launches, second, launches, is_ordered=True):
+    """What became of a build that was killed; or Wrong."""
     twice = [name for name, count in launches.items() if count > 1]
     if twice:
         raise Wrong(f"launched twice: {twice}")
     if second == first and launches == first_launches:
-        return False
-    if LOST.search(second[0]) and not LOST.search(first[0]) and second[0].endswith("\n") and "Finished: " in second[0]:
-        return True
-    raise Wrong(f"undisturbed: {first}\nkilled: {second}\nlaunches: {first_launches}\n{launches}")
+        return SAME
+    if not is_ordered and in_any_order(first, first_launches) == in_any_order(second, launches):
+        return REORDERED
+    if LOST.search(second[0]) and not LOST.search(first[0]) and "\nFinished: " in second[0]:
+        return COST
+    differ = difflib.unified_diff(first[0].split("\n"), second[0].split("\n"), "undisturbed", "killed", lineterm="", n=1)
+    raise Wrong("\n".join([f"status {first[1]} and {second[1]}", *differ][:60] + [f"{first_launches}", f"{launches}"]))
 
 
 def trial(program, seed, kills):
-    """One build: how many kills, how many tasks, whether a step was lost, seconds; or what is wrong."""
+    """One build: how many kills, how many tasks, what became of it, seconds; or what is wrong."""
     choose = random.Random(seed)
-    script = Scripts(choose).script()
+    scripts = Scripts(choose)
+    script = scripts.script()
     room = tempfile.mkdtemp(prefix="controller-kills-")
     try:
         undisturbed, disturbed = (Build(program, f"{room}/{name}", script) for name in ("undisturbed", "disturbed"))
@@ -187,10 +207,10 @@ def trial(program, seed, kills):
         if first[1] not in (0, 1, 10):
             raise Wrong(f"the undisturbed run: {first}")
         second, count = killed(disturbed, kills, seconds, choose)
-        lost = judged(first, undisturbed.launches(), second, disturbed.launches())
-        return count, sum(disturbed.launches().values()), lost, seconds, None
+        what = judged(first, undisturbed.launches(), second, disturbed.launches(), scripts.is_ordered)
+        return count, sum(disturbed.launches().values()), what, seconds, None
     except Wrong as why:
-        return 0, 0, False, 0, f"seed {seed}: {why}\n{script}"
+        return 0, 0, "wrong", 0, f"seed {seed}: {why}"
     finally:
         shutil.rmtree(room, ignore_errors=True)
 
@@ -201,10 +221,11 @@ def campaign(asked):
         ended = list(lanes.map(lambda seed: trial(asked.program, seed, asked.kills), seeds))
     wrong = [why for *_, why in ended if why]
     print(*wrong, sep="\n")
-    kills, tasks, lost = (sum(it[at] for it in ended) for at in range(3))
+    kills, tasks = (sum(it[at] for it in ended) for at in range(2))
     seconds = sum(it[3] for it in ended) / len(ended)
-    print(f"{len(ended)} builds of {seconds:.1f} seconds each, {kills} kills, {tasks} tasks launched, none twice" if not wrong else f"{len(wrong)} wrong")
-    print(f"{len(ended) - lost - len(wrong)} builds with the log and the launches of the undisturbed run, {lost} with a step that a kill cost")
+    print(f"{len(ended)} builds, {seconds:.1f} seconds each where undisturbed; {kills} kills; {tasks} tasks launched")
+    for what, count in collections.Counter(it[2] for it in ended).most_common():
+        print(f"{count} {what}")
     return 1 if wrong else 0
 
 
@@ -224,15 +245,14 @@ def at_each_call(asked):
                     break
                 try:
                     command, _ = go_on(build, log, controller)
-                    lost = judged(first, undisturbed.launches(), build.ran(command), build.launches())
-                    figures[name, lost] += 1
+                    figures[name, judged(first, undisturbed.launches(), build.ran(command), build.launches())] += 1
                 except Wrong as why:
                     wrong.append(f"{name} {number}: {why}")
                 shutil.rmtree(build.room, ignore_errors=True)
         print(*wrong, sep="\n")
         for name in CALLS:
-            if figures[name, False] + figures[name, True]:
-                print(f"{name}: {figures[name, False]} as the undisturbed run, {figures[name, True]} with a step that the kill cost")
+            if figures[name, SAME] + figures[name, COST]:
+                print(f"{name}: {figures[name, SAME]} {SAME}, {figures[name, COST]} {COST}")
         return 1 if wrong else 0
     finally:
         shutil.rmtree(room, ignore_errors=True)
