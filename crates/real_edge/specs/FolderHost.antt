@@ -1,6 +1,5 @@
 -- What contracts see of a host over real folders and processes.
-use Rattle.std.specs.Prelude.{◌<◌, ◌≤◌, ℕ, zero, suc, Result, Ok, Err}
-use Rattle.device_faults.specs.declared.faults.Failed.{Failed}
+use Rattle.std.specs.Prelude.{◌<◌, ◌≤◌, ℕ, suc}
 use Rattle.task_host.specs.declared.answers.Started.{Started}
 use Rattle.task_host.specs.declared.answers.Started.TheVariants as started
 use Rattle.real_edge.specs.OwnFolders.{Own}
@@ -22,9 +21,3 @@ KeepsStarted old new started.Failed = new ≤ old
 abbrev pub pause_after_start : ℕ → Started → ℕ
 pause_after_start pause started.Started = 1
 pause_after_start pause started.Failed = pause
-
--- the next pause after a read: a millisecond after one that gave bytes, else as before
-abbrev pub pause_after_read : ℕ → Result ℕ Failed → ℕ
-pause_after_read pause (Ok zero) = pause
-pause_after_read pause (Ok (suc n)) = 1
-pause_after_read pause (Err _) = pause

@@ -3,7 +3,7 @@
 ghost use Rattle.std.specs.Prelude.{◌≡◌, ◌≢◌, ◌≤◌, ◌<◌, ◌*◌, suc, min, [], false, None, length, IfOk, IsOk, IsErr, MatchResult};
 ghost use Rattle.device_faults.specs.Faults.{CountsFault};
 ghost use Rattle.real_edge.specs.Control.{is_own_workspace};
-ghost use Rattle.real_edge.specs.FolderHost.{KeepsStarted, pause_after_start, pause_after_read};
+ghost use Rattle.real_edge.specs.FolderHost.{KeepsStarted, pause_after_start};
 ghost use Rattle.real_edge.specs.OwnFolders.{IsOwn, forgotten, MakesOwn, RemovesOwn};
 
 use crate::children::Children;
@@ -235,18 +235,13 @@ impl<R: Files + Env + AllocGlobal + Eprint + Clock + Processes> Host for FolderH
         ensures own { self.new.own ≡ self.old.own }
         ensures foreign { ¬ IsOwn self.old.own order.now.task → result ≡ Ok 0 }
         ensures unreaped { self.new.unreaped ≡ self.old.unreaped }
-        ensures pause { self.new.next_pause ≡ pause_after_read self.old.next_pause result }
+        ensures pause { self.new.next_pause ≡ self.old.next_pause }
 
         ensures room { IfOk result (λ n. n ≤ length buf.old) }
         ensures cause { CountsFault self.old.faults self.new.faults (IsErr result) }
     {
         match self.read_own(order, stream, from, buf) {
-            Ok(count) => {
-                if count > 0 {
-                    self.pauses = Pauses::new();
-                }
-                Ok(count)
-            }
+            Ok(count) => Ok(count),
             Err(_) => Err(self.faults.rise()),
         }
     }

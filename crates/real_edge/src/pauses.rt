@@ -7,8 +7,8 @@ use std::marker::Model;
 /// The longest pause, in milliseconds: a quarter of a second.
 const LONGEST: u64 = 250;
 
-/// How long the next pause is: a millisecond after a start or after output, then each time twice as long, up to a
-/// quarter of a second. Contracts see the milliseconds of the next one.
+/// How long the next pause is: a millisecond after a start, then each time twice as long, up to a quarter of a second.
+/// Contracts see the milliseconds of the next one.
 #[derive(Drop)]
 pub struct Pauses {
     next: u64,
