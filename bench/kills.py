@@ -7,8 +7,8 @@ has to begin with the one before, its last log and its status have to be those o
 leaves its name in a file when it is launched, has to have been launched once.
 
 Executors take turns, and those of a new life begin with the first one. So where branches begin while a later executor has its turn,
-the lines of branches may come in another order, and their nodes on other executors, behind a kill. A fourth of the scripts are of
-that kind, and are compared by their lines in any order.
+the lines of branches may come in another order, and their nodes on other executors, behind a kill. Where the log of a build with
+branches is not the same, its lines are compared in any order, and such builds are counted for themselves.
 
 A kill between the making of a task's control folder and the start of its shell costs that step: it ends with code -2 or -1 and is not
 launched again (docs/HOSTS.md). Such builds are counted for themselves; in them no task may have been launched twice.
@@ -46,8 +46,6 @@ class Scripts:
 
     def __init__(self, choose):
         self.choose, self.count = choose, 0
-        # Whether no branches begin in the turn of another executor than the first one.
-        self.is_ordered = choose.randrange(4) > 0
 
     def shell(self, *lines):
         """The script of a step that leaves its name, and takes up to an eighth of a second."""
@@ -75,14 +73,14 @@ class Scripts:
     def steps(self, most):
         return [line for _ in range(self.choose.randrange(1, most + 1)) for line in self.step()]
 
-    def node(self, most, is_branch=False):
-        label = self.choose.choice(["", "'one'", "'two'", "'small'"]) if is_branch or not self.is_ordered else "'one'"
+    def node(self, most):
+        label = self.choose.choice(["", "'one'", "'two'", "'small'"])
         return [f"node{'(' + label + ')' if label else ''} {{", *self.steps(most), "}"]
 
     def stage(self, name):
         if self.choose.randrange(3) > 0:
             return [f"stage('{name}') {{", *self.node(3), "}"]
-        branches = [["{", *self.node(2, is_branch=True), "}"] for _ in range(self.choose.randrange(2, 5))]
+        branches = [["{", *self.node(2), "}"] for _ in range(self.choose.randrange(2, 5))]
         inside = ",\n".join(f"b{at}: " + "\n".join(branch) for at, branch in enumerate(branches))
         return [f"stage('{name}') {{", f"parallel(\n{inside}\n)", "}"]
 
@@ -178,14 +176,14 @@ def in_any_order(ended, launches):
     return sorted(re.sub("^Running on .*", "Running", log, flags=re.M).split("\n")), status, sum(launches.values())
 
 
-def judged(first, first_launches, second, launches, is_ordered=True):
+def judged(first, first_launches, second, launches, has_branches):
     """What became of a build that was killed; or Wrong."""
     twice = [name for name, count in launches.items() if count > 1]
     if twice:
         raise Wrong(f"launched twice: {twice}")
     if second == first and launches == first_launches:
         return SAME
-    if not is_ordered and in_any_order(first, first_launches) == in_any_order(second, launches):
+    if has_branches and in_any_order(first, first_launches) == in_any_order(second, launches):
         return REORDERED
     if LOST.search(second[0]) and not LOST.search(first[0]) and "\nFinished: " in second[0]:
         return COST
@@ -196,8 +194,7 @@ def judged(first, first_launches, second, launches, is_ordered=True):
 def trial(program, seed, kills):
     """One build: how many kills, how many tasks, what became of it, seconds; or what is wrong."""
     choose = random.Random(seed)
-    scripts = Scripts(choose)
-    script = scripts.script()
+    script = Scripts(choose).script()
     room = tempfile.mkdtemp(prefix="controller-kills-")
     try:
         undisturbed, disturbed = (Build(program, f"{room}/{name}", script) for name in ("undisturbed", "disturbed"))
@@ -207,7 +204,7 @@ def trial(program, seed, kills):
         if first[1] not in (0, 1, 10):
             raise Wrong(f"the undisturbed run: {first}")
         second, count = killed(disturbed, kills, seconds, choose)
-        what = judged(first, undisturbed.launches(), second, disturbed.launches(), scripts.is_ordered)
+        what = judged(first, undisturbed.launches(), second, disturbed.launches(), "parallel(" in script)
         return count, sum(disturbed.launches().values()), what, seconds, None
     except Wrong as why:
         return 0, 0, "wrong", 0, f"seed {seed}: {why}"
@@ -245,14 +242,15 @@ def at_each_call(asked):
                     break
                 try:
                     command, _ = go_on(build, log, controller)
-                    figures[name, judged(first, undisturbed.launches(), build.ran(command), build.launches())] += 1
+                    figures[name, judged(first, undisturbed.launches(), build.ran(command), build.launches(), True)] += 1
                 except Wrong as why:
                     wrong.append(f"{name} {number}: {why}")
                 shutil.rmtree(build.room, ignore_errors=True)
         print(*wrong, sep="\n")
         for name in CALLS:
-            if figures[name, SAME] + figures[name, COST]:
-                print(f"{name}: {figures[name, SAME]} {SAME}, {figures[name, COST]} {COST}")
+            for what in (SAME, REORDERED, COST):
+                if figures[name, what]:
+                    print(f"{name}: {figures[name, what]} {what}")
         return 1 if wrong else 0
     finally:
         shutil.rmtree(room, ignore_errors=True)
