@@ -15,7 +15,7 @@ launched again (docs/HOSTS.md). Such builds are counted for themselves; in them 
 
 With `--calls` one build of five shell steps is killed at each system call in turn of those that write, by strace.
 
-The same seed gives the same scripts and times. The status is 0 where all is so.
+The same seed gives the same scripts and times. An interrupt (Ctrl-C) ends it with the figures so far. The status is 0 where all is so.
 """
 import argparse
 import collections
@@ -214,12 +214,17 @@ def trial(program, seed, kills):
 
 def campaign(asked):
     seeds = [asked.seed * 1_000_000 + at for at in range(asked.builds)]
+    ended = []
     with concurrent.futures.ThreadPoolExecutor(asked.jobs) as lanes:
-        ended = list(lanes.map(lambda seed: trial(asked.program, seed, asked.kills), seeds))
+        try:
+            for build in lanes.map(lambda seed: trial(asked.program, seed, asked.kills), seeds):
+                ended.append(build)
+        except KeyboardInterrupt:
+            lanes.shutdown(cancel_futures=True)
     wrong = [why for *_, why in ended if why]
     print(*wrong, sep="\n")
     kills, tasks = (sum(it[at] for it in ended) for at in range(2))
-    seconds = sum(it[3] for it in ended) / len(ended)
+    seconds = sum(it[3] for it in ended) / max(len(ended), 1)
     print(f"{len(ended)} builds, {seconds:.1f} seconds each where undisturbed; {kills} kills; {tasks} tasks launched")
     for what, count in collections.Counter(it[2] for it in ended).most_common():
         print(f"{count} {what}")
