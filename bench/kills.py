@@ -6,9 +6,9 @@ controller is killed (SIGKILL) at random moments, N times or until the build has
 has to begin with the one before, its last log and its status have to be those of the undisturbed run, and each of its tasks, which
 leaves its name in a file when it is launched, has to have been launched once.
 
-Executors take turns, and those of a new life begin with the first one. So where branches begin while a later executor has its turn,
-the lines of branches may come in another order, and their nodes on other executors, behind a kill. Where the log of a build with
-branches is not the same, its lines are compared in any order, and such builds are counted for themselves.
+Executors work side by side, so that the lines of branches may come in another order among each other, and nodes that wait may get
+other executors. Where the log of a build with branches is not the same, its lines are compared in any order, and such builds are
+counted for themselves.
 
 A kill between the making of a task's control folder and the start of its shell costs that step: it ends with code -2 or -1 and is not
 launched again (docs/HOSTS.md). Such builds are counted for themselves; in them no task may have been launched twice.
