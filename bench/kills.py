@@ -6,16 +6,21 @@ controller is killed (SIGKILL) at random moments, N times or until the build has
 has to begin with the one before, its last log and its status have to be those of the undisturbed run, and each of its tasks, which
 leaves its name in a file when it is launched, has to have been launched once.
 
+Executors work side by side, so that the lines of branches may come in another order among each other, and nodes that wait may get
+other executors. Where the log of a build with branches is not the same, its lines are compared in any order, and such builds are
+counted for themselves.
+
 A kill between the making of a task's control folder and the start of its shell costs that step: it ends with code -2 or -1 and is not
 launched again (docs/HOSTS.md). Such builds are counted for themselves; in them no task may have been launched twice.
 
 With `--calls` one build of five shell steps is killed at each system call in turn of those that write, by strace.
 
-The same seed gives the same scripts and times. The status is 0 where all is so.
+The same seed gives the same scripts and times. An interrupt (Ctrl-C) ends it with the figures so far. The status is 0 where all is so.
 """
 import argparse
 import collections
 import concurrent.futures
+import difflib
 import os
 import random
 import re
@@ -109,7 +114,11 @@ class Build:
         return subprocess.Popen(words, stdin=subprocess.DEVNULL, stdout=subprocess.PIPE, stderr=subprocess.DEVNULL)
 
     def ended(self, controller):
-        log, _ = controller.communicate(timeout=300)
+        try:
+            log, _ = controller.communicate(timeout=300)
+        except subprocess.TimeoutExpired:
+            controller.kill()
+            raise Wrong("a controller had not ended after 300 seconds") from None
         return log.decode(errors="replace").replace(self.room, "ROOM"), controller.returncode
 
     def ran(self, command):
@@ -158,20 +167,32 @@ def killed(build, kills, seconds, choose):
     return build.ran(command), kills
 
 
-def judged(first, first_launches, second, launches):
-    """Whether a step was lost; or Wrong."""
+SAME, REORDERED, COST = "as the undisturbed run", "as the undisturbed run in another order", "with a step that a kill cost"
+
+
+def in_any_order(ended, launches):
+    """The lines of a log, without the places of nodes, with the status and the number of launches."""
+    log, status = ended
+    return sorted(re.sub("^Running on .*", "Running", log, flags=re.M).split("\n")), status, sum(launches.values())
+
+
+def judged(first, first_launches, second, launches, has_branches):
+    """What became of a build that was killed; or Wrong."""
     twice = [name for name, count in launches.items() if count > 1]
     if twice:
         raise Wrong(f"launched twice: {twice}")
     if second == first and launches == first_launches:
-        return False
-    if LOST.search(second[0]) and not LOST.search(first[0]) and second[0].endswith("\n") and "Finished: " in second[0]:
-        return True
-    raise Wrong(f"undisturbed: {first}\nkilled: {second}\nlaunches: {first_launches}\n{launches}")
+        return SAME
+    if has_branches and in_any_order(first, first_launches) == in_any_order(second, launches):
+        return REORDERED
+    if LOST.search(second[0]) and not LOST.search(first[0]) and "\nFinished: " in second[0]:
+        return COST
+    differ = difflib.unified_diff(first[0].split("\n"), second[0].split("\n"), "undisturbed", "killed", lineterm="", n=1)
+    raise Wrong("\n".join([f"status {first[1]} and {second[1]}", *differ][:60] + [f"{first_launches}", f"{launches}"]))
 
 
 def trial(program, seed, kills):
-    """One build: how many kills, how many tasks, whether a step was lost, seconds; or what is wrong."""
+    """One build: how many kills, how many tasks, what became of it, seconds; or what is wrong."""
     choose = random.Random(seed)
     script = Scripts(choose).script()
     room = tempfile.mkdtemp(prefix="controller-kills-")
@@ -183,24 +204,30 @@ def trial(program, seed, kills):
         if first[1] not in (0, 1, 10):
             raise Wrong(f"the undisturbed run: {first}")
         second, count = killed(disturbed, kills, seconds, choose)
-        lost = judged(first, undisturbed.launches(), second, disturbed.launches())
-        return count, sum(disturbed.launches().values()), lost, seconds, None
-    except (Wrong, subprocess.TimeoutExpired) as why:
-        return 0, 0, False, 0, f"seed {seed}: {why}\n{script}"
+        what = judged(first, undisturbed.launches(), second, disturbed.launches(), "parallel(" in script)
+        return count, sum(disturbed.launches().values()), what, seconds, None
+    except Wrong as why:
+        return 0, 0, "wrong", 0, f"seed {seed}: {why}"
     finally:
         shutil.rmtree(room, ignore_errors=True)
 
 
 def campaign(asked):
     seeds = [asked.seed * 1_000_000 + at for at in range(asked.builds)]
+    ended = []
     with concurrent.futures.ThreadPoolExecutor(asked.jobs) as lanes:
-        ended = list(lanes.map(lambda seed: trial(asked.program, seed, asked.kills), seeds))
+        try:
+            for build in lanes.map(lambda seed: trial(asked.program, seed, asked.kills), seeds):
+                ended.append(build)
+        except KeyboardInterrupt:
+            lanes.shutdown(cancel_futures=True)
     wrong = [why for *_, why in ended if why]
     print(*wrong, sep="\n")
-    kills, tasks, lost = (sum(it[at] for it in ended) for at in range(3))
-    seconds = sum(it[3] for it in ended) / len(ended)
-    print(f"{len(ended)} builds of {seconds:.1f} seconds each, {kills} kills, {tasks} tasks launched, none twice" if not wrong else f"{len(wrong)} wrong")
-    print(f"{len(ended) - lost - len(wrong)} builds with the log and the launches of the undisturbed run, {lost} with a step that a kill cost")
+    kills, tasks = (sum(it[at] for it in ended) for at in range(2))
+    seconds = sum(it[3] for it in ended) / max(len(ended), 1)
+    print(f"{len(ended)} builds, {seconds:.1f} seconds each where undisturbed; {kills} kills; {tasks} tasks launched")
+    for what, count in collections.Counter(it[2] for it in ended).most_common():
+        print(f"{count} {what}")
     return 1 if wrong else 0
 
 
@@ -220,15 +247,15 @@ def at_each_call(asked):
                     break
                 try:
                     command, _ = go_on(build, log, controller)
-                    lost = judged(first, undisturbed.launches(), build.ran(command), build.launches())
-                    figures[name, lost] += 1
+                    figures[name, judged(first, undisturbed.launches(), build.ran(command), build.launches(), True)] += 1
                 except Wrong as why:
                     wrong.append(f"{name} {number}: {why}")
                 shutil.rmtree(build.room, ignore_errors=True)
         print(*wrong, sep="\n")
         for name in CALLS:
-            if figures[name, False] + figures[name, True]:
-                print(f"{name}: {figures[name, False]} as the undisturbed run, {figures[name, True]} with a step that the kill cost")
+            for what in (SAME, REORDERED, COST):
+                if figures[name, what]:
+                    print(f"{name}: {figures[name, what]} {what}")
         return 1 if wrong else 0
     finally:
         shutil.rmtree(room, ignore_errors=True)
@@ -243,6 +270,8 @@ def main():
     parser.add_argument("--program", default=PROGRAM)
     parser.add_argument("--calls", action="store_true")
     asked = parser.parse_args()
+    if not os.access(asked.program, os.X_OK):
+        raise SystemExit(f"{asked.program} is not there: './controller build' makes it")
     return at_each_call(asked) if asked.calls else campaign(asked)
 
 

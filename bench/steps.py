@@ -69,6 +69,8 @@ def main():
     parser.add_argument("--program", default=PROGRAM)
     parser.add_argument("--runs", type=int, default=3)
     asked = parser.parse_args()
+    if not os.access(asked.program, os.X_OK):
+        raise SystemExit(f"{asked.program} is not there: './controller build' makes it")
     with tempfile.TemporaryDirectory(prefix="controller-steps-") as at:
         room, runs = Room(os.path.abspath(asked.program), at), asked.runs
         empty = shortest(runs, lambda: room.run("node { }"))

@@ -8,6 +8,9 @@ With words it runs those alone whose name has one of them. The examples are
 - each row of the tables in examples/faults/README.md and examples/shell/README.md;
 - in docs/USING.md each row of a table whose first column is `in Jenkins` or `met by`, and each script with a log behind it.
 
+Where branches have shell steps their lines may come in any order among each other: then the lines of a log are compared in any order,
+and the flow graph without its numbers, so that each branch has to have its own steps in their order.
+
 Shell steps really run. The folder /tmp/controller of the pages, in which their agents stand, is a new one for each run, and what is
 printed has the name of the pages again. Of the scripts to write in place of one of Jenkins the commands `git`, `make`, `jq` and `cp`
 are stand-ins that do nothing, `timeout` runs its command, and `sleep` makes the file `f` that a loop waits for.
@@ -19,6 +22,8 @@ in tools/reference runs those that it can run. The status is 0 where all are as 
 """
 import argparse
 import difflib
+import importlib.machinery
+import importlib.util
 import os
 import re
 import shutil
@@ -49,6 +54,14 @@ class Example:
         # A text is all that is printed; a pattern stands for what it matches.
         self.wanted, self.statuses = wanted, statuses
 
+    def varies(self):
+        """Whether branches have shell steps, whose order among each other is open."""
+        return b"parallel" in self.script and re.search(rb"\bsh\b", self.script) is not None
+
+    def is_same(self, ended, other):
+        """Whether two runs ended alike."""
+        return ended == other or self.varies() and ended[1] == other[1] and in_any_order(ended[0]) == in_any_order(other[0])
+
     def write(self, folder):
         """Writes the files into a new folder, with the agents beside it."""
         os.makedirs(folder)
@@ -59,8 +72,9 @@ class Example:
             write_stand_ins(agents_of(folder).decode())
 
     def is_right(self, printed, status):
-        fits = self.wanted.search(printed) if isinstance(self.wanted, re.Pattern) else self.wanted == printed
-        return bool(fits) and status in self.statuses
+        if isinstance(self.wanted, re.Pattern):
+            return bool(self.wanted.search(printed)) and status in self.statuses
+        return self.is_same((printed, status), (self.wanted, status)) and status in self.statuses
 
     def complaint(self, printed, status):
         lines = [f"{self.name}: status {status}, wanted {' or '.join(map(str, self.statuses))}"]
@@ -68,6 +82,26 @@ class Example:
             return "\n".join([*lines, f"wanted a line with {self.wanted.pattern!r}, printed:", printed])
         given = (self.wanted.splitlines(), printed.splitlines(), "wanted", "printed")
         return "\n".join([*lines, *difflib.unified_diff(*given, lineterm="")])
+
+
+def in_any_order(log):
+    return sorted(log.split("\n"))
+
+
+def steps_of(graph):
+    """The bodies and steps of a graph's text, without their numbers."""
+
+    def inside(body):
+        return [body.label, *((it.name, [inside(inner) for inner in getattr(it, "bodies", [])]) for it in body.items)]
+
+    return inside(PICTURES.built(list(PICTURES.nodes_of(graph)))[0])
+
+
+def loaded(path):
+    loader = importlib.machinery.SourceFileLoader("pictures", path)
+    module = importlib.util.module_from_spec(importlib.util.spec_from_loader("pictures", loader))
+    loader.exec_module(module)
+    return module
 
 
 def agents_of(folder):
@@ -85,6 +119,9 @@ def write_stand_ins(agents):
     for name, content in FILES.items():
         with open(f"{agents}/m/workspace/using/{name}", "w", encoding="utf-8") as file:
             file.write(content)
+
+
+PICTURES = loaded(f"{TOP}/tools/graph")
 
 
 # --- the examples
@@ -273,12 +310,14 @@ def refused(program, folder, ended):
     yield "the folder's files", sorted(set(os.listdir(folder)) - {"program.lock"}), ["Jenkinsfile", "agents.json", "answers"]
 
 
-def stored(program, folder, ended, graph):
+def stored(program, folder, ended, graph, varies):
     """A build that can go no further is shown, and is not begun again."""
     before = state_of(folder)
     yield "log", run_program(program, "log", folder), (ended[0], 0)
     if graph is not None:
-        yield "graph", run_program(program, "graph", folder), (graph[0], 0)
+        found, status = run_program(program, "graph", folder)
+        shown = steps_of if varies else str
+        yield "graph", (shown(found), status), (shown(graph[0]), 0)
     yield "check", run_program(program, "check", folder), ("ok\n", 0)
     yield "the store behind log, graph and check", state_of(folder), before
     yield "run once more", run_program(program, "run", folder), HAS_BUILD
@@ -290,14 +329,14 @@ def state_of(folder):
         return store.read(), os.stat(store.fileno()).st_mtime_ns, sorted(os.listdir(folder))
 
 
-def resumed(program, folder, ended, answers):
+def resumed(program, folder, example, ended):
     """A build that is stopped at each of its questions, and goes on with one answer, ends as one that was never stopped."""
     printed, _ = now = run_program(program, "run", folder)
-    for line in answers.splitlines(keepends=True):
+    for line in example.answers.splitlines(keepends=True):
         now = run_program(program, "resume", folder, line)
         yield "resume begins with the log so far", now[0].startswith(without_end(printed)), True
         printed = now[0]
-    yield "resume with one answer at a time", now, ended
+    yield "resume with one answer at a time", now, now if example.is_same(now, ended) else ended
 
 
 def without_end(log):
@@ -309,12 +348,13 @@ def other_commands(example, ended, program):
     with tempfile.TemporaryDirectory(prefix="controller-example-") as room:
         for name in ("once", "twice"):
             example.write(f"{room}/{name}")
-        run_program(program, "run", f"{room}/once", example.answers)
+        again = run_program(program, "run", f"{room}/once", example.answers)
+        yield "a second run", again, again if example.is_same(again, ended) else ended
         if ended[1] in (4, 13):
             yield from refused(program, f"{room}/once", ended)
         else:
-            yield from stored(program, f"{room}/once", ended, reference(example, "--graph"))
-            yield from resumed(program, f"{room}/twice", ended, example.answers)
+            yield from stored(program, f"{room}/once", again, reference(example, "--graph"), example.varies())
+            yield from resumed(program, f"{room}/twice", example, ended)
 
 
 def wrong_commands(example, ended, program):

@@ -245,7 +245,9 @@ class Tasks(Shell):
 
     def test_two_nodes_on_one_agent_have_a_workspace_each(self):
         self.build("parallel(a: { node { sh 'echo a > f; pwd; cat f' } }, b: { node { sh 'echo b > f; pwd; cat f' } })", executors=2)
-        self.ends("run", 0, "ROOM/agent/workspace/trial", "a", "ROOM/agent/workspace/trial@2", "b", "Finished: SUCCESS")
+        log = self.ends("run", 0, "Finished: SUCCESS").decode().split("\n")
+        for line in (self.workspace, f"{self.workspace}@2", "a", "b"):
+            self.assertEqual(log.count(line), 1)
 
     def test_the_script_of_a_step_can_be_killed(self):
         self.build(f"node {{ sh {script('sleep 60')} }}")
@@ -257,23 +259,21 @@ class Tasks(Shell):
         log, _ = controller.communicate(timeout=PATIENCE)
         self.assertIn(b"ERROR: script returned exit code 143\n", log)
 
-    def test_answers_are_read_while_no_task_runs(self):
-        self.build(f"parallel(a: {{ node {{ sh {script('sleep 2')} }} }}, b: {{ input 'on?' }})")
+    def test_answers_are_read_while_a_task_runs(self):
+        self.build(f"parallel(a: {{ node {{ sh {script('sleep 5', 'touch ROOM/ended')} }} }}, b: {{ input 'on?' }})")
         controller = self.start("run", stdin=subprocess.PIPE)
         controller.stdin.write(b"proceed 2 by ann\n")
         controller.stdin.flush()
-        self.wait_until(lambda: self.launches(), "a launch")
-        time.sleep(1)
-        self.assertNotIn(b"Approved", self.ran("log")[0])
-        log, _ = controller.communicate()
-        self.assertEqual((log.count(b"Approved by ann\n"), controller.returncode), (1, 0))
+        self.wait_until(lambda: b"Approved by ann\n" in self.ran("log")[0], "the answer in the log")
+        self.assertFalse(os.path.exists(f"{self.room}/ended"))
+        controller.communicate()
+        self.assertEqual(controller.returncode, 0)
 
-    def test_shell_steps_of_branches_run_one_behind_the_other(self):
-        step = "sh '#!/bin/sh\\necho begin >> ROOM/times; sleep 0.5; echo end >> ROOM/times'"
-        self.build(f"parallel(a: {{ node('m') {{ {step} }} }}, b: {{ node('m2') {{ {step} }} }})", agents=("m", "m2"))
+    def test_shell_steps_of_branches_run_at_the_same_time(self):
+        wait = "i=0; until test -e ROOM/{}; do i=$((i+1)); test $i -lt 200 || exit 9; sleep 0.1; done"
+        step_a, step_b = (f"sh {script('touch ROOM/' + own, wait.format(other))}" for own, other in (("a", "b"), ("b", "a")))
+        self.build(f"parallel(a: {{ node('m') {{ {step_a} }} }}, b: {{ node('m2') {{ {step_b} }} }})", agents=("m", "m2"))
         self.ends("run", 0, "Finished: SUCCESS")
-        with open(f"{self.room}/times", encoding="utf-8") as times:
-            self.assertEqual(times.read().split(), ["begin", "end", "begin", "end"])
 
     def test_control_folders_go_when_their_steps_have_ended(self):
         self.build("node { sh 'true'; sh script: 'false', returnStatus: true }")
