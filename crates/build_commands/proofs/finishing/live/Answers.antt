@@ -1,4 +1,4 @@
-use Rattle.std.proofs.Common.{◌≡◌, ◌⊎◌, inl, ◌≤◌, ◌∙◌, ◌++◌, ℕ, List, [], ◌∷◌, Err, sym, ap, subst, length, reverse}
+use Rattle.std.proofs.Common.{◌≡◌, ◌⊎◌, inl, ◌≤◌, ◌∙◌, ◌++◌, ℕ, List, [], ◌∷◌, Err, sym, ap, subst, length, reverse, refl}
 use Rattle.std.specs.Prelude.{IfOk}
 use Rattle.std.proofs.lemmas.List.{reverse-reverse}
 use Rattle.std.proofs.Math.Logic.{∥∥₁_map}

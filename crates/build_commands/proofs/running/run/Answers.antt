@@ -3,8 +3,8 @@ use Rattle.run_command.specs.Inputs.{taken_from}
 use Rattle.build_commands.specs.Beginning.{Runs, refused, built}
 use Rattle.build_commands.proofs.running.run.Goals as goal
 
-pub begin-requires : goal.begin-requires
-begin-requires g c = record { builds = c.in-Ok.ensures.plans.builds }
+pub begin-requires-clause-builds : goal.begin-requires-clause-builds
+begin-requires-clause-builds g c κs within = c.in-Ok.ensures.plans.builds
 
 pub returns-in-Ok-clause-runs : goal.returns-in-Ok-clause-runs
 returns-in-Ok-clause-runs g c = built c.in-Ok.ensures.plans c.begin.ensures
