@@ -20,7 +20,7 @@ use real_edge::{FileDisk, FolderHost, Life, LockedDisk};
 use std::alloc::{AllocError, Global};
 use std::fs::File;
 use std::io::ErrorKind;
-use std::process::{ExitCode, Processes};
+use std::process::{ExitCode, Processes, SystemProcess};
 use std::rt::{Env, Files};
 use std::sync::Wait;
 use std::thread::Threads;
@@ -40,7 +40,15 @@ fn main(rt: HostRuntime) -> ExitCode {
 /// Makes the one call for these words and paths: over the files of the folder and the hosts of this machine, with these answers and this
 /// sink. Answers the exit status.
 fn do_call<
-    W: Threads + Wait + Sync + Clock + Files<File = File> + Env + AllocGlobal + Eprint + Processes,
+    W: Threads
+        + Wait
+        + Sync
+        + Clock
+        + Files<File = File>
+        + Env
+        + AllocGlobal
+        + Eprint
+        + Processes<Started = SystemProcess>,
     A: Source + Drop + Send,
     K: Sink,
 >(rt: &W, alloc: Global, call: Call, answers: A, out: &mut K) -> u8 {
