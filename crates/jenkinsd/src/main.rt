@@ -15,43 +15,22 @@ use build_commands::{Refusal, tell};
 use command_words::{Command, command_in};
 use controller::controller;
 use cps_machine::MachineThread;
-use jp_io::{LazyFile, Sink, Source, StdSink, StdSource};
+use jp_io::{LazyFile, StdSink, StdSource};
 use real_edge::{FileDisk, FolderHost, Life, LockedDisk};
 use std::alloc::{AllocError, Global};
 use std::fs::File;
 use std::io::ErrorKind;
-use std::process::{ExitCode, Processes, SystemProcess};
+use std::process::{ExitCode, Processes};
 use std::rt::{Env, Files};
-use std::sync::Wait;
-use std::thread::Threads;
 use std::time::Clock;
 use std::{env, io};
 
 fn main(rt: HostRuntime) -> ExitCode {
     let alloc = rt.alloc();
     let mut out = StdSink::new(io::writer(&rt));
-    let status = match read_call(&rt, alloc) {
-        Ok(call) => do_call(&rt, alloc, call, StdSource::new(rt.stdin()), &mut out),
-        Err(AllocError) => tell(&mut out, &Refusal::OutOfMemory),
+    let Ok(call) = read_call(&rt, alloc) else {
+        return ExitCode::from(tell(&mut out, &Refusal::OutOfMemory));
     };
-    ExitCode::from(status)
-}
-
-/// Makes the one call for these words and paths: over the files of the folder and the hosts of this machine, with these answers and this
-/// sink. Answers the exit status.
-fn do_call<
-    W: Threads
-        + Wait
-        + Sync
-        + Clock
-        + Files<File = File>
-        + Env
-        + AllocGlobal
-        + Eprint
-        + Processes<Started = SystemProcess>,
-    A: Source + Drop + Send,
-    K: Sink,
->(rt: &W, alloc: Global, call: Call, answers: A, out: &mut K) -> u8 {
     let Call {
         words,
         script,
@@ -60,14 +39,14 @@ fn do_call<
         lock,
         life,
     } = call;
-    let Ok(hosts) = hosts_of(rt, alloc, life) else {
-        return tell(out, &Refusal::OutOfMemory);
+    let Ok(hosts) = hosts_of(&rt, alloc, life) else {
+        return ExitCode::from(tell(&mut out, &Refusal::OutOfMemory));
     };
-    let mut script = StdSource::new(LazyFile::new(rt, script));
-    let mut agents = StdSource::new(LazyFile::new(rt, agents));
-    let disk = disk_at(rt, store, lock);
+    let mut script = StdSource::new(LazyFile::new(&rt, script));
+    let mut agents = StdSource::new(LazyFile::new(&rt, agents));
+    let disk = disk_at(&rt, store, lock);
     let ended = controller::<MachineThread, _, _, _, _, _, _>(
-        rt,
+        &rt,
         alloc,
         words,
         &mut script,
@@ -75,10 +54,10 @@ fn do_call<
         disk,
         hosts,
         WORKERS,
-        answers,
-        out,
+        StdSource::new(rt.stdin()),
+        &mut out,
     );
-    ended.status
+    ExitCode::from(ended.status)
 }
 
 /// How many hosts there are: one for each executor that a site may have.
