@@ -240,32 +240,3 @@ fn failing_reads_give_6_and_a_failing_write_gives_7(rt: HostRuntime) -> Result<(
     }
     Ok(())
 }
-
-/// An agents file of one agent, whose root is this folder.
-fn agents_at(alloc: Global, folder: &str) -> Result<String, AllocError> {
-    format!(in alloc;
-        r#"{{"job":"real","agents":[{{"name":"m","root":"{folder}","executors":1}}]}}"#
-    )
-}
-
-/// The log of `node { sh 'echo hi' }` on that agent.
-fn log_at(alloc: Global, folder: &str) -> Result<String, AllocError> {
-    format!(in alloc;
-        "[Pipeline] Start of Pipeline\n[Pipeline] node\nRunning on m in {folder}/workspace/real\n[Pipeline] {{\n[Pipeline] sh\n+ echo hi\nhi\n[Pipeline] }}\n[Pipeline] // node\n[Pipeline] End of Pipeline\nFinished: SUCCESS\n"
-    )
-}
-
-#[test]
-fn a_shell_step_runs_in_a_real_folder(rt: HostRuntime) -> Result<(), Fail> {
-    let alloc = rt.alloc();
-    let here = env::current_dir(&rt)?;
-    let here = format!(in alloc; "{}", here.as_path().display())?;
-    let agents = agents_at(alloc, &here)?;
-    let streams = open_streams(alloc, ["node { sh 'echo hi' }", agents.as_str(), ""], NONE)?;
-    let hosts = hosts_of(&rt, alloc, Life::First)?;
-    let (status, out) = call::<MachineThread, _, _>(&rt, words(alloc)?, streams, hosts);
-    let log = log_at(alloc, &here)?;
-    assert_eq!(rt; status, 0);
-    assert!(rt; out.bytes() == log.as_bytes());
-    Ok(())
-}
