@@ -17,7 +17,8 @@ BUILT = f"{tempfile.gettempdir()}/controller-bench-values"
 DEPS = ["cell_heap", "value_view", "model_values", "model_text", "itoa"]
 # What is done, the smaller size and the larger. The larger is done so many times, and the smaller so often that the
 # number of cells, entries or texts is the same.
-ROWS = [("new_cell", 65536, 1048576), ("list_push", 4096, 65536), ("map_put", 4096, 65536), ("text_of", 3750, 60000)]
+ROWS = [("new_cell", 65536, 1048576), ("list_push", 4096, 65536), ("map_put", 4096, 65536), ("map_get", 4096, 65536),
+        ("text_of", 3750, 60000)]
 TIMES = 16
 # What takes the square of the size would take 16 times as long for each.
 MOST_TIMES_SLOWER = 4

@@ -87,8 +87,10 @@ impl Code {
 }
 
 /// Numbers the nodes of a tree, in time and memory linear in the tree, but for its functions: to find them by their names takes
-/// a time logarithmic in their number for each. A tree of any size will do that `parse` gives; it may be as deep as the stack
-/// allows, and brackets of a script nest at most 128 deep.
+/// a time logarithmic in their number for each. A script of 1,048,576 bytes has functions of at most 87,668 names, since
+/// `def f(){}` is the shortest and a byte parts two; a name is put into their search tree by at most 90 comparisons, 15 on
+/// each of at most 6 levels, and so for such a script this is a constant times its bytes, too. A tree of any size will do that
+/// `parse` gives; it may be as deep as the stack allows, and brackets of a script nest at most 128 deep.
 ///
 /// Each node is found by its number (`found`), and so the numbers of its parts find its parts.
 ///

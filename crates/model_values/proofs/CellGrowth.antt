@@ -1,16 +1,15 @@
 -- How cells grow: not at all, by new cells, or by one that changes; and what makes and changes cells under the limits.
-use Rattle.std.proofs.Common.{arith, ◌≡◌, ◌≤◌, ◌<◌, ◌+◌, ◌*◌, ℕ, zero, suc, ◌⊎◌, inl, inr, refl, sym, ap, subst, ◌∙◌, Bool, true, false, List, [], ◌∷◌, ◌++◌, length, length-append, append_assoc, Option, Some, None, cond}
+use Rattle.std.proofs.Common.{arith, ◌≡◌, ◌≤◌, ◌<◌, ◌+◌, ℕ, zero, suc, ◌⊎◌, inl, inr, refl, sym, ap, subst, Bool, true, false, List, [], ◌∷◌, ◌++◌, length, length-append, append_assoc, Option, Some, None, cond}
 use Rattle.std.specs.Prelude.{slice_get, slice_set, nat_lt, if◌then◌else◌}
 use Rattle.std.specs.List.{AllByRecursion as AllAre}
 use Rattle.std.specs.Map.{lookup}
 use Rattle.std.proofs.lemmas.List.{length-set}
-use Rattle.std.proofs.lemmas.Option.{slice_get_within}
 use Rattle.std.proofs.lemmas.Bool.{ltb-false}
 use Rattle.indexmap.specs.IndexMap.{insert_entry}
 use Rattle.model_values.specs.Cells.{cell_bytes, cell_size, entry_bytes, heap_bytes, key_bytes, Answer, Gives, Throws, Meets, unless_limit, no_room, with_new, new_cell, new_text, new_list, new_map, new_list_of, throw, list_push, put_over, map_put, variable_set, set_variable}
 use Rattle.model_values.specs.Fitting.{There, HasVariable, HasText, HasList, HasMap, HasClosure, HasThrowable, IsNumber, IsFlag, IsIn, IsNullOrIn, CellFits, CellsFit}
 use Rattle.model_values.specs.Keys.{same_key}
-use Rattle.model_values.specs.Later.{StaysAs, CellsLater, AnswerLater, Bounded, Grows, AnswerGrows}
+use Rattle.model_values.specs.Later.{StaysAs, AnswerLater, Grows, AnswerGrows}
 use Rattle.model_values.specs.Limits.{Limits}
 use Rattle.model_values.specs.Types.{Value, Null, Truth, Whole, InCell, Key, Cell, Variable, TextCell, ListCell, MapCell, ClosureCell, ThrownCell, Class, LimitKind, TextLength, CollectionSize, Cells, HeapBytes}
 use Rattle.model_values.specs.declared.cell.Binding.{Binding}

@@ -1,12 +1,11 @@
 -- What each operation of the tables does to the cells, by what it is given: later cells within the limits; and where the cells and
 -- the values that it is given name what is there, the cells afterwards do, and what it gives is there.
-use Rattle.std.proofs.Common.{ℕ, ℤ, Bool, List, [], ◌∷◌, ◌++◌, length, Option, Some, None, refl}
-use Rattle.std.specs.List.{AllByRecursion as AllAre}
+use Rattle.std.proofs.Common.{ℕ, Bool, List, [], ◌∷◌, Option}
 use Rattle.model_values.specs.Cells.{new_cell, new_text, new_list, throw}
-use Rattle.model_values.specs.Fitting.{There, HasVariable, HasText, HasList, HasMap, HasThrowable, IsNumber, IsIn, CellsFit}
+use Rattle.model_values.specs.Fitting.{There, HasVariable, HasText, HasList, HasThrowable, IsNumber, IsIn}
 use Rattle.model_values.specs.Index.{get_at, set_at, get_property, set_property}
 use Rattle.model_values.specs.Kinds.{kind}
-use Rattle.model_values.specs.Later.{Given, AnswerGrows, CalledGrows, TurnGrows, AfterGrows}
+use Rattle.model_values.specs.Later.{Given, AnswerGrows, CalledGrows, TurnGrows}
 use Rattle.model_values.specs.Limits.{Limits}
 use Rattle.model_values.specs.MethodNames.{Method}
 use Rattle.model_values.specs.Methods.{method_call, text_value}
@@ -14,14 +13,14 @@ use Rattle.model_values.specs.Operators.{apply, incremented, decremented}
 use Rattle.model_values.specs.TextOf.{Writing, written}
 use Rattle.model_values.specs.Throws.{throw_value, new_throwable}
 use Rattle.model_values.specs.Types.{Value, Cell, Variable, Class, Op}
-use Rattle.model_values.specs.Walks.{turn, loop_turn, after, at_end}
+use Rattle.model_values.specs.Walks.{turn, loop_turn, at_end}
 use Rattle.model_values.specs.declared.cell.Binding.{Binding}
-use Rattle.model_values.proofs.CellGrowth.{Before, new_variable_grows, new_text_grows, new_list_grows, throw_grows, all_append}
+use Rattle.model_values.proofs.CellGrowth.{Before, new_variable_grows, new_text_grows, new_list_grows, throw_grows}
 use Rattle.model_values.proofs.IndexGrowth.{get_at_grows, set_at_grows, get_property_grows, set_property_grows}
 use Rattle.model_values.proofs.MethodGrowth.{method_call_grows, text_value_is_text}
 use Rattle.model_values.proofs.OperatorGrowth.{apply_grows, incremented_grows, decremented_grows}
 use Rattle.model_values.proofs.ThrowGrowth.{throw_value_grows, new_throwable_grows, written_grows}
-use Rattle.model_values.proofs.WalkGrowth.{turn_grows, loop_turn_grows, after_grows, at_end_grows}
+use Rattle.model_values.proofs.WalkGrowth.{turn_grows, loop_turn_grows, at_end_grows}
 
 module _ (l : Limits) (rule : ℕ → List Binding → Type 0) (h : List Cell) where
   abbrev given : List Value → Before

@@ -1,19 +1,19 @@
 -- An index and a property, read and written.
-use Rattle.std.proofs.Common.{arith, inr, ◌≡◌, ◌≤◌, ◌+◌, ℕ, zero, suc, ℤ, pos, Bool, true, false, List, [], ◌∷◌, length, Option, Some, None, cond, sym, subst}
+use Rattle.std.proofs.Common.{arith, inr, ◌≡◌, ℕ, zero, suc, ℤ, Bool, true, false, List, [], ◌∷◌, length, Option, Some, None, cond}
 use Rattle.std.specs.Prelude.{slice_get, slice_set, slice_index_or, codes, nat_eq, if◌then◌else◌, unwrap_or}
 use Rattle.std.specs.List.{AllByRecursion as AllAre}
 use Rattle.std.specs.Map.{lookup}
 use Rattle.std.specs.Cmp.Lexicographic.{pointwise}
 use Rattle.std.proofs.lemmas.List.{length-set}
-use Rattle.model_values.specs.Cells.{Answer, Gives}
+use Rattle.model_values.specs.Cells.{Answer}
 use Rattle.model_values.specs.Characters.{characters}
 use Rattle.model_values.specs.Fitting.{There, HasText, IsIn, IsNullOrIn}
 use Rattle.model_values.specs.Index.{Place, at, past, below, place_of, key_of, list_at, text_at, map_at, kind_at, get_at, set_list_at, set_map_at, set_kind_at, set_at, message_of, kind_property, get_property, set_kind_property, set_property, unless_null}
 use Rattle.model_values.specs.Throws.{no_property}
 use Rattle.model_values.specs.Keys.{same_key}
-use Rattle.model_values.specs.Kinds.{Kind, null, flag, number, text, items, pairs, closure, thrown, kind}
-use Rattle.model_values.specs.Types.{Value, Null, Key, TextKey, Cell, ListCell, Class}
-use Rattle.model_values.proofs.CellGrowth.{Before, Sort, Answers, gives, wider, new_text_grows, items_there, pairs_there, list_changes, map_put_grows, all_set, text_is_there, text_or_null, text_or_null_there}
+use Rattle.model_values.specs.Kinds.{Kind, null, number, text, items, pairs, thrown, kind}
+use Rattle.model_values.specs.Types.{Value, Null, Key, TextKey, ListCell, Class}
+use Rattle.model_values.proofs.CellGrowth.{Before, Answers, gives, wider, new_text_grows, items_there, pairs_there, list_changes, map_put_grows, all_set, text_is_there, text_or_null, text_or_null_there}
 use Rattle.model_values.proofs.KindFacts.{KindFits, kind_fits}
 use Rattle.model_values.proofs.LaterLaws.{later_changed, there_later}
 use Rattle.model_values.proofs.ThrowGrowth.{outside_grows, bad_key_grows, bad_argument_grows, no_method_grows, no_property_grows, no_property_to_set_grows}

@@ -2,7 +2,7 @@
 use Rattle.std.proofs.Common.{◌≡◌, ℕ, List, Option, Some, None, sym, subst, refl}
 use Rattle.std.specs.Prelude.{slice_get}
 use Rattle.model_values.specs.Fitting.{HasText, HasClosure, HasThrowable, IsIn}
-use Rattle.model_values.specs.Kinds.{Kind, null, flag, number, text, items, pairs, closure, thrown, cell_kind, kind}
+use Rattle.model_values.specs.Kinds.{Kind, text, items, pairs, closure, thrown, cell_kind, kind}
 use Rattle.model_values.specs.Types.{Value, Null, Truth, Whole, InCell, Cell, Variable, TextCell, ListCell, MapCell, ClosureCell, ThrownCell}
 
 -- a list, a map, a closure and a throwable stand in the cell that their kind names

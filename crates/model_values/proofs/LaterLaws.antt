@@ -1,10 +1,9 @@
 -- Later cells: of none, of later ones, of new ones behind, of one changed; and what fits cells fits later ones.
-use Rattle.std.proofs.Common.{arith, ◌≡◌, ◌≤◌, ◌<◌, ℕ, zero, suc, refl, sym, ap, subst, ◌∙◌, List, [], ◌∷◌, ◌++◌, length, length-append, Option, Some, None}
+use Rattle.std.proofs.Common.{arith, ◌≡◌, ℕ, zero, suc, refl, sym, subst, ◌∙◌, List, [], ◌∷◌, ◌++◌, length, length-append, Option, Some}
 use Rattle.std.specs.Prelude.{slice_get, slice_set}
 use Rattle.std.specs.List.{AllByRecursion as AllAre}
 use Rattle.std.proofs.lemmas.List.{length-set}
-use Rattle.std.proofs.lemmas.Option.{slice_get_within}
-use Rattle.model_values.specs.Fitting.{There, HasVariable, HasText, HasList, HasMap, HasClosure, HasThrowable, CellFits, CellsFit}
+use Rattle.model_values.specs.Fitting.{There, HasVariable, HasText, HasList, HasMap, HasClosure, HasThrowable, CellFits}
 use Rattle.model_values.specs.Later.{StaysAs, CellsLater}
 use Rattle.model_values.specs.Types.{Value, Null, Truth, Whole, InCell, Cell, Variable, TextCell, ListCell, MapCell, ClosureCell, ThrownCell}
 use Rattle.model_values.specs.declared.cell.Binding.{Binding}

@@ -11,6 +11,7 @@ pub mod ListMethodGrowth
 mod MethodExamples
 pub mod MethodGrowth
 mod MethodNameExamples
+pub mod NumberedLaws
 mod OperatorExamples
 pub mod OperatorGrowth
 mod Sample

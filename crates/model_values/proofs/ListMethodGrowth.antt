@@ -1,20 +1,18 @@
 -- The methods of lists and maps that take no closure.
-use Rattle.std.proofs.Common.{arith, inr, ◌≡◌, ◌≤◌, ◌+◌, ◌*◌, refl, subst, sym, ap, ℕ, zero, suc, ℤ, pos, negsuc, neg_ℤ, Bool, true, false, List, [], ◌∷◌, ◌++◌, length, length-append, reverse, map, Option, Some, None, cond}
-use Rattle.std.specs.Prelude.{slice_get, slice_set, nat_lt, if◌then◌else◌, is_some, unwrap_or, slice_index_or}
+use Rattle.std.proofs.Common.{arith, inr, ◌≡◌, ◌≤◌, ◌+◌, subst, sym, ℕ, ℤ, pos, negsuc, neg_ℤ, Bool, true, false, List, [], ◌∷◌, length, reverse, Option, Some, None, cond}
+use Rattle.std.specs.Prelude.{slice_get, slice_set, nat_lt, if◌then◌else◌, is_some, slice_index_or}
 use Rattle.std.specs.List.{AllByRecursion as AllAre}
 use Rattle.std.specs.Map.{lookup, remove_entry, values_of}
 use Rattle.std.proofs.lemmas.List.{reverse-append}
-use Rattle.model_values.specs.Cells.{entry_bytes, heap_bytes, Answer, Gives}
-use Rattle.model_values.specs.Equality.{equal}
-use Rattle.model_values.specs.Fitting.{There, HasList, IsFlag, IsIn, CellFits}
+use Rattle.model_values.specs.Cells.{entry_bytes, Answer, Gives}
+use Rattle.model_values.specs.Fitting.{There, CellFits}
 use Rattle.model_values.specs.Index.{key_of}
 use Rattle.model_values.specs.Keys.{same_key}
 use Rattle.model_values.specs.Kinds.{Kind, kind}
 use Rattle.model_values.specs.ListMethods.{Search, Found, Absent, Met, key_cells, key_values, search, is_found, place_found, joined_behind, entry_at, first_of_list, is_empty_list, list_method, old_or_null, with_key, map_method}
 use Rattle.model_values.specs.MethodNames.{Method, Size, IsEmpty, Contains, IndexOf, Add, Get, First, Last, Join, Reverse, Put, ContainsKey, Remove, KeySet, Values}
-use Rattle.model_values.specs.TextOf.{written}
 use Rattle.model_values.specs.Throws.{bad_key, outside}
-use Rattle.model_values.specs.Types.{Value, Null, Truth, Whole, InCell, Key, IntKey, TextKey, Cell, TextCell, ListCell, MapCell}
+use Rattle.model_values.specs.Types.{Value, Null, Whole, Key, IntKey, TextKey, Cell, ListCell, MapCell}
 use Rattle.model_values.specs.declared.cell.Binding.{Binding}
 use Rattle.model_values.proofs.CellGrowth.{Before, Sort, Answers, gives, new_list_grows, new_list_of_grows, list_push_grows, map_put_grows, map_changes, items_there, pairs_there, all_append, text_is_there, list_is_there, flag_is_there}
 use Rattle.model_values.proofs.IndexGrowth.{all_index, all_lookup, map_at_grows}

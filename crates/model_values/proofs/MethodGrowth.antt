@@ -1,22 +1,20 @@
 -- The method table.
 use Rattle.std.proofs.Common.{◌≡◌, refl, sym, ℕ, ℤ, pos, Bool, true, false, List, [], ◌∷◌, map, Option, Some, None}
-use Rattle.std.specs.Prelude.{slice_get, if◌then◌else◌, int_div}
+use Rattle.std.specs.Prelude.{if◌then◌else◌, int_div}
 use Rattle.std.specs.List.{AllByRecursion as AllAre}
 use Rattle.std.specs.Ordering.{int_eq}
 use Rattle.model_values.specs.Cells.{Answer}
 use Rattle.model_values.specs.Equality.{Equality, Is, Stops as Halts, equal}
 use Rattle.model_values.specs.Fitting.{There, HasText, IsNullOrIn, IsIn}
-use Rattle.model_values.specs.Kinds.{Kind, null, flag, number, text, items, pairs, closure, thrown, kind}
+use Rattle.model_values.specs.Kinds.{Kind, number, text, items, pairs, closure, thrown, kind}
 use Rattle.model_values.specs.Later.{CalledGrows}
 use Rattle.model_values.specs.MethodNames.{Method, method_named, ToString, Equals, ToInteger, Intdiv, GetMessage, Call}
 use Rattle.model_values.specs.Methods.{Called, is_walk, equality_answer, text_value, number_method, thrown_method, uncounted, kind_method, done_or_none, walk_call, walk_or_own, named_call, call_by, method_call}
 use Rattle.model_values.specs.Operators.{wrapped}
-use Rattle.model_values.specs.TextMethods.{text_method}
-use Rattle.model_values.specs.ListMethods.{map_method}
 use Rattle.model_values.specs.TextOf.{text_of}
 use Rattle.model_values.specs.Throws.{by_zero}
-use Rattle.model_values.specs.Types.{Value, Truth, Whole, Cell}
-use Rattle.model_values.proofs.CellGrowth.{Before, Sort, Answers, gives, wider, text_is_there, number_is_there, text_or_null_there}
+use Rattle.model_values.specs.Types.{Value, Truth, Whole}
+use Rattle.model_values.proofs.CellGrowth.{Before, Answers, gives, wider, text_is_there, number_is_there, text_or_null_there}
 use Rattle.model_values.proofs.IndexGrowth.{message_of_grows}
 use Rattle.model_values.proofs.KindFacts.{KindFits, kind_fits, is_text}
 use Rattle.model_values.proofs.ListMethodGrowth.{MayAnswerCounted, list_method_grows, map_method_grows}

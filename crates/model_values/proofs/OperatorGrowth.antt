@@ -1,21 +1,20 @@
 -- The operators, on every pair of kinds.
-use Rattle.std.proofs.Common.{◌≡◌, ◌*◌, ℕ, zero, suc, ℤ, pos, ◌+ℤ◌, neg_ℤ, Bool, true, false, List, [], ◌∷◌, ◌++◌, Option, Some, None, fold}
-use Rattle.std.specs.Prelude.{codes, slice_get, if◌then◌else◌, ◌-ℤ◌, ◌*ℤ◌, int_rem, int_le, nat_abs}
+use Rattle.std.proofs.Common.{ℕ, zero, suc, ℤ, pos, ◌+ℤ◌, neg_ℤ, Bool, true, false, List, [], ◌∷◌, ◌++◌}
+use Rattle.std.specs.Prelude.{codes, if◌then◌else◌, ◌-ℤ◌, ◌*ℤ◌, int_rem, int_le, nat_abs}
 use Rattle.std.specs.List.{AllByRecursion as AllAre}
 use Rattle.std.specs.Int.{int_wrap, w32}
 use Rattle.std.specs.Ordering.{int_eq, int_cmp, nat_cmp, is_lt, is_le, is_gt, is_ge}
 use Rattle.std.specs.declared.cmp.Ordering.{Ordering}
 use Rattle.std.specs.Cmp.Lexicographic.{slice_cmp}
 use Rattle.indexmap.specs.IndexMap.{insert_entry, insert_all}
-use Rattle.model_values.specs.Cells.{Answer, Gives, new_list, new_map}
-use Rattle.model_values.specs.Fitting.{There, HasText, HasList, HasMap, IsNumber, IsFlag, IsIn}
+use Rattle.model_values.specs.Fitting.{There, HasText, HasList, IsNumber, IsFlag, IsIn}
 use Rattle.model_values.specs.Keys.{same_key}
-use Rattle.model_values.specs.Kinds.{Kind, null, flag, number, text, items, pairs, closure, thrown, kind}
+use Rattle.model_values.specs.Kinds.{Kind, null, number, text, items, pairs, kind}
 use Rattle.model_values.specs.Operators.{numbers_from, numbers, wrapped, joined, plus_kinds, minus_kinds, times_kinds, mod_kinds, compare_kinds, range_kinds, negative_kind, positive_kind, apply, step_kind, incremented, decremented}
 use Rattle.model_values.specs.TextOf.{texts_behind}
 use Rattle.model_values.specs.Throws.{by_zero}
 use Rattle.model_values.specs.Types.{Value, Truth, Whole, Key, Op, Plus, Minus, Times, Mod, Less, LessEqual, Greater, GreaterEqual, Range, GetAt, Negative, Positive}
-use Rattle.model_values.proofs.CellGrowth.{Before, Sort, Answers, gives, new_list_grows, new_map_grows, items_there, pairs_there, all_append, all_insert, text_is_there, list_is_there, map_is_there, number_is_there, flag_is_there}
+use Rattle.model_values.proofs.CellGrowth.{Before, Answers, gives, new_list_grows, new_map_grows, items_there, pairs_there, all_append, all_insert, text_is_there, list_is_there, map_is_there, number_is_there, flag_is_there}
 use Rattle.model_values.proofs.IndexGrowth.{get_at_grows}
 use Rattle.model_values.proofs.KindFacts.{KindFits, kind_fits}
 use Rattle.model_values.proofs.ThrowGrowth.{no_method_grows, by_zero_grows, written_grows}

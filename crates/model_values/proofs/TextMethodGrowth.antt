@@ -1,17 +1,17 @@
 -- The methods of texts.
-use Rattle.std.proofs.Common.{arith, ◌≡◌, ◌≤◌, ◌+◌, refl, ℕ, zero, suc, ℤ, pos, negsuc, Bool, true, false, List, [], ◌∷◌, length, Option, Some, None}
+use Rattle.std.proofs.Common.{arith, ◌≡◌, ◌≤◌, ◌+◌, refl, ℕ, zero, ℤ, pos, negsuc, Bool, true, false, List, [], ◌∷◌, length, Option, Some, None}
 use Rattle.std.specs.Prelude.{nat_lt, nat_le, ◌&&◌, if◌then◌else◌, is_some}
 use Rattle.std.specs.List.{AllByRecursion as AllAre}
 use Rattle.std.specs.Str.{str_to_ascii_lowercase, str_to_ascii_uppercase}
 use Rattle.model_values.specs.Cells.{Answer, new_text}
 use Rattle.model_values.specs.Characters.{characters, part_of}
-use Rattle.model_values.specs.Fitting.{There, HasText, HasList, IsNumber, IsFlag, IsIn, CellFits}
-use Rattle.model_values.specs.Kinds.{Kind, null, flag, number, text, items, pairs, closure, thrown}
+use Rattle.model_values.specs.Fitting.{There, HasList, IsIn, CellFits}
+use Rattle.model_values.specs.Kinds.{Kind, number, text}
 use Rattle.model_values.specs.MethodNames.{Method, Size, Length, IsEmpty, Trim, ToUpperCase, ToLowerCase, Contains, StartsWith, EndsWith, IndexOf, Replace, Substring, Tokenize, ReadLines, ToInteger}
 use Rattle.model_values.specs.Searching.{begins_with, ends_with, found_from, replaced_behind, trimmed, int_of}
 use Rattle.model_values.specs.TextMethods.{text_cells, cells_from, blanks, tokens, lines, is_empty_text, place_or_minus_one, with_text, with_number, flag_of, count_of, new_texts, replaced, substring, whole_or_throw, text_method}
 use Rattle.model_values.specs.Throws.{outside}
-use Rattle.model_values.specs.Types.{Value, Truth, Whole, Cell, TextCell}
+use Rattle.model_values.specs.Types.{Truth, Whole, Cell}
 use Rattle.model_values.specs.declared.cell.Binding.{Binding}
 use Rattle.model_values.proofs.CellGrowth.{Before, Sort, Answers, gives, new_text_grows, new_list_of_grows, text_is_there, list_is_there}
 use Rattle.model_values.proofs.ThrowGrowth.{bad_argument_grows, outside_grows, no_number_grows}

@@ -1,10 +1,7 @@
 -- The throws of the tables and the texts of values: what they make is one new cell.
-use Rattle.std.proofs.Common.{◌≡◌, ℕ, ℤ, pos, List, [], ◌∷◌, ◌++◌, Option, Some, None}
-use Rattle.std.specs.Prelude.{codes}
-use Rattle.std.specs.Fmt.{signed_decimal}
-use Rattle.model_values.specs.Cells.{Answer, Throws}
+use Rattle.std.proofs.Common.{ℕ, ℤ, List, Option, Some, None}
 use Rattle.model_values.specs.Fitting.{HasText, HasThrowable, IsIn}
-use Rattle.model_values.specs.Kinds.{Kind, null, flag, number, text, items, pairs, closure, thrown, kind, kind_name}
+use Rattle.model_values.specs.Kinds.{Kind, null, thrown, kind}
 use Rattle.model_values.specs.TextOf.{Writing, Wrote, Stops, text_of, written}
 use Rattle.model_values.specs.Throws.{no_method, no_property, no_property_to_set, unknown_name, unknown_step, outside, bad_key, bad_argument, by_zero, empty_list, no_number, throw_kind, throw_value, with_message, new_throwable}
 use Rattle.model_values.specs.Types.{Value, Class, Arithmetic, MissingProperty, MissingMethod, NullPointer, IllegalArgument, IndexOutOfBounds, NumberFormat, NoSuchElement, NoSuchMethodError}

@@ -1,22 +1,20 @@
 -- The methods that walk over a value with a closure, and the loop over a value.
-use Rattle.std.proofs.Common.{arith, ◌≡◌, ◌≤◌, ◌<◌, ◌+◌, sym, subst, refl, ap, ℕ, zero, suc, pos, Bool, true, false, List, [], ◌∷◌, ◌++◌, length, length-append, append_assoc, Option, Some, None}
-use Rattle.std.specs.Prelude.{slice_get, if◌then◌else◌, int_lt, nat_eq, codes}
+use Rattle.std.proofs.Common.{arith, ◌≡◌, ◌≤◌, ◌<◌, ◌+◌, sym, subst, refl, ℕ, pos, Bool, true, false, List, [], ◌∷◌, ◌++◌, length, length-append, append_assoc, Option, Some, None}
+use Rattle.std.specs.Prelude.{slice_get, if◌then◌else◌, int_lt, nat_eq}
 use Rattle.std.specs.List.{AllByRecursion as AllAre}
-use Rattle.indexmap.specs.IndexMap.{insert_entry}
-use Rattle.model_values.specs.Cells.{Answer, no_room, new_list, new_map}
+use Rattle.model_values.specs.Cells.{no_room, new_list}
 use Rattle.model_values.specs.Characters.{characters}
-use Rattle.model_values.specs.Fitting.{There, HasList, HasMap, IsIn, CellFits, CellsFit}
+use Rattle.model_values.specs.Fitting.{There, CellFits}
 use Rattle.model_values.specs.Index.{key_of}
-use Rattle.model_values.specs.Keys.{same_key}
-use Rattle.model_values.specs.Kinds.{Kind, null, flag, number, text, items, pairs, closure, thrown, kind}
-use Rattle.model_values.specs.Later.{Grows, TurnGrows, AfterGrows}
+use Rattle.model_values.specs.Kinds.{Kind, null, number, text, items, pairs, kind}
+use Rattle.model_values.specs.Later.{TurnGrows, AfterGrows}
 use Rattle.model_values.specs.Limits.{Limits}
 use Rattle.model_values.specs.MethodNames.{Method, Each, Collect, Find, FindAll, Any, Every}
 use Rattle.model_values.specs.Truth.{truth}
-use Rattle.model_values.specs.Types.{Value, Null, Truth, Whole, InCell, Key, IntKey, TextKey, Cell, TextCell, MapCell, LimitKind}
-use Rattle.model_values.specs.Walks.{Turn, Turns, Past, Stops, entry_map, key_value, key_cell, unless_full, element_turn, entry_turn, walk_turn, turn, character_turn, loop_kind_turn, loop_turn, After, found, after_turn, after, with_entry, kept_entries, all_found, at_end}
+use Rattle.model_values.specs.Types.{Value, Null, Truth, Whole, InCell, Key, IntKey, TextKey, Cell, TextCell, LimitKind}
+use Rattle.model_values.specs.Walks.{Turn, Turns, Past, entry_map, key_value, key_cell, unless_full, element_turn, entry_turn, walk_turn, turn, character_turn, loop_kind_turn, loop_turn, After, found, after_turn, after, with_entry, kept_entries, all_found, at_end}
 use Rattle.model_values.specs.declared.cell.Binding.{Binding}
-use Rattle.model_values.proofs.CellGrowth.{Before, Sort, Answers, Grown, grows_not, grows_by, gives, new_cell_grows, new_list_grows, new_map_grows, items_there, pairs_there, all_append, all_get, all_insert, list_is_there, map_is_there}
+use Rattle.model_values.proofs.CellGrowth.{Before, Answers, Grown, grows_not, grows_by, gives, new_cell_grows, new_list_grows, new_map_grows, items_there, pairs_there, all_append, all_get, all_insert, list_is_there, map_is_there}
 use Rattle.model_values.proofs.KindFacts.{KindFits, kind_fits}
 use Rattle.model_values.proofs.LaterLaws.{later_behind, there_later}
 

@@ -1,13 +1,14 @@
--- `same_key` tells just the equal keys, so it is an equivalence and the hash respects it.
-use Rattle.std.specs.Prelude.{ℕ, nat_eq, Bool, true, false, ◌≡◌, ◌&&◌, List, [], ◌∷◌, ◌++◌, refl}
+-- `same_key` tells just the equal keys, so it is an equivalence, and `key_cmp` is a total order that ties just these.
+use Rattle.std.specs.Prelude.{ℕ, nat_eq, Bool, true, false, ◌≡◌, ◌&&◌, List, [], ◌∷◌, Some, refl}
 use Rattle.std.proofs.Common.{ap}
 use Rattle.std.specs.Bool.{Decides}
-use Rattle.std.specs.Cmp.{IsEquivalence, decided, signed_Decides, unsigned_Decides}
-use Rattle.std.specs.Cmp.Lexicographic.{pointwise}
-use Rattle.std.specs.Hash as fed
+use Rattle.std.specs.Cmp.{IsEquivalence, IsTotalOrder, IsPartialOrder, decided, signed_Decides, unsigned_Decides, int_cmp_total, po}
+use Rattle.std.specs.Cmp.Lexicographic.{pointwise, nat_list_cmp_total, texts_ties}
+use Rattle.std.specs.Ordering.{eq_by_cmp, ordering_reverse}
+use Rattle.std.specs.declared.cmp.Ordering.TheVariants.{Less, Equal}
 use Rattle.model_values.specs.declared.key.Key.{Key}
 use Rattle.model_values.specs.declared.key.Key.TheVariants.{Int as IntKey, Text as TextKey}
-use Rattle.model_values.specs.Keys.{same_key}
+use Rattle.model_values.specs.Keys.{same_key, key_cmp}
 
 and_parts : (a b : Bool) → (a && b) ≡ true → (a ≡ true) × (b ≡ true)
 and_parts true b e = (refl, e)
@@ -35,10 +36,37 @@ same_key_decides (TextKey s) (TextKey t) =
 pub same_key_equiv : IsEquivalence same_key
 same_key_equiv = decided same_key same_key_decides
 
--- what a key feeds a hasher
-abbrev pub key_input : Key → fed.HashWrites
-key_input (IntKey x) = fed.u8 0 ++ fed.i32 x
-key_input (TextKey t) = fed.u8 1 ++ fed.slice fed.u8 t
+pub key_cmp_total : IsTotalOrder key_cmp
+key_cmp_total = record { antisymm = turned; trans = chained; congr = alike }
+  where
+    turned : (x y : Key) → key_cmp x y ≡ ordering_reverse (key_cmp y x)
+    turned (IntKey x) (IntKey y) = int_cmp_total.antisymm x y
+    turned (IntKey x) (TextKey t) = refl
+    turned (TextKey s) (IntKey y) = refl
+    turned (TextKey s) (TextKey t) = nat_list_cmp_total.antisymm s t
 
-pub key_input-respects : (x y : Key) → same_key x y ≡ true → key_input x ≡ key_input y
-key_input-respects x y e = ap key_input ((same_key_decides x y).0 e)
+    chained : (x y z : Key) → key_cmp x y ≡ Less → key_cmp y z ≡ Less → key_cmp x z ≡ Less
+    chained (IntKey x) (IntKey y) (IntKey z) p q = int_cmp_total.trans x y z p q
+    chained (IntKey x) (IntKey y) (TextKey u) p q = refl
+    chained (IntKey x) (TextKey t) (IntKey z) p q = cc
+    chained (IntKey x) (TextKey t) (TextKey u) p q = refl
+    chained (TextKey s) (IntKey y) z p q = cc
+    chained (TextKey s) (TextKey t) (IntKey z) p q = cc
+    chained (TextKey s) (TextKey t) (TextKey u) p q = nat_list_cmp_total.trans s t u p q
+
+    alike : (x y z : Key) → key_cmp x y ≡ Equal → key_cmp x z ≡ key_cmp y z
+    alike (IntKey x) (IntKey y) (IntKey z) p = int_cmp_total.congr x y z p
+    alike (IntKey x) (IntKey y) (TextKey u) p = refl
+    alike (IntKey x) (TextKey t) z p = cc
+    alike (TextKey s) (IntKey y) z p = cc
+    alike (TextKey s) (TextKey t) (IntKey z) p = refl
+    alike (TextKey s) (TextKey t) (TextKey u) p = nat_list_cmp_total.congr s t u p
+
+pub same_key_ties : (x y : Key) → same_key x y ≡ eq_by_cmp key_cmp x y
+same_key_ties (IntKey x) (IntKey y) = refl
+same_key_ties (IntKey x) (TextKey t) = refl
+same_key_ties (TextKey s) (IntKey y) = refl
+same_key_ties (TextKey s) (TextKey t) = texts_ties s t
+
+pub key_cmp_partial : IsPartialOrder same_key (λ x y. Some (key_cmp x y))
+key_cmp_partial = po key_cmp_total same_key_ties

@@ -1,5 +1,5 @@
 use model_text::Text;
-use std::hash::{Hash, Hasher};
+use std::cmp::Ordering;
 
 /// A key of a map: a whole number or a text. The number 3 and the text `3` are two keys.
 #[derive(Clone, Debug, Drop)]
@@ -32,23 +32,39 @@ impl Eq for Key {
     ghost laws = { same_key_equiv };
 }
 
-impl Hash for Key {
-    ghost use Rattle.model_values.specs.KeyLaws.{key_input, key_input-respects};
+impl PartialOrd for Key {
+    ghost use Rattle.std.specs.Prelude.{Some};
+    ghost use Rattle.model_values.specs.Keys.{key_cmp};
+    ghost use Rattle.model_values.specs.KeyLaws.{key_cmp_partial};
 
-    ghost hash_input = { key_input };
+    ghost partial_cmp = { λ x y. Some (key_cmp x y) };
 
-    ghost respects_eq = { key_input-respects };
+    ghost laws = { key_cmp_partial };
 
-    fn hash<H: Hasher>(&self, state: &mut H) {
-        match self {
-            Key::Int(number) => {
-                state.write_u8(0);
-                number.hash(state);
-            }
-            Key::Text(text) => {
-                state.write_u8(1);
-                text.hash(state);
-            }
+    fn partial_cmp(&self, other: &Key) -> Option<Ordering> {
+        Some(self.cmp(other))
+    }
+}
+
+impl Ord for Key {
+    ghost use Rattle.std.specs.Prelude.{refl};
+    ghost use Rattle.model_values.specs.Keys.{key_cmp};
+    ghost use Rattle.model_values.specs.KeyLaws.{key_cmp_total, same_key_ties};
+
+    ghost cmp = { key_cmp };
+
+    ghost total = { key_cmp_total };
+
+    ghost matches_partial_cmp = { λ x y. refl };
+
+    ghost matches_eq = { same_key_ties };
+
+    fn cmp(&self, other: &Key) -> Ordering {
+        match (self, other) {
+            (Key::Int(a), Key::Int(b)) => a.cmp(b),
+            (Key::Int(_), Key::Text(_)) => Ordering::Less,
+            (Key::Text(_), Key::Int(_)) => Ordering::Greater,
+            (Key::Text(a), Key::Text(b)) => a.cmp(b),
         }
     }
 }

@@ -113,7 +113,7 @@ module _ (T : RattleType) (s : IsSend T) (y : IsSync T) where
   chain_sync = tied_goals (knot.frame T) (knot.step T) (knot.sizes T) (both_laws the_members) steps (member-Chain, sync)
 
 pub cell_send : IsSend (Chain.the_row Binding.the_row) → IsSend Cell.the_row
-cell_send c = search (sendable, crosses) depth 40 fits 100000
+cell_send c = search (sendable, crosses, maps) depth 40 fits 100000
 
 pub heap_send : IsSend Cell.the_row → IsSend Heap.the_row
 heap_send c = search (sendable, crosses) depth 40 fits 100000
