@@ -1,0 +1,84 @@
+-- When lists are the same.
+use Rattle.std.proofs.Common.{◌≡◌, ◌∙◌, ◌<◌, ◌≤◌, ℕ, zero, suc, List, [], ◌∷◌, ◌++◌, length, slice_get, take, drop, get_or, Some, None, refl, sym, ap, subst, arith}
+use Rattle.std.specs.Prelude.{map}
+use Rattle.std.specs.List.{AllByRecursion as AllAre}
+use Rattle.std.proofs.lemmas.List.{same_lists, drop_all}
+use Rattle.std.proofs.lemmas.Option.{slice_get-get_or, slice_get_past}
+
+-- items that are there, at each place
+pub from_gets : {X : Type 0} (xs ys : List X) (n : ℕ) → length xs ≡ length ys → length xs ≤ n → ((k : ℕ) → k < n → slice_get xs k ≡ slice_get ys k) → xs ≡ ys
+from_gets xs ys n same all gets = same_lists xs ys same λ k d lt.
+    let a = slice_get-get_or xs k d lt in
+    let b = slice_get-get_or ys k d (omega (arith, same, lt)) in
+    let e = gets k (omega (arith, lt, all)) in
+    let is : Some (get_or xs k d) ≡ Some (get_or ys k d) = sym a ∙ e ∙ b in
+    cc
+
+-- a list from an item on
+pub from_item : {X : Type 0} (xs : List X) (k : ℕ) (x : X) → slice_get xs k ≡ Some x → drop k xs ≡ x ∷ drop (suc k) xs
+from_item [] k x e = absurd cc
+from_item (y ∷ ys) zero x e = let same : y ≡ x = cc in ap (λ (z : _). z ∷ ys) same
+from_item (y ∷ ys) (suc k) x e = from_item ys k x e
+
+pub from_end : {X : Type 0} (xs : List X) (k : ℕ) → slice_get xs k ≡ None → drop k xs ≡ []
+from_end [] k e = drop_all k [] (omega arith)
+from_end (y ∷ ys) zero e = absurd cc
+from_end (y ∷ ys) (suc k) e = from_end ys k e
+
+pub past_end : {X : Type 0} (xs : List X) (k : ℕ) → slice_get xs k ≡ None → drop (suc k) xs ≡ []
+past_end [] k e = drop_all (suc k) [] (omega arith)
+past_end (y ∷ ys) zero e = absurd cc
+past_end (y ∷ ys) (suc k) e = past_end ys k e
+
+-- a front with one item more
+pub front_more : {X : Type 0} (xs : List X) (k : ℕ) (x : X) → slice_get xs k ≡ Some x → take (suc k) xs ≡ take k xs ++ x ∷ []
+front_more [] k x e = absurd cc
+front_more (y ∷ ys) zero x e = let same : y ≡ x = cc in ap (λ (z : _). z ∷ []) same
+front_more (y ∷ ys) (suc k) x e = ap (λ (l : _). y ∷ l) (front_more ys k x e)
+
+pub both_fronts : {X : Type 0} (xs ys : List X) (k : ℕ) (x : X) → take k xs ≡ take k ys → slice_get xs k ≡ Some x → slice_get ys k ≡ Some x → take (suc k) xs ≡ take (suc k) ys
+both_fronts xs ys k x same a b = front_more xs k x a ∙ ap (λ (l : _). l ++ x ∷ []) same ∙ sym (front_more ys k x b)
+
+-- past the end of one, but not of the other
+pub past_differs : {X : Type 0} (xs ys : List X) (k : ℕ) → k < length xs → length ys ≤ k → slice_get xs k ≡ slice_get ys k → ⊥
+past_differs [] ys k lt all e = omega (arith, lt)
+past_differs (x ∷ xs) ys k lt all e = let some = slice_get-get_or (x ∷ xs) k x lt in let none = slice_get_past ys k all in let no : Some (get_or (x ∷ xs) k x) ≡ None = sym some ∙ e ∙ none in absurd cc
+
+-- a shorter front of a common front
+pub shorter_front : {X : Type 0} (n k : ℕ) (xs ys : List X) → k ≤ n → take n xs ≡ take n ys → take k xs ≡ take k ys
+shorter_front n zero xs ys le e = refl
+shorter_front zero (suc k) xs ys le e = absurd (omega (arith, le))
+shorter_front (suc n) (suc k) [] [] le e = refl
+shorter_front (suc n) (suc k) [] (y ∷ ys) le e = absurd cc
+shorter_front (suc n) (suc k) (x ∷ xs) [] le e = absurd cc
+shorter_front (suc n) (suc k) (x ∷ xs) (y ∷ ys) le e =
+    let first : x ≡ y = cc in
+    let others : take n xs ≡ take n ys = cc in
+    ap (λ (z : _). z ∷ take k xs) first ∙ ap (λ (l : _). y ∷ l) (shorter_front n k xs ys (omega (arith, le)) others)
+
+-- fronts that were made item by item
+pub mapped_more : {X Y : Type 0} (f : X → Y) (xs : List X) (k : ℕ) (x : X) → slice_get xs k ≡ Some x → map f (take (suc k) xs) ≡ map f (take k xs) ++ f x ∷ []
+mapped_more f [] k x e = absurd cc
+mapped_more f (y ∷ ys) zero x e = let same : y ≡ x = cc in ap (λ (z : _). f z ∷ []) same
+mapped_more f (y ∷ ys) (suc k) x e = ap (λ (l : _). f y ∷ l) (mapped_more f ys k x e)
+
+pub all_more : {X : Type 0} (P : X → Type 0) (xs : List X) (k : ℕ) (x : X) → slice_get xs k ≡ Some x → AllAre P (take k xs) → P x → AllAre P (take (suc k) xs)
+all_more P [] k x e all one = absurd cc
+all_more P (y ∷ ys) zero x e all one = let same : x ≡ y = cc in (subst P same one, tt)
+all_more P (y ∷ ys) (suc k) x e all one = (all.0, all_more P ys k x e all.1 one)
+
+-- a front that is the whole of one of two lists
+pub behind_front : {X : Type 0} (xs ys : List X) (n : ℕ) → length xs ≤ n → take n xs ≡ take n ys → ys ≡ xs ++ drop (length xs) ys
+behind_front [] ys n le e = refl
+behind_front (x ∷ xs) ys zero le e = absurd (omega (arith, le))
+behind_front (x ∷ xs) [] (suc n) le e = absurd cc
+behind_front (x ∷ xs) (y ∷ ys) (suc n) le e =
+    let first : y ≡ x = cc in
+    let others : take n xs ≡ take n ys = cc in
+    ap (λ (z : _). z ∷ ys) first ∙ ap (λ (l : _). x ∷ l) (behind_front xs ys n (omega (arith, le)) others)
+
+-- where one list goes on as the other, they have the same items as far as the other has
+pub front_gets : {X : Type 0} (xs more : List X) (k : ℕ) → k < length xs → slice_get xs k ≡ slice_get (xs ++ more) k
+front_gets [] more k lt = absurd (omega (arith, lt))
+front_gets (x ∷ xs) more zero lt = refl
+front_gets (x ∷ xs) more (suc k) lt = front_gets xs more k (omega (arith, lt))

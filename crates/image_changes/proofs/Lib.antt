@@ -1,0 +1,10 @@
+pub mod Gets
+pub mod Turns
+pub mod Rising
+pub mod Steps
+pub mod Cells
+pub mod Tasks
+pub mod KeptFrames
+pub mod Reaching
+pub mod Leading
+pub mod Necessary

@@ -1,0 +1,5 @@
+use Rattle.image_changes.specs.Walks.{CellsReach}
+use Rattle.image_changes.proofs.lists.changed_cells.Given as goal
+
+abbrev pub invariant-loop-place : goal.invariant-loop-place
+invariant-loop-place l = CellsReach l.before l.now l.place l.changed

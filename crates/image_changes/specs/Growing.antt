@@ -1,0 +1,47 @@
+-- What alone differs of requests and threads that are written short (this product's own).
+use Rattle.std.specs.Prelude.{◌≡◌, ℕ, List, drop, Option, Some, None}
+use Rattle.model_run.specs.declared.request.Request.{Request}
+use Rattle.model_run.specs.declared.request.Request.TheVariants as request
+use Rattle.model_run.specs.declared.request.OpenRequest.{OpenRequest}
+use Rattle.image_form.specs.declared.image.ImageThread.{ImageThread}
+use Rattle.delta_form.specs.After.{grown, written_request}
+use Rattle.delta_form.specs.Numbers.{written_number}
+use Rattle.delta_form.specs.declared.delta.WrittenRequest.{WrittenRequest}
+use Rattle.delta_form.specs.declared.delta.WrittenThread.{WrittenThread}
+use Rattle.image_changes.specs.declared.requests.Growth.{Growth}
+
+-- both are tasks of the same executor, workspace, folder and environment
+abbrev pub IsAtSamePlace : Request → Request → Type 0
+IsAtSamePlace (request.Task executor workspace folder env script status keep_out taken out) (request.Task executor_now workspace_now folder_now env_now script_now status_now keep_out_now taken_now out_now) =
+    (executor_now ≡ executor) × (workspace_now ≡ workspace) × (folder_now ≡ folder) × (env_now ≡ env)
+IsAtSamePlace r q = ⊥
+
+-- both are tasks of the same script, whose status and whose output are wanted alike
+abbrev pub HasSameScript : Request → Request → Type 0
+HasSameScript (request.Task executor workspace folder env script status keep_out taken out) (request.Task executor_now workspace_now folder_now env_now script_now status_now keep_out_now taken_now out_now) =
+    (script_now ≡ script) × (status_now ≡ status) × (keep_out_now ≡ keep_out)
+HasSameScript r q = ⊥
+
+-- both are tasks that differ at most in what was taken and in their output
+abbrev pub IsSameTask : Request → Request → Type 0
+IsSameTask r q = IsAtSamePlace r q × HasSameScript r q
+
+-- The task has grown to be the other; or nothing grown of it is the other.
+abbrev pub TaskGrows : Request → Request → Option Growth → Type 0
+TaskGrows stood item None = (taken : ℕ) (added : List ℕ) → grown taken added stood ≡ Some item → ⊥
+TaskGrows stood item (Some g) = grown g.taken g.out stood ≡ Some item
+
+abbrev pub Grows : OpenRequest → OpenRequest → Option WrittenRequest → Type 0
+Grows stood item None = Unit {0}
+Grows stood item (Some w) = (written_number w ≡ item.number) × (written_request w (Some stood) ≡ Some (Some item))
+
+-- two threads differ at most in their frames
+abbrev pub HasSameNumbers : ImageThread → ImageThread → Type 0
+HasSameNumbers t u = (t.number ≡ u.number) × (t.parent ≡ u.parent) × (t.head ≡ u.head)
+
+abbrev pub IsSameSeat : ImageThread → ImageThread → Type 0
+IsSameSeat t u = HasSameNumbers t u × (t.wait ≡ u.wait) × (t.context ≡ u.context)
+
+-- the thread with so many of its frames kept, and the others written
+abbrev pub with_front : ImageThread → ℕ → WrittenThread
+with_front t kept = record { number = t.number; parent = t.parent; head = t.head; wait = t.wait; context = t.context; kept = kept; frames = drop kept t.frames }

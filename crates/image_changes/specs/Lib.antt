@@ -1,0 +1,4 @@
+pub mod Parts
+pub mod Growing
+pub mod Walks
+pub mod Whole
