@@ -5,5 +5,6 @@ pub mod CountLaws
 pub mod MeaningLaws
 pub mod MethodLaws
 pub mod NameLaws
+pub mod TurnLaws
 pub mod VariableLemmas
 pub mod WalkLaws

@@ -29,7 +29,7 @@ use Rattle.model_run.specs.Callables.{calling, closure_in, closure_of, parameter
 use Rattle.model_run.specs.Calls.{after_walk_turn, begun_turn, element_size, held_in_turn, takes_two, walk, walk_after, walk_method, walk_turn, walked, walks}
 use Rattle.model_run.specs.Fitting.{closure_rule, known}
 use Rattle.model_run.specs.FrameTable.{Any, A_closure, A_count, Further, No_more, One_more, Any_more, frame_row, is_method, is_walk, walk_further, walk_values}
-use Rattle.model_run.specs.Forms.{after, turn}
+use Rattle.model_run.specs.Forms.{after, enter, turn}
 use Rattle.model_run.specs.Nesting.{FrameFits, FurtherFit, ValuesFit, anything, shape_at as shape_in}
 use Rattle.model_run.specs.State.{Common, World, Reply, State, Env, Limited, choose, through, may_count, changed, counted, guarded, operating, seeing, unless_limit}
 use Rattle.model_run.specs.Terms.{Term, form_of, nodes_of, term_at}
@@ -47,8 +47,8 @@ use Rattle.cps_frames.specs.Ways.{value_of}
 use Rattle.cps_frames.specs.declared.halt.Halt.{Halt}
 use Rattle.cps_frames.specs.declared.thread.Move.{Move}
 use Rattle.cps_frames.specs.Standing.{Standing, Beside, state, shape_at, room_of}
-use Rattle.cps_frames.specs.declared.thread.Move.TheVariants.{Enter, Hits}
-use Rattle.cps_frames.proofs.MoveLaws.{Saying, comes_hits, comes_inside, comes_next, to_as, to_kind, to_value, met, met_beside, passed}
+use Rattle.cps_frames.specs.declared.thread.Move.TheVariants.{Ends as Passes, Enter, Hits}
+use Rattle.cps_frames.proofs.MoveLaws.{Saying, comes_hits, comes_inside, comes_next, comes_no_value, to_as, to_kind, to_value, met, met_beside, passed}
 
 -- a cell of a list that fits
 all_at : {X : Type 0} (P : X → Type 0) (xs : List X) → AllAre P xs → (i : ℕ) (x : X) → slice_get xs i ≡ Some x → P x
@@ -152,6 +152,17 @@ keeps_turn root u f fits is =
     keeps_values u (walk_method sh.form) f.values (walks_too (is_method sh.form) (walks (walk_method sh.form)) stands)
     (subst (λ d. ValuesFit (known u) (frame_row d sh f.left f.env).further (frame_row d sh f.left f.env).values f.values) is fits.meets.values)
 
+is_method_too : (b c : Bool) → (b && c) ≡ true → b ≡ true
+is_method_too true c e = refl
+is_method_too false c e = absurd (cc e)
+
+-- and its node calls a method
+pub turn_method : (root : Term) (u : Common) (f : Frame) → FrameFits (known u) root f → f.kind ≡ kind.WalkTurn → is_method (shape_in root f.node).form ≡ true
+turn_method root u f fits is =
+    let sh = shape_in root f.node in
+    let stands : is_walk sh.form ≡ true = subst (λ d. (frame_row d sh f.left f.env).stands ≡ true) is fits.meets.stands in
+    is_method_too (is_method sh.form) (walks (walk_method sh.form)) stands
+
 pub there_below : (h : List Cell) (v : Value) → There h v → ValueBelow (length h) v
 there_below h (InCell n) there = there
 there_below h Null there = tt
@@ -185,6 +196,9 @@ walk_goes_on f e x i kept next u is value at front goes =
 
 pub turn_ranks : (f : Frame) → f.kind ≡ kind.WalkTurn → 0 < rank f
 turn_ranks f is = let h : 2 ^ 71 ≤ rank f = high f is in omega (arith, h)
+
+pub walk_passes : (f : Frame) (e x : Ending) (u : Standing) → f.kind ≡ kind.WalkTurn → value_of e ≡ Err x → Comes f.node (rank f) (λ sh a. after f sh a e) u (Passes x) u
+walk_passes f e x u is none = to_kind (rank f) f kind.WalkTurn e u (Ok (Passes x)) u is (comes_no_value f.node (rank f) (behind f) e x u none (turn_ranks f is))
 
 pub walk_ends : (f : Frame) (e : Ending) (x : Value) (answer : Answer) (u : Standing) (result : Outcome Move Halt) (v : Standing) → f.kind ≡ kind.WalkTurn → value_of e ≡ Ok x → walk_after u.world (walk_method (shape_at u.world f.node).form) (value_at 0 f.values) (drop 3 f.values) x ≡ Ends answer → ComesTo f.node (rank f) (λ sh a. operating (λ w. answer) ended) u result v → ComesTo f.node (rank f) (λ sh a. after f sh a e) u result v
 walk_ends f e x answer u result v is value ends c =
@@ -222,6 +236,12 @@ turn_fits f u kept e fits = absurd (cc e)
 pub method_turn : (f : NodeForm) (a : Around) (k : ℕ) (sh : Shape) (env : Env) (i : ℕ) (kept : List Value) (s : State) → is_method f ≡ true → walks (walk_method sh.form) ≡ true → turn a k sh env i kept f s ≡ walk a k env (walk_method sh.form) i (value_at 0 kept) (value_at 1 kept) (drop 2 kept) s
 method_turn (form.Method access x) a k sh env i kept s e is = ap (λ b. choose b (walk a k env (walk_method sh.form) i (value_at 0 kept) (value_at 1 kept) (drop 2 kept)) (ended Null) s) is
 method_turn f a k sh env i kept s e is = absurd (cc e)
+
+-- what a node does that is entered for a turn
+pub enters_turn : (k : ℕ) (env : Env) (i : ℕ) (on f : Value) (kept : List Value) (u : Standing) (result : Outcome Move Halt) (v : Standing) → is_method (shape_at u.world k).form ≡ true → walks (walk_method (shape_at u.world k).form) ≡ true → ComesTo k (2 ^ 66) (λ sh a. walk a k env (walk_method sh.form) i on f kept) u result v → ComesTo k (2 ^ 66) (λ sh a. enter (Turn i (on ∷ f ∷ kept)) a k sh env) u result v
+enters_turn k env i on f kept u result v is walks_it =
+    to_as k (2 ^ 66) (λ sh a. enter (Turn i (on ∷ f ∷ kept)) a k sh env) (λ sh a. walk a k env (walk_method sh.form) i on f kept) u result v
+    (λ a rs. method_turn (shape_at u.world k).form a k (shape_at u.world k) env i (on ∷ f ∷ kept) (state u.world rs) is walks_it)
 
 -- a walk with a closure
 pub walk_with : (a : Around) (k : ℕ) (env : Env) (m : Method) (i : ℕ) (on f : Value) (kept : List Value) (w : World) (rs : List Reply) (callee : Callee) → closure_of w f ≡ Some callee → walk a k env m i on f kept (state w rs) ≡ walk_turn a k env m i on f kept callee (element_at (limits w) (cells w) on (takes_two w callee) i) (state w rs)

@@ -1,4 +1,5 @@
 pub mod Calls
 pub mod Kinds
 pub mod Meanings
+pub mod Turns
 pub mod Walking

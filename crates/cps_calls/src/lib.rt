@@ -2,7 +2,8 @@
 //!
 //! A call is counted directly before what it does with its arguments. The order in which a name is looked for: a declared
 //! variable, whose value was read before the arguments; a function of the script; a binding variable that holds a closure; a
-//! step. Each function that makes a move has the one form of contract of `cps_frames` (`ComesTo`).
+//! step. Each function that makes a move has the one form of contract of `cps_frames` (`ComesTo`); `go_on` may make two
+//! (`GoesOnTo`), since a walk goes from one turn into the next without a list of what it keeps in between.
 #![tactic(auto)]
 
 mod bodies;

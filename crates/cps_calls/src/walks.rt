@@ -23,6 +23,7 @@ ghost use Rattle.cps_frames.specs.Moves.{ComesTo};
 ghost use Rattle.cps_frames.specs.Order.{rank};
 ghost use Rattle.cps_frames.specs.Places.{MayEnter, MayGoOn};
 ghost use Rattle.cps_frames.specs.Standing.{standing, world_of};
+ghost use Rattle.cps_calls.specs.Turns.{GoesOnTo};
 ghost use Rattle.cps_calls.specs.Walking.{IsCount, WalkStands};
 
 use crate::closures::closure_of;
@@ -155,7 +156,8 @@ fn run_turn(
     Ok(Move::Enter(Entry::Body(arguments), callee.node, callee.env))
 }
 
-/// The closure of a turn has ended: the walk goes on with its next turn, or gives what it gives.
+/// The closure of a turn has ended: the walk goes into its next turn at once, or gives what it gives. What it has kept
+/// moves from the frame of the one turn into that of the next.
 pub(crate) fn after_walk_turn(
     state: &mut ThreadState,
     shared: &mut Shared,
@@ -164,7 +166,7 @@ pub(crate) fn after_walk_turn(
 ) -> Result<Move, Halt>
     requires may { MayGoOn (standing shared.old state.old) frame ending }
     requires kind { frame.kind ≡ kind.WalkTurn }
-    ensures { ComesTo frame.node (rank frame) (λ sh a. after frame sh a ending) (standing shared.old state.old) result (standing shared.new state.new) }
+    ensures { GoesOnTo frame ending (standing shared.old state.old) result (standing shared.new state.new) }
 {
     let value = value_of(ending)?;
     let alloc = shared.alloc();
@@ -174,10 +176,18 @@ pub(crate) fn after_walk_turn(
     let method = walk_method(&shared.code, frame.node);
     let walk = WalkInTurn::of(&shared.heap, method, &on, Tail::behind(frame.values, 3));
     match walk.after(alloc, &shared.heap, &value)? {
-        Next::GoesOn(walk) => {
-            let kept = walk.into_values(Values::from_slice(alloc, &[on, closure])?)?;
-            Ok(Move::Enter(Entry::Turn(at + 1, kept), frame.node, frame.env))
-        }
+        Next::GoesOn(walk) => begin_turn(
+            state,
+            shared,
+            WalkAt {
+                node: frame.node,
+                env: frame.env,
+                walk,
+                on,
+                closure,
+                at: at + 1,
+            },
+        ),
         Next::Ends(effect) => end_with(shared, effect),
     }
 }

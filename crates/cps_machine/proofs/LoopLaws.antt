@@ -1,5 +1,5 @@
 -- The moves of the loop, one behind the other, and how it stops.
-use Rattle.std.proofs.Common.{◌≡◌, ◌∙◌, ℕ, suc, ◌+◌, ◌-◌, ◌≤◌, ◌<◌, ◌^◌, length, arith, true, List, [], ◌∷◌, ◌++◌, Option, Some, refl, ap, subst, sym}
+use Rattle.std.proofs.Common.{◌≡◌, ◌∙◌, ℕ, suc, ◌+◌, ◌-◌, ◌≤◌, ◌<◌, ◌^◌, length, arith, true, List, [], ◌∷◌, ◌++◌, Option, Some, refl, ap, subst, sym, inl, inr}
 use Rattle.std.specs.Prelude.{IfSome}
 use Rattle.model_values.specs.declared.limit.LimitKind.{LimitKind}
 use Rattle.model_run.specs.declared.context.Context.{Context}
@@ -34,6 +34,7 @@ use Rattle.cps_frames.proofs.Poise.{Taken, ends_keep, ends_spend, enters_keep, e
 use Rattle.cps_frames.proofs.MoveLaws.{beside_same}
 use Rattle.cps_frames.proofs.Runs.{onward_ends, onward_enters, onward_here, onward_on}
 use Rattle.cps_frames.proofs.Weights.{ends_lower, enters_lower}
+use Rattle.cps_calls.specs.Turns.{GoesOn as GoesOnBy, TurnsOn}
 use Rattle.run_laws.specs.Soundness.{SoundWorld}
 use Rattle.run_laws.proofs.Evaluation.{ScriptFacts}
 use Rattle.cps_machine.specs.Stops.{Begins, IsEnd, Leaves, MayRun, Stops, made_for, nodes_left}
@@ -287,6 +288,22 @@ module _ (u : Standing) (first : Move) (script : IsScript u.world.setting.script
 
     pub entry_lower : (m : Move) (w : Standing) → Comes k (2 ^ 66) (λ sh a. enter e a k sh env) v m w → weight u.world.setting.script w m < weight u.world.setting.script v (Enter e k env)
     entry_lower m w c = enters_lower u.world.setting.script k (λ sh a. enter e a k sh env) v e env m w (sym (ap (λ s. s.script) (h.on).setting)) node_there c
+
+  -- a frame goes on by one move, or by two
+  module _ (v : Standing) (fs : List Frame) (f : Frame) (e : Ending) (h : Reached u first v (Ends e)) (at_top : v.stack ≡ fs ++ f ∷ []) where
+    at_again : (m : Move) (w : Standing) (t : TurnsOn f e (with_stack fs v) m w) → Reached u first (with_stack fs v) (Enter (Turn t.at t.kept) f.node f.env)
+    at_again m w t = frame_reached v fs f e h at_top (Enter (Turn t.at t.kept) f.node f.env) (with_stack fs v) t.again
+
+    pub gone_reached : (m : Move) (w : Standing) → GoesOnBy f e (with_stack fs v) m w → Reached u first w m
+    gone_reached m w (inl c) = frame_reached v fs f e h at_top m w c
+    gone_reached m w (inr t) = entry_reached (with_stack fs v) (Turn t.at t.kept) f.node f.env (at_again m w t) m w t.turn
+
+    pub gone_lower : (m : Move) (w : Standing) → GoesOnBy f e (with_stack fs v) m w → weight u.world.setting.script w m < weight u.world.setting.script v (Ends e)
+    gone_lower m w (inl c) = frame_lower v fs f e h at_top m w c
+    gone_lower m w (inr t) =
+        let one = frame_lower v fs f e h at_top (Enter (Turn t.at t.kept) f.node f.env) (with_stack fs v) t.again in
+        let two = entry_lower (with_stack fs v) (Turn t.at t.kept) f.node f.env (at_again m w t) m w t.turn in
+        omega (arith, one, two)
 
 -- the move that a result is
 pub the_move : (P : Move → Type 0) (o : Option Move) (m : Move) → o ≡ Some m → IfSome o P → P m

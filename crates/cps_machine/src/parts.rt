@@ -2,13 +2,13 @@
 
 ghost use Rattle.std.specs.Prelude.{◌^◌};
 ghost use Rattle.model_run.specs.declared.ending.Entry.TheVariants.{First, Turn};
-ghost use Rattle.model_run.specs.Forms.{after, enter};
+ghost use Rattle.model_run.specs.Forms.{enter};
 ghost use Rattle.cps_code.specs.Script.{script_of};
 ghost use Rattle.cps_frames.specs.Moves.{ComesTo};
-ghost use Rattle.cps_frames.specs.Order.{rank};
 ghost use Rattle.cps_frames.specs.Places.{MayEnter, MayGoOn};
 ghost use Rattle.cps_frames.specs.Standing.{standing};
 ghost use Rattle.cps_frames.specs.declared.thread.Move.TheVariants.{Enter};
+ghost use Rattle.cps_calls.specs.Turns.{GoesOnTo};
 ghost use Rattle.cps_machine.specs.Turns.{HasPart};
 
 use crate::kinds::{
@@ -19,7 +19,7 @@ use cps_frames::{Halt, Move, Shared, ThreadState, part};
 use model_run::{Ending, Entry, Frame};
 use model_values::{Env, Value, Values};
 
-/// How the innermost frame goes on with what stood inside it. `Halt::Ends` where its node ends so, `Halt::Limit` where a
+/// How the innermost frame goes on with what stood inside it; a walk goes into its next turn at once. `Halt::Ends` where its node ends so, `Halt::Limit` where a
 /// limit was met, and `Halt::Memory` where the memory was refused.
 pub fn go_on(
     state: &mut ThreadState,
@@ -28,7 +28,7 @@ pub fn go_on(
     ending: Ending,
 ) -> Result<Move, Halt>
     requires may { MayGoOn (standing shared.old state.old) frame ending }
-    ensures { ComesTo frame.node (rank frame) (λ sh a. after frame sh a ending) (standing shared.old state.old) result (standing shared.new state.new) }
+    ensures { GoesOnTo frame ending (standing shared.old state.old) result (standing shared.new state.new) }
 {
     if is_of_statement(&frame.kind) {
         return cps_statements::go_on(state, shared, frame, ending);

@@ -1,5 +1,6 @@
-use Rattle.std.proofs.Common.{◌≡◌, ◌∙◌, ◌∷◌, ◌++◌, length, drop, refl, sym, ap, subst}
+use Rattle.std.proofs.Common.{◌≡◌, ◌∙◌, ◌+◌, ◌^◌, ◌∷◌, length, drop, refl, sym, ap, subst, arith}
 use Rattle.std.specs.List.{All}
+use Rattle.std.proofs.lemmas.Result.{err_from_is_err_and}
 use Rattle.cell_heap.specs.Soundness.{ValueBelow}
 use Rattle.method_names.specs.Names.{seen as table_method}
 use Rattle.model_values.specs.Limits.{product_limits}
@@ -8,11 +9,12 @@ use Rattle.model_run.specs.Calls.{walk_method, walks}
 use Rattle.model_run.specs.FrameTable.{walk_further, walk_values}
 use Rattle.model_run.specs.Nesting.{ValuesFit, anything, shape_at}
 use Rattle.value_ops.specs.Effects.{effect_answer}
-use Rattle.value_walks.specs.Walking.{IsAfter, held_after, held_method, walk_kept}
+use Rattle.value_walks.specs.Walking.{IsAfter, NextBelow, held_after, held_method, walk_kept}
 use Rattle.cps_code.specs.Script.{script_of}
 use Rattle.cps_frames.specs.Order.{rank}
 use Rattle.cps_frames.specs.Standing.{common_of, standing, world_of}
-use Rattle.cps_calls.proofs.WalkLaws.{all_below, keeps_turn, same_after, turn_ranks, walk_ends, walk_goes_on}
+use Rattle.cps_calls.proofs.TurnLaws.{by_one, by_two}
+use Rattle.cps_calls.proofs.WalkLaws.{all_below, enters_turn, keeps_turn, same_after, there_below, turn_method, turn_ranks, walk_ends, walk_goes_on}
 use Rattle.cps_calls.proofs.walks.after_walk_turn.Goals as goal
 
 pub of-walk-requires-clause-walks : goal.of-walk-requires-clause-walks
@@ -31,33 +33,58 @@ after-requires-clause-held c =
     let row = keeps_turn (script_of c.args.shared.now.code) (common_of c.args.shared.now) c.args.frame c.requires.may.frame.fits c.requires.kind in
     subst (All (ValueBelow (length c.args.shared.now.heap.cells))) (sym (c.of-walk.ensures.values ∙ c.behind.ensures)) (all_below c.args.shared.now.heap.cells (drop 3 c.args.frame.values) row.there)
 
-pub returns-in_ok-kept-in-GoesOn : goal.returns-in_ok-kept-in-GoesOn
-returns-in_ok-kept-in-GoesOn c =
+pub begin_turn-requires : goal.begin_turn-requires
+begin_turn-requires c =
+    let f = c.args.frame in
+    let h = c.args.shared.now.heap.cells in
+    let row = keeps_turn (script_of c.args.shared.now.code) (common_of c.args.shared.now) f c.requires.may.frame.fits c.requires.kind in
+    let is = subst (IsAfter h (held_method c.of-walk.result) (held_after h c.of-walk.result c.in_ok-value.value)) c.in-GoesOn.is c.in_ok-walk.ensures.after in
+    record {
+      stands = record {
+        node = c.requires.may.frame.fits.node;
+        method = is.0 ∙ c.of-walk.ensures.method ∙ c.walk_method-method.ensures;
+        on = subst (ValueBelow (length h)) (sym c.value_at-on.ensures) (there_below h (value_at 0 f.values) row.on);
+        closure = subst (ValueBelow (length h)) (sym c.value_at-closure.ensures) (there_below h (value_at 1 f.values) row.closure);
+        kept = subst (NextBelow (length h)) c.in-GoesOn.is c.in_ok-walk.ensures.below;
+        cells = c.requires.may.sound.cells;
+      };
+    }
+
+pub returns-in-GoesOn : goal.returns-in-GoesOn
+returns-in-GoesOn c =
     let f = c.args.frame in
     let vs = f.values in
+    let u = standing c.args.shared.now c.args.state.now in
     let w = world_of c.args.shared.now c.args.state.now in
     let h = c.args.shared.now.heap.cells in
     let x = c.in_ok-value.value in
+    let i = c.place_of-at.result + 1 in
+    let on = c.value_at-on.result in
+    let closure = c.value_at-closure.result in
     let next = walk_kept c.in-GoesOn.walk in
     let is = subst (IsAfter h (held_method c.of-walk.result) (held_after h c.of-walk.result x)) c.in-GoesOn.is c.in_ok-walk.ensures.after in
     let m = walk_method (shape_at (script_of c.args.shared.now.code) f.node).form in
-    let read = same_after w (table_method c.walk_method-method.result) m c.value_at-on.result (value_at 0 vs) c.behind.result (drop 3 vs) x c.walk_method-method.ensures c.value_at-on.ensures c.behind.ensures in
-    let front : c.in_ok-kept-in-GoesOn.kept ≡ value_at 0 vs ∷ value_at 1 vs ∷ next =
-    c.in_ok-kept-in-GoesOn.ensures ∙ ap (λ xs. xs ++ next) c.in_ok-from_slice-in-GoesOn.ensures
-    ∙ ap (λ v. v ∷ c.value_at-closure.result ∷ next) c.value_at-on.ensures ∙ ap (λ v. value_at 0 vs ∷ v ∷ next) c.value_at-closure.ensures in
-    walk_goes_on f c.args.ending x c.place_of-at.result c.in_ok-kept-in-GoesOn.kept next (standing c.args.shared.now c.args.state.now) c.requires.kind (sym c.in_ok-value.ensures)
-    (c.place_of-at.ensures.place ∙ ap position c.value_at.ensures) front (sym read ∙ sym (c.of-walk.ensures.after h x) ∙ is.1)
+    let row = keeps_turn (script_of c.args.shared.now.code) (common_of c.args.shared.now) f c.requires.may.frame.fits c.requires.kind in
+    let read = same_after w (table_method c.walk_method-method.result) m on (value_at 0 vs) c.behind.result (drop 3 vs) x c.walk_method-method.ensures c.value_at-on.ensures c.behind.ensures in
+    let front = ap (λ v. v ∷ closure ∷ next) c.value_at-on.ensures ∙ ap (λ v. value_at 0 vs ∷ v ∷ next) c.value_at-closure.ensures in
+    let again = walk_goes_on f c.args.ending x c.place_of-at.result (on ∷ closure ∷ next) next u c.requires.kind (sym c.in_ok-value.ensures)
+    (c.place_of-at.ensures.place ∙ ap position c.value_at.ensures) front (sym read ∙ sym (c.of-walk.ensures.after h x) ∙ is.1) in
+    let method = turn_method (script_of c.args.shared.now.code) (common_of c.args.shared.now) f c.requires.may.frame.fits c.requires.kind in
+    by_two f c.args.ending i (on ∷ closure ∷ next) u _ _ again
+    (enters_turn f.node f.env i on closure next u _ _ method row.walks_it (c.begin_turn.ensures (2 ^ 66) (omega arith)))
 
 pub returns-in-Ends : goal.returns-in-Ends
 returns-in-Ends c =
     let f = c.args.frame in
     let vs = f.values in
+    let u = standing c.args.shared.now c.args.state.now in
     let w = world_of c.args.shared.now c.args.state.now in
     let h = c.args.shared.now.heap.cells in
     let x = c.in_ok-value.value in
     let is = subst (IsAfter h (held_method c.of-walk.result) (held_after h c.of-walk.result x)) c.in-Ends.is c.in_ok-walk.ensures.after in
     let m = walk_method (shape_at (script_of c.args.shared.now.code) f.node).form in
     let read = same_after w (table_method c.walk_method-method.result) m c.value_at-on.result (value_at 0 vs) c.behind.result (drop 3 vs) x c.walk_method-method.ensures c.value_at-on.ensures c.behind.ensures in
-    walk_ends f c.args.ending x (effect_answer product_limits h c.in-Ends.effect) (standing c.args.shared.now c.args.state.now) _ _ c.requires.kind (sym c.in_ok-value.ensures)
+    by_one f c.args.ending u _ _
+    (walk_ends f c.args.ending x (effect_answer product_limits h c.in-Ends.effect) u _ _ c.requires.kind (sym c.in_ok-value.ensures)
     (sym read ∙ sym (c.of-walk.ensures.after h x) ∙ is)
-    (c.end_with.ensures c.args.state.now f.node (rank f) (λ y. effect_answer product_limits h c.in-Ends.effect) (turn_ranks f c.requires.kind) refl)
+    (c.end_with.ensures c.args.state.now f.node (rank f) (λ y. effect_answer product_limits h c.in-Ends.effect) (turn_ranks f c.requires.kind) refl))

@@ -1,7 +1,7 @@
 use Rattle.std.proofs.Common.{subst, arith}
 use Rattle.std.proofs.lemmas.List.{nil_from_length}
 use Rattle.cps_frames.specs.Standing.{standing}
-use Rattle.cps_machine.proofs.LoopLaws.{Reached, entry_inside, entry_lower, entry_may, entry_reached, frame_lower, frame_may, frame_reached, reached_here, stops_ended, stops_limit, stops_waits, the_move}
+use Rattle.cps_machine.proofs.LoopLaws.{Reached, entry_inside, entry_lower, entry_may, entry_reached, frame_may, gone_lower, gone_reached, reached_here, stops_ended, stops_limit, stops_waits, the_move}
 use Rattle.cps_machine.proofs.machine.run.Goals as goal
 
 pub loop-now-init : goal.loop-now-init
@@ -21,12 +21,12 @@ go_on-requires c = record {
 
 pub loop-now-smaller-in-Some : goal.loop-now-smaller-in-Some
 loop-now-smaller-in-Some c =
-    rw c.in-Ends.is (frame_lower (standing c.args.shared.now c.args.state.now) c.args.first c.requires.script c.requires.may (standing c.loop-now.shared c.loop-now.state) c.pop.new.self.items c.in-Some.frame c.in-Ends.ending (subst (Reached (standing c.args.shared.now c.args.state.now) c.args.first (standing c.loop-now.shared c.loop-now.state)) c.in-Ends.is c.loop-now.invariant) c.in-Some.ensures.items c.in_ok-now-in-Some.now _
+    rw c.in-Ends.is (gone_lower (standing c.args.shared.now c.args.state.now) c.args.first c.requires.script c.requires.may (standing c.loop-now.shared c.loop-now.state) c.pop.new.self.items c.in-Some.frame c.in-Ends.ending (subst (Reached (standing c.args.shared.now c.args.state.now) c.args.first (standing c.loop-now.shared c.loop-now.state)) c.in-Ends.is c.loop-now.invariant) c.in-Some.ensures.items c.in_ok-now-in-Some.now _
     (the_move _ _ c.in_ok-now-in-Some.now c.in_ok-now-in-Some.ensures c.go_on.ensures))
 
 pub loop-now-preserved-in-Some : goal.loop-now-preserved-in-Some
 loop-now-preserved-in-Some c =
-    frame_reached (standing c.args.shared.now c.args.state.now) c.args.first c.requires.script c.requires.may (standing c.loop-now.shared c.loop-now.state) c.pop.new.self.items c.in-Some.frame c.in-Ends.ending (subst (Reached (standing c.args.shared.now c.args.state.now) c.args.first (standing c.loop-now.shared c.loop-now.state)) c.in-Ends.is c.loop-now.invariant) c.in-Some.ensures.items c.in_ok-now-in-Some.now _
+    gone_reached (standing c.args.shared.now c.args.state.now) c.args.first c.requires.script c.requires.may (standing c.loop-now.shared c.loop-now.state) c.pop.new.self.items c.in-Some.frame c.in-Ends.ending (subst (Reached (standing c.args.shared.now c.args.state.now) c.args.first (standing c.loop-now.shared c.loop-now.state)) c.in-Ends.is c.loop-now.invariant) c.in-Some.ensures.items c.in_ok-now-in-Some.now _
     (the_move _ _ c.in_ok-now-in-Some.now c.in_ok-now-in-Some.ensures c.go_on.ensures)
 
 pub returns-in-Hits : goal.returns-in-Hits
