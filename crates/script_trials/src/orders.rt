@@ -47,6 +47,7 @@ fn read_shown(alloc: Global, line: &str) -> Result<Order, AllocError> {
     Ok(match word {
         "bytes" => Order::Image(Shown::Bytes),
         "longer" => Order::Image(Shown::Longer),
+        "kinds" => Order::Image(Shown::Kinds),
         "number" => {
             let (place, number) = split_word(rest);
             Order::Image(Shown::Number {

@@ -2,6 +2,9 @@
 
 use crate::images::{Refusal, build_in, image_bytes};
 use build_core::Build;
+use build_images::image_of;
+use frame_rows::frame_kind;
+use image_form::Image;
 use model_run::Event;
 use saved_thread::SavedThread;
 use std::alloc::{AllocError, Global};
@@ -21,6 +24,8 @@ pub enum Shown {
     Number { place: usize, number: u32 },
     /// What comes of its bytes with each of them raised by one in turn, and of the builds in them with this event.
     Each(Event),
+    /// The kinds of its frames.
+    Kinds,
 }
 
 /// Writes what is to be shown of the image of a build; of one that has not begun nothing. `AllocError` where the memory was
@@ -47,7 +52,37 @@ pub fn write_shown<R: SavedThread + Drop>(
             write_outcome::<R>(alloc, trial, &changed, out)
         }
         Shown::Each(event) => write_each::<R>(alloc, trial, &bytes, event, out),
+        Shown::Kinds => write_kinds(alloc, &image_of(build)?, out),
     }
+}
+
+/// Writes the kinds of the frames in an image, each once, in their order.
+fn write_kinds(alloc: Global, image: &Image, out: &mut Vec<u8>) -> Result<(), AllocError> {
+    out.extend_from_slice(b"frames:")?;
+    for number in 0..=u8::MAX {
+        if let Some(kind) = frame_kind(number) {
+            if has_kind(image, number) {
+                let word = format!(in alloc; " {kind:?}")?;
+                out.extend_from_slice(word.as_bytes())?;
+            }
+        }
+    }
+    out.extend_from_slice(b"\n")
+}
+
+/// Whether a thread of an image has a frame of this kind.
+fn has_kind(image: &Image, kind: u8) -> bool {
+    for thread in image.threads.as_slice() {
+        if thread
+            .frames
+            .as_slice()
+            .iter()
+            .any(|frame| frame.kind == kind)
+        {
+            return true;
+        }
+    }
+    false
 }
 
 /// Writes bytes as digits of base 16.
