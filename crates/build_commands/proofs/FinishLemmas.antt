@@ -19,10 +19,7 @@ use Rattle.settle_laws.specs.Stances.{Stance}
 use Rattle.build_core.specs.Builds.{Parts, StandsFor}
 use Rattle.build_images.specs.Images.{image_in}
 use Rattle.image_form.specs.declared.image.Image.{Image}
-use Rattle.record_form.specs.declared.record.EventRecord.{EventRecord}
-use Rattle.store_laws.proofs.Tellings.{one_record}
-use Rattle.journal_core.proofs.StepLemmas.{stores_has}
-use Rattle.durable_build.specs.Standing.{Closing, Keeps, Kept, StandsBy, last_of}
+use Rattle.durable_build.specs.Standing.{Kept}
 use Rattle.script_run.specs.declared.rest.Rest.{Rest}
 use Rattle.script_run.specs.declared.rest.Rest.TheVariants.{Ended, Waits, AnswersFailed}
 use Rattle.saved_run.specs.Lives.{image_after, IsFull as IsFullOf, IsNext, Lasts, TellsFault}
@@ -30,16 +27,18 @@ use Rattle.saved_run.specs.Saved.{Stores, Survives}
 use Rattle.saved_run.proofs.LifeLemmas.{saved_image}
 use Rattle.site_state.specs.declared.ask.Entry.{Entry}
 use Rattle.site_state.specs.Histories.{lines}
+use Rattle.site_life.specs.Lives.{LifeOf, any_reply}
 use Rattle.site_life.specs.Turns.{Turn}
 use Rattle.site_run.specs.Ending.{RestsWith}
-use Rattle.site_run.specs.Lives.{BreaksBehind, EndsBehind, KeepsOn}
+use Rattle.site_run.specs.Lives.{BreaksBehind, EndsBehind}
+use Rattle.site_run.specs.Serving.{AreServed}
 use Rattle.build_commands.specs.declared.refusal.Refusal.{Refusal}
 use Rattle.build_commands.specs.declared.refusal.Refusal.TheVariants.{DiskFailed, OutOfMemory}
 use Rattle.build_commands.specs.Refusals.{SaysTake, refusal_status, refusal_text}
 use Rattle.build_commands.specs.Finishing.{ComesNext, Made, Breaks, answers_failed, disk_failed, full, no_memory, Finishes, by_rest, by_break, TellsEnd, TellsRest}
 use Rattle.site_crew.specs.Crews.{answers_in, hosts_in, members_of, others_of}
-use Rattle.build_commands.specs.Living.{ComesBy, Finished, HeardOf, IsRefused, LifeOf, TakesBy}
-use Rattle.build_commands.specs.Reporting.{IsBroken, Reports, ShowsKept}
+use Rattle.build_commands.specs.Living.{ComesBy, Finished, HeardOf, IsRefused, TakesBy}
+use Rattle.build_commands.specs.Reporting.{IsBroken, Reports}
 use Rattle.build_commands.specs.Reporting as report
 use Rattle.build_commands.specs.Texts.{full_text, out_of_memory_text}
 use Rattle.build_commands.specs.Writing.{Writes, Tells}
@@ -134,14 +133,14 @@ module _ {D T H A : Type 0} (reads : D → Option (List ℕ)) (may_leave : D →
         let next = some_next (IsNext setting now) (ComesSo now) k.fails.refused k.fails.is_next k.caused in
         absurd (at_some k.fails.refused next.0 (λ e. IsFullOf e (image_after setting (now ++ e ∷ [])) kept.journal.len take.Stopped) next.3 k.fails.full)
 
-    finishes_rested : (now : List Event) (status : ℕ) → HeardSo → MadeSo now None → ((world_in setting now).ended ≡ true) ⊎ IdlesSo now → StandsFor stance kept.build (world_in setting now) → TellsRest (StandsFor stance kept.build) kept.build.shared.log wrote now_written c d status → EndsSo status
+    finishes_rested : (now : List Event) (status : ℕ) → HeardSo → MadeSo now None → ((world_in setting now).ended ≡ true) ⊎ IdlesSo now → StandsFor stance kept.build (world_in setting now) → TellsRest (StandsFor stance kept.build) (image_in stance kept.build) wrote now_written c d status → EndsSo status
     finishes_rested now status heard made rests stands told =
         let w = world_in setting now in
         let same = told.is w stands in
         by_rest (record { made = made; rests = rests; heard = heard }) (subst (λ (n : ℕ). Writes wrote now_written c d w.shared.log n status) same.1 (subst (λ (l : List ℕ). Writes wrote now_written c d l told.ended status) same.0 told.wrote))
 
     pub finishes_ended : (now : List Event) (ended : Result Rest TakeFault) (status : ℕ) → IfOk ended (λ rest. HeardSo) → TakesSo now → EndsBehind reads may_leave clock since stance setting entry origin before (IsRefused honest faults calls launches dirs output exited left source_faults looks turns) now new kept ended
-        → TellsEnd (StandsFor stance kept.build) kept.build.shared.log wrote now_written c d ended status → (ended ≡ Ok AnswersFailed → Rose x y) → (ended ≡ Err take.Disk → Rose a b) → EndsSo status
+        → TellsEnd (StandsFor stance kept.build) (image_in stance kept.build) wrote now_written c d ended status → (ended ≡ Ok AnswersFailed → Rose x y) → (ended ≡ Err take.Disk → Rose a b) → EndsSo status
     finishes_ended now (Ok Ended) status heard takes r told answers disk = finishes_rested now status heard (made_lasting now takes r.lasts) (inl r.rests) r.lasts.goes.stands told
     finishes_ended now (Ok Waits) status heard takes r told answers disk = finishes_rested now status heard (made_lasting now takes r.lasts) (inr r.rests) r.lasts.goes.stands told
     finishes_ended now (Ok AnswersFailed) status heard takes r told answers disk = subst EndsSo (sym told.0) (by_break (answers_failed (made_lasting now takes r.lasts) r.rests heard (answers refl)) told.1)
@@ -151,8 +150,8 @@ module _ {D T H A : Type 0} (reads : D → Option (List ℕ)) (may_leave : D →
     (honest : H → Type 0) (faults : H → ℕ) (calls : H → Option (List Call)) (launches dirs : H → List ℕ) (output : H → ℕ → Stream → List ℕ) (exited : H → ℕ → Option ℤ)
     (left : A → Option (List ℕ)) (source_faults : A → ℕ) (looks : ℕ)
     (setting : Setting) (entry : Option (List ℕ)) (origin : D) (before : List Event) (hosts rest : List H) (answers unread : A) (wrote now_written : Option (List ℕ)) (c d status before_faults : ℕ) where
-  abbrev FinishedSo : D → Type 0
-  FinishedSo disk = Finished reads may_leave clock since honest faults calls launches dirs output exited left source_faults looks setting entry origin before hosts rest answers unread disk before_faults (disk_faults disk) wrote now_written c d status
+  abbrev FinishedSo : List Entry → D → Type 0
+  FinishedSo history disk = Finished reads may_leave clock since honest faults calls launches dirs output exited left source_faults looks setting entry origin before hosts rest answers unread history disk before_faults (disk_faults disk) wrote now_written c d status
 
   abbrev BegunWith : List (Member H A)
   BegunWith = members_of setting.site.executors hosts answers
@@ -161,32 +160,35 @@ module _ {D T H A : Type 0} (reads : D → Option (List ℕ)) (may_leave : D →
   HeardHere history = ∥ HeardOf left source_faults answers unread (lines history) ∥₁
 
   abbrev LifeSo : List (Member H A) → List (Turn H A) → List Entry → Type 0
-  LifeSo new turns history = LifeOf honest faults calls launches dirs output exited left source_faults looks BegunWith new turns history
+  LifeSo new turns history = LifeOf honest faults calls launches dirs output exited left source_faults looks any_reply tt BegunWith new turns history
+
+  abbrev ServedSo : List (Member H A) → Type 0
+  ServedSo new = AreServed honest faults calls left source_faults BegunWith new
 
   abbrev TookSo : List (Member H A) → List (Turn H A) → List Entry → List Event → Type 0
   TookSo new turns history now = TakesBy honest faults calls launches dirs output exited left source_faults looks setting before BegunWith new turns history now
 
   -- a life of members that ended so
-  pub finished_by : (new : List (Member H A)) (turns : List (Turn H A)) (history : List Entry) (kept : Kept D T) (disk : D) → disk ≡ kept.journal.disk
-      → LifeSo new turns history → rest ≡ hosts_in new ++ others_of setting.site.executors hosts → answers_in new ≡ unread ∷ []
+  pub finished_by : (new : List (Member H A)) (turns : List (Turn H A)) (history all : List Entry) (kept : Kept D T) (disk : D) → disk ≡ kept.journal.disk → all ≡ history
+      → LifeSo new turns history → ServedSo new → rest ≡ hosts_in new ++ others_of setting.site.executors hosts → answers_in new ≡ unread ∷ []
       → (now : List Event) (ended : Result Rest TakeFault) → IfOk ended (λ rest. HeardHere history) → TookSo new turns history now
       → EndsBehind reads may_leave clock since stance setting entry origin before (IsRefused honest faults calls launches dirs output exited left source_faults looks turns) now new kept ended
-      → TellsEnd (StandsFor stance kept.build) kept.build.shared.log wrote now_written c d ended status → (ended ≡ Ok AnswersFailed → Rose (source_faults answers) (source_faults unread)) → (ended ≡ Err take.Disk → Rose before_faults (disk_faults kept.journal.disk)) → FinishedSo disk
-  finished_by new turns history kept disk same life hosts_are answers_are now ended heard takes ends told failed rose = subst FinishedSo (sym same) (record {
-    lived = record { new = new; turns = turns; history = history; life = life; hosts_are = hosts_are; answers_are = answers_are };
+      → TellsEnd (StandsFor stance kept.build) (image_in stance kept.build) wrote now_written c d ended status → (ended ≡ Ok AnswersFailed → Rose (source_faults answers) (source_faults unread)) → (ended ≡ Err take.Disk → Rose before_faults (disk_faults kept.journal.disk)) → FinishedSo all disk
+  finished_by new turns history all kept disk same here life served hosts_are answers_are now ended heard takes ends told failed rose = subst (λ (es : List Entry). FinishedSo es disk) (sym here) (subst (FinishedSo history) (sym same) (record {
+    lived = record { new = new; turns = turns; life = life; served = served; hosts_are = hosts_are; answers_are = answers_are };
     finishes = finishes_ended reads may_leave clock since stance honest faults calls launches dirs output exited left source_faults looks setting entry origin before BegunWith new turns history kept (HeardHere history) before_faults (disk_faults kept.journal.disk) (source_faults answers) (source_faults unread)
         wrote now_written c d now ended status heard takes ends told failed rose;
-  })
+  }))
 
   -- there was no memory for the members, and nothing was done
-  pub finished_wanting : (kept : Kept D T) (disk : D) → disk ≡ kept.journal.disk → LifeSo BegunWith [] [] → rest ≡ hosts_in BegunWith ++ others_of setting.site.executors hosts → answers_in BegunWith ≡ unread ∷ []
-      → TookSo BegunWith [] [] before → Lasts reads may_leave clock since stance setting entry origin before before kept → status ≡ 8 → Tells wrote now_written c d out_of_memory_text → FinishedSo disk
-  finished_wanting kept disk same life hosts_are answers_are takes lasts eight told = subst FinishedSo (sym same) (record {
-    lived = record { new = BegunWith; turns = []; history = []; life = life; hosts_are = hosts_are; answers_are = answers_are };
+  pub finished_wanting : (all : List Entry) (kept : Kept D T) (disk : D) → disk ≡ kept.journal.disk → all ≡ [] → LifeSo BegunWith [] [] → ServedSo BegunWith → rest ≡ hosts_in BegunWith ++ others_of setting.site.executors hosts → answers_in BegunWith ≡ unread ∷ []
+      → TookSo BegunWith [] [] before → Lasts reads may_leave clock since stance setting entry origin before before kept → status ≡ 8 → Tells wrote now_written c d out_of_memory_text → FinishedSo all disk
+  finished_wanting all kept disk same none life served hosts_are answers_are takes lasts eight told = subst (λ (es : List Entry). FinishedSo es disk) (sym none) (subst (FinishedSo []) (sym same) (record {
+    lived = record { new = BegunWith; turns = []; life = life; served = served; hosts_are = hosts_are; answers_are = answers_are };
     finishes = subst (λ (n : ℕ). EndsSo reads may_leave clock since stance honest faults calls launches dirs output exited left source_faults looks setting entry origin before BegunWith BegunWith [] [] kept (HeardHere []) before_faults (disk_faults kept.journal.disk)
         (source_faults answers) (source_faults unread) wrote now_written c d n) (sym eight)
         (by_break (no_memory (made_lasting reads may_leave clock since stance honest faults calls launches dirs output exited left source_faults looks setting entry origin before BegunWith BegunWith [] [] kept (HeardHere []) before takes lasts)) told);
-  })
+  }))
 
 less_prop : (m n : ℕ) → IsProp (m < n)
 less_prop m n = hlevel props
@@ -209,7 +211,7 @@ module _ (a b x y : ℕ) (old new : Option (List ℕ)) (c d : ℕ) where
       let calm = disk.calm (λ e. absurd (cc)) in
       as_said (λ n t. Tells old new c d t → Reports a b x y old new c d n) r 14 (full_text at add) says (report.no_memory calm) (report.full at add (long at add refl) calm)
 
-  pub reports : (Stands : Build → Type 0) (here : List ℕ) (ended : Result Rest TakeFault) (status : ℕ) → TellsEnd Stands here old new c d ended status → (ended ≡ Ok AnswersFailed → Rose x y) → CountsFault a b (ended ≡ Err take.Disk)
+  pub reports : (Stands : Build → Type 0) (here : Image) (ended : Result Rest TakeFault) (status : ℕ) → TellsEnd Stands here old new c d ended status → (ended ≡ Ok AnswersFailed → Rose x y) → CountsFault a b (ended ≡ Err take.Disk)
       → ((at add : ℕ) → ended ≡ Err (take.Full at add) → 2 ^ 30 < at + add) → Reports a b x y old new c d status
   reports Stands here (Ok AnswersFailed) status wrote answers disk long = subst (Reports a b x y old new c d) (sym wrote.0) (report.answers_failed (disk.calm (λ e. absurd (cc))) (answers refl) wrote.1)
   reports Stands here (Ok Ended) status wrote answers disk long = report.rested (disk.calm (λ e. absurd (cc))) wrote.known wrote.wrote
@@ -224,34 +226,3 @@ broken_status take.Memory r says = as_told (λ n t. IsBroken n) r OutOfMemory sa
 broken_status take.Stopped r says = as_told (λ n t. IsBroken n) r OutOfMemory says (inr (inr (inr refl)))
 broken_status take.Disk r says = as_told (λ n t. IsBroken n) r DiskFailed says (inr (inl refl))
 broken_status (take.Full at add) r says = as_said (λ n t. IsBroken n) r 14 (full_text at add) says (inr (inr (inr refl))) (inr (inr (inl refl)))
-
-module _ {D T : Type 0} (reads : D → Option (List ℕ)) (may_leave : D → List ℕ → Type 0) (clock : D → ℕ) (since : D → ℕ → List ℕ → Type 0) (stance : T → Stance) (old kept : Kept D T) (payloads : List (List ℕ))
-    (wrote now_written : Option (List ℕ)) (c d status : ℕ) where
-  abbrev KeptSo : Type 0
-  KeptSo = ShowsKept may_leave clock since old.journal.disk payloads kept.journal.disk wrote now_written c d status
-
-  -- the image of the build that stands by these records is that of the last one
-  closing_is : (b : Parts T) (script agents : List ℕ) (all : List (List ℕ)) → StandsBy stance b script agents all → (p : List ℕ) (ps : List (List ℕ)) (image : Image) → all ≡ p ∷ ps → Closing image (last_of p ps) → image_in stance b ≡ image
-  closing_is b script agents all stands p ps image is closing =
-      let s = subst (λ (qs : List (List ℕ)). StandsBy stance b script agents qs) is stands in
-      sym s.2.is ∙ ap (λ (r : EventRecord). r.image) (one_record s.2.last closing.last (last_of p ps) s.2.spells closing.spells) ∙ closing.is
-
-  shows_kept : TellsRest (StandsFor stance kept.build) kept.build.shared.log wrote now_written c d status → KeepsOn reads may_leave clock since stance old kept payloads → KeptSo
-  shows_kept told k = record {
-    more = k.0;
-    at_end = λ image left. stores_has reads may_leave kept.journal.disk kept.journal.len (payloads ++ k.0) image k.1.holds left;
-    moments = k.2;
-    shown = λ p ps image is closing. (
-      told.ended,
-      told.known,
-      subst (λ (l : List ℕ). Writes wrote now_written c d l told.ended status)
-          (told.shown ∙ ap (λ (i : Image). i.log) (closing_is kept.build kept.script kept.agents (payloads ++ k.0) k.1.stands p ps image is closing)) told.wrote,
-    );
-  }
-
-  pub ended_kept : (ended : Result Rest TakeFault) → TellsEnd (StandsFor stance kept.build) kept.build.shared.log wrote now_written c d ended status
-      → IfOk ended (λ rest. (ps : List (List ℕ)) → Keeps reads may_leave stance old ps → ∥ KeepsOn reads may_leave clock since stance old kept ps ∥₁) → Keeps reads may_leave stance old payloads → IsBroken status ⊎ ∥ KeptSo ∥₁
-  ended_kept (Ok AnswersFailed) told keeps has = inl (inl told.0)
-  ended_kept (Ok Ended) told keeps has = inr (∥∥₁_map (keeps payloads has) (shows_kept told))
-  ended_kept (Ok Waits) told keeps has = inr (∥∥₁_map (keeps payloads has) (shows_kept told))
-  ended_kept (Err f) told keeps has = inl (subst IsBroken (sym told.2) (broken_status f told.0 told.1))

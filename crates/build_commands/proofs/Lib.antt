@@ -3,6 +3,8 @@ mod StoreLemmas
 mod ShowLemmas
 mod FinishLemmas
 pub mod LivingLemmas
+pub mod LaunchLemmas
+mod KeepLemmas
 mod ResumeLemmas
 pub mod PlanLemmas
 mod BeginLemmas

@@ -4,7 +4,7 @@ use Rattle.std.specs.Prelude.{IfOk}
 use Rattle.std.proofs.Math.Logic.{∥∥₁_map}
 use Rattle.std.proofs.Math.Seq.{take-append_seam}
 use Rattle.std.specs.Io.KnownBytes.{IsAtEnd}
-use Rattle.std.specs.List.{AllZip, IsDistinct}
+use Rattle.std.specs.List.{AllZip}
 use Rattle.device_faults.specs.Faults.{Rose}
 use Rattle.task_host.specs.declared.call.Call.{Call}
 use Rattle.task_host.specs.declared.order.Stream.{Stream}
@@ -23,18 +23,19 @@ use Rattle.script_run.specs.Standing.{IsProper}
 use Rattle.settle_laws.specs.Stances.{Stance}
 use Rattle.launch_laws.proofs.LifeLaws.{all_fit_more}
 use Rattle.site_state.specs.declared.ask.Entry.{Entry}
-use Rattle.site_life.specs.Turns.{DidTurn, Turn}
+use Rattle.site_life.specs.Turns.{Turn}
 use Rattle.site_life.specs.Waiting.{operators}
-use Rattle.site_life.specs.Ways.{Way}
 use Rattle.site_run.specs.Ending.{AllReadOut, any_failed}
 use Rattle.site_run.specs.Going.{begins}
 use Rattle.site_run.specs.Lives.{Ends, OpeningBreaks}
+use Rattle.site_run.specs.Replies.{replies}
 use Rattle.site_run.specs.Serving.{AreServed, ReadOn, hosts_of}
 use Rattle.site_run.specs.Telling.{AreHeard}
+use Rattle.site_run.proofs.CloseLemmas.{no_turns}
 use Rattle.site_run.proofs.MemberLemmas.{all_came, all_served}
 use Rattle.site_run.proofs.WalkLemmas.{of_tree, small}
 use Rattle.site_crew.specs.Crews.{answers_in, hosts_in, IsCrew, members_of, others_of}
-use Rattle.build_commands.specs.Living.{HeardOf, HostsStay, LifeOf, TakesBy}
+use Rattle.build_commands.specs.Living.{HeardOf, HostsStay, TakesBy}
 
 same_answers : {A : Type 0} (a b : A) → a ∷ [] ≡ b ∷ [] → a ≡ b
 same_answers a b is = cc
@@ -188,29 +189,13 @@ module _ {H A : Type 0} where
 
 module _ {H A : Type 0} (honest : H → Type 0) (faults : H → ℕ) (calls : H → Option (List Call)) (launches dirs : H → List ℕ) (output : H → ℕ → Stream → List ℕ) (exited : H → ℕ → Option ℤ)
     (left : A → Option (List ℕ)) (source_faults : A → ℕ) (looks : ℕ) where
-  abbrev Did : Turn H A → Type 0
-  Did = DidTurn honest faults calls launches dirs output exited left source_faults looks
-
-  abbrev LifeSo : List (Member H A) → List (Member H A) → List (Turn H A) → List Entry → Type 0
-  LifeSo = LifeOf honest faults calls launches dirs output exited left source_faults looks
-
   abbrev TakesSo : Setting → List Event → List (Member H A) → List (Member H A) → List (Turn H A) → List Entry → List Event → Type 0
   TakesSo = TakesBy honest faults calls launches dirs output exited left source_faults looks
 
   -- members who had no turn
-  no_ways : (members : List (Member H A)) → AllZip (Way Did []) members members
-  no_ways [] = tt
-  no_ways (m ∷ ms) = (record { turns = []; chain = refl; did = tt; own = []; made = refl; others = []; part = (refl, refl) }, no_ways ms)
-
-  pub no_life : (members : List (Member H A)) → LifeSo members members [] []
-  unfolding IsDistinct
-  no_life members = record {
-    did = tt;
-    ways = no_ways members;
-    launched_once = tt;
-    served = all_served honest faults calls launches dirs output exited left source_faults looks (λ (t : Told). Unit {0}) (λ (c : ClaimedTask). Unit {0}) members members []
-        (all_came honest faults calls launches dirs output exited left source_faults looks (λ (t : Told). Unit {0}) (λ (c : ClaimedTask). Unit {0}) members [] members refl tt tt tt);
-  }
+  pub still_served : (members : List (Member H A)) → AreServed honest faults calls left source_faults members members
+  still_served members = all_served honest faults calls launches dirs output exited left source_faults looks (λ (t : Told). Unit {0}) (λ (c : ClaimedTask). Unit {0}) members members []
+      (all_came honest faults calls launches dirs output exited left source_faults looks (λ (t : Told). Unit {0}) (λ (c : ClaimedTask). Unit {0}) members [] members refl tt tt tt)
 
   -- and took nothing
   pub no_events : {T : Type 0} (stance : T → Stance) (setting : Setting) → IsProper setting → (before : List Event) → (world_in setting before).started ≡ true → (members : List (Member H A)) → TakesSo setting before members members [] [] before
@@ -220,6 +205,7 @@ module _ {H A : Type 0} (honest : H → Type 0) (faults : H → ℕ) (calls : H 
     granted = [];
     are_grants = tt;
     is = sym (append-nil (before ++ []) ∙ append-nil before);
+    led = no_turns honest faults calls launches dirs output exited left source_faults looks (replies setting) (before ++ []) members;
     claims = tt;
     orders = tt;
     in_time = tt;
@@ -239,6 +225,7 @@ module _ {H A : Type 0} (honest : H → Type 0) (faults : H → ℕ) (calls : H 
     granted = b.granted;
     are_grants = b.are_grants;
     is = sym (append-nil (events ++ b.granted));
+    led = no_turns honest faults calls launches dirs output exited left source_faults looks (replies setting) (events ++ b.granted) members;
     claims = tt;
     orders = tt;
     in_time = tt;
@@ -258,6 +245,7 @@ module _ {H A : Type 0} (honest : H → Type 0) (faults : H → ℕ) (calls : H 
     granted = e.granted;
     are_grants = e.are_grants;
     is = e.is;
+    led = e.led;
     claims = e.claims;
     orders = e.orders;
     in_time = e.in_time one;

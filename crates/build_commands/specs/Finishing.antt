@@ -4,6 +4,7 @@ use Rattle.device_faults.specs.Faults.{Rose}
 use Rattle.jp_disk.specs.Moments.{AtEachMoment}
 use Rattle.agent_worker.specs.declared.fault.TakeFault.{TakeFault}
 use Rattle.model_run.specs.declared.event.Event.{Event}
+use Rattle.image_form.specs.declared.image.Image.{Image}
 use Rattle.model_run.specs.State.{Setting}
 use Rattle.model_run.specs.World.{Build, world_in}
 use Rattle.run_command.specs.Statuses.{world_status, HasLog}
@@ -14,6 +15,7 @@ use Rattle.durable_build.specs.Taking.{added}
 use Rattle.saved_run.specs.Lives.{image_after, IsNext}
 use Rattle.saved_run.specs.Saved.{Stores, Survives, journal_length}
 use Rattle.build_commands.specs.declared.refusal.Refusal.{Refusal}
+use Rattle.build_commands.specs.Reporting.{image_status}
 use Rattle.build_commands.specs.Refusals.{SaysTake, refusal_status, refusal_text}
 use Rattle.build_commands.specs.Texts.{disk_failed_text, full_text, out_of_memory_text}
 use Rattle.build_commands.specs.Writing as writing
@@ -65,13 +67,14 @@ module _ {D : Type 0} (reads : D → Option (List ℕ)) (may_leave : D → List 
     by_break : {text : List ℕ} {status : ℕ} → Breaks disk_before disk_after answers_before answers_after status text → writing.Tells old new sink_before sink_after text
         → Finishes disk_before disk_after answers_before answers_after old new sink_before sink_after status
 
--- The log of a build that rests was written, whole or its front, with the status of whatever build of the definitions it stands for; `here` is its log.
-pub record TellsRest (Stands : Build → Type 0) (here : List ℕ) (old new : Option (List ℕ)) (sink_before sink_after status : ℕ) : Type 0 where
+-- The log of a build that rests was written, whole or its front, with the status of whatever build of the definitions it stands for: both are those of its image.
+pub record TellsRest (Stands : Build → Type 0) (image : Image) (old new : Option (List ℕ)) (sink_before sink_after status : ℕ) : Type 0 where
   pub log : List ℕ
   pub ended : ℕ
   pub known : HasLog ended
   pub wrote : Writes old new sink_before sink_after log ended status
-  pub shown : log ≡ here
+  pub shown : log ≡ image.log
+  pub by_image : ended ≡ image_status image
   pub is : (w : Build) → Stands w → (log ≡ w.shared.log) × (ended ≡ world_status w)
 
 -- What was written of a build that broke off by this fault, and with which status.
@@ -79,7 +82,7 @@ abbrev pub TellsBreak : Option (List ℕ) → Option (List ℕ) → ℕ → ℕ 
 TellsBreak old new c d fault status = (refusal : Refusal) × SaysTake fault refusal × (status ≡ refusal_status refusal) × writing.Tells old new c d (refusal_text refusal)
 
 -- What was written of a build that has gone on, and with which status.
-abbrev pub TellsEnd : (Build → Type 0) → List ℕ → Option (List ℕ) → Option (List ℕ) → ℕ → ℕ → Result Rest TakeFault → ℕ → Type 0
-TellsEnd Stands here old new c d (Ok AnswersFailed) status = (status ≡ 6) × writing.Tells old new c d read_failed_text
-TellsEnd Stands here old new c d (Ok rest) status = TellsRest Stands here old new c d status
-TellsEnd Stands here old new c d (Err fault) status = TellsBreak old new c d fault status
+abbrev pub TellsEnd : (Build → Type 0) → Image → Option (List ℕ) → Option (List ℕ) → ℕ → ℕ → Result Rest TakeFault → ℕ → Type 0
+TellsEnd Stands image old new c d (Ok AnswersFailed) status = (status ≡ 6) × writing.Tells old new c d read_failed_text
+TellsEnd Stands image old new c d (Ok rest) status = TellsRest Stands image old new c d status
+TellsEnd Stands image old new c d (Err fault) status = TellsBreak old new c d fault status

@@ -2,9 +2,11 @@ pub mod Texts
 pub mod Writing
 pub mod Refusals
 pub mod Showing
-pub mod Finishing
-pub mod Living
 pub mod Reporting
+pub mod Finishing
+pub mod Leading
+pub mod Launching
+pub mod Living
 pub mod Resuming
 pub mod Plans
 pub mod Checking

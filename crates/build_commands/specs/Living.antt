@@ -1,30 +1,29 @@
 -- The life of a build with its members, as a command sees it that lets it go on (this product's own).
-use Rattle.std.specs.Prelude.{◌≡◌, ◌⊎◌, ◌++◌, ◌∷◌, ℕ, ℤ, nat_eq, Bool, List, [], Option, true, false}
+use Rattle.std.specs.Prelude.{◌≡◌, ◌⊎◌, ◌++◌, ◌∷◌, ℕ, ℤ, Bool, List, [], Option, true, false}
 use Rattle.std.specs.Io.KnownBytes.{Consumes, IsAtEnd}
-use Rattle.std.specs.List.{AllByRecursion as AllAre, AllZip, IsDistinct}
+use Rattle.std.specs.List.{AllByRecursion as AllAre, AllZip}
 use Rattle.device_faults.specs.Faults.{Rose}
 use Rattle.task_host.specs.declared.call.Call.{Call}
 use Rattle.task_host.specs.declared.order.Stream.{Stream}
 use Rattle.agent_worker.specs.AnswerBytes.{begun_after}
 use Rattle.agent_worker.specs.declared.member.Member.{Member}
-use Rattle.agent_worker.specs.Gate.{Claimed as ClaimedTask}
 use Rattle.model_run.specs.declared.event.Event.{Event}
 use Rattle.model_run.specs.declared.taken.Taken.TheVariants.{Accepted}
 use Rattle.model_run.specs.State.{Setting}
 use Rattle.model_run.specs.World.{answer_to, world_in}
 use Rattle.launch_laws.specs.Fitting as fitting
 use Rattle.launch_laws.specs.Fitting.{ExecutorHost}
-use Rattle.launch_laws.specs.ManyTurns.{InLife}
 use Rattle.script_run.specs.declared.rest.Rest.TheVariants.{AnswersFailed, Waits}
 use Rattle.site_state.specs.declared.ask.Entry.{Entry}
 use Rattle.site_state.specs.Histories.{lines, tooks}
-use Rattle.site_gate.specs.Tales.{claimed_of, is_grant}
-use Rattle.site_life.specs.Turns.{DidTurn, Explains, HoldsOfOne, Turn, launches_of}
+use Rattle.site_gate.specs.Tales.{is_grant}
+use Rattle.site_life.specs.Lives.{LifeOf, any_reply}
+use Rattle.site_life.specs.Turns.{Explains, HoldsOfOne, Turn}
 use Rattle.site_life.specs.Coming.{EachIs}
-use Rattle.site_life.specs.Ways.{Way}
 use Rattle.site_run.specs.Ending.{RestsWith}
 use Rattle.site_run.specs.Going.{Comes, GoesBy, heard_in}
-use Rattle.site_run.specs.Telling.{HeardInTime, IsOrderOf, orders_in}
+use Rattle.site_run.specs.Replies.{replies}
+use Rattle.site_run.specs.Telling.{ClaimedInTime, HeardInTime, IsOrderOf, orders_in}
 use Rattle.site_run.specs.Serving.{AllFit, AreHonest, AreServed, HostStays}
 use Rattle.site_crew.specs.Crews.{answers_in, hosts_in, members_of, others_of}
 use Rattle.build_commands.specs.Finishing.{Finishes}
@@ -53,25 +52,19 @@ module _ {H A : Type 0} (honest : H → Type 0) (faults : H → ℕ) (calls : H 
   abbrev pub IsRefused : List (Turn H A) → Event → Type 0
   IsRefused turns e = HoldsOfOne (Explains honest faults calls launches dirs output exited left source_faults looks false e) turns
 
-  -- What the members of a build did: their turns, which are all that made the history; each member's own way through them; and what became of its host, or of
-  -- the answers. No task was launched twice, on whichever hosts.
-  pub record LifeOf (old new : List (Member H A)) (turns : List (Turn H A)) (history : List Entry) : Type 0 where
-    pub did : AllAre (DidTurn honest faults calls launches dirs output exited left source_faults looks) turns
-    pub ways : AllZip (Way (DidTurn honest faults calls launches dirs output exited left source_faults looks) history) old new
-    pub launched_once : IsDistinct nat_eq (launches_of turns)
-    pub served : AreServed honest faults calls left source_faults old new
-
-  -- A life from these events on, with which its build had begun: by grants that were due, by what executors reported with their cause, and by the decisions of the lines that were heard. Those
-  -- at its end are those at its beginning, the grants that a stop had left out, and those of the history. Each task was claimed while it was open, for its
-  -- executor, and each order that an executor got is that of a task which was open then; each line was heard only where an input was open since the line before it. The members' hosts, where they are honest, and all others fit the events at the end, and with one event more that is accepted, where they fitted
-  -- those at the beginning.
+  -- A life from these events on, with which its build had begun: by grants that were due, by what executors reported with their cause, and by the decisions of the
+  -- lines that were heard. Those at its end are those at its beginning, the grants that a stop had left out, and those of the history. The turns are those of a
+  -- life in which each ask was replied to by the build of the events then. Each task was claimed while it was open, for its executor, and each order that an
+  -- executor got is that of a task which was open then; each line was heard only where an input was open since the line before it. The members' hosts, where they
+  -- are honest, and all others fit the events at the end, and with one event more that is accepted, where they fitted those at the beginning.
   pub record TakesBy (setting : Setting) (before : List Event) (old new : List (Member H A)) (turns : List (Turn H A)) (history : List Entry) (events : List Event) : Type 0 where
     pub begun : (world_in setting before).started ≡ true
     pub goes : GoesBy setting (IsReported turns) before events (lines history)
     pub granted : List Event
     pub are_grants : AllAre (λ e. is_grant e ≡ true) granted
     pub is : events ≡ (before ++ granted) ++ tooks history
-    pub claims : AllAre (λ (c : ClaimedTask). InLife setting (before ++ granted) (tooks history) c.executor c.task) (claimed_of history)
+    pub led : LifeOf honest faults calls launches dirs output exited left source_faults looks (replies setting) (before ++ granted) old new turns history
+    pub claims : EachIs (ClaimedInTime setting (before ++ granted)) [] history
     pub orders : AllAre (λ (turn : Turn H A). AllAre (IsOrderOf setting (before ++ granted) (tooks history)) (orders_in turn.calls)) turns
     pub in_time : EachIs (HeardInTime setting (before ++ granted)) [] history
     pub fits : AreHonest honest old → AllFit launches dirs setting before old → AllFit launches dirs setting events new
@@ -83,29 +76,30 @@ module _ {H A : Type 0} (honest : H → Type 0) (faults : H → ℕ) (calls : H 
   abbrev pub ComesBy : Setting → List (Turn H A) → List Event → Event → Type 0
   ComesBy setting turns events event = ((is_grant event ≡ true) ⊎ IsRefused turns event) × ((heard : List (List ℕ)) × Comes setting (IsRefused turns) events event heard)
 
-  -- A life over a build: its members, which are made of these hosts and answers, what they did and became; and hosts and answers as they came back.
-  pub record Lived (setting : Setting) (hosts rest : List H) (answers unread : A) : Type 0 where
+  -- A life over a build, with this history: its members, which are made of these hosts and answers, their turns, which made all of the history, and what they
+  -- became, whatever they were replied; and hosts and answers as they came back.
+  pub record Lived (setting : Setting) (hosts rest : List H) (answers unread : A) (history : List Entry) : Type 0 where
     pub new : List (Member H A)
     pub turns : List (Turn H A)
-    pub history : List Entry
-    pub life : LifeOf (members_of setting.site.executors hosts answers) new turns history
+    pub life : LifeOf honest faults calls launches dirs output exited left source_faults looks any_reply tt (members_of setting.site.executors hosts answers) new turns history
+    pub served : AreServed honest faults calls left source_faults (members_of setting.site.executors hosts answers) new
     pub hosts_are : rest ≡ hosts_in new ++ others_of setting.site.executors hosts
     pub answers_are : answers_in new ≡ unread ∷ []
 
   -- the events of such a life
-  abbrev pub LivedBy : (setting : Setting) → List Event → {hosts rest : List H} → {answers unread : A} → Lived setting hosts rest answers unread → List Event → Type 0
-  LivedBy setting before {hosts} {rest} {answers} lived events = TakesBy setting before (members_of setting.site.executors hosts answers) lived.new lived.turns lived.history events
+  abbrev pub LivedBy : (setting : Setting) → List Event → {hosts rest : List H} → {answers unread : A} → {history : List Entry} → Lived setting hosts rest answers unread history → List Event → Type 0
+  LivedBy setting before {hosts} {rest} {answers} {unread} {history} lived events = TakesBy setting before (members_of setting.site.executors hosts answers) lived.new lived.turns history events
 
 module _ {D H A : Type 0} (reads : D → Option (List ℕ)) (may_leave : D → List ℕ → Type 0) (clock : D → ℕ) (since : D → ℕ → List ℕ → Type 0)
     (honest : H → Type 0) (faults : H → ℕ) (calls : H → Option (List Call)) (launches dirs : H → List ℕ) (output : H → ℕ → Stream → List ℕ) (exited : H → ℕ → Option ℤ)
     (left : A → Option (List ℕ)) (source_faults : A → ℕ) (looks : ℕ) where
   -- How a life over a build ended.
-  pub record Finished (setting : Setting) (entry : Option (List ℕ)) (origin : D) (before : List Event) (hosts rest : List H) (answers unread : A) (disk : D) (disk_before disk_after : ℕ)
+  pub record Finished (setting : Setting) (entry : Option (List ℕ)) (origin : D) (before : List Event) (hosts rest : List H) (answers unread : A) (history : List Entry) (disk : D) (disk_before disk_after : ℕ)
       (written now : Option (List ℕ)) (sink_before sink_after status : ℕ) : Type 0 where
-    pub lived : Lived honest faults calls launches dirs output exited left source_faults looks setting hosts rest answers unread
+    pub lived : Lived honest faults calls launches dirs output exited left source_faults looks setting hosts rest answers unread history
     pub finishes : Finishes reads may_leave clock since
         (LivedBy honest faults calls launches dirs output exited left source_faults looks setting before lived)
         (ComesBy honest faults calls launches dirs output exited left source_faults looks setting lived.turns)
         (λ events. RestsWith Waits setting (world_in setting events) lived.new) (λ events. RestsWith AnswersFailed setting (world_in setting events) lived.new)
-        (∥ HeardOf left source_faults answers unread (lines lived.history) ∥₁)
+        (∥ HeardOf left source_faults answers unread (lines history) ∥₁)
         setting entry origin before disk disk_before disk_after (source_faults answers) (source_faults unread) written now sink_before sink_after status

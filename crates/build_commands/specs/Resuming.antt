@@ -1,14 +1,16 @@
 -- What `resume` does with a consistent store (this product's own).
-use Rattle.std.specs.Prelude.{◌≡◌, ◌⊎◌, ℕ, ℤ, List, [], Option, Some, IfSome, max}
+use Rattle.std.specs.Prelude.{◌≡◌, ℕ, ℤ, List, [], Option, Some, IfSome, max}
 use Rattle.device_faults.specs.Faults.{Rose}
 use Rattle.jp_disk.specs.Moments.{AtEachMoment}
-use Rattle.journal_core.specs.Records.{Has}
 use Rattle.model_run.specs.declared.event.Event.{Event}
 use Rattle.model_run.specs.State.{Setting}
 use Rattle.task_host.specs.declared.call.Call.{Call}
 use Rattle.task_host.specs.declared.order.Stream.{Stream}
+use Rattle.site_state.specs.declared.ask.Entry.{Entry}
+use Rattle.build_commands.specs.Launching.{LaunchedOnce}
+use Rattle.build_commands.specs.Leading.{IsLed}
 use Rattle.build_commands.specs.Living.{Finished, HostsStay}
-use Rattle.build_commands.specs.Reporting.{IsBroken, Reports, ShowsKept}
+use Rattle.build_commands.specs.Reporting.{LeavesStore, Reports}
 use Rattle.build_commands.specs.Showing.{HasBuild, NotTold}
 use Rattle.build_commands.specs.Texts.{disk_failed_text, no_build_text, out_of_memory_text}
 use Rattle.build_commands.specs.Writing as writing
@@ -24,30 +26,32 @@ pub record IsUntouched {D : Type 0} (reads : D → Option (List ℕ)) (may_leave
   pub same : (file : List ℕ) → reads old ≡ Some file → reads now ≡ Some file
   pub moments : AtEachMoment clock since old now (may_leave old)
 
--- a command that lets no build go on gives hosts and answers back as they were
-abbrev pub GivesBack : {H A : Type 0} → List H → List H → A → A → Type 0
-GivesBack hosts rest answers unread = (rest ≡ hosts) × (unread ≡ answers)
+-- a command that lets no build go on gives hosts and answers back as they were, and has no history
+abbrev pub GivesBack : {H A : Type 0} → List H → List H → A → A → List Entry → Type 0
+GivesBack hosts rest answers unread history = (rest ≡ hosts) × (unread ≡ answers) × (history ≡ [])
 
 module _ {D H A : Type 0} (reads : D → Option (List ℕ)) (may_leave : D → List ℕ → Type 0) (clock : D → ℕ) (since : D → ℕ → List ℕ → Type 0) (faults : D → ℕ)
     (honest : H → Type 0) (host_faults : H → ℕ) (calls : H → Option (List Call)) (launches dirs : H → List ℕ) (output : H → ℕ → Stream → List ℕ) (exited : H → ℕ → Option ℤ)
-    (left : A → Option (List ℕ)) (source_faults : A → ℕ) (hosts rest : List H) (answers unread : A) where
+    (left : A → Option (List ℕ)) (source_faults : A → ℕ) (hosts rest : List H) (answers unread : A) (history : List Entry) where
   module _ (setting : Setting) (events : List Event) (old disk : D) where
     -- The store was not opened, and nothing was written; or it was, at a moment up to which a crash leaves nothing new, and its build went on.
     pub data Resumes (written now : Option (List ℕ)) (sink_before sink_after : ℕ) : ℕ → Type 0 where
-      refused : {status : ℕ} {text : List ℕ} → GivesBack hosts rest answers unread → IsUntouched reads may_leave clock since old disk → NotOpened events (faults old) (faults disk) status text → writing.Tells written now sink_before sink_after text
+      refused : {status : ℕ} {text : List ℕ} → GivesBack hosts rest answers unread history → IsUntouched reads may_leave clock since old disk → NotOpened events (faults old) (faults disk) status text → writing.Tells written now sink_before sink_after text
           → Resumes written now sink_before sink_after status
       went_on : {status : ℕ} (opened : D) → AtEachMoment clock since old opened (may_leave old) → faults opened ≡ faults old
           → Reports (faults old) (faults disk) (source_faults answers) (source_faults unread) written now sink_before sink_after status
-          → ∥ Finished reads may_leave clock since honest host_faults calls launches dirs output exited left source_faults (max setting.site.looks 1) setting (reads old) opened events hosts rest answers unread disk
+          → ∥ Finished reads may_leave clock since honest host_faults calls launches dirs output exited left source_faults (max setting.site.looks 1) setting (reads old) opened events hosts rest answers unread history disk
           (faults opened) (faults disk) written now sink_before sink_after status ∥₁
           → Resumes written now sink_before sink_after status
 
-  -- What `resume` comes to over any store: it was not opened, no answer was read and nothing was written; or it was, and its build went on.
+  -- What `resume` comes to over any store, also one of which the disk tells nothing: it was not opened, no answer was read and nothing was written; or it was, and its
+  -- build went on, in a life of members that are made of these hosts and answers.
   pub data Reopens (old disk : D) (written now : Option (List ℕ)) (sink_before sink_after : ℕ) : ℕ → Type 0 where
-    unopened : {status : ℕ} {text : List ℕ} → GivesBack hosts rest answers unread → IsUntouched reads may_leave clock since old disk → NotTold (reads old) (faults old) (faults disk) status text → writing.Tells written now sink_before sink_after text
+    unopened : {status : ℕ} {text : List ℕ} → GivesBack hosts rest answers unread history → IsUntouched reads may_leave clock since old disk → NotTold (reads old) (faults old) (faults disk) status text → writing.Tells written now sink_before sink_after text
         → Reopens old disk written now sink_before sink_after status
-    goes_on : {status : ℕ} → IfSome (reads old) HasBuild → HostsStay honest host_faults calls hosts rest
-        → ((file : List ℕ) → reads old ≡ Some file → (payloads : List (List ℕ)) × (opened : D) × Has payloads file × AtEachMoment clock since old opened (may_leave old)
-        × (IsBroken status ⊎ ∥ ShowsKept may_leave clock since opened payloads disk written now sink_before sink_after status ∥₁))
+    goes_on : {status : ℕ} (setting : Setting)
+        → IsLed honest host_faults calls launches dirs output exited left source_faults (max setting.site.looks 1) setting hosts rest answers unread history written now sink_before sink_after status
+        → HostsStay honest host_faults calls hosts rest → LaunchedOnce launches hosts rest → IfSome (reads old) HasBuild
+        → ((file : List ℕ) → reads old ≡ Some file → LeavesStore may_leave clock since setting file old disk written now sink_before sink_after status)
         → Reports (faults old) (faults disk) (source_faults answers) (source_faults unread) written now sink_before sink_after status
         → Reopens old disk written now sink_before sink_after status

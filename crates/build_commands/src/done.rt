@@ -1,5 +1,7 @@
 //! How a command ends.
 
+use site_state::History;
+
 /// How a command over the store of a build has ended that lets no build go on.
 #[derive(Drop)]
 pub struct Done<D> {
@@ -20,4 +22,6 @@ pub struct Ended<D, H, A> {
     pub hosts: Vec<H>,
     /// The answers, as far as they were not read.
     pub answers: A,
+    /// What happened in the life that the call led, behind the grants that a stop had left out; empty where it led none.
+    pub history: History,
 }

@@ -1,15 +1,18 @@
 //! How a command ends that lets a life go on.
 ghost use Rattle.std.specs.Prelude.{◌≡◌, ◌⊎◌, ◌≤◌, ◌<◌, ◌+◌, false, true, max, ℕ, List, Option, reverse, vec_len, vec_capacity};
-ghost use Rattle.build_core.specs.Builds.{StandsFor};
+ghost use Rattle.build_core.specs.Builds.{StandsFor, setting_in};
 ghost use Rattle.build_core.specs.Phases.{has_begun};
+ghost use Rattle.build_images.specs.Images.{image_in};
 ghost use Rattle.model_run.specs.declared.event.Event.{Event as AnEvent};
 ghost use Rattle.model_run.specs.declared.site.Executor.{Executor as SiteExecutor};
 ghost use Rattle.model_run.specs.State.{Setting};
 ghost use Rattle.durable_build.specs.Standing.{Keeps};
 ghost use Rattle.saved_run.specs.Lives.{Lasts};
 ghost use Rattle.site_crew.specs.Crews.{IsCrew, members_of, others_of};
-ghost use Rattle.build_commands.specs.Reporting.{IsBroken, Reports, ShowsKept};
+ghost use Rattle.build_commands.specs.Reporting.{KeepsRecords, Reports};
 ghost use Rattle.build_commands.specs.Finishing.{TellsEnd, TellsRest};
+ghost use Rattle.build_commands.specs.Launching.{LaunchedOnce};
+ghost use Rattle.build_commands.specs.Leading.{IsLed};
 ghost use Rattle.build_commands.specs.Living.{Finished, HostsStay};
 
 use crate::done::Ended;
@@ -38,7 +41,7 @@ use task_host::Host;
 /// | 6 | only where an input is open and the answers counted a fault | `controller: read failed` |
 /// | 7 | only where the sink counted a fault | a part of the log, from its beginning |
 /// | 0, 1, 10, 11, 12 | only where the build has ended so | its log |
-/// | 3 | only where no grant is due, and no input is open or the answers were read to their end | the log so far |
+/// | 3 | only where no grant is due, no task is open, and no input is open or the answers were read to their end | the log so far |
 /// | 8 | want of memory | `controller: out of memory` |
 ///
 /// `threads` says how many members work at once; with 1 they work one after the other, in their order. It may wait for ever, as the
@@ -61,13 +64,16 @@ pub fn finish<
     requires running { durable.stopped ≡ false }
     requires begun { has_begun durable.build.phase ≡ true }
     ensures stay { HostsStay H.honest H.faults H.calls hosts.items result.hosts.items }
+    ensures launched { LaunchedOnce H.launches hosts.items result.hosts.items }
+    ensures led { IsLed H.honest H.faults H.calls H.launches H.dirs H.output H.exited A.left A.faults (max (setting_in durable.build).site.looks 1) (setting_in durable.build)
+        hosts.items result.hosts.items answers result.answers result.history.items (K.written out.old) (K.written out.new) (K.faults out.old) (K.faults out.new) result.status }
     ensures reports { Reports (D.faults durable.journal.disk) (D.faults result.disk) (A.faults answers) (A.faults result.answers) (K.written out.old) (K.written out.new) (K.faults out.old) (K.faults out.new) result.status }
     ensures last { (payloads : List (List ℕ)) → Keeps D.reads D.may_leave R.stance durable payloads
-        → IsBroken result.status ⊎ ∥ ShowsKept D.may_leave D.clock D.may_have_left_since durable.journal.disk payloads result.disk (K.written out.old) (K.written out.new) (K.faults out.old) (K.faults out.new) result.status ∥₁ }
+        → ∥ KeepsRecords D.may_leave D.clock D.may_have_left_since durable.journal.disk payloads result.disk (K.written out.old) (K.written out.new) (K.faults out.old) (K.faults out.new) result.status ∥₁ }
     ensures finishes { (setting : Setting) (entry : Option (List ℕ)) (origin : D) (before : List AnEvent)
         → Lasts D.reads D.may_leave D.clock D.may_have_left_since R.stance setting entry origin before before durable
         → ∥ Finished D.reads D.may_leave D.clock D.may_have_left_since H.honest H.faults H.calls H.launches H.dirs H.output H.exited A.left A.faults (max setting.site.looks 1)
-        setting entry origin before hosts.items result.hosts.items answers result.answers result.disk (D.faults durable.journal.disk) (D.faults result.disk)
+        setting entry origin before hosts.items result.hosts.items answers result.answers result.history.items result.disk (D.faults durable.journal.disk) (D.faults result.disk)
         (K.written out.old) (K.written out.new) (K.faults out.old) (K.faults out.new) result.status ∥₁ }
 {
     let alloc = rt.alloc();
@@ -82,6 +88,7 @@ pub fn finish<
                 disk: durable.close(),
                 hosts,
                 answers,
+                history: Vec::new(alloc),
             }
         }
     }
@@ -110,14 +117,19 @@ fn live<
     requires room { vec_len crew.others + vec_len crew.members ≤ vec_capacity crew.others + 1 }
     ensures stay { (executors : List SiteExecutor) (hosts : List H) (answers : A) → crew.members.items ≡ members_of executors hosts answers
         → crew.others.items ≡ reverse (others_of executors hosts) → HostsStay H.honest H.faults H.calls hosts result.hosts.items }
+    ensures launched { (executors : List SiteExecutor) (hosts : List H) (answers : A) → crew.members.items ≡ members_of executors hosts answers
+        → crew.others.items ≡ reverse (others_of executors hosts) → LaunchedOnce H.launches hosts result.hosts.items }
+    ensures led { (setting : Setting) (hosts : List H) (answers : A) → crew.members.items ≡ members_of setting.site.executors hosts answers → crew.others.items ≡ reverse (others_of setting.site.executors hosts)
+        → IsLed H.honest H.faults H.calls H.launches H.dirs H.output H.exited A.left A.faults looks setting hosts result.hosts.items answers result.answers result.history.items
+        (K.written out.old) (K.written out.new) (K.faults out.old) (K.faults out.new) result.status }
     ensures reports { (executors : List SiteExecutor) (hosts : List H) (answers : A) → crew.members.items ≡ members_of executors hosts answers
         → Reports (D.faults durable.journal.disk) (D.faults result.disk) (A.faults answers) (A.faults result.answers) (K.written out.old) (K.written out.new) (K.faults out.old) (K.faults out.new) result.status }
     ensures last { (payloads : List (List ℕ)) → Keeps D.reads D.may_leave R.stance durable payloads
-        → IsBroken result.status ⊎ ∥ ShowsKept D.may_leave D.clock D.may_have_left_since durable.journal.disk payloads result.disk (K.written out.old) (K.written out.new) (K.faults out.old) (K.faults out.new) result.status ∥₁ }
+        → ∥ KeepsRecords D.may_leave D.clock D.may_have_left_since durable.journal.disk payloads result.disk (K.written out.old) (K.written out.new) (K.faults out.old) (K.faults out.new) result.status ∥₁ }
     ensures finishes { (hosts : List H) (answers : A) (setting : Setting) (entry : Option (List ℕ)) (origin : D) (before : List AnEvent) → crew.members.items ≡ members_of setting.site.executors hosts answers
         → crew.others.items ≡ reverse (others_of setting.site.executors hosts) → Lasts D.reads D.may_leave D.clock D.may_have_left_since R.stance setting entry origin before before durable
         → ∥ Finished D.reads D.may_leave D.clock D.may_have_left_since H.honest H.faults H.calls H.launches H.dirs H.output H.exited A.left A.faults looks
-        setting entry origin before hosts result.hosts.items answers result.answers result.disk (D.faults durable.journal.disk) (D.faults result.disk)
+        setting entry origin before hosts result.hosts.items answers result.answers result.history.items result.disk (D.faults durable.journal.disk) (D.faults result.disk)
         (K.written out.old) (K.written out.new) (K.faults out.old) (K.faults out.new) result.status ∥₁ }
 {
     let alloc = rt.alloc();
@@ -125,13 +137,14 @@ fn live<
     match go_on(rt, alloc, threads, durable, &mut crew.members, looks) {
         Ok(Lived { site, ended }) => {
             let status = tell_end(alloc, out, site.build(), ended);
-            let (disk, _) = site.close();
+            let (disk, history) = site.close();
             let (hosts, answers) = crew.dismiss();
             Ended {
                 status,
                 disk,
                 hosts,
                 answers,
+                history,
             }
         }
         Err((fault, disk)) => {
@@ -142,6 +155,7 @@ fn live<
                 disk,
                 hosts,
                 answers,
+                history: Vec::new(alloc),
             }
         }
     }
@@ -154,7 +168,7 @@ fn tell_end<R: SavedThread + Drop, K: Sink>(
     build: &Build<R>,
     ended: Result<Rest, TakeFault>,
 ) -> u8
-    ensures { TellsEnd (StandsFor R.stance build.now) build.now.shared.log (K.written out.old) (K.written out.new) (K.faults out.old) (K.faults out.new) ended result }
+    ensures { TellsEnd (StandsFor R.stance build.now) (image_in R.stance build.now) (K.written out.old) (K.written out.new) (K.faults out.old) (K.faults out.new) ended result }
 {
     match ended {
         Ok(Rest::AnswersFailed) => tell(out, &Refusal::ReadFailed),
@@ -165,7 +179,7 @@ fn tell_end<R: SavedThread + Drop, K: Sink>(
 
 /// Writes the log of a build that rests, and answers the exit status.
 fn tell_rest<R: SavedThread + Drop, K: Sink>(out: &mut K, build: &Build<R>) -> u8
-    ensures { TellsRest (StandsFor R.stance build.now) build.now.shared.log (K.written out.old) (K.written out.new) (K.faults out.old) (K.faults out.new) result }
+    ensures { TellsRest (StandsFor R.stance build.now) (image_in R.stance build.now) (K.written out.old) (K.written out.new) (K.faults out.old) (K.faults out.new) result }
 {
     tell_text(out, build.log(), build_status(build))
 }

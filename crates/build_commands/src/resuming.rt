@@ -28,11 +28,11 @@ use task_host::Host;
 /// | 6 | only where an input is open and the answers counted a fault | `controller: read failed` |
 /// | 7 | only where the sink counted a fault | a part of the log, from its beginning |
 /// | 0, 1, 10, 11, 12 | only where the build has ended so | its log |
-/// | 3 | only where no grant is due, and no input is open or the answers were read to their end | the log so far |
+/// | 3 | only where no grant is due, no task is open, and no input is open or the answers were read to their end | the log so far |
 /// | 8 | want of memory | `controller: out of memory` |
 ///
 /// `threads` says how many members work at once; with 1 they work one after the other, in their order. It may wait for ever, as the
-/// answers may.
+/// answers and the tasks may.
 pub fn resume<
     D: Disk + Send,
     R: SavedThread + Drop + Send,
@@ -41,10 +41,10 @@ pub fn resume<
     A: Source + Drop + Send,
     K: Sink,
 >(rt: &W, disk: D, hosts: Vec<H>, threads: usize, answers: A, out: &mut K) -> Ended<D, H, A>
-    ensures reopens { Reopens D.reads D.may_leave D.clock D.may_have_left_since D.faults H.honest H.faults H.calls H.launches H.dirs H.output H.exited A.left A.faults hosts.items result.hosts.items answers result.answers
+    ensures reopens { Reopens D.reads D.may_leave D.clock D.may_have_left_since D.faults H.honest H.faults H.calls H.launches H.dirs H.output H.exited A.left A.faults hosts.items result.hosts.items answers result.answers result.history.items
         disk result.disk (K.written out.old) (K.written out.new) (K.faults out.old) (K.faults out.new) result.status }
     ensures resumes { (file : List ℕ) → D.reads disk ≡ Some file → (setting : Setting) (events : List AnEvent) → Stores setting events file
-        → Resumes D.reads D.may_leave D.clock D.may_have_left_since D.faults H.honest H.faults H.calls H.launches H.dirs H.output H.exited A.left A.faults hosts.items result.hosts.items answers result.answers
+        → Resumes D.reads D.may_leave D.clock D.may_have_left_since D.faults H.honest H.faults H.calls H.launches H.dirs H.output H.exited A.left A.faults hosts.items result.hosts.items answers result.answers result.history.items
         setting events disk result.disk (K.written out.old) (K.written out.new) (K.faults out.old) (K.faults out.new) result.status }
 {
     let alloc = rt.alloc();
@@ -57,6 +57,7 @@ pub fn resume<
                 disk,
                 hosts,
                 answers,
+                history: Vec::new(alloc),
             }
         }
     }

@@ -31,12 +31,12 @@ use task_host::Host;
 /// | 5 | only where the disk counted a fault | `controller: disk failed` |
 /// | 7 | only where the sink counted a fault | a part of the log, from its beginning |
 /// | 0, 1, 10, 11, 12 | only where the build has ended so | its log |
-/// | 3 | only where no grant is due, and no input is open or the answers were read to their end | the log so far |
+/// | 3 | only where no grant is due, no task is open, and no input is open or the answers were read to their end | the log so far |
 /// | 8 | want of memory | `controller: out of memory` |
 ///
 /// The disk is called only where script and agents file are without a fault. Each of their sources is asked for at most one byte
 /// more than its file may have. `threads` says how many members work at once; with 1 they work one after the other, in their order. It
-/// may wait for ever, as the answers may.
+/// may wait for ever, as the answers and the tasks may.
 pub fn run<
     D: Disk + Send,
     R: SavedThread + Drop + Send,
@@ -55,7 +55,7 @@ pub fn run<
     answers: A,
     out: &mut K,
 ) -> Ended<D, H, A>
-    ensures runs { Runs D.reads D.may_leave D.clock D.may_have_left_since R.stance D.faults H.honest H.faults H.calls H.launches H.dirs H.output H.exited A.left A.faults disk result.disk hosts.items result.hosts.items answers result.answers
+    ensures runs { Runs D.reads D.may_leave D.clock D.may_have_left_since R.stance D.faults H.honest H.faults H.calls H.launches H.dirs H.output H.exited A.left A.faults disk result.disk hosts.items result.hosts.items answers result.answers result.history.items
         (K.written out.old) (K.written out.new) (K.faults out.old) (K.faults out.new) (taken_from S.left S.faults script.old script.new) (taken_from S.left S.faults agents.old agents.new) result.status }
     ensures most_script { TakesAtMost (script_limit + 1) (S.left script.old) (S.left script.new) }
     ensures most_agents { TakesAtMost (agents_limit + 1) (S.left agents.old) (S.left agents.new) }
@@ -69,6 +69,7 @@ pub fn run<
                 disk,
                 hosts,
                 answers,
+                history: Vec::new(rt.alloc()),
             }
         }
     }
@@ -92,7 +93,7 @@ fn begin<
     out: &mut K,
 ) -> Ended<D, H, A>
     requires builds { Builds plan.script plan.agents plan.tree plan.site }
-    ensures { Begins D.reads D.may_leave D.clock D.may_have_left_since R.stance D.faults H.honest H.faults H.calls H.launches H.dirs H.output H.exited A.left A.faults disk result.disk hosts.items result.hosts.items answers result.answers
+    ensures { Begins D.reads D.may_leave D.clock D.may_have_left_since R.stance D.faults H.honest H.faults H.calls H.launches H.dirs H.output H.exited A.left A.faults disk result.disk hosts.items result.hosts.items answers result.answers result.history.items
         (K.written out.old) (K.written out.new) (K.faults out.old) (K.faults out.new) plan.script plan.agents plan.tree plan.site result.status }
 {
     let alloc = rt.alloc();
@@ -111,6 +112,7 @@ fn begin<
                 disk,
                 hosts,
                 answers,
+                history: Vec::new(alloc),
             }
         }
     }

@@ -153,4 +153,4 @@ some_and (Some x) P Q more holds = more x holds
 abbrev pub FinishedIn : {D H A : Type 0} → Devices D H A → Call D H A → Setting → D → List Event → ℕ → Type 0
 FinishedIn v c setting origin before n =
     Finished v.reads v.may_leave v.clock v.since v.honest v.host_faults v.calls v.launches v.dirs v.output v.exited v.left v.source_faults (max setting.site.looks 1)
-    setting (v.reads c.disk) origin before c.hosts c.hosts_now c.answers c.answers_now c.now (v.faults origin) (v.faults c.now) c.old c.new c.sink_before c.sink_after n
+    setting (v.reads c.disk) origin before c.hosts c.hosts_now c.answers c.answers_now c.history c.now (v.faults origin) (v.faults c.now) c.old c.new c.sink_before c.sink_after n

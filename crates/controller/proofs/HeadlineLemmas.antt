@@ -23,7 +23,7 @@ use Rattle.controller.specs.Reads.{Reads, ReadsOf, ReadsNoFile}
 use Rattle.controller.proofs.CallLemmas.{is_command, one_command}
 use Rattle.controller.proofs.CheckLemmas.{check_outputs, check_says, check_judges, check_causes, check_known}
 use Rattle.controller.proofs.LaunchLemmas.{resume_launches, run_launches, same_launches, show_launches}
-use Rattle.controller.proofs.ResumeLemmas.{resume_unread, resume_says, resume_untold, resume_known, resume_outputs, resume_keeps, resume_crashes, resume_causes}
+use Rattle.controller.proofs.ResumeLemmas.{resume_unread, resume_says, resume_untold, resume_known, resume_any, resume_outputs, resume_crashes, resume_causes}
 use Rattle.controller.proofs.RunLemmas.{run_unread, run_outputs, run_says, run_crashes, run_judges, run_causes, run_known}
 use Rattle.controller.proofs.ShowLemmas.{show_says, show_outputs, show_untold, show_known}
 
@@ -36,7 +36,7 @@ module _ {D H A T : Type 0} (v : Devices D H A) (stance : T → Stance) (told_im
   output_by : DoesSo → (command : Command) → Is command c → OutputOf v command c
   output_by (does.usage unsaid files unled same two tells) k is = absurd (unsaid (is_command c k is))
   output_by (does.runs by files table) k is = subst (λ (command : Command). OutputOf v command c) (one_command c Run k by is) (run_outputs v stance told_image counts_now only_now c table)
-  output_by (does.resumes by files table) k is = subst (λ (command : Command). OutputOf v command c) (one_command c Resume k by is) (resume_outputs v told_image c table, resume_keeps v told_image c table.reopens)
+  output_by (does.resumes by files table) k is = subst (λ (command : Command). OutputOf v command c) (one_command c Resume k by is) (resume_outputs v told_image c table, resume_any v told_image c table.reopens)
   output_by (does.logs by files unled table) k is = subst (λ (command : Command). OutputOf v command c) (one_command c Log k by is) (show_outputs (λ (w : Build). w.shared.log) (λ (i : Image). i.log) v c table)
   output_by (does.graphs by files unled table) k is = subst (λ (command : Command). OutputOf v command c) (one_command c Graph k by is) (show_outputs (λ (w : Build). graph_text w.shared.nodes) (λ (i : Image). graph_text i.nodes) v c table)
   output_by (does.checks by files unled same table) k is = subst (λ (command : Command). OutputOf v command c) (one_command c Check k by is) (check_outputs c table)

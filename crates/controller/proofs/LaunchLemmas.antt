@@ -36,9 +36,11 @@ use Rattle.saved_run.specs.Saved.{Stores}
 use Rattle.saved_run.proofs.BeginLemmas.{mean_proper}
 use Rattle.site_run.proofs.ManyLemmas.{HasNow, all_once}
 use Rattle.build_commands.specs.Finishing.{ComesNext}
+use Rattle.build_commands.specs.Launching.{LaunchedOnce}
 use Rattle.build_commands.specs.Living.{HostsStay}
+use Rattle.build_commands.proofs.LaunchLemmas as since
 use Rattle.build_commands.proofs.LivingLemmas.{stay_same}
-use Rattle.controller.specs.Call.{Call, ComesIn, Devices, Finds, IsUnled}
+use Rattle.controller.specs.Call.{Call, ComesIn, Devices, Finds, IsUnled, LifeIn}
 use Rattle.controller.specs.Launches.{FitLeft, Launches, executor_hosts, tasks_on}
 use Rattle.controller.proofs.SiteLemmas.{Consecutive, site_seated, store_begun}
 
@@ -109,11 +111,14 @@ module _ {D H A T : Type 0} (v : Devices D H A) (stance : T → Stance) (told_im
     λ setting events finds are left. subst (λ (hs : List H). IsDistinct nat_eq (all_launches (executor_hosts v hs))) (sym same) (entry_once setting events finds left),
   )
 
+  pub unled_launched : IsUnled c → LaunchedOnce v.launches c.hosts c.hosts_now
+  unled_launched same = subst (λ (hs : List H). LaunchedOnce v.launches c.hosts hs) (sym same.0) (since.none_launched v.launches c.hosts)
+
   enough : length c.hosts ≡ 64 → (agents : List ℕ) (site : Site) → agents_file agents ≡ Means site → length site.executors ≤ length c.hosts
   enough many agents site means = subst (λ (n : ℕ). length site.executors ≤ n) (sym many) (site_seated agents site means).few
 
   unled : length c.hosts ≡ 64 → IsUnled c → LeavesFit → Launches v c
-  unled many same leaves = let so = unled_so c.hosts_now same.0 leaves in record { enough = enough many; stay = so.0; fit = so.1; once = so.2 }
+  unled many same leaves = let so = unled_so c.hosts_now same.0 leaves in record { enough = enough many; stay = so.0; led = inl same; launched = unled_launched same; fit = so.1; once = so.2 }
 
   -- the disk was not called
   pub same_disk : c.now ≡ c.disk → LeavesFit
@@ -186,9 +191,9 @@ module _ {D H A T : Type 0} (v : Devices D H A) (stance : T → Stance) (told_im
       (⊎_elim (λ kept. fit_records v stance told_image c setting events finds left finds.file image finds.told kept t es stores) (λ start. fit_fresh v stance told_image c left finds.file finds.told start.1 setting t es))
       (unbegun_image v stance told_image counts_now only_now c s a tree site builds finds.file f image five (refuses finds.file finds.told) leaves)
 
-  begun_launches : (s a : List ℕ) (tree : Tree) (site : Site) → Builds s a tree site → (started : D) → v.faults started ≡ v.faults c.disk → HostsStay v.honest v.host_faults v.calls c.hosts c.hosts_now
+  begun_launches : (s a : List ℕ) (tree : Tree) (site : Site) → Builds s a tree site → (started : D) → v.faults started ≡ v.faults c.disk → HostsStay v.honest v.host_faults v.calls c.hosts c.hosts_now → LaunchedOnce v.launches c.hosts c.hosts_now
       → ∥ FinishedIn v c (script_setting tree site) started (StartEvent s a ∷ []) c.status ∥₁ → ((file : List ℕ) → v.reads c.disk ≡ Some file → ¬ (IsStarted file)) → Launches v c
-  begun_launches s a tree site builds started same stay finishes fresh =
+  begun_launches s a tree site builds started same stay launched finishes fresh =
       let setting = script_setting tree site in
       let proper = mean_proper s a setting (mean_of builds) in
       let all = (site_seated a site builds.means).consecutive in
@@ -197,6 +202,8 @@ module _ {D H A T : Type 0} (v : Devices D H A) (stance : T → Stance) (told_im
       record {
         enough = enough v stance told_image c many;
         stay = stay;
+        led = inr (∥∥₁_map finishes (λ f. (setting, f.lived)));
+        launched = launched;
         fit = λ t es finds are left. life_fits setting proper all started first same finishes (ap is_some finds.told) are (fits t es finds left);
         once = λ t es finds are left. life_once setting proper all started first same finishes are (fits t es finds left);
       }
@@ -205,21 +212,31 @@ module _ {D H A T : Type 0} (v : Devices D H A) (stance : T → Stance) (told_im
   run_by (begin.refused refused same unled tells) is = unled_here unled (same_disk v stance told_image c same)
   run_by (begin.built {s = s} {a = a} {tree = tree} {site = site} give (begin.unbegun {fault = f} unled says counts sizes refuses tells)) is =
       unled_here unled (unbegun_leaves s a tree site give.builds f (λ disk. sym is ∙ begin_disk says disk) refuses)
-  run_by (begin.built {s = s} {a = a} {tree = tree} {site = site} give (begin.begun started same stay reports finishes over)) is =
-      begun_launches s a tree site give.builds started same stay (subst (λ (m : ℕ). ∥ FinishedIn v c (script_setting tree site) started (StartEvent s a ∷ []) m ∥₁) is finishes) (λ file told. (over file told).fresh)
+  run_by (begin.built {s = s} {a = a} {tree = tree} {site = site} give (begin.begun started same stay launched reports finishes over)) is =
+      begun_launches s a tree site give.builds started same stay launched (subst (λ (m : ℕ). ∥ FinishedIn v c (script_setting tree site) started (StartEvent s a ∷ []) m ∥₁) is finishes) (λ file told. (over file told).fresh)
 
   pub run_launches : RunsBy v stance c c.status → Launches v c
   run_launches runs = run_by runs refl
 
   -- `resume`
   abbrev ResumesSo : Setting → List Event → ℕ → Type 0
-  ResumesSo setting events n = Resumes v.reads v.may_leave v.clock v.since v.faults v.honest v.host_faults v.calls v.launches v.dirs v.output v.exited v.left v.source_faults c.hosts c.hosts_now c.answers c.answers_now
+  ResumesSo setting events n = Resumes v.reads v.may_leave v.clock v.since v.faults v.honest v.host_faults v.calls v.launches v.dirs v.output v.exited v.left v.source_faults c.hosts c.hosts_now c.answers c.answers_now c.history
       setting events c.disk c.now c.old c.new c.sink_before c.sink_after n
 
-  reopens_stay : {n : ℕ} → Reopens v.reads v.may_leave v.clock v.since v.faults v.honest v.host_faults v.calls v.launches v.dirs v.output v.exited v.left v.source_faults c.hosts c.hosts_now c.answers c.answers_now
+  reopens_stay : {n : ℕ} → Reopens v.reads v.may_leave v.clock v.since v.faults v.honest v.host_faults v.calls v.launches v.dirs v.output v.exited v.left v.source_faults c.hosts c.hosts_now c.answers c.answers_now c.history
       c.disk c.now c.old c.new c.sink_before c.sink_after n → HostsStay v.honest v.host_faults v.calls c.hosts c.hosts_now
   reopens_stay (resume.unopened unled same why tells) = subst (λ (hs : List H). HostsStay v.honest v.host_faults v.calls c.hosts hs) (sym unled.0) (stay_same v.honest v.host_faults v.calls v.left v.source_faults c.hosts)
-  reopens_stay (resume.goes_on has stay kept reports) = stay
+  reopens_stay (resume.goes_on setting led stay launched has store reports) = stay
+
+  reopens_led : {n : ℕ} → Reopens v.reads v.may_leave v.clock v.since v.faults v.honest v.host_faults v.calls v.launches v.dirs v.output v.exited v.left v.source_faults c.hosts c.hosts_now c.answers c.answers_now c.history
+      c.disk c.now c.old c.new c.sink_before c.sink_after n → IsUnled c ⊎ ∥ ((setting : Setting) × LifeIn v setting c) ∥₁
+  reopens_led (resume.unopened unled same why tells) = inl unled
+  reopens_led (resume.goes_on setting led stay launched has store reports) = inr ∣ (setting, led.lived) ∣₁
+
+  reopens_launched : {n : ℕ} → Reopens v.reads v.may_leave v.clock v.since v.faults v.honest v.host_faults v.calls v.launches v.dirs v.output v.exited v.left v.source_faults c.hosts c.hosts_now c.answers c.answers_now c.history
+      c.disk c.now c.old c.new c.sink_before c.sink_after n → LaunchedOnce v.launches c.hosts c.hosts_now
+  reopens_launched (resume.unopened unled same why tells) = unled_launched v stance told_image c unled
+  reopens_launched (resume.goes_on setting led stay launched has store reports) = launched
 
   -- a store's setting is that of a script, with executors numbered one after the other
   went_fits : (setting : Setting) (events : List Event) → Finds v setting events c → (opened : D) → v.faults opened ≡ v.faults c.disk → ∥ FinishedIn v c setting opened events c.status ∥₁ → AllAre v.honest c.hosts → FitLeft v c.disk c.hosts
@@ -247,6 +264,8 @@ module _ {D H A T : Type 0} (v : Devices D H A) (stance : T → Stance) (told_im
   resume_launches by = record {
     enough = enough v stance told_image c many;
     stay = reopens_stay by.reopens;
+    led = reopens_led by.reopens;
+    launched = reopens_launched by.reopens;
     fit = λ setting events finds are left. (resume_fits setting events finds (by.resumes finds.file finds.told setting events finds.stores) refl are left).0;
     once = λ setting events finds are left. (resume_fits setting events finds (by.resumes finds.file finds.told setting events finds.stores) refl are left).1;
   }

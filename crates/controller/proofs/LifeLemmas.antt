@@ -84,7 +84,7 @@ module _ {D H A : Type 0} (v : Devices D H A) (told_image : (d : D) → IfSome (
     UnheardSo events = RestsWith why.AnswersFailed setting (world_in setting events) life.new
 
     abbrev HeardSo : Type 0
-    HeardSo = HeardIn v setting c life
+    HeardSo = HeardIn v c
 
     abbrev MadeSo : List Event → Option Event → Type 0
     MadeSo events risked = Made v.reads v.may_leave v.clock v.since TakesSo ComesSo IdlesSo UnheardSo HeardSo setting (v.reads c.disk) origin before c.now events risked
@@ -146,7 +146,7 @@ module _ {D H A : Type 0} (v : Devices D H A) (told_image : (d : D) → IfSome (
       going = rests.0;
       granted = rests.1;
       no_task = rests.2;
-      heard = ⊎_elim (λ none. inl none) (λ out. inr (crew_read v.honest v.host_faults v.calls v.left v.source_faults setting.site.executors c.hosts c.answers c.answers_now life.new life.life.served life.answers_are out)) rests.3;
+      heard = ⊎_elim (λ none. inl none) (λ out. inr (crew_read v.honest v.host_faults v.calls v.left v.source_faults setting.site.executors c.hosts c.answers c.answers_now life.new life.served life.answers_are out)) rests.3;
     }
 
     done_so : {events : List Event} → RestsSo events → ((world_in setting events).ended ≡ true) ⊎ IsIdle v setting events c

@@ -1,17 +1,32 @@
 -- What a reader gets of the promises alone, without the code: some sentences of docs/PROOFS.md, derived.
-use Rattle.std.proofs.Common.{◌≡◌, ◌⊎◌, ◌+◌, ◌<◌, ◌^◌, ℕ, true, List, ◌++◌, Some, inl, refl, ap, ⊎_elim, arith}
-use Rattle.std.specs.Prelude.{IfSome, is_some}
+use Rattle.std.proofs.Common.{◌≡◌, ◌⊎◌, ◌+◌, ◌<◌, ◌^◌, ℕ, max, true, List, [], ◌∷◌, ◌++◌, Some, inl, inr, refl, sym, ap, append-nil, subst, ⊎_elim, arith}
+use Rattle.std.specs.Prelude.{IfSome, is_some, nat_eq}
+use Rattle.std.specs.List.{AllZip, IsDistinct}
 use Rattle.std.proofs.Math.Logic.{∥∥₁_map}
+use Rattle.agent_worker.specs.declared.member.Member.{Member}
+use Rattle.agent_worker.specs.declared.member.Member.TheVariants.{Executor, Operator}
 use Rattle.command_words.specs.declared.command.Command.TheVariants.{Resume}
+use Rattle.image_form.specs.declared.image.Image.{Image}
+use Rattle.journal_core.specs.Records.{Has}
+use Rattle.durable_build.specs.Standing.{Closing, last_of}
 use Rattle.model_run.specs.declared.event.Event.{Event}
+use Rattle.model_run.specs.declared.site.Executor.{Executor as SiteExecutor}
 use Rattle.model_run.specs.State.{Setting}
 use Rattle.model_run.specs.World.{world_in}
 use Rattle.saved_run.specs.Saved.{Stores, journal_length}
+use Rattle.site_gate.specs.Tales.{claimed_of}
+use Rattle.site_gate.specs.Turning.{tasks_of}
+use Rattle.site_life.specs.Coming.{EachIs}
+use Rattle.site_life.specs.Turns.{DidTurn}
+use Rattle.site_life.proofs.WayLaws.{LaunchesMore, MemberLaunches, launches_same, ways_launch}
+use Rattle.site_run.specs.Telling.{ClaimedInTime}
+use Rattle.site_crew.specs.Crews.{hosts_in, members_of, others_of}
 use Rattle.run_command.specs.Statuses.{HasRun, world_status}
+use Rattle.build_commands.specs.Reporting.{IsBroken, KeepsRecords, image_status}
 use Rattle.build_commands.specs.Resuming.{IsUntouched}
 use Rattle.build_commands.specs.Showing.{HasNone}
 use Rattle.build_commands.specs.Texts.{full_text}
-use Rattle.controller.specs.Call.{Call, Devices, Finds, Is, IsUnled, LifeIn, Takes, Tells, Writes}
+use Rattle.controller.specs.Call.{Call, Devices, Finds, Is, IsUnled, LifeIn, Takes, Tells, Unopened, Writes}
 use Rattle.controller.specs.Causes.{Causes, Stops, ended, waits, cut, unheard, disk_failed, full, no_memory, WentOn}
 use Rattle.controller.specs.Output.{Delivers, Output}
 use Rattle.controller.proofs.CallLemmas.{unrun, world_log}
@@ -60,3 +75,80 @@ module _ {D H A : Type 0} (v : Devices D H A) (c : Call D H A) where
   resume_full causes is setting found finds status =
       ⊎_elim (λ unopened. absurd (⊎_elim (λ nine. omega (arith, status, nine)) (⊎_elim (λ five. omega (arith, status, five)) (λ eight. omega (arith, status, eight))) unopened.why))
       (λ went. ∥∥₁_map went (went_full setting found finds status)) ((causes.command Resume is).went_on setting found finds)
+
+  -- What a life says of the launches of a call: each host has launched, beyond what it had, only tasks that were claimed in the history of the call; no task
+  -- was claimed twice in it, nor launched twice; and each was an open one of its executor when it was claimed, behind the events that the store had then.
+  pub record LaunchedSo (setting : Setting) (before : List Event) : Type 0 where
+    pub launched : AllZip (LaunchesMore v.launches c.history) c.hosts c.hosts_now
+    pub claimed_once : IsDistinct nat_eq (tasks_of (claimed_of c.history))
+    pub granted : List Event
+    pub open_then : EachIs (ClaimedInTime setting (before ++ granted)) [] c.history
+
+  still_launched : (hosts : List H) → AllZip (LaunchesMore v.launches c.history) hosts hosts
+  still_launched [] = tt
+  still_launched (host ∷ hosts) = (launches_same v.launches c.history host, still_launched hosts)
+
+  crew_launched : (xs : List SiteExecutor) (hosts : List H) (answers : A) (new : List (Member H A)) → AllZip (MemberLaunches v.launches c.history) (members_of xs hosts answers) new
+      → AllZip (LaunchesMore v.launches c.history) hosts (hosts_in new ++ others_of xs hosts)
+  crew_launched [] hosts answers [] all = absurd all
+  crew_launched [] hosts answers (Executor number host ∷ new) all = absurd all.0
+  crew_launched [] hosts answers (Operator next kept over broken ∷ []) all = still_launched hosts
+  crew_launched [] hosts answers (Operator next kept over broken ∷ (m ∷ new)) all = absurd all.1
+  crew_launched (x ∷ xs) [] answers [] all = absurd all
+  crew_launched (x ∷ xs) [] answers (Executor number host ∷ new) all = absurd all.0
+  crew_launched (x ∷ xs) [] answers (Operator next kept over broken ∷ []) all = tt
+  crew_launched (x ∷ xs) [] answers (Operator next kept over broken ∷ (m ∷ new)) all = absurd all.1
+  crew_launched (x ∷ xs) (host ∷ hosts) answers [] all = absurd all
+  crew_launched (x ∷ xs) (host ∷ hosts) answers (Executor seat next ∷ new) all = (all.0, crew_launched xs hosts answers new all.1)
+  crew_launched (x ∷ xs) (host ∷ hosts) answers (Operator next kept over broken ∷ new) all = absurd all.0
+
+  pub takes_launches : (setting : Setting) (before events : List Event) → Takes v setting before events c → LaunchedSo setting before
+  takes_launches setting before events takes =
+      let members = members_of setting.site.executors c.hosts c.answers in
+      let Did = DidTurn v.honest v.host_faults v.calls v.launches v.dirs v.output v.exited v.left v.source_faults (max setting.site.looks 1) in
+      let ways = ways_launch v.launches c.history Did (λ turn did. did.launched) members takes.life.new takes.life.life.life.ways in
+      record {
+        launched = subst (λ (hosts : List H). AllZip (LaunchesMore v.launches c.history) c.hosts hosts) (sym takes.life.hosts_are) (crew_launched setting.site.executors c.hosts c.answers takes.life.new ways);
+        claimed_once = takes.life.life.life.claimed_once;
+        granted = takes.goes.granted;
+        open_then = takes.goes.claims;
+      }
+
+  -- So of a build that a call let go on: a body that serves a task twice in one call, or one that is not open, keeps none of these promises.
+  pub went_launches : (setting : Setting) (before : List Event) → WentOn v setting before c → LaunchedSo setting before
+  went_launches setting before went = takes_launches setting before (before ++ went.more) went.takes
+
+  -- A `resume` that shows a log, over whichever store that the disk tells and that was opened: it has its records still, and others behind them, and so has each
+  -- image that a crash leaves; log and status are those of the image of the last of all.
+  pub record ShowsLastImage (file : List ℕ) : Type 0 where
+    pub payloads : List (List ℕ)
+    pub more : List (List ℕ)
+    pub has : Has payloads file
+    pub kept : (image : List ℕ) → v.may_leave c.now image → Has (payloads ++ more) image
+    pub shown : (p : List ℕ) (ps : List (List ℕ)) (image : Image) → payloads ++ more ≡ p ∷ ps → Closing image (last_of p ps) → Writes image.log (image_status image) c
+
+  broken_shows_none : (n : ℕ) → IsBroken n → HasRun n → ⊥
+  broken_shows_none n (inl six) run = unrun 6 n six refl run
+  broken_shows_none n (inr (inl five)) run = unrun 5 n five refl run
+  broken_shows_none n (inr (inr (inl fourteen))) run = unrun 14 n fourteen refl run
+  broken_shows_none n (inr (inr (inr eight))) run = unrun 8 n eight refl run
+
+  unopened_shows_none : Unopened v c → HasRun c.status → ⊥
+  unopened_shows_none u run = ⊎_elim (λ nine. unrun 9 c.status nine refl run) (⊎_elim (λ five. unrun 5 c.status five refl run) (λ eight. unrun 8 c.status eight refl run)) u.why
+
+  keeps_last : (file : List ℕ) (payloads : List (List ℕ)) (opened : D) → Has payloads file → HasRun c.status → KeepsRecords v.may_leave v.clock v.since opened payloads c.now c.old c.new c.sink_before c.sink_after c.status → ShowsLastImage file
+  keeps_last file payloads opened has run k =
+      let none = k.sure (λ five. broken_shows_none c.status (inr (inl five)) run) in
+      record {
+        payloads = payloads;
+        more = k.more;
+        has = has;
+        kept = λ image left. ⊎_elim (λ all. all)
+            (λ all. subst (λ (ps : List (List ℕ)). Has ps image) (append-nil (payloads ++ k.more)) (subst (λ (r : List (List ℕ)). Has (payloads ++ k.more ++ r) image) none all)) (k.at_end image left);
+        shown = ⊎_elim (λ broken. absurd (broken_shows_none c.status broken run)) (λ shown. shown) k.shown;
+      }
+
+  pub resume_shows_last : Output v c → Is Resume c → HasRun c.status → (file : List ℕ) → v.reads c.disk ≡ Some file → ∥ ShowsLastImage file ∥₁
+  resume_shows_last output is run file told =
+      ⊎_elim (λ unopened. absurd (unopened_shows_none unopened run))
+      (λ goes. let leaves = goes.leaves file told in ∥∥₁_map leaves.keeps (keeps_last file leaves.payloads leaves.opened leaves.has run)) ((output.command Resume is).1)

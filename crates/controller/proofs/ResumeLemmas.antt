@@ -1,26 +1,25 @@
 -- The parts of a call's contract for `resume`, from its tables.
-use Rattle.std.proofs.Common.{◌≡◌, ◌⊎◌, ℕ, List, [], ◌++◌, Option, Some, inl, inr, refl, ap, subst, ⊎_elim, arith}
+use Rattle.std.proofs.Common.{◌≡◌, ◌⊎◌, ℕ, List, [], ◌++◌, Option, Some, inl, inr, refl, ap, ◌∙◌, subst, ⊎_elim, arith}
 use Rattle.std.specs.Prelude.{IfSome, IsSome, is_some}
 use Rattle.std.proofs.Math.Logic.{∥∥₁_map}
 use Rattle.device_faults.specs.Faults.{Rose}
 use Rattle.jp_disk.specs.Moments.{AtEachMoment}
 use Rattle.jp_disk.proofs.MomentLemmas.{if_told}
-use Rattle.journal_core.specs.Records.{Has}
 use Rattle.model_run.specs.declared.event.Event.{Event}
 use Rattle.model_run.specs.State.{Setting}
 use Rattle.run_command.specs.Statuses.{HasRun}
 use Rattle.run_command.specs.Inputs.{HasFailed}
-use Rattle.build_commands.specs.Reporting.{IsBroken, ShowsKept}
+use Rattle.build_commands.specs.Reporting.{LeavesStore}
 use Rattle.build_commands.specs.Resuming.{IsUntouched, NotOpened, Resumes, Reopens}
 use Rattle.build_commands.specs.Resuming as resume
 use Rattle.build_commands.specs.Showing.{HasBuild, HasNone, NotTold}
 use Rattle.build_commands.specs.Showing as showing
-use Rattle.controller.specs.Call.{Call, Devices, Finds, IsUnled, Tells, answered}
-use Rattle.controller.specs.Causes.{AllCalm, HasWorked, ResumeCauses, Unopened, WentOn}
+use Rattle.controller.specs.Call.{Call, Devices, Finds, IsUnled, Tells, Unopened, answered}
+use Rattle.controller.specs.Causes.{AllCalm, HasWorked, ResumeCauses, WentOn}
 use Rattle.controller.specs.Commands.{ResumesBy}
 use Rattle.controller.specs.Crash.{LastsResume, Stays}
 use Rattle.controller.specs.FirstFault.{TellsFault}
-use Rattle.controller.specs.Output.{Delivers, KeepsStore, Says}
+use Rattle.controller.specs.Output.{Delivers, GoesOn, Says}
 use Rattle.controller.proofs.CallLemmas.{FinishedIn, unrun, untold}
 use Rattle.controller.proofs.LifeLemmas.{gone, finish_delivers, finish_went}
 use Rattle.controller.proofs.RunLemmas.{reports_untold, reports_answers, reports_disk, reports_sink, reports_build, reports_calm, reports_usage, reports_worked}
@@ -65,70 +64,66 @@ not_told_unrun why run = says_unrun (not_told_says why) run
 
 module _ {D H A : Type 0} (v : Devices D H A) (told_image : (d : D) → IfSome (v.reads d) (λ file. v.may_leave d file)) (c : Call D H A) where
   abbrev ReopensSo : ℕ → Type 0
-  ReopensSo n = Reopens v.reads v.may_leave v.clock v.since v.faults v.honest v.host_faults v.calls v.launches v.dirs v.output v.exited v.left v.source_faults c.hosts c.hosts_now c.answers c.answers_now
+  ReopensSo n = Reopens v.reads v.may_leave v.clock v.since v.faults v.honest v.host_faults v.calls v.launches v.dirs v.output v.exited v.left v.source_faults c.hosts c.hosts_now c.answers c.answers_now c.history
       c.disk c.now c.old c.new c.sink_before c.sink_after n
 
   abbrev ResumesSo : Setting → List Event → ℕ → Type 0
-  ResumesSo setting events n = Resumes v.reads v.may_leave v.clock v.since v.faults v.honest v.host_faults v.calls v.launches v.dirs v.output v.exited v.left v.source_faults c.hosts c.hosts_now c.answers c.answers_now
+  ResumesSo setting events n = Resumes v.reads v.may_leave v.clock v.since v.faults v.honest v.host_faults v.calls v.launches v.dirs v.output v.exited v.left v.source_faults c.hosts c.hosts_now c.answers c.answers_now c.history
       setting events c.disk c.now c.old c.new c.sink_before c.sink_after n
 
   -- over any store
   pub resume_says : {n : ℕ} → ReopensSo n → HasRun n ⊎ ((text : List ℕ) × Says n text × Tells text c)
   resume_says (resume.unopened {text = text} unled same why tells) = inr (text, not_told_says why, tells)
-  resume_says (resume.goes_on has stay kept reports) = reports_say reports
+  resume_says (resume.goes_on setting led stay launched has store reports) = reports_say reports
 
   pub resume_untold : {n : ℕ} → ReopensSo n → TellsFault n → ⊥
   resume_untold (resume.unopened unled same why tells) is = not_told_untold why is
-  resume_untold (resume.goes_on has stay kept reports) is = reports_untold reports is
+  resume_untold (resume.goes_on setting led stay launched has store reports) is = reports_untold reports is
 
   pub resume_known : {n : ℕ} → ReopensSo n → n ≡ 2 → ⊥
   resume_known (resume.unopened unled same why tells) two = (not_told_other why).2 two
-  resume_known (resume.goes_on has stay kept reports) two = reports_usage reports two
+  resume_known (resume.goes_on setting led stay launched has store reports) two = reports_usage reports two
 
   answers_failed : {n : ℕ} → ReopensSo n → n ≡ 6 → HasFailed (answered v c)
   answers_failed (resume.unopened unled same why tells) six = absurd ((not_told_other why).0 six)
-  answers_failed (resume.goes_on has stay kept reports) six = reports_answers reports six
+  answers_failed (resume.goes_on setting led stay launched has store reports) six = reports_answers reports six
 
   disk_failed : {n : ℕ} → ReopensSo n → n ≡ 5 → Rose (v.faults c.disk) (v.faults c.now)
   disk_failed (resume.unopened unled same why tells) five = not_told_disk why five
-  disk_failed (resume.goes_on has stay kept reports) five = reports_disk reports five
+  disk_failed (resume.goes_on setting led stay launched has store reports) five = reports_disk reports five
 
   sink_failed : {n : ℕ} → ReopensSo n → n ≡ 7 → Rose c.sink_before c.sink_after
   sink_failed (resume.unopened unled same why tells) seven = absurd ((not_told_other why).1 seven)
-  sink_failed (resume.goes_on has stay kept reports) seven = reports_sink reports seven
+  sink_failed (resume.goes_on setting led stay launched has store reports) seven = reports_sink reports seven
 
   none : {n : ℕ} → ReopensSo n → n ≡ 9 → (text : List ℕ) × NotTold (v.reads c.disk) (v.faults c.disk) (v.faults c.now) n text × Tells text c
   none (resume.unopened {text = text} unled same why tells) nine = (text, why, tells)
-  none (resume.goes_on has stay kept reports) nine = absurd (reports_build reports nine)
+  none (resume.goes_on setting led stay launched has store reports) nine = absurd (reports_build reports nine)
 
   pub resume_unread : {n : ℕ} → ReopensSo n → n ≡ 9 → IsUnled c
   resume_unread (resume.unopened unled same why tells) nine = unled
-  resume_unread (resume.goes_on has stay kept reports) nine = absurd (reports_build reports nine)
+  resume_unread (resume.goes_on setting led stay launched has store reports) nine = absurd (reports_build reports nine)
 
   finds_none : {n : ℕ} → ReopensSo n → (file : List ℕ) → v.reads c.disk ≡ Some file → HasNone file → ((n ≡ 9) ⊎ (n ≡ 8) ⊎ (n ≡ 5)) × IsUntouched v.reads v.may_leave v.clock v.since c.disk c.now × IsUnled c
   finds_none (resume.unopened unled same why tells) file told is = (not_told_always why, same, unled)
-  finds_none (resume.goes_on has stay kept reports) file told is = absurd (both file (if_told HasBuild told has) is)
+  finds_none (resume.goes_on setting led stay launched has store reports) file told is = absurd (both file (if_told HasBuild told has) is)
 
   shown_calm : {n : ℕ} → ReopensSo n → HasRun n → v.faults c.now ≡ v.faults c.disk
   shown_calm (resume.unopened unled same why tells) run = absurd (not_told_unrun why run)
-  shown_calm (resume.goes_on has stay kept reports) run = reports_calm reports run
+  shown_calm (resume.goes_on setting led stay launched has store reports) run = reports_calm reports run
 
-  -- a build that broke off shows no log
-  unbroken : (n : ℕ) → IsBroken n → HasRun n → ⊥
-  unbroken n (inl six) run = unrun 6 n six refl run
-  unbroken n (inr (inl five)) run = unrun 5 n five refl run
-  unbroken n (inr (inr (inl fourteen))) run = unrun 14 n fourteen refl run
-  unbroken n (inr (inr (inr eight))) run = unrun 8 n eight refl run
-
-  -- whatever its records tell, it has them still, and the log is that of the last of all
-  kept_by : {n : ℕ} → ReopensSo n → HasRun n → (file : List ℕ) → v.reads c.disk ≡ Some file → (payloads : List (List ℕ)) × (opened : D) × Has payloads file × AtEachMoment v.clock v.since c.disk opened (v.may_leave c.disk)
-      × ∥ ShowsKept v.may_leave v.clock v.since opened payloads c.now c.old c.new c.sink_before c.sink_after n ∥₁
-  kept_by (resume.unopened unled same why tells) run file told = absurd (not_told_unrun why run)
-  kept_by {n = n} (resume.goes_on has stay kept reports) run file told =
-      let k = kept file told in (k.0, k.1, k.2, k.3, ⊎_elim (λ broken. absurd (unbroken n broken run)) (λ shows. shows) k.4)
-
-  pub resume_keeps : ReopensSo c.status → KeepsStore v c
-  resume_keeps reopens file told run = kept_by reopens run file told
+  -- over any store, also one of which the disk tells nothing
+  pub resume_any : ReopensSo c.status → Unopened v c ⊎ GoesOn v c
+  resume_any reopens = by reopens refl
+    where
+      by : {n : ℕ} → ReopensSo n → n ≡ c.status → Unopened v c ⊎ GoesOn v c
+      by (resume.unopened unled same why tells) is = inl (record { why = subst (λ (m : ℕ). (m ≡ 9) ⊎ (m ≡ 5) ⊎ (m ≡ 8)) is (⊎_elim (λ nine. inl nine) (⊎_elim (λ eight. inr (inr eight)) (λ five. inr (inl five))) (not_told_always why)); disk = same; unled = unled })
+      by (resume.goes_on setting led stay launched has store reports) is = inr (record {
+        setting = setting;
+        life = led.lived;
+        leaves = λ file told. subst (λ (m : ℕ). LeavesStore v.may_leave v.clock v.since setting file c.disk c.now c.old c.new c.sink_before c.sink_after m) is (store file told);
+        too_long = λ fourteen. led.too_long (is ∙ fourteen);
+      })
 
   -- over a consistent one
   module _ (setting : Setting) (events : List Event) where
@@ -182,7 +177,7 @@ module _ {D H A : Type 0} (v : Devices D H A) (told_image : (d : D) → IfSome (
     -- a store that was not opened has each byte
     untouched : {n : ℕ} → ReopensSo n → n ≡ 9 → IsUntouched v.reads v.may_leave v.clock v.since c.disk c.now
     untouched (resume.unopened unled same why tells) nine = same
-    untouched (resume.goes_on has stay kept reports) nine = absurd (reports_build reports nine)
+    untouched (resume.goes_on setting led stay launched has store reports) nine = absurd (reports_build reports nine)
 
     pub resume_crashes : (c.status ≡ 9 → IsUntouched v.reads v.may_leave v.clock v.since c.disk c.now)
         × ((setting : Setting) (events : List Event) → Finds v setting events c → Stays v c ⊎ ∥ LastsResume v setting events c ∥₁)

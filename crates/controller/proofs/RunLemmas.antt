@@ -254,7 +254,7 @@ module _ {D H A T : Type 0} (v : Devices D H A) (stance : T → Stance) (told_im
 
   abbrev OverSo : (s a : List ℕ) → Tree → Site → List ℕ → D → Type 0
   OverSo s a tree site file started =
-      BeginsOver v.reads v.may_leave v.clock v.since stance v.faults v.honest v.host_faults v.calls v.launches v.dirs v.output v.exited v.left v.source_faults c.disk c.now c.hosts c.hosts_now c.answers c.answers_now
+      BeginsOver v.reads v.may_leave v.clock v.since stance v.faults v.honest v.host_faults v.calls v.launches v.dirs v.output v.exited v.left v.source_faults c.disk c.now c.hosts c.hosts_now c.answers c.answers_now c.history
       c.old c.new c.sink_before c.sink_after s a tree site file started
 
   -- a call that left the disk as it was
@@ -270,7 +270,7 @@ module _ {D H A T : Type 0} (v : Devices D H A) (stance : T → Stance) (told_im
   outputs : {n : ℕ} → RunsSo n → n ≡ c.status → HasRun n → IsAtEnd c.script.rest × IsAtEnd c.agents.rest × WithFiles c (λ script agents. ∥ DeliversRun v c script agents ∥₁)
   outputs (begin.refused refused same unled tells) is run = absurd (says_unrun (files_say refused) run)
   outputs (begin.built give (begin.unbegun unled says counts sizes refuses tells)) is run = absurd (begin_unrun says run)
-  outputs (begin.built {s = s} {a = a} {tree = tree} {site = site} give (begin.begun started same stay reports finishes over)) is run =
+  outputs (begin.built {s = s} {a = a} {tree = tree} {site = site} give (begin.begun started same stay launched reports finishes over)) is run =
       let here = subst (λ (m : ℕ). ∥ FinishedBy s a tree site started m ∥₁) is finishes in
       (give.script_ends, give.agents_end, (s, a, give.hold, ∥∥₁_map here (delivered s a tree site give.builds started same (subst HasRun is run))))
 
@@ -280,7 +280,7 @@ module _ {D H A T : Type 0} (v : Devices D H A) (stance : T → Stance) (told_im
   pub run_says : {n : ℕ} → RunsSo n → HasRun n ⊎ ((text : List ℕ) × Says n text × Tells text c)
   run_says (begin.refused {text = text} refused same unled tells) = inr (text, files_say refused, tells)
   run_says (begin.built {s = s} {a = a} {tree = tree} {site = site} give (begin.unbegun {text = text} unled says counts sizes refuses tells)) = inr (text, begin_says (script_setting tree site) (StartEvent s a) says sizes, tells)
-  run_says (begin.built give (begin.begun started same stay reports finishes over)) = reports_say reports
+  run_says (begin.built give (begin.begun started same stay launched reports finishes over)) = reports_say reports
 
   -- CRASH
   module _ (s a : List ℕ) (tree : Tree) (site : Site) (builds : Builds s a tree site) where
@@ -389,7 +389,7 @@ module _ {D H A T : Type 0} (v : Devices D H A) (stance : T → Stance) (told_im
   crashes (begin.refused refused same unled tells) is file told = inl (stays_here same)
   crashes (begin.built {s = s} {a = a} {tree = tree} {site = site} give (begin.unbegun {fault = f} unled says counts sizes refuses tells)) is file told =
       leaves_files file s a tree site give.builds give.hold (unbegun_leaves s a tree site give.builds file f (λ run. begin_unrun says (subst HasRun (sym is) run)) counts (refuses file told))
-  crashes (begin.built {s = s} {a = a} {tree = tree} {site = site} give (begin.begun started same stay reports finishes over)) is file told =
+  crashes (begin.built {s = s} {a = a} {tree = tree} {site = site} give (begin.begun started same stay launched reports finishes over)) is file told =
       let here = subst (λ (m : ℕ). ∥ FinishedBy s a tree site started m ∥₁) is finishes in
       inr (inr ((over file told).fresh, (s, a, give.hold, ∥∥₁_map here (λ f. begun_lasts s a tree site give.builds file started told same f (over file told)))))
 
@@ -400,7 +400,7 @@ module _ {D H A T : Type 0} (v : Devices D H A) (stance : T → Stance) (told_im
   judges_told : {n : ℕ} → RunsSo n → TellsFault n → AreCalm c.script c.agents × WithFiles c (λ script agents. (text : List ℕ) × Faults script agents n text × Tells text c)
   judges_told (begin.refused refused same unled tells) is = files_told c refused tells is
   judges_told (begin.built give (begin.unbegun unled says counts sizes refuses tells)) is = absurd (begin_untold says is)
-  judges_told (begin.built give (begin.begun started same stay reports finishes over)) is = absurd (reports_untold reports is)
+  judges_told (begin.built give (begin.begun started same stay launched reports finishes over)) is = absurd (reports_untold reports is)
 
   judges_tell : {n : ℕ} → RunsSo n → AreRead c → OfFiles c.script c.agents (λ script agents. HasFault agents ⊎ IsRefused script → TellsFault n ⊎ (n ≡ 8))
   judges_tell (begin.refused refused same unled tells) read = λ script agents at_s at_a faulty. files_tell c refused read
@@ -411,7 +411,7 @@ module _ {D H A T : Type 0} (v : Devices D H A) (stance : T → Stance) (told_im
   judges_untouched : {n : ℕ} → RunsSo n → TellsFault n → c.now ≡ c.disk
   judges_untouched (begin.refused refused same unled tells) is = same
   judges_untouched (begin.built give (begin.unbegun unled says counts sizes refuses tells)) is = absurd (begin_untold says is)
-  judges_untouched (begin.built give (begin.begun started same stay reports finishes over)) is = absurd (reports_untold reports is)
+  judges_untouched (begin.built give (begin.begun started same stay launched reports finishes over)) is = absurd (reports_untold reports is)
 
   pub run_judges : RunsSo c.status → JudgesFiles c
   run_judges runs = record { told = judges_told runs; tells = judges_tell runs; untouched = judges_untouched runs }
@@ -420,17 +420,17 @@ module _ {D H A T : Type 0} (v : Devices D H A) (stance : T → Stance) (told_im
   sources : {n : ℕ} → RunsSo n → n ≡ 6 → HasFailed c.script ⊎ HasFailed c.agents ⊎ HasFailed (answered v c)
   sources (begin.refused refused same unled tells) six = ⊎_elim (λ script. inl script) (λ agents. inr (inl agents)) (files_failed c refused six)
   sources (begin.built give (begin.unbegun unled says counts sizes refuses tells)) six = absurd ((begin_other says).0 six)
-  sources (begin.built give (begin.begun started same stay reports finishes over)) six = inr (inr (reports_answers reports six))
+  sources (begin.built give (begin.begun started same stay launched reports finishes over)) six = inr (inr (reports_answers reports six))
 
   disks : {n : ℕ} → RunsSo n → n ≡ 5 → Rose (v.faults c.disk) (v.faults c.now)
   disks (begin.refused refused same unled tells) five = absurd ((files_other c refused).0 five)
   disks (begin.built give (begin.unbegun unled says counts sizes refuses tells)) five = counts.failed (begin_five says five)
-  disks (begin.built give (begin.begun started same stay reports finishes over)) five = reports_disk reports five
+  disks (begin.built give (begin.begun started same stay launched reports finishes over)) five = reports_disk reports five
 
   sinks : {n : ℕ} → RunsSo n → n ≡ 7 → Rose c.sink_before c.sink_after
   sinks (begin.refused refused same unled tells) seven = absurd ((files_other c refused).1 seven)
   sinks (begin.built give (begin.unbegun unled says counts sizes refuses tells)) seven = absurd ((begin_other says).1 seven)
-  sinks (begin.built give (begin.begun started same stay reports finishes over)) seven = reports_sink reports seven
+  sinks (begin.built give (begin.begun started same stay launched reports finishes over)) seven = reports_sink reports seven
 
   started_by : (setting : Setting) (start : Event) (file : List ℕ) (f : BeginFault) → f ≡ fault.HasBuild → BeginRefuses v.reads v.may_leave v.clock v.since stance setting start file c.disk f c.now → IsStarted file × (v.reads c.now ≡ Some file) × IsOnlyImage file (v.may_leave c.now)
   started_by setting start file fault.HasBuild is refuses = (refuses.0, refuses.1, refuses.2)
@@ -440,7 +440,7 @@ module _ {D H A T : Type 0} (v : Devices D H A) (stance : T → Stance) (told_im
   builds_found (begin.refused refused same unled tells) nine = absurd ((files_other c refused).2 nine)
   builds_found (begin.built {s = s} {a = a} {tree = tree} {site = site} give (begin.unbegun {fault = f} unled says counts sizes refuses tells)) nine =
       (subst (λ (text : List ℕ). Tells text c) (begin_text says nine) tells, λ file told. started_by (script_setting tree site) (StartEvent s a) file f (begin_nine says nine) (refuses file told))
-  builds_found (begin.built give (begin.begun started same stay reports finishes over)) nine = absurd (reports_build reports nine)
+  builds_found (begin.built give (begin.begun started same stay launched reports finishes over)) nine = absurd (reports_build reports nine)
 
   -- where no device failed
   unbegun_finds : {n : ℕ} {text : List ℕ} {f : BeginFault} (setting : Setting) (start : Event) (file : List ℕ) → BeginSays f n text
@@ -454,7 +454,7 @@ module _ {D H A T : Type 0} (v : Devices D H A) (stance : T → Stance) (told_im
   finds (begin.refused refused same unled tells) read file told is = λ script agents at_s at_a site sound. inr (inl (files_want c refused read script agents at_s at_a site sound))
   finds (begin.built {s = s} {a = a} {tree = tree} {site = site} give (begin.unbegun unled says counts sizes refuses tells)) read file told is =
       λ script agents at_s at_a has sound. unbegun_finds (script_setting tree site) (StartEvent s a) file says (refuses file told) is
-  finds (begin.built give (begin.begun started same stay reports finishes over)) read file told is = absurd ((over file told).fresh is)
+  finds (begin.built give (begin.begun started same stay launched reports finishes over)) read file told is = absurd ((over file told).fresh is)
 
   unbegun_works : {n : ℕ} {text : List ℕ} {f : BeginFault} (setting : Setting) (start : Event) (file : List ℕ) → BeginSays f n text → CountsFault (v.faults c.disk) (v.faults c.now) (f ≡ fault.Take take.Disk)
       → BeginRefuses v.reads v.may_leave v.clock v.since stance setting start file c.disk f c.now → ¬ (Rose (v.faults c.disk) (v.faults c.now)) → ¬ (IsStarted file) → HasWorked n
@@ -467,7 +467,7 @@ module _ {D H A T : Type 0} (v : Devices D H A) (stance : T → Stance) (told_im
   works (begin.refused refused same unled tells) is calm file told fresh = λ script agents at_s at_a site sound. inr (inl (files_want c refused calm.files script agents at_s at_a site sound))
   works (begin.built {s = s} {a = a} {tree = tree} {site = site} give (begin.unbegun unled says counts sizes refuses tells)) is calm file told fresh =
       λ script agents at_s at_a has sound. unbegun_works (script_setting tree site) (StartEvent s a) file says counts (refuses file told) calm.disk fresh
-  works (begin.built {s = s} {a = a} {tree = tree} {site = site} give (begin.begun started same stay reports finishes over)) is calm file told fresh =
+  works (begin.built {s = s} {a = a} {tree = tree} {site = site} give (begin.begun started same stay launched reports finishes over)) is calm file told fresh =
       λ script agents at_s at_a has sound. reports_worked reports calm.disk calm.answers calm.sink
 
   -- why no build was begun
@@ -543,7 +543,7 @@ module _ {D H A T : Type 0} (v : Devices D H A) (stance : T → Stance) (told_im
           images = λ file told image left. unbegun_image s a tree site give.builds file f image (λ disk. sym is ∙ begin_disk says disk) (refuses file told) left;
         }),
       )
-  went_on (begin.built {s = s} {a = a} {tree = tree} {site = site} give (begin.begun started same stay reports finishes over)) is =
+  went_on (begin.built {s = s} {a = a} {tree = tree} {site = site} give (begin.begun started same stay launched reports finishes over)) is =
       let here = subst (λ (m : ℕ). ∥ FinishedBy s a tree site started m ∥₁) is finishes in
       inr (s, a, give.hold, inr (∥∥₁_map here (went_by s a tree site give.builds started same)))
 
@@ -551,7 +551,7 @@ module _ {D H A T : Type 0} (v : Devices D H A) (stance : T → Stance) (told_im
   shown_calm : {n : ℕ} → RunsSo n → HasRun n → v.faults c.now ≡ v.faults c.disk
   shown_calm (begin.refused refused same unled tells) run = absurd (says_unrun (files_say refused) run)
   shown_calm (begin.built give (begin.unbegun unled says counts sizes refuses tells)) run = absurd (begin_unrun says run)
-  shown_calm (begin.built give (begin.begun started same stay reports finishes over)) run = reports_calm reports run
+  shown_calm (begin.built give (begin.begun started same stay launched reports finishes over)) run = reports_calm reports run
 
   -- a source of a file that counted a fault is told
   unread_told : {n : ℕ} → RunsSo n → ¬ (AreCalm c.script c.agents) → (n ≡ 6) × (c.now ≡ c.disk) × IsUnled c
@@ -575,11 +575,11 @@ module _ {D H A T : Type 0} (v : Devices D H A) (stance : T → Stance) (told_im
   pub run_known : {n : ℕ} → RunsSo n → n ≡ 2 → ⊥
   run_known (begin.refused refused same unled tells) two = (files_other c refused).3 two
   run_known (begin.built give (begin.unbegun unled says counts sizes refuses tells)) two = (begin_other says).2 two
-  run_known (begin.built give (begin.begun started same stay reports finishes over)) two = reports_usage reports two
+  run_known (begin.built give (begin.begun started same stay launched reports finishes over)) two = reports_usage reports two
 
   -- no answer is read where no build goes on
   pub run_unread : {n : ℕ} → RunsSo n → (n ≡ 4) ⊎ (n ≡ 13) ⊎ (n ≡ 9) → IsUnled c
   run_unread (begin.refused refused same unled tells) is = unled
   run_unread (begin.built give (begin.unbegun unled says counts sizes refuses tells)) is = unled
-  run_unread (begin.built give (begin.begun started same stay reports finishes over)) is =
+  run_unread (begin.built give (begin.begun started same stay launched reports finishes over)) is =
       absurd (⊎_elim (λ four. reports_untold reports (inl four)) (⊎_elim (λ thirteen. reports_untold reports (inr thirteen)) (λ nine. reports_build reports nine)) is)

@@ -68,7 +68,7 @@ module _ {D H A : Type 0} (v : Devices D H A) where
   -- A life went on from these events, of executors that are numbered one after the other.
   module _ {T : Type 0} (stance : T → Stance) (c : Call D H A) (setting : Setting) (proper : IsProper setting) (all : Consecutive 0 setting.site.executors) (before events : List Event) (takes : Takes v setting before events c) where
     back : CameBack 0 setting.site.executors c.hosts c.answers takes.life.new
-    back = came_back 0 setting.site.executors all c.hosts c.answers takes.life.new takes.life.life.served
+    back = came_back 0 setting.site.executors all c.hosts c.answers takes.life.new takes.life.served
 
     Seated : List ExecutorHost
     Seated = HostsOf (members_of setting.site.executors c.hosts c.answers)

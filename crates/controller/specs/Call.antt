@@ -10,11 +10,12 @@ use Rattle.model_run.specs.declared.event.Event.{Event}
 use Rattle.model_run.specs.State.{Setting}
 use Rattle.model_run.specs.World.{next_grant, world_in}
 use Rattle.saved_run.specs.Saved.{Stores}
+use Rattle.site_state.specs.declared.ask.Entry.{Entry}
 use Rattle.site_state.specs.Histories.{lines}
 use Rattle.run_command.specs.Inputs.{Input, HasFailed, taken_from}
-use Rattle.build_commands.specs.Living.{ComesBy, HeardOf, Lived, LivedBy}
+use Rattle.build_commands.specs.Living.{ComesBy, HeardOf, IsRefused, Lived, LivedBy}
 use Rattle.build_commands.specs.Plans.{Hold}
-use Rattle.build_commands.specs.Resuming.{GivesBack}
+use Rattle.build_commands.specs.Resuming.{GivesBack, IsUntouched}
 use Rattle.build_commands.specs.Writing as writing
 
 -- What devices tell of themselves: a disk (what a read of it gives, what a crash may leave, its clock, what a crash may have left since a moment, its count of
@@ -37,7 +38,7 @@ pub record Devices (D H A : Type 0) : Type 1 where
   pub source_faults : A → ℕ
 
 -- The words of the command line, what was taken from the sources of the two files; disk, hosts and answers at the beginning and at the end, of which host i is
--- that of executor i; the bytes of the sink where it tells them with its count of faults; and the exit status.
+-- that of executor i; the history of the life that the call led; the bytes of the sink where it tells them with its count of faults; and the exit status.
 pub record Call (D H A : Type 0) : Type 0 where
   pub words : List (List ℕ)
   pub script : Input
@@ -48,6 +49,7 @@ pub record Call (D H A : Type 0) : Type 0 where
   pub hosts_now : List H
   pub answers : A
   pub answers_now : A
+  pub history : List Entry
   pub old : Option (List ℕ)
   pub new : Option (List ℕ)
   pub sink_before : ℕ
@@ -75,8 +77,8 @@ module _ {D H A : Type 0} where
     source_faults = source_faults;
   }
 
-  abbrev pub call_of : List (List ℕ) → Input → Input → D → D → List H → List H → A → A → Option (List ℕ) → Option (List ℕ) → ℕ → ℕ → ℕ → Call D H A
-  call_of words script agents disk now hosts hosts_now answers answers_now old new before after status = record {
+  abbrev pub call_of : List (List ℕ) → Input → Input → D → D → List H → List H → A → A → List Entry → Option (List ℕ) → Option (List ℕ) → ℕ → ℕ → ℕ → Call D H A
+  call_of words script agents disk now hosts hosts_now answers answers_now history old new before after status = record {
     words = words;
     script = script;
     agents = agents;
@@ -86,6 +88,7 @@ module _ {D H A : Type 0} where
     hosts_now = hosts_now;
     answers = answers;
     answers_now = answers_now;
+    history = history;
     old = old;
     new = new;
     sink_before = before;
@@ -101,9 +104,9 @@ module _ {D H A : Type 0} where
   abbrev pub AreRead : Call D H A → Type 0
   AreRead c = ¬ (HasFailed c.script) × ¬ (HasFailed c.agents)
 
-  -- no life was led: hosts and answers came back as they were
+  -- no life was led: hosts and answers came back as they were, and there is no history
   abbrev pub IsUnled : Call D H A → Type 0
-  IsUnled c = GivesBack c.hosts c.hosts_now c.answers c.answers_now
+  IsUnled c = GivesBack c.hosts c.hosts_now c.answers c.answers_now c.history
 
   -- There are bytes of script and agents file, those that their sources had left where they tell them, of which this holds.
   abbrev pub WithFiles : Call D H A → (List ℕ → List ℕ → Type 0) → Type 0
@@ -118,6 +121,12 @@ module _ {D H A : Type 0} where
   Tells text c = writing.Tells c.old c.new c.sink_before c.sink_after text
 
 module _ {D H A : Type 0} (v : Devices D H A) where
+  -- the store was not opened, and nothing was read or written
+  pub record Unopened (c : Call D H A) : Type 0 where
+    pub why : (c.status ≡ 9) ⊎ (c.status ≡ 5) ⊎ (c.status ≡ 8)
+    pub disk : IsUntouched v.reads v.may_leave v.clock v.since c.disk c.now
+    pub unled : IsUnled c
+
   -- what was taken from the answers
   abbrev pub answered : Call D H A → Input
   answered c = taken_from v.left v.source_faults c.answers c.answers_now
@@ -128,10 +137,10 @@ module _ {D H A : Type 0} (v : Devices D H A) where
     pub told : v.reads c.disk ≡ Some file
     pub stores : Stores setting events file
 
-  -- A life of a build of this setting, with the members that are made of the call's hosts and answers: what they did, and what they became. A site's number of
-  -- looks is at least 1.
+  -- A life of a build of this setting, with the history of the call and the members that are made of its hosts and answers: what they did, and what they became. A
+  -- site's number of looks is at least 1.
   abbrev pub LifeIn : Setting → Call D H A → Type 0
-  LifeIn setting c = Lived v.honest v.host_faults v.calls v.launches v.dirs v.output v.exited v.left v.source_faults (max setting.site.looks 1) setting c.hosts c.hosts_now c.answers c.answers_now
+  LifeIn setting c = Lived v.honest v.host_faults v.calls v.launches v.dirs v.output v.exited v.left v.source_faults (max setting.site.looks 1) setting c.hosts c.hosts_now c.answers c.answers_now c.history
 
   -- A life went on from the events before to these: by the grants that were due, by what executors reported with their cause, and by the decisions of lines that
   -- were read of the answers.
@@ -139,13 +148,17 @@ module _ {D H A : Type 0} (v : Devices D H A) where
     pub life : LifeIn setting c
     pub goes : LivedBy v.honest v.host_faults v.calls v.launches v.dirs v.output v.exited v.left v.source_faults (max setting.site.looks 1) setting before life events
 
+  -- a turn of that life asked for the event, which the disk or the limit kept
+  abbrev pub AsksIn : (setting : Setting) → (c : Call D H A) → LifeIn setting c → Event → Type 0
+  AsksIn setting c life = IsRefused v.honest v.host_faults v.calls v.launches v.dirs v.output v.exited v.left v.source_faults (max setting.site.looks 1) life.turns
+
   -- behind these events this one came next in that life, and there is a cause for it
   abbrev pub ComesIn : (setting : Setting) → (c : Call D H A) → LifeIn setting c → List Event → Event → Type 0
   ComesIn setting c life events event = ComesBy v.honest v.host_faults v.calls v.launches v.dirs v.output v.exited v.left v.source_faults (max setting.site.looks 1) setting life.turns events event
 
-  -- What was read of the answers in that life, and that the lines of its history are those that were read.
-  abbrev pub HeardIn : (setting : Setting) → (c : Call D H A) → LifeIn setting c → Type 0
-  HeardIn setting c life = ∥ HeardOf v.left v.source_faults c.answers c.answers_now (lines life.history) ∥₁
+  -- What was read of the answers, and that the lines of the history are those that were read.
+  abbrev pub HeardIn : Call D H A → Type 0
+  HeardIn c = ∥ HeardOf v.left v.source_faults c.answers c.answers_now (lines c.history) ∥₁
 
   -- nobody goes on with the build: no grant is due, no task is open, and no input is open or the answers were read to their end
   pub record IsIdle (setting : Setting) (events : List Event) (c : Call D H A) : Type 0 where

@@ -24,7 +24,7 @@ use Rattle.build_commands.specs.Resuming.{IsUntouched}
 use Rattle.build_commands.specs.Texts.{full_text, has_build_text}
 use Rattle.build_commands.specs.Showing as showing
 use Rattle.build_commands.specs.Showing.{HasNone, NotTold}
-use Rattle.controller.specs.Call.{AreRead, Call, ComesIn, Devices, HeardIn, Is, IsIdle, IsUnheard, IsUnled, Finds, LifeIn, Takes, Tells, WithFiles, answered}
+use Rattle.controller.specs.Call.{AreRead, Call, ComesIn, Devices, HeardIn, Is, IsIdle, IsUnheard, IsUnled, Finds, LifeIn, Takes, Tells, Unopened, WithFiles, answered}
 
 -- the status of a build that has ended or waits; or want of memory, or a store that is full
 abbrev pub HasWorked : ℕ → Type 0
@@ -41,10 +41,10 @@ module _ {D H A : Type 0} (v : Devices D H A) where
   -- the end too; every other fault stops a build that has not ended. But for want of memory, a fault of the disk and a full store, the lines that were heard are
   -- those that were read.
   pub data Stops (setting : Setting) (events : List Event) (c : Call D H A) (life : LifeIn v setting c) : ℕ → Type 0 where
-    ended : (world_in setting events).ended ≡ true → HeardIn v setting c life → Stops setting events c life (world_status (world_in setting events))
-    waits : IsIdle v setting events c → HeardIn v setting c life → Stops setting events c life 3
-    cut : ((world_in setting events).ended ≡ true) ⊎ IsIdle v setting events c → HeardIn v setting c life → SinkFailed c → Stops setting events c life 7
-    unheard : IsUnheard setting events → HeardIn v setting c life → HasFailed (answered v c) → Stops setting events c life 6
+    ended : (world_in setting events).ended ≡ true → HeardIn v c → Stops setting events c life (world_status (world_in setting events))
+    waits : IsIdle v setting events c → HeardIn v c → Stops setting events c life 3
+    cut : ((world_in setting events).ended ≡ true) ⊎ IsIdle v setting events c → HeardIn v c → SinkFailed c → Stops setting events c life 7
+    unheard : IsUnheard setting events → HeardIn v c → HasFailed (answered v c) → Stops setting events c life 6
     disk_failed : (world_in setting events).ended ≡ false → DiskFailed c → Stops setting events c life 5
     -- the text tells the length of the store's journal, and what the record of the next event would add
     full : (len add : ℕ) → (world_in setting events).ended ≡ false → IsFull (ComesIn v setting c life) setting (v.reads c.disk) (v.reads c.now) events len add → Tells (full_text len add) c → Stops setting events c life 14
@@ -97,12 +97,6 @@ module _ {D H A : Type 0} (v : Devices D H A) where
   abbrev pub TellsUnread : Call D H A → Type 0
   TellsUnread c = ¬ (AreCalm c.script c.agents) → (c.status ≡ 6) × (c.now ≡ c.disk) × IsUnled c
 
-  -- the store was not opened, and nothing was read or written
-  pub record Unopened (c : Call D H A) : Type 0 where
-    pub why : (c.status ≡ 9) ⊎ (c.status ≡ 5) ⊎ (c.status ≡ 8)
-    pub disk : IsUntouched v.reads v.may_leave v.clock v.since c.disk c.now
-    pub unled : IsUnled c
-
   pub record RunCauses (c : Call D H A) : Type 0 where
     -- 6, 5 and 7 only where a source, the disk and the sink counted a fault
     pub source : c.status ≡ 6 → HasFailed c.script ⊎ HasFailed c.agents ⊎ HasFailed (answered v c)
@@ -131,7 +125,7 @@ module _ {D H A : Type 0} (v : Devices D H A) where
     pub finds_none : (file : List ℕ) → v.reads c.disk ≡ Some file → HasNone file → ((c.status ≡ 9) ⊎ (c.status ≡ 8) ⊎ (c.status ≡ 5)) × IsUntouched v.reads v.may_leave v.clock v.since c.disk c.now × IsUnled c
     pub calm : HasRun c.status → v.faults c.now ≡ v.faults c.disk
     -- a build that was opened went on, until it had ended, or nobody or nothing let it go on
-    pub went_on : (setting : Setting) (events : List Event) → Finds v setting events c → Unopened c ⊎ ∥ WentOn setting events c ∥₁
+    pub went_on : (setting : Setting) (events : List Event) → Finds v setting events c → Unopened v c ⊎ ∥ WentOn setting events c ∥₁
     pub works : AllCalm c → (setting : Setting) (events : List Event) → Finds v setting events c → ¬ (events ≡ []) → HasWorked c.status
 
   pub record CheckCauses (c : Call D H A) : Type 0 where

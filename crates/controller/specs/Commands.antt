@@ -28,15 +28,15 @@ module _ {D H A : Type 0} (v : Devices D H A) where
 
   -- `resume`, over any store, and over a consistent one
   pub record ResumesBy (c : Call D H A) : Type 0 where
-    pub reopens : Reopens v.reads v.may_leave v.clock v.since v.faults v.honest v.host_faults v.calls v.launches v.dirs v.output v.exited v.left v.source_faults c.hosts c.hosts_now c.answers c.answers_now
+    pub reopens : Reopens v.reads v.may_leave v.clock v.since v.faults v.honest v.host_faults v.calls v.launches v.dirs v.output v.exited v.left v.source_faults c.hosts c.hosts_now c.answers c.answers_now c.history
         c.disk c.now c.old c.new c.sink_before c.sink_after c.status
     pub resumes : (file : List ℕ) → v.reads c.disk ≡ Some file → (setting : Setting) (events : List Event) → Stores setting events file
-        → Resumes v.reads v.may_leave v.clock v.since v.faults v.honest v.host_faults v.calls v.launches v.dirs v.output v.exited v.left v.source_faults c.hosts c.hosts_now c.answers c.answers_now
+        → Resumes v.reads v.may_leave v.clock v.since v.faults v.honest v.host_faults v.calls v.launches v.dirs v.output v.exited v.left v.source_faults c.hosts c.hosts_now c.answers c.answers_now c.history
         setting events c.disk c.now c.old c.new c.sink_before c.sink_after c.status
 
   -- `run`
   abbrev pub RunsBy : {T : Type 0} → (T → Stance) → Call D H A → ℕ → Type 0
-  RunsBy stance c status = Runs v.reads v.may_leave v.clock v.since stance v.faults v.honest v.host_faults v.calls v.launches v.dirs v.output v.exited v.left v.source_faults c.disk c.now c.hosts c.hosts_now c.answers c.answers_now
+  RunsBy stance c status = Runs v.reads v.may_leave v.clock v.since stance v.faults v.honest v.host_faults v.calls v.launches v.dirs v.output v.exited v.left v.source_faults c.disk c.now c.hosts c.hosts_now c.answers c.answers_now c.history
       c.old c.new c.sink_before c.sink_after c.script c.agents status
 
   -- the words are no command, or this is what the command does

@@ -1,5 +1,5 @@
 -- What becomes of the hosts, and which tasks they have launched (this product's own).
-use Rattle.std.specs.Prelude.{◌≡◌, ◌≤◌, ℕ, nat_eq, List, length, map}
+use Rattle.std.specs.Prelude.{◌≡◌, ◌⊎◌, ◌≤◌, ℕ, nat_eq, List, length, map}
 use Rattle.std.specs.List.{AllByRecursion as AllAre, IsDistinct}
 use Rattle.agent_worker.specs.Serve.{Tasks, tasks_at}
 use Rattle.launch_laws.specs.Fitting.{AllFit, ExecutorHost, all_launches, numbered}
@@ -8,8 +8,9 @@ use Rattle.model_run.specs.declared.event.Event.{Event}
 use Rattle.model_run.specs.declared.site.Site.{Site}
 use Rattle.model_run.specs.State.{Setting}
 use Rattle.saved_run.specs.Saved.{Stores}
+use Rattle.build_commands.specs.Launching.{LaunchedOnce}
 use Rattle.build_commands.specs.Living.{HostsStay}
-use Rattle.controller.specs.Call.{Call, Devices, Finds}
+use Rattle.controller.specs.Call.{Call, Devices, Finds, IsUnled, LifeIn}
 
 module _ {D H A : Type 0} (v : Devices D H A) where
   -- the launches and the folders of hosts
@@ -26,10 +27,14 @@ module _ {D H A : Type 0} (v : Devices D H A) where
   FitLeft disk hosts = (image : List ℕ) → v.may_leave disk image → (setting : Setting) (events : List Event) → Stores setting events image → ∥ AllFit setting events (executor_hosts hosts) ∥₁
 
   pub record Launches (c : Call D H A) : Type 0 where
-    -- there is a host for each executor that an agents file may have
+    -- there is a host for each executor that an agents file may have, as there are 64
     pub enough : (agents : List ℕ) (site : Site) → agents_file agents ≡ Means site → length site.executors ≤ length c.hosts
     -- each host comes back at its place, over any store: honest where it was, its count of faults not lower, and with its calls behind those from before
     pub stay : HostsStay v.honest v.host_faults v.calls c.hosts c.hosts_now
+    -- by each command, over any store: hosts and answers came back as they were, or as the members left them that were made of them, in a life of a build of this setting
+    pub led : IsUnled c ⊎ ∥ ((setting : Setting) × LifeIn v setting c) ∥₁
+    -- and what a host has launched in this call stands behind its launches from before, no task twice, on whichever hosts
+    pub launched : LaunchedOnce v.launches c.hosts c.hosts_now
     -- over a consistent store, honest hosts that fit what a crash may leave at the beginning fit what one may leave at the end
     pub fit : (setting : Setting) (events : List Event) → Finds v setting events c → AllAre v.honest c.hosts → FitLeft c.disk c.hosts → FitLeft c.now c.hosts_now
     -- and then no task stands twice among the launches of all of them, those from before included

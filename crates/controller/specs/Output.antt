@@ -12,7 +12,6 @@ use Rattle.model_run.specs.State.{Setting}
 use Rattle.image_form.specs.declared.image.Image.{Image}
 use Rattle.model_run.specs.World.{Build, world_in}
 use Rattle.store_laws.specs.Store.{Mean}
-use Rattle.jp_disk.specs.Moments.{AtEachMoment}
 use Rattle.journal_core.specs.Records.{Has}
 use Rattle.durable_build.specs.declared.faults.StoreFault.TheVariants.{Damaged}
 use Rattle.durable_build.specs.Opening.{OpenFails}
@@ -20,10 +19,10 @@ use Rattle.saved_run.specs.Saved.{Stores}
 use Rattle.run_command.specs.Files.{HasSite, IsRefused}
 use Rattle.run_command.specs.Statuses.{HasRun, world_status}
 use Rattle.run_command.specs.Texts as run
-use Rattle.build_commands.specs.Reporting.{ShowsKept}
+use Rattle.build_commands.specs.Reporting.{IsTooLong, LeavesStore}
 use Rattle.build_commands.specs.Showing.{ShowsLast}
 use Rattle.build_commands.specs.Texts as store
-use Rattle.controller.specs.Call.{Call, Devices, HeardIn, Is, IsIdle, Finds, Takes, Tells, WithFiles, Writes, usage_text}
+use Rattle.controller.specs.Call.{AsksIn, Call, Devices, HeardIn, Is, IsIdle, Finds, LifeIn, Takes, Tells, Unopened, WithFiles, Writes, usage_text}
 
 -- the status and the text of a call that does not do what its command is for
 pub data Says : ℕ → List ℕ → Type 0 where
@@ -46,7 +45,7 @@ module _ {D H A : Type 0} (v : Devices D H A) where
   pub record Delivers (setting : Setting) (before events : List Event) (c : Call D H A) : Type 0 where
     pub takes : Takes v setting before events c
     pub rests : ((world_in setting events).ended ≡ true) ⊎ IsIdle v setting events c
-    pub heard : HeardIn v setting c takes.life
+    pub heard : HeardIn v c
     pub log : Writes (world_in setting events).shared.log (world_status (world_in setting events)) c
     pub stores : IsSome (v.reads c.disk) → IfSome (v.reads c.now) (Stores setting events)
     pub durable : IsSome (v.reads c.disk) → (image : List ℕ) → v.may_leave c.now image → Stores setting events image
@@ -65,17 +64,20 @@ module _ {D H A : Type 0} (v : Devices D H A) where
     pub unchanged : (file : List ℕ) → v.reads c.disk ≡ Some file → v.reads c.now ≡ Some file
     pub refused : c.status ≡ 9 → ((at : ℕ) × Tells (store.damaged_text at) c × IfSome (v.reads c.disk) (λ file. OpenFails file (Damaged at))) ⊎ (Tells store.no_build_text c × IfSome (v.reads c.disk) (Has []))
 
-  -- What `resume` leaves of a store whose build it has gone on with, and shows of it, whatever its records tell: up to a moment a crash leaves what it might have left
-  -- at the beginning; from then on the records of the file and the first of others behind them, and at the end all of these; and the log is that of the image of
-  -- the last record of all.
-  abbrev pub KeepsStore : Call D H A → Type 0
-  KeepsStore c = (file : List ℕ) → v.reads c.disk ≡ Some file → HasRun c.status → (payloads : List (List ℕ)) × (opened : D) × Has payloads file × AtEachMoment v.clock v.since c.disk opened (v.may_leave c.disk)
-      × ∥ ShowsKept v.may_leave v.clock v.since opened payloads c.now c.old c.new c.sink_before c.sink_after c.status ∥₁
+  -- A `resume` that went on with a build, over any store, also one of which the disk tells nothing: in a life of members that are made of the hosts and the answers
+  -- of the call. Of a store whose bytes the disk told, the build has the setting of the first record; up to a moment a crash leaves what it might have left at the
+  -- beginning, and from then on the records of the store and the first of others behind them, whatever they tell, and at the end all of these, or with 5 perhaps one
+  -- more; and a log and its status are those of the image of the last of them. 14 comes where the record of an event did not fit, which is a grant or was asked for.
+  pub record GoesOn (c : Call D H A) : Type 0 where
+    pub setting : Setting
+    pub life : LifeIn v setting c
+    pub leaves : (file : List ℕ) → v.reads c.disk ≡ Some file → LeavesStore v.may_leave v.clock v.since setting file c.disk c.now c.old c.new c.sink_before c.sink_after c.status
+    pub too_long : c.status ≡ 14 → ∥ IsTooLong (AsksIn v setting c life) c.old c.new c.sink_before c.sink_after ∥₁
 
   -- What a command is for: a build that has ended or waits, whose events begin with those of the store; the log or the graph of the store's build; `ok`.
   abbrev pub OutputOf : Command → Call D H A → Type 0
   OutputOf Run c = HasRun c.status → IsAtEnd c.script.rest × IsAtEnd c.agents.rest × WithFiles c (λ script agents. ∥ DeliversRun c script agents ∥₁)
-  OutputOf Resume c = (HasRun c.status → (setting : Setting) (events : List Event) → Finds v setting events c → ∥ ((more : List Event) × Delivers setting events (events ++ more) c) ∥₁) × KeepsStore c
+  OutputOf Resume c = (HasRun c.status → (setting : Setting) (events : List Event) → Finds v setting events c → ∥ ((more : List Event) × Delivers setting events (events ++ more) c) ∥₁) × (Unopened v c ⊎ GoesOn c)
   OutputOf Log c = ShowsStore (λ w. w.shared.log) (λ i. i.log) c
   OutputOf Graph c = ShowsStore (λ w. graph_text w.shared.nodes) (λ i. graph_text i.nodes) c
   OutputOf Check c = HasRun c.status → Writes store.ok_text 0 c × WithFiles c (λ script agents. HasSite agents × ¬ (IsRefused script))

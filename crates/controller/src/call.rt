@@ -43,7 +43,7 @@ use task_host::Host;
 /// memory.
 ///
 /// There are 64 hosts: host i runs the tasks of executor i, and each comes back at its place. A command that lets no build go on
-/// hands hosts and answers back as they were. `threads` says how many of the executors and the operator work at once, each in a thread
+/// hands hosts and answers back as they were, and its history is empty. `threads` says how many of the executors and the operator work at once, each in a thread
 /// of its own as far as threads can be made; with 1 they work one after the other, in their order.
 ///
 /// What is said of the bytes of a source, the sink or the disk holds where it tells them. Of a disk that tells nothing, as a real
@@ -73,7 +73,7 @@ pub fn controller<
     ensures promises { Promises
         (devices D.reads D.may_leave D.clock D.may_have_left_since D.faults H.honest H.faults H.calls H.launches H.dirs H.output H.exited A.left A.faults)
         (call_of (map string_bytes words.items) (taken_from S.left S.faults script.old script.new) (taken_from S.left S.faults agents.old agents.new)
-        disk result.disk hosts.items result.hosts.items answers result.answers (K.written out.old) (K.written out.new) (K.faults out.old) (K.faults out.new) result.status) }
+        disk result.disk hosts.items result.hosts.items answers result.answers result.history.items (K.written out.old) (K.written out.new) (K.faults out.old) (K.faults out.new) result.status) }
 {
     do_command::<R, W, D, S, H, A, K>(
         rt, alloc, &words, script, agents, disk, hosts, threads, answers, out,
@@ -104,7 +104,7 @@ fn do_command<
     ensures does { Does
         (devices D.reads D.may_leave D.clock D.may_have_left_since D.faults H.honest H.faults H.calls H.launches H.dirs H.output H.exited A.left A.faults) R.stance
         (call_of (map string_bytes words.now) (taken_from S.left S.faults script.old script.new) (taken_from S.left S.faults agents.old agents.new)
-        disk result.disk hosts.items result.hosts.items answers result.answers (K.written out.old) (K.written out.new) (K.faults out.old) (K.faults out.new) result.status) }
+        disk result.disk hosts.items result.hosts.items answers result.answers result.history.items (K.written out.old) (K.written out.new) (K.faults out.old) (K.faults out.new) result.status) }
 {
     match command_in(words) {
         Some((Command::Run, _)) => {
@@ -120,6 +120,7 @@ fn do_command<
                 disk,
                 hosts,
                 answers,
+                history: Vec::new(alloc),
             }
         }
         Some((Command::Graph, _)) => {
@@ -129,6 +130,7 @@ fn do_command<
                 disk,
                 hosts,
                 answers,
+                history: Vec::new(alloc),
             }
         }
         Some((Command::Check, _)) => {
@@ -138,6 +140,7 @@ fn do_command<
                 disk,
                 hosts,
                 answers,
+                history: Vec::new(alloc),
             }
         }
         None => {
@@ -147,6 +150,7 @@ fn do_command<
                 disk,
                 hosts,
                 answers,
+                history: Vec::new(alloc),
             }
         }
     }

@@ -1,8 +1,10 @@
-//! The call that the program makes: from the words of the command line, the streams and the disk to the output and the exit status.
+//! The call that the program makes: from the words of the command line, the streams, the disk and the hosts to the output and the
+//! exit status.
 //!
-//! All that is promised stands at [`controller`], in five parts: what is written and what the store holds then (`Output`), what a
+//! All that is promised stands at [`controller`], in six parts: what is written and what the store holds then (`Output`), what a
 //! crash may leave at each moment (`Crash`), what is said of a file with a fault (`FirstFault`), when each status comes and what came
-//! of the build (`Causes`), and what is read of the sources (`Reads`). The threads of the build are of any kind that meets
+//! of the build (`Causes`), what is read of the sources (`Reads`), and what becomes of the hosts and which tasks they launch
+//! (`Launches`). The threads of the build are of any kind that meets
 //! `SavedThread`, the disk of any that meets `Disk`, and the hosts of any that meets `Host`.
 //!
 //! ```text

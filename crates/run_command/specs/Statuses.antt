@@ -1,5 +1,5 @@
 -- The exit status of a build. This product's own.
-use Rattle.std.specs.Prelude.{◌≡◌, ◌⊎◌, ℕ, if◌then◌else◌}
+use Rattle.std.specs.Prelude.{◌≡◌, ◌⊎◌, ℕ, Bool, if◌then◌else◌}
 use Rattle.model_run.specs.declared.result.BuildResult.{BuildResult}
 use Rattle.model_run.specs.declared.result.BuildResult.TheVariants.{Success, Unstable, Failure, NotBuilt, Aborted}
 use Rattle.model_run.specs.World.{Build}
@@ -13,8 +13,11 @@ result_status NotBuilt = 11
 result_status Aborted = 12
 
 -- the status of a build that has ended is that of its result; one that waits has its own
+abbrev pub status_of : Bool → BuildResult → ℕ
+status_of ended result = if ended then result_status result else 3
+
 abbrev pub world_status : Build → ℕ
-world_status b = if b.ended then result_status b.shared.result else 3
+world_status b = status_of b.ended b.shared.result
 
 -- the status is that of a build that has ended
 abbrev pub IsEnded : ℕ → Type 0

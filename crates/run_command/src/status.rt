@@ -1,8 +1,9 @@
 //! The exit status of a build.
 ghost use Rattle.std.specs.Prelude.{◌≡◌};
 ghost use Rattle.build_core.specs.Builds.{StandsFor};
+ghost use Rattle.build_core.specs.Phases.{has_ended};
 ghost use Rattle.model_run.specs.World.{Build as WorldBuild};
-ghost use Rattle.run_command.specs.Statuses.{HasLog, result_status, world_status};
+ghost use Rattle.run_command.specs.Statuses.{HasLog, result_status, status_of, world_status};
 
 use build_core::Build;
 use model_run::BuildResult;
@@ -10,6 +11,7 @@ use script_thread::ScriptThread;
 
 /// The exit status of a build that has ended, or waits.
 pub fn build_status<R: ScriptThread + Drop>(build: &Build<R>) -> u8
+    ensures here { result ≡ status_of (has_ended build.now.phase) build.now.shared.result }
     ensures log { HasLog result }
     ensures world { (w : WorldBuild) → StandsFor R.stance build.now w → result ≡ world_status w }
 {

@@ -22,7 +22,7 @@ abbrev claims_in : List Entry → List ℕ
 claims_in es = tasks_of (claimed_of es)
 
 -- claims of entries that are made of two are made of the claims of each
-claims_merge : (xs ys zs : List Entry) → IsMergeOf xs ys zs → IsMergeOf (claims_in xs) (claims_in ys) (claims_in zs)
+pub claims_merge : (xs ys zs : List Entry) → IsMergeOf xs ys zs → IsMergeOf (claims_in xs) (claims_in ys) (claims_in zs)
 claims_merge xs ys [] m = (ap claims_in m.0, ap claims_in m.1)
 claims_merge xs ys (Took e ∷ zs) m = ⊎_elim
     (λ (l : (us : List Entry) × (xs ≡ Took e ∷ us) × IsMergeOf us ys zs). subst (λ (es : List Entry). IsMergeOf (claims_in es) (claims_in ys) (claims_in zs)) (sym l.1) (claims_merge l.0 ys zs l.2))

@@ -71,3 +71,13 @@ module _ {H A : Type 0} (honest : H → Type 0) (faults : H → ℕ) (calls : H 
     -- so each event that was taken is explained, and the one whose record the disk may have though it failed
     pub explained : AllAre (IsExplained honest faults calls launches dirs output exited left source_faults looks (turns_of rounds ++ last) true) (tooks history)
     pub at_risk : AllAre (IsExplained honest faults calls launches dirs output exited left source_faults looks (turns_of rounds ++ last) false) (pending history)
+
+  -- a life whose turns these are, one behind the other
+  pub record LifeOf {B : Type 0} (answers : Answers B Entry Ask Reply) (base : B) (old now : List (Member H A)) (turns : List (Turn H A)) (history : List Entry) : Type 0 where
+    pub how : Result Progress Memory
+    pub life : Life answers base base old now history how
+    pub are : turns ≡ turns_of life.rounds ++ life.last
+
+-- whatever is replied
+abbrev pub any_reply : Answers (Unit {0}) Entry Ask Reply
+any_reply base history ask reply new = Unit {0}

@@ -52,7 +52,7 @@ pub fn look<W: Wait, D: Disk, R: SavedThread + Drop>(
     progress_of(program.step(rt, pass, Ask::Look))
 }
 
-/// Sleeps for 20 milliseconds, where the build has come no further since the last look.
+/// Sleeps for 20 milliseconds, where the look says the same as the one before it.
 pub fn pause<W: Wait + Clock>(rt: &W, last: Option<Progress>, come: Progress) {
     if last == Some(come) {
         thread::sleep(rt, Duration::from_millis(PAUSE));

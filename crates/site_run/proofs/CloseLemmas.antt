@@ -26,7 +26,7 @@ use Rattle.site_state.specs.declared.ask.Reply.{Reply}
 use Rattle.site_state.specs.Facts.{Facts, IsFull, IsFullAt, IsSite}
 use Rattle.site_state.specs.Grants.{OpenRefuses}
 use Rattle.site_state.specs.Histories.{kept_fault}
-use Rattle.site_life.specs.Lives.{Life}
+use Rattle.site_life.specs.Lives.{Life, LifeOf}
 use Rattle.site_life.specs.Ways.{Way}
 use Rattle.site_life.specs.Turns.{DidTurn}
 use Rattle.site_run.specs.Ending.{any_failed, ended_as, rest_of}
@@ -216,6 +216,11 @@ module _ {H A : Type 0} (honest : H → Type 0) (faults : H → ℕ) (calls : H 
     explained = tt;
     at_risk = tt;
   }
+
+  -- and its turns
+  pub no_turns : (base : B) (members : List (Member H A)) → LifeOf honest faults calls launches dirs output exited left source_faults looks answers base members members [] []
+  unfolding no_life
+  no_turns base members = record { how = Err (record {}); life = no_life (record {}) base members; are = refl }
 
   pub nothing_done : (memory : Memory) (base b : B) (old now : List (Member H A)) (h : List Entry) → b ≡ base → now ≡ old → h ≡ [] → Life honest faults calls launches dirs output exited left source_faults looks answers base b old now h (Err memory)
   nothing_done memory base b old now h same_base same none =

@@ -1,4 +1,5 @@
 pub mod WalkLemmas
+pub mod ReplyLemmas
 pub mod StoreLemmas
 pub mod MemberLemmas
 pub mod EndLemmas

@@ -182,7 +182,7 @@ failed_same : (fault : TakeFault) (e f : Event) → Failed fault (Some e) ∷ []
 failed_same fault e f is = cc
 
 -- the first free task of an executor is one of its open tasks
-found_task : (h : List Entry) (x : ℕ) (rs : List OpenRequest) (r : OpenRequest) → first_free h x rs ≡ Some r → Some_of (λ q. (q.number ≡ r.number) × RunsOn x q.request) rs
+pub found_task : (h : List Entry) (x : ℕ) (rs : List OpenRequest) (r : OpenRequest) → first_free h x rs ≡ Some r → Some_of (λ q. (q.number ≡ r.number) × RunsOn x q.request) rs
 found_task h x [] r is = absurd (none_request r is)
 found_task h x (q ∷ qs) r is = on (found_task h x qs r) (is_free h x q) refl is
   where
@@ -217,15 +217,15 @@ module _ {T : Type 0} (stance : T → Stance) (setting : Setting) (proper : IsPr
     pub requests_are : w.shared.requests ≡ b.shared.requests
     requests_are = ap (λ (x : Standing). x.requests) standing_is
 
-    answer_is : (e : Event) → W.answer_to setting w e ≡ answer_of b e
+    pub answer_is : (e : Event) → W.answer_to setting w e ≡ answer_of b e
     answer_is e = subst (λ (s : Setting). StandsFor stance b (W.world_in s events) → W.answer_to s (W.world_in s events) e ≡ answer_of b e) all.same
         (λ at. same_answer stance b (W.world_in (setting_in b) events) phase_begun at e) all.stands
 
-    due_is : W.next_grant setting w ≡ due b
+    pub due_is : W.next_grant setting w ≡ due b
     due_is = subst (λ (s : Setting). StandsFor stance b (W.world_in s events) → W.next_grant s (W.world_in s events) ≡ due b) all.same
         (λ at. same_due stance b (W.world_in (setting_in b) events) phase_begun at) all.stands
 
-    accepted_is : (e : Event) → answer_of b e ≡ Accepted → W.answer_to setting w e ≡ Accepted
+    pub accepted_is : (e : Event) → answer_of b e ≡ Accepted → W.answer_to setting w e ≡ Accepted
     accepted_is e is = answer_is e ∙ is
 
     no_requests : w.ended ≡ true → w.shared.requests ≡ []
@@ -253,7 +253,7 @@ module _ {T : Type 0} (stance : T → Stance) (setting : Setting) (proper : IsPr
     order_is (DecidedEvent request proceed name) settled accepted = settled_none settled
 
     -- the build behind an event
-    shows_next : (e : Event) (after : Parts T) → IsNext stance b e after → ShowsAll after (events ++ e ∷ [])
+    pub shows_next : (e : Event) (after : Parts T) → IsNext stance b e after → ShowsAll after (events ++ e ∷ [])
     shows_next e after next = record {
       same = next.setting ∙ all.same;
       begun = begun_all setting events (e ∷ []) all.begun;
@@ -274,13 +274,13 @@ module _ {T : Type 0} (stance : T → Stance) (setting : Setting) (proper : IsPr
     asked_comes Reported (DecidedEvent request proceed name) order other is = absurd (let bad : true ≡ false = other in cc)
 
     -- an answer line
-    line_decides : (line : List ℕ) (request : ℕ) (e : Event) → hearing.Decides b line request e → Decides w line e
+    pub line_decides : (line : List ℕ) (request : ℕ) (e : Event) → hearing.Decides b line request e → Decides w line e
     line_decides line request e d = record { request = request; answer = d.answer; open_now = ap (input_of d.answer.id) requests_are ∙ d.open_now }
 
     line_comes : (Reported : Event → Type 0) (line : List ℕ) (request : ℕ) (e : Event) → IsSettled b → hearing.Decides b line request e → Comes setting Reported events e (line ∷ [])
     line_comes Reported line request e settled d = by_line line e (settled_none settled) (line_decides line request e d)
 
-    line_passed : (line : List ℕ) → IsSkipped b line → IsPassedOver w line
+    pub line_passed : (line : List ℕ) → IsSkipped b line → IsPassedOver w line
     line_passed line (hearing.no_answer none) = no_answer none
     line_passed line (hearing.nothing_open proceed id name answers none) = nothing_open proceed id name answers (ap (input_of id) requests_are ∙ none)
     line_passed line (hearing.not_accepted request e d never) = absurd (by (either_end w.ended))

@@ -43,9 +43,12 @@ use Rattle.site_gate.proofs.TaleLemmas.{grants_silent, told-append}
 use Rattle.site_life.specs.Coming.{Came, EachIs}
 use Rattle.site_life.specs.Orders.{AllAnswered}
 use Rattle.site_life.specs.Waiting.{Waited, operators}
-use Rattle.site_run.specs.Telling.{HeardInTime, IsOrderOf, orders_in}
+use Rattle.site_run.specs.Replies.{replies}
+use Rattle.site_run.specs.Telling.{ClaimedInTime, HeardInTime, IsOrderOf, orders_in}
+use Rattle.site_run.proofs.ReplyLemmas.{claimed_in_time, replies_so}
+use Rattle.site_life.proofs.OverLemmas.{life_over}
 use Rattle.site_run.proofs.CallLemmas.{heard_in_time, turns_ordered}
-use Rattle.site_life.specs.Lives.{Life, EndsWith}
+use Rattle.site_life.specs.Lives.{Life, LifeOf, EndsWith}
 use Rattle.site_life.specs.Rounds.{turns_of}
 use Rattle.site_life.specs.Turns.{Turn}
 use Rattle.site_run.specs.Ending.{RestsWith, ended_as, rest_of}
@@ -229,6 +232,15 @@ module _ {D T : Type 0} (reads : D → Option (List ℕ)) (may_leave : D → Lis
           told = ∥∥₁_elim life.came ∥∥₁_prop (λ came. legal_at stance setting lasts.goes.proper Reported begun opened.build shown_opened opening base is_base h life.legal life.explained
               (subst (λ (b : Parts T). EachIs (Came (λ history x y more. Says stance b history x y more)) [] h) is_base came))
 
+          -- the life that the build of the events replied to, and when tasks were claimed in it
+          led : LifeOf honest faults calls launches dirs output exited left source_faults looks (replies setting) begun old new turns h
+          led = life_over (λ b history x y more. Says stance (opening b) history x y more) (replies setting) base begun
+              (λ history x y more says. replies_so stance setting lasts.goes.proper opened.build begun shown_opened history x y more (subst (λ (b : Parts T). Says stance b history x y more) is_base says))
+              honest faults calls launches dirs output exited left source_faults looks start old new h how life
+
+          claimed : ∥ EachIs (ClaimedInTime setting begun) [] h ∥₁
+          claimed = claimed_in_time setting begun h led.life.legal
+
           module _ (at : At stance setting lasts.goes.proper Reported begun h) (site : Facts reads may_leave clock since disk_faults stance opened kept h) where
             goes_all : GoesBy setting Reported events now (lines h)
             goes_all = goes_then setting (λ e. ⊥) Reported events begun now [] (lines h) (λ x never. absurd never) goes_made at.goes
@@ -279,15 +291,17 @@ module _ {D T : Type 0} (reads : D → Option (List ℕ)) (may_leave : D → Lis
             ends_by (inr s) rests =
                 subst (λ (f : Option TakeFault). EndsBehind reads may_leave clock since stance setting entry origin before Refused now new kept (ended_as f how new)) (sym (ap kept_fault s.is ∙ kept_last s.front s.fault s.event s.none)) (breaks_so s)
 
-            ends_so : (ended : Result Rest TakeFault) → AllAre (λ (turn : Turn H A). AllAre (IsOrderOf setting begun (tooks h)) (orders_in turn.calls)) turns → (operators old ≤ 1 → EachIs (HeardInTime setting begun) [] h) → ended ≡ ended_as (kept_fault h) how new → (kept_fault h ≡ None → IfOk how (λ come. RestsWith (rest_of come new) setting (W.world_in setting now) new))
+            ends_so : (ended : Result Rest TakeFault) → AllAre (λ (turn : Turn H A). AllAre (IsOrderOf setting begun (tooks h)) (orders_in turn.calls)) turns → (operators old ≤ 1 → EachIs (HeardInTime setting begun) [] h) → EachIs (ClaimedInTime setting begun) [] h → ended ≡ ended_as (kept_fault h) how new
+                → (kept_fault h ≡ None → IfOk how (λ come. RestsWith (rest_of come new) setting (W.world_in setting now) new))
                 → Ends reads may_leave clock since stance honest faults calls launches dirs output exited left source_faults looks turns setting entry origin before events old new h kept ended
-            ends_so ended orders in_time is rests = record {
+            ends_so ended orders in_time claims is rests = record {
               granted = tooks made;
               are_grants = grants_are grants;
               now = now;
               is = refl;
               goes = goes_all;
-              claims = at.given;
+              led = led;
+              claims = claims;
               orders = orders;
               in_time = in_time;
               ends = subst (EndsBehind reads may_leave clock since stance setting entry origin before Refused now new kept) (sym is) (ends_by at.stops rests);
@@ -323,17 +337,17 @@ module _ {D T : Type 0} (reads : D → Option (List ℕ)) (may_leave : D → Lis
           -- A life, by what its members did and by what is known of the state behind it.
           pub life_ends : ∥ IsSite reads may_leave clock since disk_faults stance opened kept h capacity ∥₁ → (ended : Result Rest TakeFault) → ended ≡ ended_as (kept_fault h) how new
               → ∥ Ends reads may_leave clock since stance honest faults calls launches dirs output exited left source_faults looks turns setting entry origin before events old new h kept ended ∥₁
-          life_ends known ended is = ∥∥₁_elim known ∥∥₁_prop (λ site. ∥∥₁_elim told ∥∥₁_prop (λ at. ∥∥₁_elim ordered ∥∥₁_prop (λ orders. ∥∥₁_elim timed ∥∥₁_prop (λ in_time. by site at orders in_time (calm_or_not (kept_fault h))))))
+          life_ends known ended is = ∥∥₁_elim known ∥∥₁_prop (λ site. ∥∥₁_elim told ∥∥₁_prop (λ at. ∥∥₁_elim ordered ∥∥₁_prop (λ orders. ∥∥₁_elim timed ∥∥₁_prop (λ in_time. ∥∥₁_elim claimed ∥∥₁_prop (λ claims. by site at orders in_time claims (calm_or_not (kept_fault h)))))))
             where
               calm_or_not : (f : Option TakeFault) → (f ≡ None) ⊎ (f ≡ None → ⊥)
               calm_or_not None = inl refl
               calm_or_not (Some f) = inr (λ none. no_fault f none)
 
               by : IsSite reads may_leave clock since disk_faults stance opened kept h capacity → At stance setting lasts.goes.proper Reported begun h → AllAre (λ (turn : Turn H A). AllAre (IsOrderOf setting begun (tooks h)) (orders_in turn.calls)) turns
-                  → (operators old ≤ 1 → EachIs (HeardInTime setting begun) [] h) → (kept_fault h ≡ None) ⊎ (kept_fault h ≡ None → ⊥)
+                  → (operators old ≤ 1 → EachIs (HeardInTime setting begun) [] h) → EachIs (ClaimedInTime setting begun) [] h → (kept_fault h ≡ None) ⊎ (kept_fault h ≡ None → ⊥)
                   → ∥ Ends reads may_leave clock since stance honest faults calls launches dirs output exited left source_faults looks turns setting entry origin before events old new h kept ended ∥₁
-              by site at orders in_time (inl calm) = ∥∥₁_map (look_rests site calm how life.ends) (λ rests. ends_so at site.facts ended orders in_time is (λ none. rests))
-              by site at orders in_time (inr fault) = ∣ ends_so at site.facts ended orders in_time is (λ none. absurd (fault none)) ∣₁
+              by site at orders in_time claims (inl calm) = ∥∥₁_map (look_rests site calm how life.ends) (λ rests. ends_so at site.facts ended orders in_time claims is (λ none. rests))
+              by site at orders in_time claims (inr fault) = ∣ ends_so at site.facts ended orders in_time claims is (λ none. absurd (fault none)) ∣₁
 
     -- An opening that was refused, either way.
     pub opening_refused : (made : List Entry) (k : Kept D T) (fault : TakeFault) (disk : D) → OpenRefuses stance durable k made fault → Facts reads may_leave clock since disk_faults stance durable k made → disk ≡ k.journal.disk

@@ -1,4 +1,5 @@
 pub mod Going
+pub mod Replies
 pub mod Telling
 pub mod Ending
 pub mod Serving

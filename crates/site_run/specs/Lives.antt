@@ -20,21 +20,20 @@ use Rattle.site_state.specs.declared.ask.Entry.{Entry}
 use Rattle.site_state.specs.declared.ask.Progress.{Progress}
 use Rattle.site_state.specs.declared.ask.Reply.{Reply}
 use Rattle.site_state.specs.Histories.{kept_fault, lines, tooks}
-use Rattle.site_life.specs.Lives.{Life}
+use Rattle.site_life.specs.Lives.{Life, LifeOf}
 use Rattle.site_life.specs.Rounds.{turns_of}
 use Rattle.site_life.specs.Turns.{Turn, Explains, HoldsOfOne}
 use Rattle.site_run.specs.Ending.{RestsWith, ended_as}
 use Rattle.site_run.specs.Going.{Comes, GoesBy}
-use Rattle.site_run.specs.Telling.{AreHeard, HeardInTime, IsOrderOf, orders_in}
+use Rattle.site_run.specs.Replies.{replies}
+use Rattle.site_run.specs.Telling.{AreHeard, ClaimedInTime, HeardInTime, IsOrderOf, orders_in}
 use Rattle.site_life.specs.Coming.{EachIs}
 use Rattle.site_life.specs.Waiting.{operators}
 use Rattle.site_run.specs.Serving.{AreHonest, AllFit, hosts_of}
 use Rattle.launch_laws.specs.Fitting as fitting
 use Rattle.launch_laws.specs.Fitting.{AreApart, ExecutorHost, all_launches}
 use Rattle.std.specs.List.{AllByRecursion as AllAre, IsDistinct}
-use Rattle.agent_worker.specs.Gate.{Claimed as ClaimedTask}
-use Rattle.launch_laws.specs.ManyTurns.{InLife}
-use Rattle.site_gate.specs.Tales.{claimed_of, is_grant}
+use Rattle.site_gate.specs.Tales.{is_grant}
 use Rattle.site_state.specs.Facts.{Facts, HasFront}
 use Rattle.site_state.specs.Grants.{Grants}
 
@@ -94,8 +93,10 @@ module _ {D T H A : Type 0} (reads : D → Option (List ℕ)) (may_leave : D →
     pub now : List Event
     pub is : now ≡ (events ++ granted) ++ tooks history
     pub goes : GoesBy setting (IsReported turns) events now (lines history)
+    -- the turns are those of a life to which the build of these events replied
+    pub led : LifeOf honest faults calls launches dirs output exited left source_faults looks (replies setting) (events ++ granted) old new turns history
     -- each task was claimed while it was open, for its executor
-    pub claims : AllAre (λ (c : ClaimedTask). InLife setting (events ++ granted) (tooks history) c.executor c.task) (claimed_of history)
+    pub claims : EachIs (ClaimedInTime setting (events ++ granted)) [] history
     -- each order that an executor was given is that of a task which was open then
     pub orders : AllAre (λ (turn : Turn H A). AllAre (IsOrderOf setting (events ++ granted) (tooks history)) (orders_in turn.calls)) turns
     -- each line was heard only where an input was open since the line before it

@@ -11,6 +11,7 @@ use Rattle.agent_worker.specs.declared.member.Member.TheVariants.{Executor, Oper
 use Rattle.build_requests.specs.Waiting.{waiting_inputs}
 use Rattle.model_run.specs.declared.event.Event.{Event}
 use Rattle.model_run.specs.Fitting.{Some_of}
+use Rattle.model_run.specs.Requests.{IsTaskOf}
 use Rattle.model_run.specs.State.{Setting}
 use Rattle.model_run.specs.World.{world_in}
 use Rattle.site_state.specs.declared.ask.Entry.{Entry}
@@ -39,6 +40,13 @@ pub record IsOrderOf (setting : Setting) (begun taken : List Event) (order : Ord
   pub rest : List Event
   pub is : taken ≡ front ++ rest
   pub of_task : Some_of (λ r. order_as r.number r.request ≡ Some order) (world_in setting (begun ++ front)).shared.requests
+
+-- so an entry, behind these, where it is a claim: its task was an open one of its executor in the world of the events taken before it
+abbrev pub ClaimedInTime : Setting → List Event → List Entry → Entry → Type 0
+ClaimedInTime setting begun before (Claimed executor task keep_out kept_log kept_out) = IsTaskOf executor task (world_in setting (begun ++ tooks before)).shared
+ClaimedInTime setting begun before (Took event) = Unit {0}
+ClaimedInTime setting begun before (Line line) = Unit {0}
+ClaimedInTime setting begun before (Failed fault event) = Unit {0}
 
 -- At a moment behind the last line among these entries, or behind the opening, an input was open.
 pub record HadInput (setting : Setting) (begun : List Event) (before : List Entry) : Type 0 where

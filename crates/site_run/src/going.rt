@@ -46,10 +46,10 @@ pub struct Lived<D: Disk, R: SavedThread + Drop> {
 /// Goes on with a saved build that has begun: makes the grants that a stop left out, and lets the members work on it until it has
 /// ended or nobody can go on.
 ///
-/// The members have rounds of turns, each member one turn a round, of whom as many work at once as `threads`
-/// says, each in a thread of its own as far as threads can be made; with 1 they work one after the other, in their order. Another round follows while the build has
-/// neither ended nor been stopped by a fault, and a task is open, or an input is open while an operator's answers are neither at
-/// their end nor failed. So a life rests where the build has ended (`Ended`); where no task is open, and no input is open or all
+/// The members have rounds of turns, each member one turn a round. As many members work at once as `threads` says, each in a thread
+/// of its own as far as threads can be made; with 1 they work one after the other, in their order (no clause speaks of the threads,
+/// nor of this order). Another round follows while the build has neither ended nor been stopped by a fault, and a task is open, or an
+/// input is open while an operator's answers are neither at their end nor failed. So a life rests where the build has ended (`Ended`); where no task is open, and no input is open or all
 /// answers were read to their end (`Waits`); and where no task is open, and an input whose answers could not be read
 /// (`AnswersFailed`).
 ///
@@ -62,7 +62,7 @@ pub struct Lived<D: Disk, R: SavedThread + Drop> {
 /// of faults rose, which it does at no other fault; `Full` with the journal's length in bytes and what the record of an event
 /// would have added to it, together more than 1,073,741,824: over a store of one build, of the event that came next; `Memory`
 /// where memory was refused. `Stopped` does not come. Where one of the grants that a stop left out is refused so, the disk alone
-/// is handed back, and no member has had a turn.
+/// is handed back, and the members are as they were.
 pub fn go_on<
     W: Threads + Wait + Sync + Clock + AllocGlobal,
     D: Disk + Send,

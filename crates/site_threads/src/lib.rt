@@ -1,7 +1,7 @@
 //! A life of a build whose members work in threads, each with a pass of its own.
 //!
-//! What `live` of `site_life` does in a plain loop, [`live_in_threads`] does with a thread for each member, round by round
-//! ([`take_round_in_threads`]). It keeps the same contract: no sentence of it speaks of the order of two members' entries.
+//! What `live` of `site_life` does in a plain loop, [`live_in_threads`] does in as many threads at once as it is told, round by
+//! round ([`take_round_in_threads`]). It keeps the same contract: no sentence of it speaks of the order of two members' entries.
 //!
 //! ```text
 //! match live_in_threads(&rt, alloc, 8, state, &mut members, 5) {

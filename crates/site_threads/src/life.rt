@@ -140,15 +140,15 @@ fn live_in<
 /// The life of a build with these members, who work in threads: what [`live`] is, with as many members of a round at work at once as
 /// `threads` says, each in a thread of its own as far as threads can be made. Nothing else is different, and its contract is the same.
 ///
-/// With 1 thread, or none, the members have their turns one after the other, in their order; so have more than 127 members. The
-/// members stay in their order.
+/// With 1 thread, or none, the members have their turns one after the other, in their order; so have more than 127 members (no
+/// clause speaks of the threads, nor of this order). The members stay in their order.
 ///
 /// `looks`, at least 1, is as for [`agent_worker::work`]. It may wait for ever.
 ///
 /// # Errors
 ///
 /// `Memory` comes only for want of memory: with the state alone, before anything was done; or beside it, before a round, in which
-/// then no member has had a turn (of more than 127 members, as [`live`] says).
+/// then no member has had a turn, which no clause says (of more than 127 members, as [`live`] says).
 pub fn live_in_threads<
     T: Threads + Wait + Sync + Clock + AllocGlobal,
     D: Disk + Send,

@@ -116,14 +116,15 @@ fn work_all<
 }
 
 /// Gives each of the members of these seats a turn. As many work at once as `threads` says, each in a thread of its own as far as
-/// threads can be made; with 1, or none, and where no thread can be made, they have their turns one after the other, in their order.
+/// threads can be made; with 1, or none, and where no thread can be made, they have their turns one after the other, in their order
+/// (no clause speaks of the threads, nor of this order).
 ///
 /// Each member has a pass of its own, which is split off before and taken in behind. `TakesRound` says what each turn was, as
 /// `take_round` of `site_life` does, and which entries of them the pass has. It has all parts of the right to close before and behind it.
 ///
 /// # Errors
 ///
-/// `Memory` comes for want of a further pass; then no member has had a turn.
+/// `Memory` comes for want of a further pass; then no member has had a turn (which no clause says).
 pub fn take_round_in_threads<
     'a,
     T: Threads + Wait + Sync + Clock + AllocGlobal,

@@ -1,10 +1,22 @@
-use Rattle.std.proofs.Common.{inl, inr, ◌∙◌, ℕ, List, [], ◌∷◌, max, sym, ap, subst}
-use Rattle.site_crew.specs.Crews.{members_of}
-use Rattle.build_commands.specs.Living.{HostsStay}
-use Rattle.build_commands.specs.Reporting.{Reports}
+use Rattle.std.proofs.Common.{◌≡◌, ◌∙◌, ℕ, List, [], ◌∷◌, max, sym, ap, subst, reverse, arith}
+use Rattle.agent_worker.specs.declared.member.Member.{Member}
+use Rattle.build_core.specs.Builds.{Parts, setting_in}
+use Rattle.model_run.specs.declared.site.Executor.{Executor as SiteExecutor}
+use Rattle.model_run.specs.declared.site.Site.{Site}
+use Rattle.model_run.specs.State.{Setting}
+use Rattle.site_crew.specs.Crews.{members_of, others_of}
+use Rattle.build_commands.specs.Launching.{LaunchedOnce}
+use Rattle.build_commands.specs.Leading.{IsLed}
+use Rattle.build_commands.specs.Living.{Finished, HostsStay}
+use Rattle.build_commands.specs.Reporting.{KeepsRecords, Reports}
 use Rattle.build_commands.specs.Reporting as report
 use Rattle.build_commands.proofs.FinishLemmas.{finished_wanting}
-use Rattle.build_commands.proofs.LivingLemmas.{hosts_all, no_events, no_life, one_answer, stay_same}
+use Rattle.build_commands.proofs.KeepLemmas.{nothing_kept}
+use Rattle.build_commands.proofs.LaunchLemmas.{none_launched}
+use Rattle.site_life.specs.Lives.{LifeOf, any_reply}
+use Rattle.site_state.specs.declared.ask.Entry.{Entry}
+use Rattle.site_run.proofs.CloseLemmas.{no_turns}
+use Rattle.build_commands.proofs.LivingLemmas.{hosts_all, no_events, one_answer, stay_same, still_served}
 use Rattle.build_commands.proofs.finishing.finish.Goals as goal
 
 pub returns-in-Err-clause-stay : goal.returns-in-Err-clause-stay
@@ -32,8 +44,91 @@ returns-in-Err-clause-finishes g c = λ setting entry origin before lasts.
     let are = one_answer setting.site.executors c.args.hosts.items c.args.answers ∙ ap (λ (a : g.row.A.Denot). a ∷ []) (sym back.1) in
     ∣ finished_wanting D.reads D.may_leave D.clock D.may_have_left_since g.R.ScriptThread.stance D.faults H.honest H.faults H.calls H.launches H.dirs H.output H.exited A.left A.faults looks
     setting entry origin before c.args.hosts.items c.in-Err.hosts.items c.args.answers c.in-Err.answers (K.written c.args.out.now) (K.written c.tell-status.new.out) (K.faults c.args.out.now) (K.faults c.tell-status.new.out) c.tell-status.result (D.faults c.args.durable.journal.disk)
-    c.args.durable c.close.result c.close.ensures (no_life H.honest H.faults H.calls H.launches H.dirs H.output H.exited A.left A.faults looks begun) hosts_are are
+    c.new.result.items c.args.durable c.close.result c.close.ensures c.new.ensures.items (no_turns H.honest H.faults H.calls H.launches H.dirs H.output H.exited A.left A.faults looks any_reply tt begun)
+    (still_served H.honest H.faults H.calls H.launches H.dirs H.output H.exited A.left A.faults looks begun) hosts_are are
     (no_events H.honest H.faults H.calls H.launches H.dirs H.output H.exited A.left A.faults looks g.R.ScriptThread.stance setting lasts.goes.proper before lasts.goes.begun begun) lasts c.tell-status.ensures.status c.tell-status.ensures.text ∣₁
 
 pub returns-in-Err-clause-last : goal.returns-in-Err-clause-last
-returns-in-Err-clause-last g c = λ payloads keeps. inl (inr (inr (inr c.tell-status.ensures.status)))
+returns-in-Err-clause-last g c = λ payloads keeps.
+    let D = g.D.Disk in
+    let K = g.K.Sink in
+    ∣ subst (λ (d : g.row.D.Denot). KeepsRecords D.may_leave D.clock D.may_have_left_since c.args.durable.journal.disk payloads d (K.written c.args.out.now) (K.written c.tell-status.new.out) (K.faults c.args.out.now) (K.faults c.tell-status.new.out) c.tell-status.result) (sym c.close.ensures)
+    (nothing_kept D.reads D.may_leave D.clock D.may_have_left_since (g.met.D.Disk g.world.𝓛 g.world.𝓜 g.world.𝓡 ((λ s x. x), (λ x. x), (λ x. x), λ x. x)).only_now g.R.ScriptThread.stance c.args.durable payloads
+    (K.written c.args.out.now) (K.written c.tell-status.new.out) (K.faults c.args.out.now) (K.faults c.tell-status.new.out) c.tell-status.result keeps c.tell-status.ensures.status) ∣₁
+
+pub returns-in-Err-clause-launched : goal.returns-in-Err-clause-launched
+returns-in-Err-clause-launched g c =
+    let H = g.H.Host in
+    subst (λ (hs : List g.row.H.Denot). LaunchedOnce H.launches c.args.hosts.items hs) (sym c.in-Err.ensures.back.0) (none_launched H.launches c.args.hosts.items)
+
+pub returns-in-Err-clause-led : goal.returns-in-Err-clause-led
+returns-in-Err-clause-led g c =
+    let A = g.A.Source in
+    let H = g.H.Host in
+    let back = c.in-Err.ensures.back in
+    let setting = setting_in c.args.durable.build in
+    let begun = members_of setting.site.executors c.args.hosts.items c.args.answers in
+    let hosts_are = back.0 ∙ sym (hosts_all setting.site.executors c.args.hosts.items c.args.answers) in
+    let are = one_answer setting.site.executors c.args.hosts.items c.args.answers ∙ ap (λ (a : g.row.A.Denot). a ∷ []) (sym back.1) in
+    record {
+      lived = record {
+        new = begun;
+        turns = [];
+        life = subst (λ (es : List Entry). LifeOf H.honest H.faults H.calls H.launches H.dirs H.output H.exited A.left A.faults (max setting.site.looks 1) any_reply tt begun begun [] es) (sym c.new.ensures.items)
+            (no_turns H.honest H.faults H.calls H.launches H.dirs H.output H.exited A.left A.faults (max setting.site.looks 1) any_reply tt begun);
+        served = still_served H.honest H.faults H.calls H.launches H.dirs H.output H.exited A.left A.faults (max setting.site.looks 1) begun;
+        hosts_are = hosts_are;
+        answers_are = are;
+      };
+      too_long = λ fourteen. let eight : c.tell-status.result ≡ 8 = c.tell-status.ensures.status in absurd (omega (arith, eight, fourteen));
+    }
+
+-- the members are made of the hosts and the answers, and the number of looks is the site's
+record Gathered {H A : Type 0} (setting : Setting) (members : List (Member H A)) (others hosts : List H) (answers : A) (looks : ℕ) : Type 0 where
+  made : members ≡ members_of setting.site.executors hosts answers
+  rest : others ≡ reverse (others_of setting.site.executors hosts)
+  at_least : looks ≡ max setting.site.looks 1
+
+gathered : {H A : Type 0} (setting : Setting) (site other : Site) (executors : List SiteExecutor) (members : List (Member H A)) (others hosts : List H) (answers : A) (looks : ℕ) → site ≡ setting.site → other ≡ setting.site → executors ≡ other.executors
+    → looks ≡ max site.looks 1 → members ≡ members_of executors hosts answers → others ≡ reverse (others_of executors hosts) → Gathered setting members others hosts answers looks
+gathered {H} {A} setting site other executors members others hosts answers looks same_site same_other are at_least made rest =
+    let all : executors ≡ setting.site.executors = are ∙ ap (λ (s : Site). s.executors) same_other in
+    record {
+      made = made ∙ ap (λ (xs : List SiteExecutor). members_of xs hosts answers) all;
+      rest = rest ∙ ap (λ (xs : List SiteExecutor). reverse (others_of xs hosts)) all;
+      at_least = at_least ∙ ap (λ (s : Site). max s.looks 1) same_site;
+    }
+
+again : {H A : Type 0} (setting later : Setting) (members : List (Member H A)) (others hosts : List H) (answers : A) (looks : ℕ) → setting ≡ later → Gathered setting members others hosts answers looks → Gathered later members others hosts answers looks
+again setting later members others hosts answers looks same g = subst (λ (s : Setting). Gathered s members others hosts answers looks) same g
+
+pub returns-in-Ok-clause-led : goal.returns-in-Ok-clause-led
+returns-in-Ok-clause-led g c =
+    let A = g.A.Source in
+    let H = g.H.Host in
+    let K = g.K.Sink in
+    let setting = setting_in c.args.durable.build in
+    let site = c.site.ensures ∙ ap (λ (b : Parts g.row.R.Denot). (setting_in b).site) c.build.ensures in
+    let other = c.site-2.ensures ∙ ap (λ (b : Parts g.row.R.Denot). (setting_in b).site) c.build-2.ensures in
+    let crew = gathered setting c.site.result.now c.site-2.result.now c.as_slice-executors.result.now c.in-Ok.crew.members.items c.in-Ok.crew.others.items c.args.hosts.items c.args.answers c.max-looks.result
+    site other c.as_slice-executors.ensures c.max-looks.ensures c.in-Ok.ensures.members c.in-Ok.ensures.others in
+    subst (λ (n : ℕ). IsLed H.honest H.faults H.calls H.launches H.dirs H.output H.exited A.left A.faults n setting c.args.hosts.items c.live.result.hosts.items c.args.answers c.live.result.answers c.live.result.history.items
+    (K.written c.args.out.now) (K.written c.live.new.out) (K.faults c.args.out.now) (K.faults c.live.new.out) c.live.result.status) crew.at_least
+    (c.live.ensures.led setting c.args.hosts.items c.args.answers crew.made crew.rest)
+
+pub returns-in-Ok-clause-finishes : goal.returns-in-Ok-clause-finishes
+returns-in-Ok-clause-finishes g c = λ setting entry origin before lasts.
+    let A = g.A.Source in
+    let H = g.H.Host in
+    let D = g.D.Disk in
+    let K = g.K.Sink in
+    let here = setting_in c.args.durable.build in
+    let site = c.site.ensures ∙ ap (λ (b : Parts g.row.R.Denot). (setting_in b).site) c.build.ensures in
+    let other = c.site-2.ensures ∙ ap (λ (b : Parts g.row.R.Denot). (setting_in b).site) c.build-2.ensures in
+    let crew = again here setting c.in-Ok.crew.members.items c.in-Ok.crew.others.items c.args.hosts.items c.args.answers c.max-looks.result lasts.goes.same
+    (gathered here c.site.result.now c.site-2.result.now c.as_slice-executors.result.now c.in-Ok.crew.members.items c.in-Ok.crew.others.items c.args.hosts.items c.args.answers c.max-looks.result
+    site other c.as_slice-executors.ensures c.max-looks.ensures c.in-Ok.ensures.members c.in-Ok.ensures.others) in
+    subst (λ (n : ℕ). ∥ Finished D.reads D.may_leave D.clock D.may_have_left_since H.honest H.faults H.calls H.launches H.dirs H.output H.exited A.left A.faults n
+    setting entry origin before c.args.hosts.items c.live.result.hosts.items c.args.answers c.live.result.answers c.live.result.history.items c.live.result.disk (D.faults c.args.durable.journal.disk) (D.faults c.live.result.disk)
+    (K.written c.args.out.now) (K.written c.live.new.out) (K.faults c.args.out.now) (K.faults c.live.new.out) c.live.result.status ∥₁) crew.at_least
+    (c.live.ensures.finishes c.args.hosts.items c.args.answers setting entry origin before crew.made crew.rest lasts)

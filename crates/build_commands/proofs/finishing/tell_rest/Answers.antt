@@ -7,5 +7,6 @@ returns g c = record {
   known = c.build_status.ensures.log;
   wrote = c.tell_text.ensures;
   shown = c.log.ensures.here;
+  by_image = c.build_status.ensures.here;
   is = λ w s. (c.log.ensures.world w s, c.build_status.ensures.world w s);
 }

@@ -1,7 +1,8 @@
-use Rattle.std.proofs.Common.{◌∙◌, ℕ, refl, sym, ap, subst}
+use Rattle.std.proofs.Common.{◌∙◌, ℕ, List, refl, sym, ap, subst}
+use Rattle.build_core.specs.Builds.{setting_in}
 use Rattle.jp_disk.specs.Moments.{AtEachMoment}
 use Rattle.durable_build.specs.Opening.{OpenFails}
-use Rattle.durable_build.specs.Standing.{Keeps, Kept}
+use Rattle.durable_build.specs.Standing.{Keeps, Kept, StandsBy}
 use Rattle.saved_run.specs.Lives.{Stands}
 use Rattle.saved_run.proofs.LifeLemmas.{lasts_here}
 use Rattle.build_commands.specs.Reporting.{Reports}
@@ -19,16 +20,21 @@ returns-in-Ok-clause-reopens g c =
     let A = g.A.Source in
     let K = g.K.Sink in
     let life = c.in-Ok.life in
-    goes_on (if_told (D.reads c.args.disk) HasBuild (λ file at. has_build D.reads D.may_leave g.R.ScriptThread.stance file life.durable (c.in-Ok.ensures.opened file at) c.in-Ok.ensures.whole)) c.finish.ensures.stay
+    let stance = g.R.ScriptThread.stance in
+    let kept = c.into_durable.result in
+    goes_on (setting_in kept.build) c.finish.ensures.led c.finish.ensures.stay c.finish.ensures.launched
+    (if_told (D.reads c.args.disk) HasBuild (λ file at. has_build D.reads D.may_leave stance file life.durable (c.in-Ok.ensures.opened file at) c.in-Ok.ensures.whole))
     (λ file at.
     let o = c.in-Ok.ensures.opened file at in
-    let kept = c.into_durable.result in (
-      o.payloads,
-      kept.journal.disk,
-      o.has,
-      subst (λ (k : Kept g.row.D.Denot g.row.R.Denot). AtEachMoment D.clock D.may_have_left_since c.args.disk k.journal.disk (D.may_leave c.args.disk)) (sym c.into_durable.ensures) c.in-Ok.ensures.any_moment,
-      c.finish.ensures.last o.payloads (subst (λ (k : Kept g.row.D.Denot g.row.R.Denot). Keeps D.reads D.may_leave g.R.ScriptThread.stance k o.payloads) (sym c.into_durable.ensures) o.keeps),
-    ))
+    let keeps = subst (λ (k : Kept g.row.D.Denot g.row.R.Denot). Keeps D.reads D.may_leave stance k o.payloads) (sym c.into_durable.ensures) o.keeps in
+    record {
+      payloads = o.payloads;
+      has = o.has;
+      begun = λ p ps is. (kept.script, kept.agents, (subst (λ (qs : List (List ℕ)). StandsBy stance kept.build kept.script kept.agents qs) is keeps.stands).1);
+      opened = kept.journal.disk;
+      up_to = subst (λ (k : Kept g.row.D.Denot g.row.R.Denot). AtEachMoment D.clock D.may_have_left_since c.args.disk k.journal.disk (D.may_leave c.args.disk)) (sym c.into_durable.ensures) c.in-Ok.ensures.any_moment;
+      keeps = c.finish.ensures.last o.payloads keeps;
+    })
     (subst (λ (n : ℕ). Reports n (D.faults c.finish.result.disk) (A.faults c.args.answers) (A.faults c.finish.result.answers) (K.written c.args.out.now) (K.written c.finish.new.out) (K.faults c.args.out.now) (K.faults c.finish.new.out) c.finish.result.status)
     (ap (λ (k : Kept g.row.D.Denot g.row.R.Denot). D.faults k.journal.disk) c.into_durable.ensures ∙ c.in-Ok.ensures.cause.calm (λ e. e)) c.finish.ensures.reports)
 
@@ -54,9 +60,9 @@ returns-in-Err-clause-reopens g c =
     let A = g.A.Source in
     let H = g.H.Host in
     let K = g.K.Sink in
-    subst (λ (n : ℕ). Reopens D.reads D.may_leave D.clock D.may_have_left_since D.faults H.honest H.faults H.calls H.launches H.dirs H.output H.exited A.left A.faults c.args.hosts.items c.args.hosts.items c.args.answers c.args.answers
+    subst (λ (n : ℕ). Reopens D.reads D.may_leave D.clock D.may_have_left_since D.faults H.honest H.faults H.calls H.launches H.dirs H.output H.exited A.left A.faults c.args.hosts.items c.args.hosts.items c.args.answers c.args.answers c.new.result.items
     c.args.disk c.in-Err.disk (K.written c.args.out.now) (K.written c.tell-status.new.out) (K.faults c.args.out.now) (K.faults c.tell-status.new.out) n) (sym c.tell-status.ensures.status)
-    (unopened (refl, refl) (record { same = λ file at. (c.in-Err.ensures.stands file at).1; moments = c.in-Err.ensures.any_moment })
+    (unopened (refl, refl, c.new.ensures.items) (record { same = λ file at. (c.in-Err.ensures.stands file at).1; moments = c.in-Err.ensures.any_moment })
     (show.not_opened (D.reads c.args.disk) (D.faults c.args.disk) (D.faults c.in-Err.disk) c.in-Err.fault c.of_store.result c.of_store.ensures
     (if_told (D.reads c.args.disk) (λ file. OpenFails file c.in-Err.fault) (λ file at. (c.in-Err.ensures.stands file at).0)) c.in-Err.ensures.cause.calm c.in-Err.ensures.cause.failed)
     c.tell-status.ensures.text)
@@ -68,8 +74,8 @@ returns-in-Err-clause-resumes g c = λ file told setting events stores.
     let H = g.H.Host in
     let K = g.K.Sink in
     let fails = (c.in-Err.ensures.stands file told).0 in
-    subst (λ (n : ℕ). Resumes D.reads D.may_leave D.clock D.may_have_left_since D.faults H.honest H.faults H.calls H.launches H.dirs H.output H.exited A.left A.faults c.args.hosts.items c.args.hosts.items c.args.answers c.args.answers
+    subst (λ (n : ℕ). Resumes D.reads D.may_leave D.clock D.may_have_left_since D.faults H.honest H.faults H.calls H.launches H.dirs H.output H.exited A.left A.faults c.args.hosts.items c.args.hosts.items c.args.answers c.args.answers c.new.result.items
     setting events c.args.disk c.in-Err.disk (K.written c.args.out.now) (K.written c.tell-status.new.out) (K.faults c.args.out.now) (K.faults c.tell-status.new.out) n) (sym c.tell-status.ensures.status)
-    (refused (refl, refl) (record { same = λ other at. (c.in-Err.ensures.stands other at).1; moments = c.in-Err.ensures.any_moment })
+    (refused (refl, refl, c.new.ensures.items) (record { same = λ other at. (c.in-Err.ensures.stands other at).1; moments = c.in-Err.ensures.any_moment })
     (not_opened setting events file (D.faults c.args.disk) (D.faults c.in-Err.disk) c.in-Err.fault c.of_store.result c.of_store.ensures fails stores (c.in-Err.ensures.undamaged file told (is_consistent setting events file stores)) c.in-Err.ensures.cause.failed)
     c.tell-status.ensures.text)

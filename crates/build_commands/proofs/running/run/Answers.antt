@@ -19,5 +19,5 @@ returns-in-Err-clause-runs g c =
     let script = taken_from S.left S.faults c.args.script.now c.read_plan.new.script in
     let agents = taken_from S.left S.faults c.args.agents.now c.read_plan.new.agents in
     subst (λ (n : ℕ). Runs D.reads D.may_leave D.clock D.may_have_left_since g.R.ScriptThread.stance D.faults H.honest H.faults H.calls H.launches H.dirs H.output H.exited A.left A.faults c.args.disk c.args.disk
-    c.args.hosts.items c.args.hosts.items c.args.answers c.args.answers (K.written c.args.out.now) (K.written c.tell-status.new.out) (K.faults c.args.out.now) (K.faults c.tell-status.new.out) script agents n) (sym c.tell-status.ensures.status)
-    (refused c.in-Err.ensures.plans refl (refl, refl) c.tell-status.ensures.text)
+    c.args.hosts.items c.args.hosts.items c.args.answers c.args.answers c.new.result.items (K.written c.args.out.now) (K.written c.tell-status.new.out) (K.faults c.args.out.now) (K.faults c.tell-status.new.out) script agents n) (sym c.tell-status.ensures.status)
+    (refused c.in-Err.ensures.plans refl (refl, refl, c.new.ensures.items) c.tell-status.ensures.text)
