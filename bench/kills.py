@@ -6,14 +6,15 @@ controller is killed (SIGKILL) at random moments, N times or until the build has
 has to begin with the one before, its last log and its status have to be those of the undisturbed run, and each of its tasks, which
 leaves its name in a file when it is launched, has to have been launched once.
 
-Executors work side by side, so that the lines of branches may come in another order among each other, and nodes that wait may get
-other executors. Where the log of a build with branches is not the same, its lines are compared in any order, and such builds are
-counted for themselves.
+Executors work side by side, so that the lines of branches may come in another order among each other, nodes that wait may get other
+executors, and a line of one branch may be cut by one of another. Where the log of a build with branches is not the same, its lines are
+compared in any order, those of each step in theirs; and where a line is cut, its characters. Such builds are counted for themselves.
 
 A kill between the making of a task's control folder and the start of its shell costs that step: it ends with code -2 or -1 and is not
 launched again (docs/HOSTS.md). Such builds are counted for themselves; in them no task may have been launched twice.
 
-With `--calls` one build of five shell steps is killed at each system call in turn of those that write, by strace.
+With `--calls` one build of five shell steps is killed right before each call in turn that writes or starts a process, in whichever
+thread, by bench/calls.c, which `cc` has to compile.
 
 The same seed gives the same scripts and times. An interrupt (Ctrl-C) ends it with the figures so far. The status is 0 where all is so.
 """
@@ -37,8 +38,6 @@ AGENTS = """{"job": "killed", "looks": 24, "agents": [
     {"name": "two", "root": "ROOM/two", "labels": ["small"], "executors": 2}
 ]}"""
 LOST = re.compile(r"exit code -[12]$|^code -[12]$", re.M)
-# The calls that change what is on the disk, or start a process.
-CALLS = "openat pwrite64 write fsync fdatasync ftruncate mkdir mkdirat rename renameat unlink unlinkat rmdir clone clone3 vfork fork".split()
 
 
 class Scripts:
@@ -143,9 +142,8 @@ class Wrong(Exception):
     """What must not be."""
 
 
-def go_on(build, before, controller):
+def gone_on(build, before):
     """What is known behind a kill: the command to go on with, and the log, which has to begin with the one before."""
-    controller.communicate()
     command, log = build.next_command()
     if not log.startswith(before[: before.rfind("\n") + 1]):
         raise Wrong(f"the log does not begin with the one before:\n{before}\n---\n{log}")
@@ -162,18 +160,30 @@ def killed(build, kills, seconds, choose):
             return build.ended(controller), count
         except subprocess.TimeoutExpired:
             controller.kill()
-        command, log = go_on(build, log, controller)
+            controller.communicate()
+        command, log = gone_on(build, log)
         time.sleep(choose.choice([0, 0, 0.1, 0.3]))
     return build.ran(command), kills
 
 
 SAME, REORDERED, COST = "as the undisturbed run", "as the undisturbed run in another order", "with a step that a kill cost"
+CUT = "as the undisturbed run in another order, with a line that another branch cut"
 
 
 def in_any_order(ended, launches):
-    """The lines of a log, without the places of nodes, with the status and the number of launches."""
+    """The lines of a log, without the places of nodes, and those of each step in their order; the status and the number of launches."""
     log, status = ended
-    return sorted(re.sub("^Running on .*", "Running", log, flags=re.M).split("\n")), status, sum(launches.values())
+    lines, steps = re.sub("^Running on .*", "Running", log, flags=re.M).split("\n"), collections.defaultdict(list)
+    for line in lines:
+        if step := re.match(r"(?:step )?(\d+)\b", line):
+            steps[step[1]].append(line)
+    return sorted(lines), steps, status, sum(launches.values())
+
+
+def letters(ended, launches):
+    """How often each character but the newline stands in a log, without the places of nodes; the status and the number of launches."""
+    log, status = ended
+    return collections.Counter(re.sub("^Running on .*", "Running", log, flags=re.M).replace("\n", "")), status, sum(launches.values())
 
 
 def judged(first, first_launches, second, launches, has_branches):
@@ -183,8 +193,9 @@ def judged(first, first_launches, second, launches, has_branches):
         raise Wrong(f"launched twice: {twice}")
     if second == first and launches == first_launches:
         return SAME
-    if has_branches and in_any_order(first, first_launches) == in_any_order(second, launches):
-        return REORDERED
+    for same, what in ((in_any_order, REORDERED), (letters, CUT)):
+        if has_branches and same(first, first_launches) == same(second, launches):
+            return what
     if LOST.search(second[0]) and not LOST.search(first[0]) and "\nFinished: " in second[0]:
         return COST
     differ = difflib.unified_diff(first[0].split("\n"), second[0].split("\n"), "undisturbed", "killed", lineterm="", n=1)
@@ -212,15 +223,21 @@ def trial(program, seed, kills):
         shutil.rmtree(room, ignore_errors=True)
 
 
-def campaign(asked):
-    seeds = [asked.seed * 1_000_000 + at for at in range(asked.builds)]
+def each(jobs, items, do):
+    """What came of each item, so many at a time; of those that had ended, where an interrupt came."""
     ended = []
-    with concurrent.futures.ThreadPoolExecutor(asked.jobs) as lanes:
+    with concurrent.futures.ThreadPoolExecutor(jobs) as lanes:
         try:
-            for build in lanes.map(lambda seed: trial(asked.program, seed, asked.kills), seeds):
-                ended.append(build)
+            for it in lanes.map(do, items):
+                ended.append(it)
         except KeyboardInterrupt:
             lanes.shutdown(cancel_futures=True)
+    return ended
+
+
+def campaign(asked):
+    seeds = [asked.seed * 1_000_000 + at for at in range(asked.builds)]
+    ended = each(asked.jobs, seeds, lambda seed: trial(asked.program, seed, asked.kills))
     wrong = [why for *_, why in ended if why]
     print(*wrong, sep="\n")
     kills, tasks = (sum(it[at] for it in ended) for at in range(2))
@@ -232,33 +249,49 @@ def campaign(asked):
 
 
 def at_each_call(asked):
-    """Kills the fixed build at each call in turn, and resumes it."""
+    """Kills the fixed build right before each call in turn, and resumes it."""
     room = tempfile.mkdtemp(prefix="controller-calls-")
     try:
+        library = f"{room}/calls.so"
+        subprocess.run(["cc", "-O1", "-shared", "-fPIC", "-o", library, f"{TOP}/bench/calls.c"], check=True)
         undisturbed = Build(asked.program, f"{room}/undisturbed", FIXED)
-        first, figures, wrong = undisturbed.ran("run"), collections.Counter(), []
-        for name in CALLS:
-            for number in range(1, 10_000):
-                build = Build(asked.program, f"{room}/{name}-{number}", FIXED)
-                inject = ["strace", "-qq", "-o", "/dev/null", "-e", f"trace={name}", "-e", f"inject={name}:signal=KILL:when={number}"]
-                controller = build.start("run", inject)
-                log, status = build.ended(controller)
-                if status != -9 and status != 137:
-                    break
-                try:
-                    command, _ = go_on(build, log, controller)
-                    figures[name, judged(first, undisturbed.launches(), build.ran(command), build.launches(), True)] += 1
-                except Wrong as why:
-                    wrong.append(f"{name} {number}: {why}")
-                shutil.rmtree(build.room, ignore_errors=True)
-        print(*wrong, sep="\n")
-        for name in CALLS:
-            for what in (SAME, REORDERED, COST):
-                if figures[name, what]:
-                    print(f"{name}: {figures[name, what]} {what}")
-        return 1 if wrong else 0
+        first, calls = watched(undisturbed, library, 0)
+        if not calls:
+            raise SystemExit("bench/calls.c sees no call of this program: is it linked to the C library as a whole?")
+        ended = each(asked.jobs, range(1, len(calls) + 1), lambda number: killed_at(asked.program, room, library, number, undisturbed, first))
+        print(*(f"{name}: {what}" for name, what in ended if isinstance(what, Wrong)), sep="\n")
+        figures = collections.Counter((name, what) for name, what in ended if isinstance(what, str))
+        for (name, what), count in sorted(figures.items()):
+            print(f"{name}: {count} {what}")
+        return 1 if any(isinstance(what, Wrong) for _, what in ended) else 0
     finally:
         shutil.rmtree(room, ignore_errors=True)
+
+
+def watched(build, library, number):
+    """How a run ends that is killed right before the call of this number, and the names of its calls so far."""
+    controller = build.start("run", ["env", f"LD_PRELOAD={library}", f"CALLS_LIST={build.room}/calls", f"CALLS_KILL={number}"])
+    ended = build.ended(controller)
+    try:
+        with open(f"{build.room}/calls", encoding="utf-8") as calls:
+            return ended, calls.read().split()
+    except FileNotFoundError:
+        return ended, []
+
+
+def killed_at(program, room, library, number, undisturbed, first):
+    """The name of the call before which the build was killed, and what became of it."""
+    build = Build(program, f"{room}/{number}", FIXED)
+    (log, status), calls = watched(build, library, number)
+    if status != -9:
+        return "none", "ended before so many calls"
+    try:
+        command, _ = gone_on(build, log)
+        return calls[-1], judged(first, undisturbed.launches(), build.ran(command), build.launches(), True)
+    except Wrong as why:
+        return f"{number}, {calls[-1]}", why
+    finally:
+        shutil.rmtree(build.room, ignore_errors=True)
 
 
 def main():

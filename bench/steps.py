@@ -2,8 +2,9 @@
 """What shell steps cost: `bench/steps.py [--program PROGRAM] [--runs N]`.
 
 It takes the shortest of some runs each: a build of 100 steps `sh 'true'`, and a shell that runs the same scripts in a loop, with and
-without the shell around each that a task has; the system calls of such a step, where strace is there; output into the log, and into a
-file; and what an idle wait takes of a processor.
+without the shell around each that a task has; the system calls of such a step, of all threads of the controller, and how long its
+syncs and pauses take, where strace is there; eight branches that each sleep a second, on eight executors; output into the log, and
+into a file; and what an idle wait takes of a processor.
 """
 import argparse
 import collections
@@ -40,24 +41,32 @@ class Room:
     def __init__(self, program, at):
         self.program, self.at = program, at
 
-    def build(self, script):
+    def build(self, script, executors=1):
         shutil.rmtree(f"{self.at}/build", ignore_errors=True)
         os.makedirs(f"{self.at}/build")
         with open(f"{self.at}/build/Jenkinsfile", "w", encoding="utf-8") as file:
             file.write(script)
         with open(f"{self.at}/build/agents.json", "w", encoding="utf-8") as file:
-            file.write('{"job": "cost", "agents": [{"name": "m", "root": "%s/agent", "executors": 1}]}' % self.at)
+            file.write('{"job": "cost", "agents": [{"name": "m", "root": "%s/agent", "executors": %d}]}' % (self.at, executors))
 
-    def run(self, script, before=()):
-        self.build(script)
+    def run(self, script, before=(), executors=1):
+        self.build(script, executors)
         return Ran([*before, self.program, "run", f"{self.at}/build"])
 
     def calls(self, script):
-        """The system calls of the controller alone, by their names."""
-        self.run(script, ["strace", "-qq", "-c", "-o", f"{self.at}/calls"])
-        with open(f"{self.at}/calls", encoding="utf-8") as table:
-            rows = [line.split() for line in table if re.match(r" *\d+\.\d+ ", line) and not line.rstrip().endswith("total")]
-        return collections.Counter({row[-1]: int(row[3]) for row in rows})
+        """The system calls of the controller, with all its threads and without its tasks: how many of each name, and their seconds."""
+        self.run(script, ["strace", "-f", "-b", "execve", "-qq", "-T", "-o", f"{self.at}/calls"])
+        count, seconds = collections.Counter(), collections.Counter()
+        with open(f"{self.at}/calls", encoding="utf-8", errors="replace") as file:
+            lines = [line.split(maxsplit=1) for line in file]
+        # A process that goes on as another program is a task, or what starts it; but the first, which is the controller.
+        tasks = {pid for pid, call in lines[1:] if call.startswith("execve(")}
+        for pid, call in lines:
+            ended = re.match(r"(?:<\.\.\. )?(\w+)(?:\(| resumed>).* <(\d+\.\d+)>$", call)
+            if ended and pid not in tasks:
+                count[ended[1]] += 1
+                seconds[ended[1]] += float(ended[2])
+        return count, seconds
 
 
 def shortest(runs, run):
@@ -84,10 +93,16 @@ def main():
         print(f"a step: {one(steps.seconds - empty.seconds)}, of which {one(steps.processor - empty.processor)} processor; store {size // STEPS:,} bytes")
         print(f"the same processes in a shell's loop: {one(wrapped.seconds)}; sh -xe alone: {one(plain.seconds)}")
         if shutil.which("strace"):
-            made = room.calls("node { %d.times { sh 'true' } }" % STEPS)
-            made.subtract(room.calls("node { }"))
-            told = ", ".join(f"{name} {count / STEPS:.1f}" for name, count in made.most_common() if count / STEPS >= 0.5)
-            print(f"system calls of the controller for a step: {sum(made.values()) / STEPS:.0f} ({told})")
+            (count, seconds), (count_before, seconds_before) = (room.calls(script) for script in ("node { %d.times { sh 'true' } }" % STEPS, "node { }"))
+            count.subtract(count_before)
+            seconds.subtract(seconds_before)
+            told = ", ".join(f"{name} {number / STEPS:.1f}" for name, number in count.most_common() if number / STEPS >= 0.5)
+            print(f"system calls of the controller for a step: {sum(count.values()) / STEPS:.0f} ({told})")
+            longest = ", ".join(f"{name} {one(time)}" for name, time in seconds.most_common(6))
+            print(f"a step waits, under strace, in all threads together: {longest}")
+        parts = ", ".join(f"b{at}: {{ node {{ sh 'sleep 1' }} }}" for at in range(8))
+        eight = shortest(runs, lambda: room.run(f"parallel({parts})", executors=8))
+        print(f"eight branches that each sleep a second on eight executors: {eight.seconds:.2f} s, {eight.processor:.2f} s of a processor")
         output = shortest(runs, lambda: room.run("node { sh '#!/bin/sh\\nhead -c 8388608 /dev/zero | tr \"\\\\0\" x' }"))
         stored = os.path.getsize(f"{at}/build/program.dat")
         print(f"8 MiB into the log: {output.seconds:.2f} s, {output.processor:.2f} s of a processor, store {stored / 2**20:.0f} MiB")

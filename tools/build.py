@@ -90,7 +90,8 @@ class Progress:
         if self.on_terminal:
             at_work = ", ".join(f"{name} {what}" for name, what in self.at_work.items())
             line = f"controller: {self.ended} of {self.count} crates, {self.proved()} functions proved, {self.seconds()}: {at_work}"
-            print(f"\r\033[K{line[: os.get_terminal_size(2).columns - 1]}", end="", file=sys.stderr, flush=True)
+            width = os.get_terminal_size(2).columns or 80
+            print(f"\r\033[K{line[: width - 1]}", end="", file=sys.stderr, flush=True)
 
     def at(self, name, what):
         with self.lock:

@@ -275,6 +275,19 @@ class Tasks(Shell):
         self.build(f"parallel(a: {{ node('m') {{ {step_a} }} }}, b: {{ node('m2') {{ {step_b} }} }})", agents=("m", "m2"))
         self.ends("run", 0, "Finished: SUCCESS")
 
+    def test_two_builds_that_share_an_agent_run_at_the_same_time(self):
+        controllers = []
+        for own, other in (("a", "b"), ("b", "a")):
+            wait = f"i=0; until test -e ROOM/{other}; do i=$((i+1)); test $i -lt 200 || exit 9; sleep 0.1; done"
+            self.build(f"node {{ sh {script('touch ROOM/' + own, wait, 'pwd')} }}")
+            os.rename(self.folder, f"{self.room}/build-{own}")
+            self.put(f"build-{own}/agents.json", json.dumps({"job": own, "agents": [{"name": "m", "root": self.agent, "executors": 1}]}))
+            words = [PROGRAM, "run", f"{self.room}/build-{own}"]
+            controllers.append(subprocess.Popen(words, stdin=subprocess.DEVNULL, stdout=subprocess.PIPE))
+        for own, controller in zip("ab", controllers):
+            log, _ = controller.communicate(timeout=PATIENCE)
+            self.assertEqual((controller.returncode, log.count(f"{self.agent}/workspace/{own}\n".encode())), (0, 2), log)
+
     def test_control_folders_go_when_their_steps_have_ended(self):
         self.build("node { sh 'true'; sh script: 'false', returnStatus: true }")
         self.ends("run", 0, "Finished: SUCCESS")
@@ -322,6 +335,20 @@ class Page(Shell):
                 self.assertIn("\nERROR: script returned exit code 3\nFinished: FAILURE\n", log.read())
         self.assertEqual(len(self.launches()), 2)
         self.assertEqual(sorted(os.listdir(self.folder)), ["Jenkinsfile", "agents.json", "log", "program.dat", "program.lock"])
+
+    def test_a_stop_of_a_units_main_process_leaves_its_tasks_to_the_next_start(self):
+        with open(f"{TOP}/docs/USING.md", encoding="utf-8") as page:
+            [words] = re.findall(r"^ExecStart=/bin/sh -c '(.*)'$", page.read(), re.M)
+        words = words.replace("./controller", PROGRAM).replace("DIR", self.folder)
+        self.build(f"node {{ sh {script('sleep 2', 'echo slept', 'exit 3')} }}")
+        # As systemd stops a unit with KillMode=process: SIGTERM for the process of ExecStart= alone.
+        unit = subprocess.Popen(["/bin/sh", "-c", words], cwd=TOP, stdin=subprocess.DEVNULL, stdout=subprocess.DEVNULL)
+        self.wait_until(lambda: self.launches(), "a launch")
+        unit.terminate()
+        self.assertEqual(unit.wait(), -signal.SIGTERM)
+        again = subprocess.run(["/bin/sh", "-c", words], cwd=TOP, stdin=subprocess.DEVNULL, capture_output=True, check=False)
+        self.assertEqual((again.returncode, again.stdout.count(b"slept\n")), (1, 1), again.stderr)
+        self.assertEqual(len(self.launches()), 1)
 
     def test_a_job_of_cron_beside_another_leaves_that_alone(self):
         self.build(f"node {{ sh {script('sleep 2', 'echo slept')} }}")
