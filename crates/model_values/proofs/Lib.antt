@@ -11,7 +11,7 @@ pub mod ListMethodGrowth
 mod MethodExamples
 pub mod MethodGrowth
 mod MethodNameExamples
-pub mod NumberedLaws
+pub mod KeyOrderLaws
 mod OperatorExamples
 pub mod OperatorGrowth
 mod Sample

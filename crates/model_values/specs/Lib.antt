@@ -12,7 +12,7 @@ pub mod ListMethods
 pub mod MethodNames
 pub mod MethodTable
 pub mod Methods
-pub mod Numbered
+pub mod KeyOrder
 pub mod Operators
 pub mod Searching
 pub mod TextMethods

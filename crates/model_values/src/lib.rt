@@ -19,6 +19,7 @@ mod entries;
 mod key;
 mod limit;
 mod operator;
+mod places;
 mod throwable;
 mod value;
 
