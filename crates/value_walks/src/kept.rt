@@ -62,17 +62,6 @@ impl Walk {
             _ => None,
         }
     }
-
-    /// These values, and behind them what it has kept. `AllocError` where the memory was refused.
-    pub fn into_values(self, front: Values) -> Result<Values, AllocError>
-        ensures { IfOk result (λ values. values ≡ front ++ walk_kept self) }
-    {
-        match self {
-            Walk::Collect(kept) => kept.into_values(front),
-            Walk::FindAll(kept) => kept.into_values(front),
-            _ => Ok(front),
-        }
-    }
 }
 
 impl WalkInTurn {

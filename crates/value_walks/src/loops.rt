@@ -1,6 +1,6 @@
 //! The `for` over a value.
 
-ghost use Rattle.std.specs.Prelude.{◌≡◌, ◌+◌, ◌<◌, ◌≤◌, ◌^◌, ◌∷◌, [], false, ℕ, IfOk, drop, if◌then◌else◌, length, nat_eq, slice_get};
+ghost use Rattle.std.specs.Prelude.{◌≡◌, ◌+◌, ◌<◌, ◌≤◌, ◌^◌, ◌∷◌, [], false, ℕ, IfOk, IsTrue, drop, if◌then◌else◌, length, nat_eq, slice_get};
 ghost use Rattle.cell_heap.specs.Soundness.{ValueBelow};
 ghost use Rattle.model_values.specs.Characters.{characters, part_of};
 ghost use Rattle.model_values.specs.Kinds.{kind};
@@ -26,14 +26,15 @@ pub struct LoopPlace {
 }
 
 impl LoopPlace {
-    /// The place of turn `at`. Over a text it goes once over the bytes in front of it.
+    /// The place of turn `at`. Over a text it goes once over the bytes in front of it, eight at a time while they are
+    /// ASCII.
     pub fn of(heap: &Heap, on: &Value, at: u32) -> LoopPlace
         requires { ValueBelow (length heap.now.cells) on.now }
         ensures at { result.at ≡ at }
         ensures place { IsLoopPlace (kind heap.now.cells on.now) at result.byte }
     {
         let byte = match kind_of(heap, on) {
-            Kind::Text(text) => character_range(text.as_slice(), 0, at as usize).len(),
+            Kind::Text(text) => byte_of(text.as_slice(), at as usize),
             _ => 0,
         };
         LoopPlace { at, byte }
@@ -125,6 +126,24 @@ fn character_in(alloc: Global, text: &[u8], byte: usize) -> Result<Place, AllocE
     }
     let character = Text::from_slice(alloc, character_at(text, byte))?;
     Ok(Place::Character(character))
+}
+
+/// The byte at which a character of a text begins, and behind the last one the length.
+fn byte_of(text: &[u8], at: usize) -> usize
+    ensures { BeginsAt text.now at result }
+{
+    if is_ascii_to(text, at) {
+        at
+    } else {
+        character_range(text, 0, at).len()
+    }
+}
+
+/// Whether a text has a byte at this place, and is ASCII up to it.
+fn is_ascii_to(text: &[u8], at: usize) -> bool
+    ensures { IsTrue result → BeginsAt text.now at at }
+{
+    at < text.len() && text[..=at].is_ascii()
 }
 
 /// The bytes of the character that begins at a byte; none at the end of the text.
