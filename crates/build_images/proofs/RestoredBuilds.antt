@@ -19,13 +19,14 @@ use Rattle.cps_frames.specs.Standing.{common_of, setting_of}
 use Rattle.image_form.specs.declared.image.Image.{Image}
 use Rattle.image_form.specs.declared.image.ImageFrame.{ImageFrame}
 use Rattle.image_form.specs.declared.image.ImageThread.{ImageThread}
+use Rattle.image_check.specs.Standings.{shared_in}
 use Rattle.image_frames.specs.Standings.{IsTold, frame_in}
 use Rattle.thread_fits.specs.Seats.{as_seat}
 use Rattle.saved_thread.specs.Saving.{Begun, seat_in, thread_told}
 use Rattle.saved_thread.proofs.FrameLaws.{all_told_again}
 use Rattle.build_core.specs.Builds.{Parts, StandsFor}
 use Rattle.build_core.specs.Phases.{SoundIn, has_begun, has_ended}
-use Rattle.build_images.specs.Images.{has_remains, image_in, image_told, is_none, phase_of, shared_in, world_image}
+use Rattle.build_images.specs.Images.{has_remains, image_in, image_told, is_none, phase_of, world_image}
 use Rattle.build_images.proofs.Parts.{grouped, none_ready, rising}
 use Rattle.build_images.proofs.SavedBuilds.{shown_is}
 use Rattle.build_images.proofs.Seats.{Clear, all_same, begun_start, frames_found, matches}

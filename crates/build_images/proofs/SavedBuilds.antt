@@ -1,11 +1,11 @@
 -- The image of a build's parts is that of each build of the definitions that it stands for; and it is ordered.
-use Rattle.std.proofs.Common.{◌≡◌, ◌∙◌, ℕ, Bool, true, false, List, [], ◌∷◌, map, Option, None, refl, sym, ap, subst}
+use Rattle.std.proofs.Common.{◌≡◌, ◌≤◌, ◌+◌, ◌∙◌, ℕ, Bool, true, false, List, [], ◌∷◌, length, map, Option, None, refl, sym, ap, subst}
 use Rattle.std.specs.List.{AllByRecursion as AllAre}
 use Rattle.model_values.proofs.LaterLaws.{all_weaker}
 use Rattle.model_run.specs.declared.wait.Wait.{Wait}
 use Rattle.model_run.specs.declared.wait.Wait.TheVariants.{Ready, Request as RequestWait, Branches as BranchesWait}
-use Rattle.model_run.specs.Fitting.{HeldFits, NotReady, Rise, SharedFits, seats_of}
-use Rattle.model_run.specs.State.{Common, Setting}
+use Rattle.model_run.specs.Fitting.{FitsAtRest, IsWaitedFor, NotReady, Rise, Seat, SeatFits, SharedFits, seats_of}
+use Rattle.model_run.specs.State.{Common}
 use Rattle.model_run.specs.Terms.{Term}
 use Rattle.model_run.specs.Threads.{Runs}
 use Rattle.model_run.specs.World as W
@@ -16,35 +16,17 @@ use Rattle.cps_code.specs.Script.{script_of}
 use Rattle.cps_frames.specs.declared.shared.Shared.{Shared}
 use Rattle.cps_frames.specs.Standing.{common_of, setting_of}
 use Rattle.image_form.specs.declared.image.ImageThread.{ImageThread}
-use Rattle.thread_fits.specs.Seats.{HasBegun, as_seat}
+use Rattle.thread_fits.specs.Seats.{HasBegun, as_seat, closure_of}
 use Rattle.saved_thread.specs.Saving.{AtNodes, Storable, thread_told}
 use Rattle.build_core.specs.declared.phase.Phase.{Phase}
 use Rattle.build_core.specs.declared.phase.Phase.TheVariants.{Unbegun, Running, Ended, Stopped}
 use Rattle.build_core.specs.Builds.{Parts, StandsFor, setting_in}
-use Rattle.build_core.specs.Phases.{SoundIn, has_begun, has_ended, shown}
-use Rattle.build_images.specs.Images.{IsOrdered, image_in, image_told, world_image}
+use Rattle.build_core.specs.Phases.{IsDone, SoundIn, has_begun, has_ended, shown}
+use Rattle.build_images.specs.Images.{IsOrdered, IsWhole, image_in, image_told, world_image}
 use Rattle.build_images.proofs.Parts.{all_rest, numbers_rise}
-use Rattle.build_images.proofs.Seats.{seats_same}
-
--- a sound shared state is sound where the count begins anew
-pub uncounted : (g : Setting) (ended : Bool) (u : Common) → SharedFits g ended u → SharedFits g ended (record u { count = 0 })
-uncounted g ended u h = record {
-  cells = h.cells;
-  short = h.short;
-  few_cells = h.few_cells;
-  few_bytes = h.few_bytes;
-  binding = h.binding;
-  names = h.names;
-  some_node = h.some_node;
-  few_nodes = h.few_nodes;
-  nodes = h.nodes;
-  requests = h.requests;
-  few_requests = h.few_requests;
-  asks = h.asks;
-  rising = h.rising;
-  held = all_weaker (HeldFits g.site u) (HeldFits g.site (record u { count = 0 })) (λ x fit. record { executor = fit.executor; made = fit.made; closed = fit.closed }) u.held h.held;
-  differ = h.differ;
-}
+use Rattle.build_images.proofs.Seats.{Clear, frames_found, seats_same}
+use Rattle.build_images.proofs.Uncounted.{shared_anew}
+use Rattle.build_images.proofs.Whole.{IsCleared, whole_image}
 
 pub shown_is : (p : Phase) (u : Common) → has_begun p ≡ true → shown p u ≡ u
 shown_is Unbegun u e = absurd (cc e)
@@ -107,10 +89,39 @@ module _ {T : Type 0} (stance : T → Stance) where
 
     pub ordered : (b : Parts T) → has_begun b.phase ≡ true → (b.phase ≡ Stopped → ⊥) → SoundIn number parent branch fits b.phase b.group b.shared → IsOrdered (setting_in b) (image_in stance b)
     ordered b begun goes s = record {
-      shared = uncounted (setting_in b) (has_ended b.phase) (common_of b.shared) (shared_sound b.phase b.group b.shared begun goes s);
+      shared = shared_anew (common_of b.shared) (setting_in b) (has_ended b.phase) (shared_sound b.phase b.group b.shared begun goes s);
       numbers = subst (Rise 0 b.group.next) (sym (told_numbers (script_of b.shared.code) b.group.seats)) (numbers b.phase b.group b.shared begun goes s);
       rests = told_rest (script_of b.shared.code) b.shared b.group.seats (threads_ready b.phase b.group b.shared begun goes s);
     }
+
+    -- the threads of a build that has begun are as the check of its image asks
+    module _ (rested : (xs : List (Seated T)) (u : Shared) (next : ℕ) → fits xs u → Rise 0 next (map (λ (x : Seated T). x.number) xs) → next ≤ 100000000 + length u.graph → AllAre (λ (x : Seated T). NotReady x.wait) xs → FitsAtRest (setting_of u) false (common_of u) next (map (as_seat stance) xs)) where
+      over_at_rest : (g : Threads T) (u : Shared) → IsDone g u → FitsAtRest (setting_of u) true (common_of u) g.next (map (as_seat stance) g.seats)
+      over_at_rest g u s = subst (λ (xs : List (Seated T)). FitsAtRest (setting_of u) true (common_of u) g.next (map (as_seat stance) xs)) (sym s.threads)
+          (record { fits = record { shared = s.sound; numbers = tt; few_threads = s.few_threads; main = λ e. absurd (cc e); threads = tt; differ = tt; waited_for = subst (AllAre (IsWaitedFor [])) (sym s.requests) tt }; rests = tt })
+
+      at_rest : (p : Phase) (g : Threads T) (u : Shared) → has_begun p ≡ true → (p ≡ Stopped → ⊥) → SoundIn number parent branch fits p g u → FitsAtRest (setting_of u) (has_ended p) (common_of u) g.next (map (as_seat stance) g.seats)
+      at_rest Unbegun g u begun goes s = absurd (cc begun)
+      at_rest Running g u begun goes s = rested g.seats u g.next s.fit (numbers_rise number parent branch 0 g.next g.seats s.grouped).1 s.few_threads (all_rest stance g.seats s.few)
+      at_rest Ended g u begun goes s = over_at_rest g u s
+      at_rest Stopped g u begun goes s = absurd (goes refl)
+
+      nothing_over : (p : Phase) (g : Threads T) (u : Shared) → SoundIn number parent branch fits p g u → has_ended p ≡ true → IsCleared (common_of u) (map (as_seat stance) g.seats)
+      nothing_over Ended g u s over = record { threads = ap (map (as_seat stance)) s.threads; requests = s.requests; held = s.held }
+      nothing_over Unbegun g u s over = absurd (cc over)
+      nothing_over Running g u s over = absurd (cc over)
+      nothing_over Stopped g u s over = absurd (cc over)
+
+      clear_from : (u : Shared) (all : List Seat) (xs : List (Seated T)) → AllAre (SeatFits (setting_of u) (common_of u) all) (map (as_seat stance) xs) → AllAre (MaySave u) xs → AllAre (Clear (script_of u.code)) (map (as_seat stance) xs)
+      clear_from u all [] fit may = tt
+      clear_from u all (x ∷ xs) fit may = (record { frames = frames_found (setting_of u) (common_of u) all (as_seat stance x) fit.0; start = ap closure_of (may.0).runs }, clear_from u all xs fit.1 may.1)
+
+      -- So its image passes the check, and where it has ended nothing is left.
+      pub whole : (b : Parts T) → has_begun b.phase ≡ true → (b.phase ≡ Stopped → ⊥) → SoundIn number parent branch fits b.phase b.group b.shared → IsWhole (setting_in b) (image_in stance b)
+      whole b begun goes s =
+          let fit : FitsAtRest (setting_of b.shared) (has_ended b.phase) (common_of b.shared) b.group.next (map (as_seat stance) b.group.seats) = at_rest b.phase b.group b.shared begun goes s in
+          whole_image (setting_in b) (common_of b.shared) b.group.next (has_ended b.phase) (map (as_seat stance) b.group.seats)
+          (clear_from b.shared (map (as_seat stance) b.group.seats) b.group.seats fit.fits.threads (threads_ready b.phase b.group b.shared begun goes s)) fit (nothing_over b.phase b.group b.shared s)
 
   -- of each build of the definitions that it stands for
   pub image_is : (b : Parts T) (w : W.Build) → has_begun b.phase ≡ true → AllAre (MaySave b.shared) b.group.seats → StandsFor stance b w → image_in stance b ≡ world_image (setting_in b) w

@@ -1,5 +1,5 @@
 -- The image of a build (this product's own).
-use Rattle.std.specs.Prelude.{ℕ, Bool, true, false, not, ◌&&◌, List, [], ◌∷◌, map}
+use Rattle.std.specs.Prelude.{◌≡◌, ℕ, Bool, true, false, not, ◌&&◌, List, [], ◌∷◌, map}
 use Rattle.std.specs.List.{AllByRecursion as AllAre}
 use Rattle.model_run.specs.Fitting.{NotReady, Rise, Seat, SharedFits, seats_of}
 use Rattle.model_run.specs.State.{Common, Setting}
@@ -9,6 +9,7 @@ use Rattle.settle_laws.specs.Stances.{Stance}
 use Rattle.cps_code.specs.Script.{script_of}
 use Rattle.cps_frames.specs.Standing.{common_of}
 use Rattle.image_form.specs.declared.image.Image.{Image}
+use Rattle.image_check.specs.Standings.{Stands, shared_in}
 use Rattle.thread_fits.specs.Seats.{as_seat}
 use Rattle.saved_thread.specs.Saving.{thread_told}
 use Rattle.build_core.specs.Builds.{Parts}
@@ -40,20 +41,6 @@ world_image setting w = image_told setting.script w.shared w.next_thread w.ended
 abbrev pub image_in : {T : Type 0} → (T → Stance) → Parts T → Image
 image_in stance b = image_told (script_of b.shared.code) (common_of b.shared) b.group.next (has_ended b.phase) (map (as_seat stance) b.group.seats)
 
--- what all threads share of which an image tells; nothing has been counted yet
-abbrev pub shared_in : Image → Common
-shared_in i = record {
-  cells = i.cells;
-  binding = i.bindings;
-  nodes = i.nodes;
-  log = i.log;
-  result = i.result;
-  requests = i.requests;
-  held = i.held;
-  next_request = i.next_request;
-  count = 0;
-}
-
 -- an image has one of two phases
 abbrev pub phase_of : Bool → Phase
 phase_of true = Ended
@@ -66,6 +53,11 @@ is_none (x ∷ xs) = false
 -- its build has ended, and yet has threads, open requests or held executors, as no build has
 abbrev pub has_remains : Image → Bool
 has_remains i = i.ended && not (is_none i.threads && (is_none i.requests && is_none i.held))
+
+-- An image from which a build goes on: it passes the check of images, and where its build has ended it has nothing left.
+pub record IsWhole (setting : Setting) (i : Image) : Type 0 where
+  pub stands : Stands setting i
+  pub clear : has_remains i ≡ false
 
 -- What the image of each build keeps, whatever builds of the definitions it stands for: what threads share is sound, the numbers of threads
 -- rise, and none is about to go on.

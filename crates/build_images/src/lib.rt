@@ -1,8 +1,9 @@
 //! The image of a build, and a build from its image.
 //!
 //! [`image_of`] puts all of a build into an image, and is proved to give the image of each build of the definitions that the
-//! build stands for (`specs/Images`). [`restored`] gives the build back: of an image that passes `check` of `image_check` a
-//! sound build that has this image, and that stands for the build that any list of events makes, where that one has it too.
+//! build stands for (`specs/Images`), and one that passes `check` of `image_check`. [`restored`] gives the build back: of an
+//! image that passes a sound build that has this image, and that stands for the build that any list of events makes, where
+//! that one has it too.
 //!
 //! ```text
 //! let image = image_of(&build)?;

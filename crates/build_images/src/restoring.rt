@@ -7,11 +7,12 @@ ghost use Rattle.model_run.specs.Terms.{nodes_of};
 ghost use Rattle.model_run.specs.World as W;
 ghost use Rattle.green_threads.specs.Grouping.{FewBranches, IsSeated};
 ghost use Rattle.cps_code.specs.Script.{script_of};
+ghost use Rattle.image_check.specs.Standings.{shared_in};
 ghost use Rattle.image_frames.specs.Standings.{IsTold};
 ghost use Rattle.thread_fits.specs.Seats.{as_seat};
 ghost use Rattle.saved_thread.specs.Saving.{Begun, seat_in};
 ghost use Rattle.build_core.specs.Builds.{StandsFor, setting_in};
-ghost use Rattle.build_images.specs.Images.{has_remains, image_in, is_none, phase_of, shared_in, world_image};
+ghost use Rattle.build_images.specs.Images.{has_remains, image_in, is_none, phase_of, world_image};
 ghost use Rattle.build_images.specs.declared.refusal.RestoreRefusal.TheVariants.{Memory, Remains};
 
 use crate::refusal::RestoreRefusal;

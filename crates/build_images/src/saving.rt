@@ -1,15 +1,16 @@
 //! The image of a build.
-ghost use Rattle.std.specs.Prelude.{◌≡◌, true, map, IfOk, OnOk};
+ghost use Rattle.std.specs.Prelude.{◌≡◌, true, map, None, IfOk, OnOk};
 ghost use Rattle.std.specs.List.{AllByRecursion as AllAre};
 ghost use Rattle.model_run.specs.World as W;
 ghost use Rattle.green_threads.specs.declared.runner.Seated.{Seated as Seat};
-ghost use Rattle.cps_code.specs.Script.{script_of};
+ghost use Rattle.cps_code.specs.Script.{IsScript, script_of};
+ghost use Rattle.image_check.specs.Images.{first_fault};
 ghost use Rattle.thread_fits.specs.Seats.{as_seat};
 ghost use Rattle.saved_thread.specs.Saving.{AtNodes, thread_told};
 ghost use Rattle.build_core.specs.Builds.{StandsFor, setting_in};
 ghost use Rattle.build_core.specs.Phases.{SoundIn, has_begun};
 ghost use Rattle.build_core.specs.declared.phase.Phase.TheVariants.{Stopped};
-ghost use Rattle.build_images.specs.Images.{IsOrdered, image_in, world_image};
+ghost use Rattle.build_images.specs.Images.{IsOrdered, IsWhole, image_in, world_image};
 
 use build_core::{Build, Phase};
 use cell_heap::Heap;
@@ -22,7 +23,8 @@ use model_values::{Binding, Cell};
 use saved_thread::SavedThread;
 use std::alloc::{AllocError, Global};
 
-/// The image of a build that has begun, whether it has ended or not.
+/// The image of a build that has begun, whether it has ended or not. It passes the check of images (`check` of `image_check`),
+/// whatever image the build was restored from, and a build is restored from it.
 ///
 /// # Errors
 ///
@@ -32,6 +34,8 @@ pub fn image_of<R: SavedThread + Drop>(build: &Build<R>) -> Result<Image, AllocE
     ensures here { IfOk result (λ image. image ≡ image_in R.stance build.now) }
     ensures world { IfOk result (λ image. (w : W.Build) → StandsFor R.stance build.now w → image ≡ world_image (setting_in build.now) w) }
     ensures ordered { IfOk result (IsOrdered (setting_in build.now)) }
+    ensures whole { IfOk result (IsWhole (setting_in build.now)) }
+    ensures passes { IfOk result (λ image. first_fault (script_of build.now.shared.code) build.now.shared.site image ≡ None) }
     ensures goes_on { OnOk result (build.now.phase ≡ Stopped → ⊥) }
 {
     if build.phase() == Phase::Stopped {
@@ -47,11 +51,14 @@ fn whole_of<R: SavedThread + Drop>(build: &Build<R>) -> Result<Image, AllocError
     requires goes_on { build.now.phase ≡ Stopped → ⊥ }
     ensures here { IfOk result (λ image. image ≡ image_in R.stance build.now) }
     ensures on { OnOk result (build.now.phase ≡ Stopped → ⊥) }
+    ensures script { OnOk result (IsScript (script_of build.now.shared.code)) }
     ensures sound { OnOk result (SoundIn R.number R.parent R.branch R.fits build.now.phase build.now.group build.now.shared) }
 {
     let shared = build.shared();
     let group = build.group();
     let alloc = shared.alloc();
+    // code that is read tells that it is a script's
+    let _nodes = shared.code.len();
     Ok(Image {
         next_request: shared.next_request,
         next_thread: group.next(),

@@ -15,9 +15,11 @@ use Rattle.model_run.specs.declared.wait.Answer.{Answer}
 use Rattle.model_run.specs.declared.wait.Answer.TheVariants.{Begin}
 use Rattle.model_run.specs.declared.wait.Wait.{Wait}
 use Rattle.model_run.specs.declared.wait.Wait.TheVariants.{Ready, Request as RequestWait, Branches as BranchesWait}
+use Rattle.model_run.specs.Below.{Below}
 use Rattle.model_run.specs.Fitting.{Above, Distinct, ForRequest as IsForRequest, IsFlowNode, IsWaitedFor, OutcomeFits, outermost, ParentFits, ParentIs, Rise, SharedFits, WaitsFor}
 use Rattle.model_run.specs.Requests.{numbers_of}
-use Rattle.model_run.specs.Nesting.{Any_body, Any_branch, Begun, Body_of, For_branches, For_executor, For_person, For_task, Spot, innermost, shape_at}
+use Rattle.model_run.specs.Meaning.{unwind}
+use Rattle.model_run.specs.Nesting.{Any_body, Any_branch, Begun, Body_of, CallsClosures, For_branches, For_executor, For_person, For_task, Spot, innermost, shape_at}
 use Rattle.model_run.specs.State.{Common, Setting}
 use Rattle.model_run.specs.Terms.{Term}
 use Rattle.model_run.specs.declared.callee.Callee.{Callee}
@@ -25,8 +27,10 @@ use Rattle.model_run.specs.Threads.{Closure, Runs, Script}
 use Rattle.model_run.specs.World.{join_wait, outcome_of}
 use Rattle.model_values.proofs.CellGrowth.{all_append}
 use Rattle.model_values.proofs.LaterLaws.{all_weaker}
-use Rattle.run_laws.specs.Soundness.{BranchFits}
+use Rattle.run_laws.specs.Evaluation.{turn_open}
+use Rattle.run_laws.specs.Soundness.{BranchFits, Open, Pausing}
 use Rattle.run_laws.specs.Worlds.{EndIf, SharedSound}
+use Rattle.seat_laws.specs.Seats.{Holding}
 use Rattle.green_threads.specs.declared.runner.NewBranch.{NewBranch}
 use Rattle.green_threads.specs.declared.runner.Seated.{Seated}
 use Rattle.green_threads.specs.declared.runner.Stop.{Stop}
@@ -35,13 +39,14 @@ use Rattle.green_threads.specs.Resuming.{AllBelow, Begins, Keeps, Lowers, MayRes
 use Rattle.green_threads.specs.Threads.{GoesOn, Threads, joined_seat, new_joins, new_seats, turned, turned_seat, with_seat, without_seat}
 use Rattle.cps_code.specs.Script.{IsScript, script_of}
 use Rattle.cps_frames.specs.Places.{EndsAt, MoveFits, Poised}
-use Rattle.cps_frames.specs.Standing.{common_of, own_of, setting_of, standing}
+use Rattle.cps_frames.specs.Runs.{move_result}
+use Rattle.cps_frames.specs.Standing.{common_of, own_of, setting_of, standing, state}
 use Rattle.cps_frames.specs.declared.shared.Shared.{Shared}
 use Rattle.cps_frames.specs.declared.thread.Move.{Move}
 use Rattle.cps_frames.specs.declared.thread.Move.TheVariants as move
 use Rattle.cps_frames.specs.declared.thread.ThreadState.{ThreadState}
 use Rattle.cps_frames.proofs.Beginnings.{branch_poised, thread_with}
-use Rattle.cps_machine.specs.Resuming.{BeginsAs, ResumesAs}
+use Rattle.cps_machine.specs.Resuming.{BeginsAs, ResumesAs, stopping}
 use Rattle.thread_fits.specs.Seats.{Family, Fits, HasBegun, IsAlone, IsGranted, IsReady, SeatStands, StartStands, WaitStands, as_seat, first_of, nodes_left, waiting_move}
 use Rattle.cps_machine.specs.Stops.{Begins as May_begin, MayRun, Stops}
 use Rattle.cps_machine.specs.Threads.{Beginning, IsStop, IsTurn, branch_by, first_move, is_branch, runs_of, seated, seen, stance_of, to_begin}
@@ -52,11 +57,14 @@ use Rattle.cps_machine.specs.declared.thread.MachineThread.{MachineThread}
 use Rattle.cps_machine.specs.declared.thread.Start.{Start}
 use Rattle.cps_machine.specs.declared.thread.Start.TheVariants as start
 use Rattle.thread_fits.proofs.Facts.{facts_of}
-use Rattle.cps_machine.proofs.ThreadLaws.{begins_branch, begins_script, resumes_as}
+use Rattle.cps_machine.proofs.ThreadLaws.{begins_branch, begins_script, resumes_as, stops_by}
 use Rattle.thread_fits.proofs.SeatLaws.{joined_grants, joined_stands, latest_found, outcome_there, stands_on, wait_then, with_move}
 use Rattle.thread_fits.proofs.FamilyLaws.{changed_family, ended_family, forked_family}
+use Rattle.thread_fits.proofs.GoingLaws.{LeavesOpen, turn_fuel}
+use Rattle.thread_fits.proofs.RoomLaws.{above, rooms, rooms_differ, rooms_hold}
 use Rattle.thread_fits.proofs.SeatRows.{IsAwaited, all_at, all_both, all_more, below_with, differ_more, differ_with, differ_without, found, found_at, found_more, found_now, found_with, found_without, numbers, ready_above, ready_awaits, same_parent, with_all, without_all}
 use Rattle.thread_fits.proofs.SharedLaws.{turn_shared}
+use Rattle.thread_fits.proofs.TurnLaws.{above_new, ends_holding, ends_under, forks_holding, forks_under, own, turn_left, waits_holding, waits_under}
 
 abbrev pub Seat : Type 0
 Seat = Seated MachineThread
@@ -64,17 +72,22 @@ Seat = Seated MachineThread
 abbrev pub last_node : MachineThread → ℕ
 last_node t = t.state.head
 
--- A thread stands, and is about to be given no executor.
-abbrev Quiet : Shared → Seat → Type 0
-Quiet u y = SeatStands stance_of u y × (IsGranted y.wait → ⊥)
+-- A thread stands under the context that this gives its parent, and is about to be given no executor.
+abbrev Quiet : (Option ℕ → Context) → Shared → Seat → Type 0
+Quiet up u y = SeatStands stance_of u (up y.parent) y × (IsGranted y.wait → ⊥)
 
-all_stand : (u : Shared) (xs : List Seat) → AllAre (Quiet u) xs → AllAre (SeatStands stance_of u) xs
-all_stand u [] h = tt
-all_stand u (x ∷ xs) h = ((h.0).0, all_stand u xs h.1)
+all_stand : (up : Option ℕ → Context) (u : Shared) (xs : List Seat) → AllAre (Quiet up u) xs → AllAre (λ y. SeatStands stance_of u (up y.parent) y) xs
+all_stand up u [] h = tt
+all_stand up u (x ∷ xs) h = ((h.0).0, all_stand up u xs h.1)
 
-all_alone : (u : Shared) (all xs : List Seat) → AllAre (Quiet u) xs → AllAre (IsAlone all) xs
-all_alone u all [] h = tt
-all_alone u all (x ∷ xs) h = ((λ given. absurd ((h.0).1 given)), all_alone u all xs h.1)
+all_alone : (up : Option ℕ → Context) (u : Shared) (all xs : List Seat) → AllAre (Quiet up u) xs → AllAre (IsAlone all) xs
+all_alone up u all [] h = tt
+all_alone up u all (x ∷ xs) h = ((λ given. absurd ((h.0).1 given)), all_alone up u all xs h.1)
+
+-- the same under contexts that are the same
+all_under : (up up' : Option ℕ → Context) (u : Shared) (xs : List Seat) → AllAre (λ y. up y.parent ≡ up' y.parent) xs → AllAre (Quiet up u) xs → AllAre (Quiet up' u) xs
+all_under up up' u [] same h = tt
+all_under up up' u (x ∷ xs) same h = ((subst (λ c. SeatStands stance_of u c x) same.0 (h.0).0, (h.0).1), all_under up up' u xs same.1 h.1)
 
 -- a thread has one parent
 one_parent : (m p : ℕ) (o : Option ℕ) → o ≡ Some m → o ≡ Some p → m ≡ p
@@ -116,7 +129,7 @@ runs_branch context b d e = ap (λ s. runs_of s b.thread.state.head) (ap (λ (y 
 
 -- a branch that is to begin
 new_stands : (u : Shared) → IsScript (script_of u.code) → SharedSound (setting_of u) false (common_of u) → (context : Context) (b : NewBranch MachineThread) (d : Branch) (n p : ℕ) → seen b ≡ to_begin context d → BranchFits (script_of u.code) (common_of u) d
-    → SeatStands stance_of u (record { number = n; parent = Some p; wait = Ready Begin; thread = seated b.thread n (Some p) })
+    → SeatStands stance_of u context (record { number = n; parent = Some p; wait = Ready Begin; thread = seated b.thread n (Some p) })
 new_stands u script shared context b d n p e fits =
     let head : IsFlowNode u.graph b.thread.state.head = subst (IsFlowNode u.graph) (sym (ap (λ (y : Beginning). y.head) e)) fits.head in
     let none : b.thread.state.stack.items ≡ [] = ap (λ (y : Beginning). y.frames) e in
@@ -126,8 +139,9 @@ new_stands u script shared context b d n p e fits =
     let framed : Poised (setting_of u) b.thread.state.context Any_branch (standing u (seated b.thread n (Some p)).state) (move.Enter (Branched b.thread.state.head) d.closure d.env) =
     subst (λ fs. Poised (setting_of u) b.thread.state.context Any_branch (thread_with (setting_of u) (facts_of (script_of u.code) script) (common_of u) (own_of (seated b.thread n (Some p)).state) fs (Some p) u.heap) (move.Enter (Branched b.thread.state.head) d.closure d.env)) (sym none) begun in
     record {
-      above = b.thread.state.context;
-      poised = subst (λ r. Poised (setting_of u) b.thread.state.context Any_branch (standing u (seated b.thread n (Some p)).state) (first_of r Begin)) (sym (runs_branch context b d e)) framed;
+      poised = subst (λ c. Poised (setting_of u) c Any_branch (standing u (seated b.thread n (Some p)).state) (first_of (stance_of b.thread).runs Begin)) (ap (λ (y : Beginning). y.context) e)
+          (subst (λ r. Poised (setting_of u) b.thread.state.context Any_branch (standing u (seated b.thread n (Some p)).state) (first_of r Begin)) (sym (runs_branch context b d e)) framed);
+      closures = subst (CallsClosures (script_of u.code) Any_branch) (sym none) tt;
       begun = subst (HasBegun (Ready Begin)) (sym (runs_branch context b d e)) refl;
       start = subst (λ r. StartStands r (Some p) b.thread.state.stack.items) (sym (runs_branch context b d e)) (refl, none);
       number = refl;
@@ -141,11 +155,20 @@ head_same x y xs ys e = cc e
 pub rest_same : (x y : Beginning) (xs ys : List Beginning) → x ∷ xs ≡ y ∷ ys → xs ≡ ys
 rest_same x y xs ys e = cc e
 
-all_new : (u : Shared) → IsScript (script_of u.code) → SharedSound (setting_of u) false (common_of u) → (context : Context) (ts : List (NewBranch MachineThread)) (ds : List Branch) (n p : ℕ) → map seen ts ≡ map (to_begin context) ds → AllAre (BranchFits (script_of u.code) (common_of u)) ds → AllAre (Quiet u) (new_seats seated p n ts)
-all_new u script shared context [] ds n p e fits = tt
-all_new u script shared context (b ∷ ts) [] n p e fits = absurd (cc e)
-all_new u script shared context (b ∷ ts) (d ∷ ds) n p e fits =
-    ((new_stands u script shared context b d n p (head_same _ _ _ _ e) fits.0, (λ given. given)), all_new u script shared context ts ds (suc n) p (rest_same _ _ _ _ e) fits.1)
+all_new : (up : Option ℕ → Context) (u : Shared) → IsScript (script_of u.code) → SharedSound (setting_of u) false (common_of u) → (context : Context) (ts : List (NewBranch MachineThread)) (ds : List Branch) (n p : ℕ) → up (Some p) ≡ context → map seen ts ≡ map (to_begin context) ds → AllAre (BranchFits (script_of u.code) (common_of u)) ds
+    → AllAre (Quiet up u) (new_seats seated p n ts)
+all_new up u script shared context [] ds n p is e fits = tt
+all_new up u script shared context (b ∷ ts) [] n p is e fits = absurd (cc e)
+all_new up u script shared context (b ∷ ts) (d ∷ ds) n p is e fits = (
+  (subst (λ c. SeatStands stance_of u c (record { number = n; parent = Some p; wait = Ready Begin; thread = seated b.thread n (Some p) })) (sym is) (new_stands u script shared context b d n p (head_same _ _ _ _ e) fits.0), (λ given. given)),
+  all_new up u script shared context ts ds (suc n) p is (rest_same _ _ _ _ e) fits.1,
+)
+
+-- they are new, in this context
+all_fresh : (context : Context) (ts : List (NewBranch MachineThread)) (ds : List Branch) (n p : ℕ) → map seen ts ≡ map (to_begin context) ds → AllAre (λ (z : Seat). (z.parent ≡ Some p) × ((stance_of z.thread).own.context ≡ context) × (z.wait ≡ Ready Begin)) (new_seats seated p n ts)
+all_fresh context [] ds n p e = tt
+all_fresh context (b ∷ ts) [] n p e = absurd (cc e)
+all_fresh context (b ∷ ts) (d ∷ ds) n p e = ((refl, ap (λ (y : Beginning). y.context) (head_same _ _ _ _ e), refl), all_fresh context ts ds (suc n) p (rest_same _ _ _ _ e))
 
 -- Threads that a turn begins are branches.
 all_branches : (context : Context) (ts : List (NewBranch MachineThread)) (ds : List Branch) → map seen ts ≡ map (to_begin context) ds → AllAre (λ (b : NewBranch MachineThread). is_branch b.thread ≡ true) ts
@@ -167,23 +190,25 @@ asked_found before u at n r rise h =
     (latest_found at n 0 u.next_request before h.latest (subst (λ rs. Rise 0 u.next_request (numbers_of rs)) h.requests rise) h.thread h.kind))
 
 -- A thread that is ready with an answer, among threads that fit.
-pub first_poised : (xs : List Seat) (u : Shared) (x : Seat) (i : ℕ) (t : MachineThread) (a : Answer) → Fits stance_of xs u → slice_get xs i ≡ Some x → x.thread ≡ t → x.wait ≡ Ready a → (above : Context) × Poised (setting_of u) above (outermost x.parent) (standing u t.state) (first_move t a)
+pub first_poised : (xs : List Seat) (u : Shared) (x : Seat) (i : ℕ) (t : MachineThread) (a : Answer) → Fits stance_of xs u → slice_get xs i ≡ Some x → x.thread ≡ t → x.wait ≡ Ready a → Poised (setting_of u) (above stance_of xs x.parent) (outermost x.parent) (standing u t.state) (first_move t a)
 first_poised xs u x i t a fits at is ready =
-    let seat : SeatStands stance_of u x = all_at (SeatStands stance_of u) xs i x fits.seats at in (
-      seat.above,
-      subst (λ (y : MachineThread). Poised (setting_of u) seat.above (outermost x.parent) (standing u y.state) (first_move y a)) is
-          (subst (λ w. Poised (setting_of u) seat.above (outermost x.parent) (standing u x.thread.state) (waiting_move w (stance_of x.thread))) ready seat.poised),
-    )
+    let seat : SeatStands stance_of u (above stance_of xs x.parent) x = all_at (λ y. SeatStands stance_of u (above stance_of xs y.parent) y) xs i x fits.seats at in
+    subst (λ (y : MachineThread). Poised (setting_of u) (above stance_of xs x.parent) (outermost x.parent) (standing u y.state) (first_move y a)) is
+    (subst (λ w. Poised (setting_of u) (above stance_of xs x.parent) (outermost x.parent) (standing u x.thread.state) (waiting_move w (stance_of x.thread))) ready seat.poised)
 
 module _ (xs : List Seat) (u u' : Shared) (x : Seat) (i : ℕ) (t t' : MachineThread) (a : Answer) (fits : Fits stance_of xs u) (at : slice_get xs i ≡ Some x) (is : x.thread ≡ t) (ready : x.wait ≡ Ready a) where
-  begun_at : (above : Context) × Poised (setting_of u) above (outermost x.parent) (standing u t.state) (first_move t a)
+  -- the contexts above threads, before the turn
+  abbrev up : Option ℕ → Context
+  up = above stance_of xs
+
+  begun_at : Poised (setting_of u) (above stance_of xs x.parent) (outermost x.parent) (standing u t.state) (first_move t a)
   begun_at = first_poised xs u x i t a fits at is ready
 
   number_is : t.state.number ≡ x.number
-  number_is = subst (λ (y : MachineThread). y.state.number ≡ x.number) is (all_at (SeatStands stance_of u) xs i x fits.seats at).number
+  number_is = subst (λ (y : MachineThread). y.state.number ≡ x.number) is (all_at (λ y. SeatStands stance_of u (above stance_of xs y.parent) y) xs i x fits.seats at).number
 
   parent_is : t.state.parent ≡ x.parent
-  parent_is = subst (λ (y : MachineThread). y.state.parent ≡ x.parent) is (all_at (SeatStands stance_of u) xs i x fits.seats at).parent
+  parent_is = subst (λ (y : MachineThread). y.state.parent ≡ x.parent) is (all_at (λ y. SeatStands stance_of u (above stance_of xs y.parent) y) xs i x fits.seats at).parent
 
   -- no other thread is about to be given an executor
   not_granted : (y : Seat) → (y.number ≡ x.number → ⊥) → IsAlone xs y → IsGranted y.wait → ⊥
@@ -200,10 +225,10 @@ module _ (xs : List Seat) (u u' : Shared) (x : Seat) (i : ℕ) (t t' : MachineTh
 
     -- what is known of each thread
     abbrev Known : Seat → Type 0
-    Known y = (SeatStands stance_of u y × IsAlone xs y) × (y.number ≡ x.number → y.parent ≡ x.parent)
+    Known y = (SeatStands stance_of u (up y.parent) y × IsAlone xs y) × (y.number ≡ x.number → y.parent ≡ x.parent)
 
     all : AllAre Known xs
-    all = all_both _ _ xs (all_both (SeatStands stance_of u) (IsAlone xs) xs fits.seats fits.alone) (same_parent stance_of i x xs fits.numbers at)
+    all = all_both _ _ xs (all_both (λ y. SeatStands stance_of u (up y.parent) y) (IsAlone xs) xs fits.seats fits.alone) (same_parent stance_of i x xs fits.numbers at)
 
     -- the threads of requests that were open wait for them still
     abbrev StillAwaited : List Seat → Type 0
@@ -226,12 +251,24 @@ module _ (xs : List Seat) (u u' : Shared) (x : Seat) (i : ℕ) (t t' : MachineTh
     never : (m : ℕ) → Above m (found stance_of xs x.number) → ⊥
     never m = ready_above stance_of xs i x a m fits.numbers at ready
 
+    -- what it has left open, as the laws of evaluation say
+    abbrev open_before : Open
+    open_before = turn_open (above stance_of xs x.parent).held (length (above stance_of xs x.parent).folders) u.held (own stance_of u xs fits i x at a ready)
+
+    left : LeavesOpen (script_of u.code) (outermost x.parent) (turn_open (above stance_of xs x.parent).held (length (above stance_of xs x.parent).folders) u.held (own stance_of u xs fits i x at a ready)) (stopping s (standing u' t'.state))
+    left = turn_left stance_of u xs fits i x at a ready (omega arith) (stopping s (standing u' t'.state))
+        (subst (λ (y : MachineThread). Below (unwind (script_of u.code) turn_fuel y.state.stack.items (move_result (script_of u.code) turn_fuel (first_move y a) (state (standing u y.state).world []))) (stopping s (standing u' t'.state))) (sym is)
+        (stops_by (standing u t.state) (first_move t a) s (standing u' t'.state) runs turn_fuel))
+
+    calls_on : CallsClosures (script_of u.code) (outermost x.parent) t'.state.stack.items → CallsClosures (script_of u'.code) (outermost x.parent) t'.state.stack.items
+    calls_on h = subst (λ (g : Setting). CallsClosures g.script (outermost x.parent) t'.state.stack.items) (sym same) h
+
     -- it stands in its seat again
-    turned_stands : (w : Wait) → Poised (setting_of u') begun_at.0 (outermost x.parent) (standing u' t'.state) (waiting_move w (stance_of t')) → HasBegun w (stance_of t').runs → WaitStands (common_of u') (innermost (script_of u'.code) (outermost x.parent) t'.state.stack.items) x.number w
-        → (y : Seat) → y.number ≡ x.number → Known y → SeatStands stance_of u' (turned_seat w t' y)
-    turned_stands w poised waits wait y e k = record {
-      above = begun_at.0;
-      poised = subst (λ q. Poised (setting_of u') begun_at.0 (outermost q) (standing u' t'.state) (waiting_move w (stance_of t'))) (sym (k.1 e)) poised;
+    turned_stands : (w : Wait) → Poised (setting_of u') (up x.parent) (outermost x.parent) (standing u' t'.state) (waiting_move w (stance_of t')) → CallsClosures (script_of u'.code) (outermost x.parent) t'.state.stack.items → HasBegun w (stance_of t').runs → WaitStands (common_of u') (innermost (script_of u'.code) (outermost x.parent) t'.state.stack.items) x.number w
+        → (y : Seat) → y.number ≡ x.number → Known y → SeatStands stance_of u' (up y.parent) (turned_seat w t' y)
+    turned_stands w poised calls waits wait y e k = record {
+      poised = subst (λ q. Poised (setting_of u') (up q) (outermost q) (standing u' t'.state) (waiting_move w (stance_of t'))) (sym (k.1 e)) poised;
+      closures = subst (λ q. CallsClosures (script_of u'.code) (outermost q) t'.state.stack.items) (sym (k.1 e)) calls;
       begun = waits;
       start = subst (λ o. StartStands o y.parent t'.state.stack.items) (sym runs_none) tt;
       number = own_number ∙ sym e;
@@ -240,14 +277,14 @@ module _ (xs : List Seat) (u u' : Shared) (x : Seat) (i : ℕ) (t t' : MachineTh
           (subst (λ n. WaitStands (common_of u') (innermost (script_of u'.code) (outermost x.parent) t'.state.stack.items) n w) (sym e) wait);
     }
 
-    module _ (m : Move) (poised : Poised (setting_of u') begun_at.0 (outermost x.parent) (standing u' t'.state) m) where
+    module _ (m : Move) (poised : Poised (setting_of u') (up x.parent) (outermost x.parent) (standing u' t'.state) m) where
       sound' : SharedSound (setting_of u') false (common_of u')
-      sound' = shared_of u' t'.state begun_at.0 (outermost x.parent) m poised
+      sound' = shared_of u' t'.state (up x.parent) (outermost x.parent) m poised
 
-      others : (y : Seat) → (y.number ≡ x.number → ⊥) → Known y → Quiet u' y
+      others : (y : Seat) → (y.number ≡ x.number → ⊥) → Known y → Quiet up u' y
       others y other k =
           let never : IsGranted y.wait → ⊥ = not_granted y other (k.0).1 in (
-            stands_on stance_of u u' same ((runs.leaves).follows).later sound' y never
+            stands_on stance_of u u' same ((runs.leaves).follows).later sound' (up y.parent) y never
                 (wait_then (common_of u) (common_of u') (runs.leaves).follows (innermost (script_of u.code) (outermost y.parent) y.thread.state.stack.items) y.number y.wait ((k.0).0).wait) (k.0).0,
             never,
           )
@@ -255,16 +292,27 @@ module _ (xs : List Seat) (u u' : Shared) (x : Seat) (i : ℕ) (t t' : MachineTh
       shared' : SharedFits (setting_of u') false (common_of u')
       shared' = turn_shared (setting_of u') (common_of u) (standing u' t'.state).world (runs.leaves).follows poised.sound (subst (λ g. SharedFits g false (common_of u)) (sym same) fits.shared)
 
-      fits_now : (ys : List Seat) → Distinct (numbers ys) → Family stance_of (common_of u') ys → AllAre (IsWaitedFor (map (as_seat stance_of) ys)) u'.requests → AllAre (Quiet u') ys → Fits stance_of ys u'
-      fits_now ys differ family awaited h = record { script = script'; shared = shared'; numbers = differ; family = family; seats = all_stand u' ys h; alone = all_alone u' ys ys h; waited_for = awaited }
+      fits_now : (ys : List Seat) → Distinct (numbers ys) → Family stance_of (common_of u') ys → AllAre (IsWaitedFor (map (as_seat stance_of) ys)) u'.requests → AllAre (Quiet (above stance_of ys) u') ys → Holding u'.held (rooms stance_of (above stance_of ys) ys) → Fits stance_of ys u'
+      fits_now ys differ family awaited h holding = record {
+        script = script';
+        shared = shared';
+        numbers = differ;
+        family = family;
+        seats = all_stand (above stance_of ys) u' ys h;
+        holds = rooms_hold stance_of u' ys holding;
+        differ = rooms_differ stance_of u' ys holding;
+        alone = all_alone (above stance_of ys) u' ys ys h;
+        waited_for = awaited;
+      }
 
     -- it waits for a request
     module _ (r : ℕ) where
       abbrev asks : Seat → Seat
       asks = turned_seat (RequestWait r) t'
 
-      request_kept : Poised (setting_of u') begun_at.0 (outermost x.parent) (standing u' t'.state) (move.Asks (ForRequest r)) → IsAsked (innermost (script_of u.code) (outermost x.parent) t'.state.stack.items) u.requests (common_of u') t'.state.number r → Fits stance_of (with_seat (turned_seat (RequestWait r) t') x.number xs) u'
-      request_kept poised asked =
+      request_kept : Poised (setting_of u') (up x.parent) (outermost x.parent) (standing u' t'.state) (move.Asks (ForRequest r)) → IsAsked (innermost (script_of u.code) (outermost x.parent) t'.state.stack.items) u.requests (common_of u') t'.state.number r
+          → Pausing open_before t'.state.stack.items (standing u' t'.state).world × CallsClosures (script_of u.code) (outermost x.parent) t'.state.stack.items → Fits stance_of (with_seat (turned_seat (RequestWait r) t') x.number xs) u'
+      request_kept poised asked leaves =
           let spot : Spot = innermost (script_of u.code) (outermost x.parent) t'.state.stack.items in
           let found : IsForRequest (innermost (script_of u.code) (outermost x.parent) t'.state.stack.items) (find (λ q. nat_eq q.number r) u'.requests) t'.state.number =
           asked_found u.requests (common_of u') (innermost (script_of u.code) (outermost x.parent) t'.state.stack.items) t'.state.number r (shared' (move.Asks (ForRequest r)) poised).requests asked in
@@ -280,18 +328,20 @@ module _ (xs : List Seat) (u u' : Shared) (x : Seat) (i : ℕ) (t t' : MachineTh
                 (found_now stance_of (WaitsFor (asked.latest).number) asks (λ y. refl) (λ y. ap RequestWait (sym asked.number)) xs i x at),
             tt,
           )))
-          (with_all Known (Quiet u') asks x.number (λ y e k. (turned_stands (RequestWait r) poised runs_none wait y e k, λ given. given)) (others (move.Asks (ForRequest r)) poised) xs all)
+          (all_under up (above stance_of (with_seat asks x.number xs)) u' (with_seat asks x.number xs) (waits_under stance_of u xs fits i x at a ready u' t' t'.state.stack.items leaves.0 (RequestWait r) (λ zs. refl))
+          (with_all Known (Quiet up u') asks x.number (λ y e k. (turned_stands (RequestWait r) poised (calls_on leaves.1) runs_none wait y e k, λ given. given)) (others (move.Asks (ForRequest r)) poised) xs all))
+          (waits_holding stance_of u xs fits i x at a ready u' t' t'.state.stack.items leaves.0 (RequestWait r) (λ zs. refl))
 
     -- it waits for branches that begin
     module _ (next : ℕ) (ts : List (NewBranch MachineThread)) where
       abbrev forks : Seat → Seat
       forks = turned_seat (BranchesWait (new_joins next ts)) t'
 
-      branches_kept : AllBelow next xs → 1 ≤ length ts → u'.requests ≡ u.requests → (ds : List Branch) → map seen ts ≡ map (to_begin t'.state.context) ds → Poised (setting_of u') begun_at.0 (outermost x.parent) (standing u' t'.state) (move.Asks (ForBranches ds))
-          → Fits stance_of (with_seat (turned_seat (BranchesWait (new_joins next ts)) t') x.number xs ++ new_seats seated x.number next ts) u'
-      branches_kept below some quiet ds e poised =
-          let waits : Poised (setting_of u') begun_at.0 (outermost x.parent) (standing u' t'.state) (move.Asks (ForBranches [])) =
-          with_move (setting_of u') begun_at.0 (outermost x.parent) (standing u' t'.state) (move.Asks (ForBranches ds)) (move.Asks (ForBranches []))
+      branches_kept : AllBelow next xs → 1 ≤ length ts → u'.requests ≡ u.requests → (ds : List Branch) → map seen ts ≡ map (to_begin t'.state.context) ds → Poised (setting_of u') (up x.parent) (outermost x.parent) (standing u' t'.state) (move.Asks (ForBranches ds))
+          → Pausing open_before t'.state.stack.items (standing u' t'.state).world × CallsClosures (script_of u.code) (outermost x.parent) t'.state.stack.items → Fits stance_of (with_seat (turned_seat (BranchesWait (new_joins next ts)) t') x.number xs ++ new_seats seated x.number next ts) u'
+      branches_kept below some quiet ds e poised leaves =
+          let waits : Poised (setting_of u') (up x.parent) (outermost x.parent) (standing u' t'.state) (move.Asks (ForBranches [])) =
+          with_move (setting_of u') (up x.parent) (outermost x.parent) (standing u' t'.state) (move.Asks (ForBranches ds)) (move.Asks (ForBranches []))
           (any_branches (script_of u'.code) (common_of u') (innermost (script_of u'.code) (outermost x.parent) t'.state.stack.items) ds poised.move) poised in
           fits_now (move.Asks (ForBranches ds)) poised _
           (differ_more seated x.number next ts (with_seat forks x.number xs) (below_with forks (λ y. refl) x.number next xs below) (differ_with forks (λ y. refl) x.number xs fits.numbers))
@@ -299,18 +349,22 @@ module _ (xs : List Seat) (u u' : Shared) (x : Seat) (i : ℕ) (t t' : MachineTh
           (subst (AllAre (IsWaitedFor (map (as_seat stance_of) (with_seat forks x.number xs ++ new_seats seated x.number next ts)))) (sym quiet)
           (open_still (with_seat forks x.number xs ++ new_seats seated x.number next ts)
           (λ q other h. found_more stance_of (WaitsFor q.number) (λ none. none) q.thread (with_seat forks x.number xs) (new_seats seated x.number next ts) (found_with stance_of (WaitsFor q.number) forks (λ y. refl) x.number q.thread (λ y e w. absurd (other e)) xs h))))
-          (all_more (Quiet u') _ _
-          (with_all Known (Quiet u') forks x.number (λ y e k. (turned_stands (BranchesWait (new_joins next ts)) waits runs_none (none_ended (common_of u') next ts) y e k, λ given. given)) (others (move.Asks (ForBranches ds)) poised) xs all)
-          (all_new u' script' (sound' (move.Asks (ForBranches ds)) poised) t'.state.context ts ds next x.number e (poised.move).1))
+          (all_more (Quiet (above stance_of (with_seat forks x.number xs ++ new_seats seated x.number next ts)) u') (with_seat forks x.number xs) (new_seats seated x.number next ts)
+          (all_under up (above stance_of (with_seat forks x.number xs ++ new_seats seated x.number next ts)) u' (with_seat forks x.number xs)
+          (forks_under stance_of u xs fits i x at a ready u' t' t'.state.stack.items leaves.0 (BranchesWait (new_joins next ts)) (λ zs. refl) (new_seats seated x.number next ts) (all_fresh t'.state.context ts ds next x.number e))
+          (with_all Known (Quiet up u') forks x.number (λ y e k. (turned_stands (BranchesWait (new_joins next ts)) waits (calls_on leaves.1) runs_none (none_ended (common_of u') next ts) y e k, λ given. given)) (others (move.Asks (ForBranches ds)) poised) xs all))
+          (all_new (above stance_of (with_seat forks x.number xs ++ new_seats seated x.number next ts)) u' script' (sound' (move.Asks (ForBranches ds)) poised) t'.state.context ts ds next x.number
+          (above_new stance_of u xs fits i x at a ready u' t' t'.state.stack.items leaves.0 (BranchesWait (new_joins next ts)) (λ zs. refl) (new_seats seated x.number next ts) (all_fresh t'.state.context ts ds next x.number e)) e (poised.move).1))
+          (forks_holding stance_of u xs fits i x at a ready u' t' t'.state.stack.items leaves.0 (BranchesWait (new_joins next ts)) (λ zs. refl) (new_seats seated x.number next ts) (all_fresh t'.state.context ts ds next x.number e))
 
     -- it has ended, and its parent goes on where it was the last
     module _ (o : Outcome) where
       abbrev joins : Seat → Seat
       joins = joined_seat x.number t'.state.head o
 
-      ended_kept : (e : Ending) (p : ℕ) → x.parent ≡ Some p → u'.requests ≡ u.requests → o ≡ outcome_of e → t'.state.stack.items ≡ [] → Poised (setting_of u') begun_at.0 (outermost x.parent) (standing u' t'.state) (move.Ends e)
+      ended_kept : (e : Ending) (p : ℕ) → x.parent ≡ Some p → u'.requests ≡ u.requests → o ≡ outcome_of e → t'.state.stack.items ≡ [] → Poised (setting_of u') (up x.parent) (outermost x.parent) (standing u' t'.state) (move.Ends e) → Pausing open_before [] (standing u' t'.state).world
           → Fits stance_of (with_seat (joined_seat x.number t'.state.head o) p (without_seat x.number xs)) u'
-      ended_kept e p under quiet is_outcome none poised =
+      ended_kept e p under quiet is_outcome none poised leaves =
           let there : OutcomeFits (common_of u') o = subst (OutcomeFits (common_of u')) (sym is_outcome) (ended_there (script_of u'.code) (common_of u') x.parent t'.state.stack.items e none poised.move) in
           let own : ParentFits (map (as_seat stance_of) xs) x.number (Some p) = subst (ParentFits (map (as_seat stance_of) xs) x.number) under (all_at (λ y. ParentFits (map (as_seat stance_of) xs) y.number y.parent) xs i x (fits.family).parents at) in
           fits_now (move.Ends e) poised _ (differ_with joins (λ y. refl) p (without_seat x.number xs) (differ_without x.number xs fits.numbers))
@@ -318,10 +372,12 @@ module _ (xs : List Seat) (u u' : Shared) (x : Seat) (i : ℕ) (t t' : MachineTh
           (subst (AllAre (IsWaitedFor (map (as_seat stance_of) (with_seat joins p (without_seat x.number xs))))) (sym quiet)
           (open_still (with_seat joins p (without_seat x.number xs))
           (λ q other h. found_with stance_of (WaitsFor q.number) joins (λ y. refl) p q.thread (λ y e w. joined_request x.number t'.state.head o q.number y.wait w) (without_seat x.number xs) (found_without stance_of (WaitsFor q.number) x.number q.thread other xs h))))
-          (with_all (Quiet u') (Quiet u') joins p
-          (λ y at h. (joined_stands stance_of u' x.number t'.state.head o (poised.sound).head there y y.wait h.0, joined_grants x.number t'.state.head o y.wait h.1))
+          (all_under up (above stance_of (with_seat joins p (without_seat x.number xs))) u' (with_seat joins p (without_seat x.number xs)) (ends_under stance_of u xs fits i x at a ready u' t' [] leaves t'.state.head o p)
+          (with_all (Quiet up u') (Quiet up u') joins p
+          (λ y at h. (joined_stands stance_of u' (up y.parent) x.number t'.state.head o (poised.sound).head there y y.wait h.0, joined_grants x.number t'.state.head o y.wait h.1))
           (λ y other h. h) (without_seat x.number xs)
-          (without_all Known (Quiet u') x.number (others (move.Ends e) poised) xs all))
+          (without_all Known (Quiet up u') x.number (others (move.Ends e) poised) xs all)))
+          (ends_holding stance_of u xs fits i x at a ready u' t' [] leaves t'.state.head o p)
 
 -- and it waits for one of them at least
 some_branch : (u u' : Shared) (t t' : MachineThread) (m : Move) (ds : List Branch) (ts : List (NewBranch MachineThread)) → map seen ts ≡ map (to_begin t'.state.context) ds → Stops (standing u t.state) m (stopped.Waits (ForBranches ds)) (standing u' t'.state) → 1 ≤ length ts
@@ -340,13 +396,15 @@ turn_fits : (g : Threads MachineThread) (u u' : Shared) (x : Seat) (i : ℕ) (t 
 turn_fits g u u' x i t t' a fits below at is ready (stopped.Waits (ForRequest r)) (stop.Waits q) e runs begun parent under goes =
     let b = begun_at g.seats u u' x i t t' a fits at is ready in
     subst (λ j. Fits stance_of (with_seat (turned_seat (RequestWait j) t') x.number g.seats) u') (sym e)
-    (request_kept g.seats u u' x i t t' a fits at is ready (stopped.Waits (ForRequest r)) runs begun r (runs.stands b.0 (outermost x.parent) b.1) ((runs.leaves).waits (outermost x.parent)))
+    (request_kept g.seats u u' x i t t' a fits at is ready (stopped.Waits (ForRequest r)) runs begun r (runs.stands (above stance_of g.seats x.parent) (outermost x.parent) b) ((runs.leaves).waits (outermost x.parent)) (left g.seats u u' x i t t' a fits at is ready (stopped.Waits (ForRequest r)) runs begun))
 turn_fits g u u' x i t t' a fits below at is ready (stopped.Waits (ForBranches ds)) (stop.Forks ts) e runs begun parent under goes =
     let b = begun_at g.seats u u' x i t t' a fits at is ready in
-    branches_kept g.seats u u' x i t t' a fits at is ready (stopped.Waits (ForBranches ds)) runs begun g.next ts below (some_branch u u' t t' (first_move t a) ds ts e runs) (no_request u u' t t' (first_move t a) ds runs) ds e (runs.stands b.0 (outermost x.parent) b.1)
+    branches_kept g.seats u u' x i t t' a fits at is ready (stopped.Waits (ForBranches ds)) runs begun g.next ts below (some_branch u u' t t' (first_move t a) ds ts e runs) (no_request u u' t t' (first_move t a) ds runs) ds e (runs.stands (above stance_of g.seats x.parent) (outermost x.parent) b)
+    (left g.seats u u' x i t t' a fits at is ready (stopped.Waits (ForBranches ds)) runs begun)
 turn_fits g u u' x i t t' a fits below at is ready (stopped.Ended e) (stop.Ended o) same runs begun (Some p) under goes =
     let b = begun_at g.seats u u' x i t t' a fits at is ready in
-    ended_kept g.seats u u' x i t t' a fits at is ready (stopped.Ended e) runs begun o e p under ((runs.leaves).waits Any_branch) same runs.over (runs.stands b.0 (outermost x.parent) b.1)
+    ended_kept g.seats u u' x i t t' a fits at is ready (stopped.Ended e) runs begun o e p under ((runs.leaves).waits Any_branch) same runs.over (runs.stands (above stance_of g.seats x.parent) (outermost x.parent) b)
+    (left g.seats u u' x i t t' a fits at is ready (stopped.Ended e) runs begun)
 turn_fits g u u' x i t t' a fits below at is ready (stopped.Ended e) (stop.Ended o) outcome runs begun None under goes = absurd goes
 turn_fits g u u' x i t t' a fits below at is ready s (stop.Limit k) never runs begun parent under goes = absurd goes
 turn_fits g u u' x i t t' a fits below at is ready s stops never runs begun parent under goes = absurd never
@@ -360,13 +418,13 @@ branch_is None head own p fs e h = ap is_some e
 branch_is (Some start.Script) head own p fs e h = sym (ap is_some h.0)
 branch_is (Some (start.Branch c)) head own p fs e h = sym h.0
 
-seated_branch : (u : Shared) (x : Seat) → SeatStands stance_of u x → is_branch x.thread ≡ is_some x.parent
-seated_branch u x h = branch_is x.thread.start x.thread.state.head x.thread.state.parent x.parent x.thread.state.stack.items h.parent h.start
+seated_branch : (u : Shared) (above : Context) (x : Seat) → SeatStands stance_of u above x → is_branch x.thread ≡ is_some x.parent
+seated_branch u above x h = branch_is x.thread.start x.thread.state.head x.thread.state.parent x.parent x.thread.state.stack.items h.parent h.start
 
 pub turn_branch : (t t' : MachineThread) (u u' : Shared) (a : Answer) (stops : Stop MachineThread) → MayResume (Fits stance_of) t u a → IsTurn t u a stops t' u' → is_branch t' ≡ is_branch t
 turn_branch t t' u u' a stops may turn =
-    let seat : SeatStands stance_of u may.1 = all_at (SeatStands stance_of u) may.0 may.2 may.1 (may.3).seats may.4 in
-    let was : is_branch t ≡ is_some (may.1).parent = subst (λ (y : MachineThread). is_branch y ≡ is_some (may.1).parent) may.5 (seated_branch u may.1 seat) in
+    let seat : SeatStands stance_of u (above stance_of may.0 (may.1).parent) may.1 = all_at (λ y. SeatStands stance_of u (above stance_of may.0 y.parent) y) may.0 may.2 may.1 (may.3).seats may.4 in
+    let was : is_branch t ≡ is_some (may.1).parent = subst (λ (y : MachineThread). is_branch y ≡ is_some (may.1).parent) may.5 (seated_branch u (above stance_of may.0 (may.1).parent) may.1 seat) in
     let parent : t.state.parent ≡ (may.1).parent = subst (λ (y : MachineThread). y.state.parent ≡ (may.1).parent) may.5 seat.parent in
     ap (λ s. branch_by s t'.state.parent) turn.begun ∙ ap is_some ((((turn.runs).onward).beside).parent ∙ parent) ∙ sym was
 
@@ -386,8 +444,8 @@ lowers_by t t' u u' m s stops p same runs above poised = absurd same
 pub turn_lowers : (t t' : MachineThread) (u u' : Shared) (a : Answer) (stops : Stop MachineThread) → MayResume (Fits stance_of) t u a → IsTurn t u a stops t' u' → Lowers stops (is_branch t) (nodes_left u) (nodes_left u')
 turn_lowers t t' u u' a stops may turn =
     let b = first_poised may.0 u may.1 may.2 t a may.3 may.4 may.5 may.6 in
-    let was : is_branch t ≡ is_some (may.1).parent = subst (λ (y : MachineThread). is_branch y ≡ is_some (may.1).parent) may.5 (seated_branch u may.1 (all_at (SeatStands stance_of u) may.0 may.2 may.1 (may.3).seats may.4)) in
-    subst (λ x. Lowers stops x (nodes_left u) (nodes_left u')) (sym was) (lowers_by t t' u u' (first_move t a) turn.stopped_so stops (may.1).parent turn.stop turn.runs b.0 b.1)
+    let was : is_branch t ≡ is_some (may.1).parent = subst (λ (y : MachineThread). is_branch y ≡ is_some (may.1).parent) may.5 (seated_branch u (above stance_of may.0 (may.1).parent) may.1 (all_at (λ y. SeatStands stance_of u (above stance_of may.0 y.parent) y) may.0 may.2 may.1 (may.3).seats may.4)) in
+    subst (λ x. Lowers stops x (nodes_left u) (nodes_left u')) (sym was) (lowers_by t t' u u' (first_move t a) turn.stopped_so stops (may.1).parent turn.stop turn.runs (above stance_of may.0 (may.1).parent) b)
 
 begins_by : (s : Stopped) (stops : Stop MachineThread) (context : Context) → IsStop s stops context → Begins is_branch stops
 begins_by (stopped.Waits (ForBranches ds)) (stop.Forks ts) context e = all_branches context ts ds e
@@ -408,7 +466,7 @@ first_begins (Some (Closure k env head)) a = tt
 pub turn_runs : (t : MachineThread) (u : Shared) (a : Answer) → MayResume (Fits stance_of) t u a → IsScript (script_of u.code) × MayRun (standing u t.state) (first_move t a)
 turn_runs t u a may =
     let b = first_poised may.0 u may.1 may.2 t a may.3 may.4 may.5 may.6 in
-    ((may.3).script, (b.0, outermost (may.1).parent, b.1, first_begins (stance_of t).runs a))
+    ((may.3).script, (above stance_of may.0 (may.1).parent, outermost (may.1).parent, b, first_begins (stance_of t).runs a))
 
 pub turn_made : (t t1 : MachineThread) (u u' : Shared) (a : Answer) (first : Move) (s : Stopped) (st : ThreadState) (stops : Stop MachineThread) → t1 ≡ record t { start = None } → first ≡ first_move t a → Stops (standing u t1.state) first s (standing u' st) → IsStop s stops st.context
     → IsTurn t u a stops (record t1 { state = st }) u'

@@ -24,6 +24,7 @@ use Rattle.cps_frames.specs.Standing.{Standing, common_of, setting_of, standing,
 use Rattle.cps_frames.specs.declared.shared.Shared.{Shared}
 use Rattle.cps_machine.specs.Resuming.{reply, stopping}
 use Rattle.thread_fits.specs.Seats.{Fits, SeatStands, StartStands}
+use Rattle.thread_fits.proofs.RoomLaws.{above}
 use Rattle.thread_fits.proofs.SharedLaws.{turn_shared}
 use Rattle.cps_machine.specs.Stops.{StandsStill}
 use Rattle.cps_machine.specs.Threads.{Beginning, IsStop, IsTurn, beginning, branch_by, is_branch, runs_of, seen, stance_of, to_begin}
@@ -110,7 +111,7 @@ script_alone t context e = ap (λ s. branch_by s t.state.parent) (ap (λ (y : Be
 module _ (t t' : MachineThread) (u u' : Shared) (a : Answer) (stops : Stop MachineThread) (may : MayResume (Fits stance_of) t u a) (turn : IsTurn t u a stops t' u') where
   -- one that has not begun has no frames
   seat_start : StartStands (stance_of t).runs (may.1).parent t.state.stack.items
-  seat_start = subst (λ (y : MachineThread). StartStands (stance_of y).runs (may.1).parent y.state.stack.items) may.5 (all_at (SeatStands stance_of u) may.0 may.2 may.1 (may.3).seats may.4).start
+  seat_start = subst (λ (y : MachineThread). StartStands (stance_of y).runs (may.1).parent y.state.stack.items) may.5 (all_at (λ y. SeatStands stance_of u (above stance_of may.0 y.parent) y) may.0 may.2 may.1 (may.3).seats may.4).start
 
   none_stand : (s : Start) → t.start ≡ Some s → t.state.stack.items ≡ []
   none_stand start.Script is = (subst (λ o. StartStands (runs_of o t.state.head) (may.1).parent t.state.stack.items) is seat_start).1
@@ -138,7 +139,7 @@ module _ (t t' : MachineThread) (u u' : Shared) (a : Answer) (stops : Stop Machi
   still : (above : Context) × StandsStill above (outermost (may.1).parent) turn.stopped_so (standing u' t'.state)
   still =
       let b = first_poised may.0 u may.1 may.2 t a may.3 may.4 may.5 may.6 in
-      (b.0, (turn.runs).stands b.0 (outermost (may.1).parent) b.1)
+      (above stance_of may.0 (may.1).parent, (turn.runs).stands (above stance_of may.0 (may.1).parent) (outermost (may.1).parent) b)
 
   sound' : SoundWorld (setting_of u') (standing u' t'.state).world
   sound' = sound_by still.0 (outermost (may.1).parent) turn.stopped_so (standing u' t'.state) still.1

@@ -12,7 +12,7 @@ use saved_thread::{SavedThread, frames_in, frames_told, open_calls};
 use std::alloc::{AllocError, Global};
 
 impl SavedThread for MachineThread {
-    ghost use Rattle.saved_thread.proofs.RestLaws.{all_storable, rested_fit};
+    ghost use Rattle.saved_thread.proofs.RestLaws.{all_storable, fit_rested, rested_fit};
     ghost use Rattle.cps_machine.specs.Threads.{stance_of};
 
     fn saved(
@@ -65,6 +65,8 @@ impl SavedThread for MachineThread {
     ghost storable = { all_storable stance_of };
 
     ghost rested_fit = { rested_fit stance_of };
+
+    ghost fit_rested = { fit_rested stance_of };
 }
 
 /// The same wait once more. `AllocError` where the memory was refused.

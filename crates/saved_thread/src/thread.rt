@@ -1,7 +1,7 @@
 //! A green thread that an image keeps.
-ghost use Rattle.std.specs.Prelude.{◌≡◌, ◌<◌, ℕ, false, List, length, map, IfOk};
+ghost use Rattle.std.specs.Prelude.{◌≡◌, ◌<◌, ◌≤◌, ◌+◌, ℕ, false, List, length, map, IfOk};
 ghost use Rattle.std.specs.List.{AllByRecursion as AllAre};
-ghost use Rattle.model_run.specs.Fitting.{FitsAtRest};
+ghost use Rattle.model_run.specs.Fitting.{FitsAtRest, NotReady, Rise};
 ghost use Rattle.model_run.specs.Terms.{nodes_of};
 ghost use Rattle.green_threads.specs.declared.runner.Seated.{Seated};
 ghost use Rattle.green_threads.specs.Grouping.{FewBranches, IsSeated};
@@ -38,4 +38,8 @@ pub trait SavedThread: ScriptThread {
 
     /// Threads that have begun, and of which an image would pass its check, fit.
     ghost rested_fit: { (xs : List (Seated Self)) (u : Shared) (next : ℕ) → IsScript (script_of u.code) → AllAre (Begun Self.stance) xs → FitsAtRest (setting_of u) false (common_of u) next (map (as_seat Self.stance) xs) → Self.fits xs u };
+
+    /// Threads that fit, and of which none is ready, are those of an image that passes its check: their numbers rise, and few
+    /// have begun for the flow nodes that there are.
+    ghost fit_rested: { (xs : List (Seated Self)) (u : Shared) (next : ℕ) → Self.fits xs u → Rise 0 next (map (λ (x : Seated Self). x.number) xs) → next ≤ 100000000 + length u.graph → AllAre (λ (x : Seated Self). NotReady x.wait) xs → FitsAtRest (setting_of u) false (common_of u) next (map (as_seat Self.stance) xs) };
 }

@@ -4,6 +4,7 @@ use Rattle.std.specs.Prelude.{ℤ, find, if◌then◌else◌, is_some, nat_eq, n
 use Rattle.std.specs.List.{AllByRecursion as AllAre}
 use Rattle.std.proofs.lemmas.Bool.{eqb-true, ne_eqb}
 use Rattle.model_values.proofs.LaterLaws.{all_weaker}
+use Rattle.model_run.specs.declared.context.Context.{Context}
 use Rattle.model_run.specs.declared.event.Event.{Event}
 use Rattle.model_run.specs.declared.event.Event.TheVariants.{Start as StartEvent, Granted as GrantedEvent, Output as OutputEvent, Exited as ExitedEvent, Lost as LostEvent, Decided as DecidedEvent}
 use Rattle.model_run.specs.declared.event.Stream.TheVariants.{Log as LogStream, Out as OutStream}
@@ -18,7 +19,7 @@ use Rattle.model_run.specs.declared.wait.Answer.{Answer}
 use Rattle.model_run.specs.declared.wait.Answer.TheVariants.{Granted, Done, Decided}
 use Rattle.model_run.specs.declared.wait.Wait.{Wait}
 use Rattle.model_run.specs.declared.wait.Wait.TheVariants.{Ready, Request as RequestWait, Branches as BranchesWait}
-use Rattle.model_run.specs.Fitting.{Asks, ForRequest as IsForRequest, IsWaitedFor, Later, SharedFits, WaitsFor, outermost}
+use Rattle.model_run.specs.Fitting.{Asks, Distinct, ForRequest as IsForRequest, IsWaitedFor, Later, SharedFits, WaitsFor, granted_request, outermost}
 use Rattle.model_run.specs.Grants.{executor_of, is_held, with_held, workspace_number}
 use Rattle.model_run.specs.LogText.{raw}
 use Rattle.model_run.specs.Nesting.{For_executor, For_person, For_task, Spot, innermost}
@@ -32,6 +33,10 @@ use Rattle.model_run.proofs.LaterWorlds.{accepted_grant, if_accepted, open_of}
 use Rattle.model_run.proofs.RequestLaws.{NoneOf, closed_now, other_than}
 use Rattle.model_run.proofs.Under.{first_of_both}
 use Rattle.run_laws.proofs.Flow.{later_self}
+use Rattle.seat_laws.specs.Seats.{Holding, IsHeld}
+use Rattle.seat_laws.proofs.Executors.{grant_given, held_with, open_free}
+use Rattle.seat_laws.proofs.Lists.{all_mapped}
+use Rattle.seat_laws.proofs.Rooms.{given_holds}
 use Rattle.build_requests.specs.Standings.{standing_of}
 use Rattle.green_threads.specs.declared.runner.Seated.{Seated}
 use Rattle.green_threads.specs.Grouping.{one_ready, ready_count}
@@ -48,6 +53,7 @@ use Rattle.thread_fits.proofs.HeldLaws.{all_kept, granted_there, none_of_it, num
 use Rattle.thread_fits.proofs.SeatLaws.{joins_then, poised_on, stands_on}
 use Rattle.thread_fits.proofs.FamilyLaws.{changed_family, same_family}
 use Rattle.thread_fits.proofs.SeatRows.{IsAwaited, all_both, awaited_above, found_with, awaits_one, differ_with, each_waits, waits_there, with_all}
+use Rattle.thread_fits.proofs.RoomLaws.{above, above_with, differ_still, holding, room_in, rooms, rooms_differ, rooms_hold, rooms_numbers, rooms_same, rooms_waiting, seats_under, splits}
 use Rattle.thread_fits.proofs.SharedLaws.{closed_shared, granted_shared, kept_shared, sound_of, taken_shared}
 
 -- the same of what threads share, but for requests, held executors, the log and the count
@@ -148,6 +154,23 @@ no_task e = absurd (cc e)
 no_input : is_input None ≡ true → ⊥
 no_input e = absurd (cc e)
 
+-- An answer gives a thread these requests, whose executors are held from now on and were not before.
+record IsGiven (old held : List Held) (x : Answer) : Type 0 where
+  new : List ℕ
+  gives : granted_request held (Ready x) ≡ new
+  differ : Distinct new
+  keeps : (r : ℕ) → IsHeld old r → IsHeld held r
+  free : AllAre (λ r. IsHeld old r → ⊥) new
+
+nothing_granted : (zs : List Held) (w : Wait) → (IsReady w → ⊥) → granted_request zs w ≡ []
+nothing_granted zs (Ready x) never = absurd (never tt)
+nothing_granted zs (RequestWait r) never = refl
+nothing_granted zs (BranchesWait js) never = refl
+
+each : {A : Type 0} {P : A → Type 0} → ((x : A) → P x) → (xs : List A) → AllAre P xs
+each h [] = tt
+each h (x ∷ xs) = (h x, each h xs)
+
 module _ {T : Type 0} (stance : T → Stance) where
   awaited_changed : (f : Request → Request) (n : ℕ) (xs : List (Seated T)) (rs : List OpenRequest) → AllAre (IsWaitedFor (map (as_seat stance) xs)) rs → AllAre (IsWaitedFor (map (as_seat stance) xs)) (map (change_if f n) rs)
   awaited_changed f n xs [] h = tt
@@ -175,19 +198,19 @@ module _ {T : Type 0} (stance : T → Stance) where
     later = record { cells = (later_self (common_of u)).cells; nodes = (later_self (common_of u)).nodes }
 
     -- a thread goes on to wait
-    stays : (y : Seated T) → Waits y → WaitStands (common_of (changed u rs held log)) (innermost (script_of u.code) (outermost y.parent) (stance y.thread).frames) y.number y.wait → SeatStands stance u y → SeatStands stance (changed u rs held log) y
-    stays y never wait h = stands_on stance u (changed u rs held log) refl later (sound_of (changed u rs held log) shared) y (λ g. never (granted_ready y.wait g)) wait h
+    stays : (c : Context) (y : Seated T) → Waits y → WaitStands (common_of (changed u rs held log)) (innermost (script_of u.code) (outermost y.parent) (stance y.thread).frames) y.number y.wait → SeatStands stance u c y → SeatStands stance (changed u rs held log) c y
+    stays c y never wait h = stands_on stance u (changed u rs held log) refl later (sound_of (changed u rs held log) shared) c y (λ g. never (granted_ready y.wait g)) wait h
 
-    -- No thread is answered: what is asked stays.
-    module _ (f : Request → Request) (asks : (at : Spot) (q : Request) → Asks at q → Asks at (f q)) (n : ℕ) (is : rs ≡ map (change_if f n) u.requests) where
+    -- No thread is answered: what is asked stays, and so does what is held.
+    module _ (f : Request → Request) (asks : (at : Spot) (q : Request) → Asks at q → Asks at (f q)) (n : ℕ) (is : rs ≡ map (change_if f n) u.requests) (same_held : held ≡ u.held) where
       wait_stays : (at : Spot) (k : ℕ) (w : Wait) → WaitStands (common_of u) at k w → WaitStands (common_of (changed u rs held log)) at k w
       wait_stays at k (Ready x) h = tt
       wait_stays at k (RequestWait r) h = subst (λ qs. IsForRequest at (find (λ q. nat_eq q.number r) qs) k) (sym is) (found_changed f asks at n k r u.requests h)
       wait_stays at k (BranchesWait js) h = joins_then (common_of u) (common_of (changed u rs held log)) later js h
 
-      all_stay : (ys : List (Seated T)) → AllAre (SeatStands stance u) ys → AllAre Waits ys → AllAre (SeatStands stance (changed u rs held log)) ys
+      all_stay : (ys : List (Seated T)) → AllAre (λ y. SeatStands stance u (above stance xs y.parent) y) ys → AllAre Waits ys → AllAre (λ y. SeatStands stance (changed u rs held log) (above stance xs y.parent) y) ys
       all_stay [] h w = tt
-      all_stay (y ∷ ys) h w = (stays y w.0 (wait_stays (innermost (script_of u.code) (outermost y.parent) (stance y.thread).frames) y.number y.wait (h.0).wait) h.0, all_stay ys h.1 w.1)
+      all_stay (y ∷ ys) h w = (stays (above stance xs y.parent) y w.0 (wait_stays (innermost (script_of u.code) (outermost y.parent) (stance y.thread).frames) y.number y.wait (h.0).wait) h.0, all_stay ys h.1 w.1)
 
       unanswered : Fits stance xs (changed u rs held log)
       unanswered = record {
@@ -196,12 +219,14 @@ module _ {T : Type 0} (stance : T → Stance) where
         numbers = fits.numbers;
         family = same_family stance (common_of u) (common_of (changed u rs held log)) later xs fits.family;
         seats = all_stay xs fits.seats (none_ready xs none);
+        holds = subst (λ hs. AllAre (λ y. AllAre (IsHeld hs) (stance y.thread).own.context.held) xs) (sym same_held) fits.holds;
+        differ = differ_still stance u (changed u rs held log) xs same_held fits.differ;
         alone = fits.alone;
         waited_for = subst (AllAre (IsWaitedFor (map (as_seat stance) xs))) (sym is) (awaited_changed f n xs u.requests fits.waited_for);
       }
 
-    -- One thread is answered, whose request is closed.
-    module _ (n : ℕ) (is : rs ≡ filter (other_than n) u.requests) (r : OpenRequest) (opens : find (λ q. nat_eq q.number n) u.requests ≡ Some r) (x : Answer) (answer : (at : Spot) → Asks at r.request → EndsAt (script_of u.code) (common_of (changed u rs held log)) at (Answered x)) where
+    -- One thread is answered, whose request is closed; where it is given an executor, nobody held that of this request.
+    module _ (n : ℕ) (is : rs ≡ filter (other_than n) u.requests) (r : OpenRequest) (opens : find (λ q. nat_eq q.number n) u.requests ≡ Some r) (x : Answer) (answer : (at : Spot) → Asks at r.request → EndsAt (script_of u.code) (common_of (changed u rs held log)) at (Answered x)) (given : IsGiven u.held held x) where
       abbrev p : ℕ
       p = thread_of n u.requests
 
@@ -213,28 +238,28 @@ module _ {T : Type 0} (stance : T → Stance) where
 
       -- what holds of each thread
       abbrev Known : Seated T → Type 0
-      Known y = (SeatStands stance u y × Waits y) × (y.number ≡ p → y.wait ≡ RequestWait n)
+      Known y = (SeatStands stance u (above stance xs y.parent) y × Waits y) × (y.number ≡ p → y.wait ≡ RequestWait n)
 
       known : AllAre Known xs
-      known = all_both _ _ xs (all_both (SeatStands stance u) Waits xs fits.seats (none_ready xs none)) (each_waits stance n p xs fits.numbers awaits)
+      known = all_both _ _ xs (all_both (λ y. SeatStands stance u (above stance xs y.parent) y) Waits xs fits.seats (none_ready xs none)) (each_waits stance n p xs fits.numbers awaits)
 
       begun_answer : (s : Option Runs) (w : Wait) → w ≡ RequestWait n → HasBegun w s → first_of s x ≡ move.Ends (Answered x)
       begun_answer s w e h = ap (λ o. first_of o x) (subst (λ v. HasBegun v s) e h)
 
       -- the thread that is answered
-      answered_stands : (y : Seated T) → y.number ≡ p → Known y → SeatStands stance (changed u rs held log) (waits_as (Ready x) y)
+      answered_stands : (y : Seated T) → y.number ≡ p → Known y → SeatStands stance (changed u rs held log) (above stance xs y.parent) (waits_as (Ready x) y)
       answered_stands y at k =
-          let h : SeatStands stance u y = (k.0).0 in
+          let h : SeatStands stance u (above stance xs y.parent) y = (k.0).0 in
           let wait : y.wait ≡ RequestWait n = k.1 at in
           let asked : IsForRequest (innermost (script_of u.code) (outermost y.parent) (stance y.thread).frames) (find (λ q. nat_eq q.number n) u.requests) y.number =
           subst (WaitStands (common_of u) (innermost (script_of u.code) (outermost y.parent) (stance y.thread).frames) y.number) wait h.wait in
           let asks : Asks (innermost (script_of u.code) (outermost y.parent) (stance y.thread).frames) r.request =
           (subst (λ o. IsForRequest (innermost (script_of u.code) (outermost y.parent) (stance y.thread).frames) o y.number) opens asked).1 in
           record {
-            above = h.above;
-            poised = poised_on stance u (changed u rs held log) refl later (sound_of (changed u rs held log) shared) (stance y.thread) h.above (outermost y.parent) (waiting_move y.wait (stance y.thread)) (first_of (stance y.thread).runs x)
+            poised = poised_on stance u (changed u rs held log) refl later (sound_of (changed u rs held log) shared) (stance y.thread) (above stance xs y.parent) (outermost y.parent) (waiting_move y.wait (stance y.thread)) (first_of (stance y.thread).runs x)
                 (subst (MoveFits (script_of u.code) (common_of (changed u rs held log)) (innermost (script_of u.code) (outermost y.parent) (stance y.thread).frames))
                 (sym (begun_answer (stance y.thread).runs y.wait wait h.begun)) (answer (innermost (script_of u.code) (outermost y.parent) (stance y.thread).frames) asks)) h.poised;
+            closures = h.closures;
             begun = subst (HasBegun (Ready x)) (sym (subst (λ v. HasBegun v (stance y.thread).runs) wait h.begun)) tt;
             start = h.start;
             number = h.number;
@@ -250,8 +275,8 @@ module _ {T : Type 0} (stance : T → Stance) where
           subst (λ qs. IsForRequest at (find (λ y. nat_eq y.number q) qs) k) (sym is)
           (subst (λ o. IsForRequest at o k) (sym (found_other n q u.requests (λ e. other (sym (subst (λ o. IsForRequest at o k) opens (subst (λ j. IsForRequest at (find (λ y. nat_eq y.number j) u.requests) k) e h)).0 ∙ sym opened.thread)))) h)
 
-      other_stands : (y : Seated T) → (y.number ≡ p → ⊥) → Known y → SeatStands stance (changed u rs held log) y
-      other_stands y other k = stays y (k.0).1 (wait_other (innermost (script_of u.code) (outermost y.parent) (stance y.thread).frames) y.number y.wait other ((k.0).0).wait) (k.0).0
+      other_stands : (y : Seated T) → (y.number ≡ p → ⊥) → Known y → SeatStands stance (changed u rs held log) (above stance xs y.parent) y
+      other_stands y other k = stays (above stance xs y.parent) y (k.0).1 (wait_other (innermost (script_of u.code) (outermost y.parent) (stance y.thread).frames) y.number y.wait other ((k.0).0).wait) (k.0).0
 
       abbrev now : List (Seated T)
       now = with_seat (waits_as (Ready x)) p xs
@@ -270,13 +295,27 @@ module _ {T : Type 0} (stance : T → Stance) where
       all_awaited [] a b = tt
       all_awaited (q ∷ qs) a b = (still_awaited q a.0 b.0, all_awaited qs a.1 b.1)
 
+      -- contexts stay as they are
+      contexts : AllAre (λ y. above stance xs y.parent ≡ above stance now y.parent) now
+      contexts = each (λ y. sym (above_with stance (waits_as (Ready x)) (λ z. refl) p y.parent (λ z e. refl) xs)) now
+
+      holding_now : Holding held (rooms stance (above stance now) now)
+      holding_now =
+          subst (Holding held) (sym (rooms_waiting stance (above stance xs) (waits_as (Ready x)) p (λ v. Ready x) (λ y. refl) xs) ∙ rooms_same stance (above stance xs) (above stance now) now contexts)
+          (given_holds u.held held (Ready x) p given.new given.gives given.differ (rooms stance (above stance xs) xs)
+          (all_mapped (λ q. (zs : List Held) → granted_request zs q.wait ≡ []) (room_in stance (above stance xs)) xs (all_weaker Waits _ (λ y never zs. nothing_granted zs y.wait never) xs (none_ready xs none)))
+          (subst Distinct (sym (rooms_numbers stance (above stance xs) xs)) fits.numbers) given.keeps given.free (splits stance u xs fits) (holding stance u xs fits))
+
       answered_fits : Fits stance (with_seat (waits_as (Ready x)) (thread_of n u.requests) xs) (changed u rs held log)
       answered_fits = record {
         script = fits.script;
         shared = shared;
         numbers = differ_with (waits_as (Ready x)) (λ y. refl) p xs fits.numbers;
         family = changed_family stance (common_of u) (common_of (changed u rs held log)) later xs fits.family p (λ m. awaited_above stance xs p n m awaits) (λ y. Ready x) (λ y. y.thread) (λ y e. tt);
-        seats = with_all Known (SeatStands stance (changed u rs held log)) (waits_as (Ready x)) p answered_stands other_stands xs known;
+        seats = seats_under stance (changed u rs held log) (above stance xs) (above stance now) now contexts
+            (with_all Known (λ y. SeatStands stance (changed u rs held log) (above stance xs y.parent) y) (waits_as (Ready x)) p answered_stands other_stands xs known);
+        holds = rooms_hold stance (changed u rs held log) now holding_now;
+        differ = rooms_differ stance (changed u rs held log) now holding_now;
         alone = alone_now;
         waited_for = subst (AllAre (IsWaitedFor (map (as_seat stance) now))) (sym is) (all_awaited (filter (other_than n) u.requests) (closed_now n u.requests) (all_kept _ (other_than n) u.requests fits.waited_for));
       }
@@ -294,12 +333,20 @@ module _ {T : Type 0} (stance : T → Stance) where
       answered_fits xs u fits none (filter (other_than n) u.requests) (with_held (record { executor = ex; request = n; workspace = workspace_number u.site u.held x }) u.held) u.log shared n refl r opens (Granted ex)
       (λ at h. executor_answer (script_of u.code) (common_of (changed u (filter (other_than n) u.requests) (with_held (record { executor = ex; request = n; workspace = workspace_number u.site u.held x }) u.held) u.log)) ex
       (granted_there ex (record { executor = ex; request = n; workspace = workspace_number u.site u.held x }) u.held refl) at r.request label kind h)
+      (record {
+        new = n ∷ [];
+        gives = grant_given (record { executor = ex; request = n; workspace = workspace_number u.site u.held x }) u.held free;
+        differ = (tt, tt);
+        keeps = λ m h. held_with m (record { executor = ex; request = n; workspace = workspace_number u.site u.held x }) u.held h;
+        free = ((λ h. open_free u.site (common_of u) (fits.shared).held n (open_of n u.requests r.request (ap (λ z. option_map (λ (q : OpenRequest). q.request) z) opens)) h), tt);
+      })
 
   -- A request is answered, and nothing is granted.
-  closed_fits : (xs : List (Seated T)) (u : Shared) → Fits stance xs u → ready_count xs ≡ 0 → (n : ℕ) (r : OpenRequest) → find (λ q. nat_eq q.number n) u.requests ≡ Some r → (x : Answer) → ((at : Spot) → Asks at r.request → EndsAt (script_of u.code) (common_of (changed u (filter (other_than n) u.requests) u.held u.log)) at (Answered x))
+  closed_fits : (xs : List (Seated T)) (u : Shared) → Fits stance xs u → ready_count xs ≡ 0 → (n : ℕ) (r : OpenRequest) → find (λ q. nat_eq q.number n) u.requests ≡ Some r → (x : Answer) → ((at : Spot) → Asks at r.request → EndsAt (script_of u.code) (common_of (changed u (filter (other_than n) u.requests) u.held u.log)) at (Answered x)) → granted_request u.held (Ready x) ≡ []
       → Fits stance (with_seat (waits_as (Ready x)) (thread_of n u.requests) xs) (changed u (filter (other_than n) u.requests) u.held u.log)
-  closed_fits xs u fits none n r opens x answer =
+  closed_fits xs u fits none n r opens x answer nothing =
       answered_fits xs u fits none (filter (other_than n) u.requests) u.held u.log (closed_shared (setting_of u) n (common_of u) fits.shared) n refl r opens x answer
+      (record { new = []; gives = nothing; differ = tt; keeps = λ m h. h; free = tt })
 
   -- Each accepted event.
   pub event_fits : (xs : List (Seated T)) (u : Shared) (event : Event) → Fits stance xs u → ready_count xs ≡ 0 → answered (standing_of u.site u.requests u.held) event ≡ Accepted → EndsNot u event → Fits stance (seats_after event u.requests xs) (shared_after event u)
@@ -309,21 +356,21 @@ module _ {T : Type 0} (stance : T → Stance) where
       let o = request_here (find (λ (q : OpenRequest). nat_eq q.number request) u.requests) (NodeRequest g.0) g.1 in
       granted_fits xs u fits none request executor o.0 g.0 o.1 o.2 (executor_of u.site executor) refl g.2
   event_fits xs u (OutputEvent task LogStream from bytes) fits none accepted ends =
-      unanswered xs u fits none (map (change_if (with_taken (length bytes)) task) u.requests) u.held (raw bytes u.log) (taken_shared (setting_of u) task bytes (common_of u) fits.shared) (with_taken (length bytes)) (taken_asks (length bytes)) task refl
+      unanswered xs u fits none (map (change_if (with_taken (length bytes)) task) u.requests) u.held (raw bytes u.log) (taken_shared (setting_of u) task bytes (common_of u) fits.shared) (with_taken (length bytes)) (taken_asks (length bytes)) task refl refl
   event_fits xs u (OutputEvent task OutStream from bytes) fits none accepted ends =
-      unanswered xs u fits none (map (change_if (with_kept bytes) task) u.requests) u.held u.log (kept_shared (setting_of u) task bytes (common_of u) fits.shared) (with_kept bytes) (kept_asks bytes) task refl
+      unanswered xs u fits none (map (change_if (with_kept bytes) task) u.requests) u.held u.log (kept_shared (setting_of u) task bytes (common_of u) fits.shared) (with_kept bytes) (kept_asks bytes) task refl refl
   event_fits xs u (ExitedEvent task code) fits none accepted ends =
       let o = kind_open is_task no_task (find (λ (q : OpenRequest). nat_eq q.number task) u.requests) (if_accepted _ accepted) in
       closed_fits xs u fits none task o.0 o.1 (Done code (kept_output (request_of u.requests task)))
-      (λ at h. task_answer (script_of u.code) (common_of (changed u (filter (other_than task) u.requests) u.held u.log)) code (kept_output (request_of u.requests task)) at (o.0).request o.2 h)
+      (λ at h. task_answer (script_of u.code) (common_of (changed u (filter (other_than task) u.requests) u.held u.log)) code (kept_output (request_of u.requests task)) at (o.0).request o.2 h) refl
   event_fits xs u (LostEvent task why) fits none accepted ends =
       let o = kind_open is_task no_task (find (λ (q : OpenRequest). nat_eq q.number task) u.requests) (if_accepted _ accepted) in
       closed_fits xs u fits none task o.0 o.1 (Done (lost_code why) (kept_output (request_of u.requests task)))
-      (λ at h. task_answer (script_of u.code) (common_of (changed u (filter (other_than task) u.requests) u.held u.log)) (lost_code why) (kept_output (request_of u.requests task)) at (o.0).request o.2 h)
+      (λ at h. task_answer (script_of u.code) (common_of (changed u (filter (other_than task) u.requests) u.held u.log)) (lost_code why) (kept_output (request_of u.requests task)) at (o.0).request o.2 h) refl
   event_fits xs u (DecidedEvent request proceed name) fits none accepted ends =
       let o = kind_open is_input no_input (find (λ (q : OpenRequest). nat_eq q.number request) u.requests) (if_accepted _ accepted) in
       closed_fits xs u fits none request o.0 o.1 (Decided proceed name)
-      (λ at h. person_answer (script_of u.code) (common_of (changed u (filter (other_than request) u.requests) u.held u.log)) proceed name at (o.0).request o.2 h)
+      (λ at h. person_answer (script_of u.code) (common_of (changed u (filter (other_than request) u.requests) u.held u.log)) proceed name at (o.0).request o.2 h) refl
 
   -- The thread of an open request waits for its answer.
   pub awaited_there : (xs : List (Seated T)) (u : Shared) (n : ℕ) → Fits stance xs u → is_some (request_of u.requests n) ≡ true → waits_for_request (thread_of n u.requests) xs ≡ true

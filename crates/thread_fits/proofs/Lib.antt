@@ -3,7 +3,11 @@ pub mod Facts
 pub mod HeldLaws
 pub mod SharedLaws
 pub mod SeatRows
+pub mod RoomLaws
 pub mod SeatLaws
 pub mod FamilyLaws
+pub mod FinishLaws
+pub mod GoingLaws
+pub mod TurnLaws
 pub mod BeginLaws
 pub mod EventLaws

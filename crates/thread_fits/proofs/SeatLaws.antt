@@ -17,8 +17,8 @@ use Rattle.model_run.specs.declared.wait.Join.{Join}
 use Rattle.model_run.specs.declared.wait.JoinEnd.{JoinEnd}
 use Rattle.model_run.specs.declared.wait.Wait.{Wait}
 use Rattle.model_run.specs.declared.wait.Wait.TheVariants.{Ready, Request as RequestWait, Branches as BranchesWait}
-use Rattle.model_run.specs.Fitting.{Asks, EndFits as BranchEnded, ForRequest as IsForRequest, IsFlowNode, Later, OutcomeFits, Rise, outermost}
-use Rattle.model_run.specs.Nesting.{Any_body, Any_branch, Begun, Body_of, For_branches, For_executor, For_person, For_task, Spot, innermost}
+use Rattle.model_run.specs.Fitting.{Asks, EndFits as BranchEnded, context_above, ForRequest as IsForRequest, IsFlowNode, Later, OutcomeFits, Rise, outermost}
+use Rattle.model_run.specs.Nesting.{Any_body, Any_branch, Begun, Body_of, CallsClosures, For_branches, For_executor, For_person, For_task, Spot, innermost}
 use Rattle.model_run.specs.Requests.{numbers_of}
 use Rattle.model_run.specs.Scoping.{names_at}
 use Rattle.model_run.specs.Since.{Follows}
@@ -42,7 +42,7 @@ use Rattle.cps_frames.specs.declared.shared.Shared.{Shared}
 use Rattle.cps_frames.specs.declared.thread.Move.{Move}
 use Rattle.cps_frames.specs.declared.thread.Move.TheVariants as move
 use Rattle.cps_frames.proofs.Poise.{all_later}
-use Rattle.thread_fits.specs.Seats.{Fits, HasBegun, IsGranted, SeatStands, WaitStands, first_of, standing_as, waiting_move}
+use Rattle.thread_fits.specs.Seats.{Fits, HasBegun, IsGranted, SeatStands, WaitStands, as_seat, first_of, standing_as, waiting_move}
 
 -- what branches ended with is there still
 pub end_then : (u v : Common) → Later u v → (e : JoinEnd) → BranchEnded u e → BranchEnded v e
@@ -136,11 +136,11 @@ module _ {T : Type 0} (stance : T → Stance) (u u' : Shared) (same : setting_of
       subst (λ g. Poised g above at (standing_as u' t) m') (sym same) here
 
   -- and is about to be given no executor
-  pub stands_on : (x : Seated T) → (IsGranted x.wait → ⊥) → WaitStands (common_of u') (innermost (script_of u.code) (outermost x.parent) (stance x.thread).frames) x.number x.wait → SeatStands stance u x → SeatStands stance u' x
-  stands_on x never wait h = record {
-    above = h.above;
-    poised = poised_on (stance x.thread) h.above (outermost x.parent) (waiting_move x.wait (stance x.thread)) (waiting_move x.wait (stance x.thread))
+  pub stands_on : (above : Context) (x : Seated T) → (IsGranted x.wait → ⊥) → WaitStands (common_of u') (innermost (script_of u.code) (outermost x.parent) (stance x.thread).frames) x.number x.wait → SeatStands stance u above x → SeatStands stance u' above x
+  stands_on above x never wait h = record {
+    poised = poised_on (stance x.thread) above (outermost x.parent) (waiting_move x.wait (stance x.thread)) (waiting_move x.wait (stance x.thread))
         (move_then (script_of u.code) (common_of u) (common_of u') later (innermost (script_of u.code) (outermost x.parent) (stance x.thread).frames) x.wait (stance x.thread) never (h.poised).move) h.poised;
+    closures = subst (λ (g : Setting). CallsClosures g.script (outermost x.parent) (stance x.thread).frames) (sym same) h.closures;
     begun = h.begun;
     start = h.start;
     number = h.number;
@@ -193,14 +193,14 @@ joins_at root u Any_branch s ends none there h = absurd h.0
 pub with_move : (g : Setting) (above : Context) (at : Spot) (u : Standing) (m m' : Move) → MoveFits g.script u.world.shared (innermost g.script at u.stack) m' → Poised g above at u m → Poised g above at u m'
 with_move g above at u m m' fits p = record { sound = p.sound; executors = p.executors; opened = p.opened; frames = p.frames; chain = p.chain; move = fits }
 
-module _ {T : Type 0} (stance : T → Stance) (u : Shared) where
+module _ {T : Type 0} (stance : T → Stance) (u : Shared) (above : Context) where
   -- the same thread, which waits for its branches or is ready with their ends
-  joined_as : (x : Seated T) (js : List Join) (o : Option (List BranchEnd)) → AllAre (λ j. EndIf (common_of u) j.ended) js → EndsIf (common_of u) o → SeatStands stance u (waits_as (BranchesWait js) x) → SeatStands stance u (waits_as (joined_wait js o) x)
+  joined_as : (x : Seated T) (js : List Join) (o : Option (List BranchEnd)) → AllAre (λ j. EndIf (common_of u) j.ended) js → EndsIf (common_of u) o → SeatStands stance u above (waits_as (BranchesWait js) x) → SeatStands stance u above (waits_as (joined_wait js o) x)
   joined_as x js None all there h = h
   joined_as x js (Some ends) all there h = record {
-    above = h.above;
-    poised = with_move (setting_of u) h.above (outermost x.parent) (standing_as u (stance x.thread)) (move.Asks (ForBranches [])) (first_of (stance x.thread).runs (Joined ends))
+    poised = with_move (setting_of u) above (outermost x.parent) (standing_as u (stance x.thread)) (move.Asks (ForBranches [])) (first_of (stance x.thread).runs (Joined ends))
         (joins_at (script_of u.code) (common_of u) (innermost (script_of u.code) (outermost x.parent) (stance x.thread).frames) (stance x.thread).runs ends h.begun there (h.poised).move) h.poised;
+    closures = h.closures;
     begun = subst (HasBegun (Ready (Joined ends))) (sym h.begun) tt;
     start = h.start;
     number = h.number;
@@ -208,11 +208,11 @@ module _ {T : Type 0} (stance : T → Stance) (u : Shared) where
     wait = tt;
   }
 
-  other_joins : (x : Seated T) (js ks : List Join) → AllAre (λ j. EndIf (common_of u) j.ended) ks → SeatStands stance u (waits_as (BranchesWait js) x) → SeatStands stance u (waits_as (BranchesWait ks) x)
-  other_joins x js ks all h = record { above = h.above; poised = h.poised; begun = h.begun; start = h.start; number = h.number; parent = h.parent; wait = all }
+  other_joins : (x : Seated T) (js ks : List Join) → AllAre (λ j. EndIf (common_of u) j.ended) ks → SeatStands stance u above (waits_as (BranchesWait js) x) → SeatStands stance u above (waits_as (BranchesWait ks) x)
+  other_joins x js ks all h = record { poised = h.poised; closures = h.closures; begun = h.begun; start = h.start; number = h.number; parent = h.parent; wait = all }
 
   -- a branch of this thread has ended
-  pub joined_stands : (n head : ℕ) (o : Outcome) → IsFlowNode u.graph head → OutcomeFits (common_of u) o → (x : Seated T) (w : Wait) → SeatStands stance u (waits_as w x) → SeatStands stance u (waits_as (join_wait n head o w) x)
+  pub joined_stands : (n head : ℕ) (o : Outcome) → IsFlowNode u.graph head → OutcomeFits (common_of u) o → (x : Seated T) (w : Wait) → SeatStands stance u above (waits_as w x) → SeatStands stance u above (waits_as (join_wait n head o w) x)
   joined_stands n head o node fits x (Ready a) h = h
   joined_stands n head o node fits x (RequestWait r) h = h
   joined_stands n head o node fits x (BranchesWait js) h =
@@ -231,9 +231,9 @@ joined_grants n head o (BranchesWait js) never g = one (all_ended (map (join_end
     one (Some ends) g = g
 
 -- the last flow node of each thread that fits is there
-heads_by : {T : Type 0} (stance : T → Stance) (u : Shared) (xs : List (Seated T)) → AllAre (SeatStands stance u) xs → HeadsStand stance u.graph xs
-heads_by stance u [] h = tt
-heads_by stance u (x ∷ xs) h = ((((h.0).poised).sound).head, heads_by stance u xs h.1)
+heads_by : {T : Type 0} (stance : T → Stance) (u : Shared) (up : Option ℕ → Context) (xs : List (Seated T)) → AllAre (λ x. SeatStands stance u (up x.parent) x) xs → HeadsStand stance u.graph xs
+heads_by stance u up [] h = tt
+heads_by stance u up (x ∷ xs) h = ((((h.0).poised).sound).head, heads_by stance u up xs h.1)
 
 pub heads_stand : {T : Type 0} (stance : T → Stance) (xs : List (Seated T)) (u : Shared) → Fits stance xs u → HeadsStand stance u.graph xs
-heads_stand stance xs u fits = heads_by stance u xs fits.seats
+heads_stand stance xs u fits = heads_by stance u (context_above (map (as_seat stance) xs)) xs fits.seats

@@ -3,6 +3,7 @@ use Rattle.std.proofs.Common.{arith, ◌≡◌, ◌∙◌, ◌<◌, ◌≤◌, �
 use Rattle.std.specs.Prelude.{if◌then◌else◌, nat_eq, not, slice_get}
 use Rattle.std.specs.List.{AllByRecursion as AllAre}
 use Rattle.std.proofs.lemmas.Bool.{eqb-true, eqb-false, eq-eqb, ne_eqb}
+use Rattle.model_values.proofs.LaterLaws.{all_weaker}
 use Rattle.model_run.specs.declared.wait.Answer.{Answer}
 use Rattle.model_run.specs.declared.wait.Wait.TheVariants.{Ready, Request as RequestWait}
 use Rattle.model_run.specs.Fitting.{Above, Distinct, Seat as Image_seat, Waited, WaitsFor, seat_of}
@@ -221,10 +222,13 @@ module _ {T : Type 0} (stance : T → Stance) where
   same_seat : (a b : Image_seat) → Some a ≡ Some b → a ≡ b
   same_seat a b e = cc e
 
-  -- threads of one number have one parent
+  -- threads of one number are one, and have one parent
+  pub same_seat_as : (i : ℕ) (x : Seated T) (xs : List (Seated T)) → Distinct (numbers xs) → slice_get xs i ≡ Some x → AllAre (λ y. y.number ≡ x.number → as_seat stance y ≡ as_seat stance x) xs
+  same_seat_as i x xs d at = all_from (λ y. y.number ≡ x.number → as_seat stance y ≡ as_seat stance x) xs
+      (λ j y e same. same_seat (as_seat stance y) (as_seat stance x) (sym (found_at xs j y d e) ∙ ap (found xs) same ∙ found_at xs i x d at))
+
   pub same_parent : (i : ℕ) (x : Seated T) (xs : List (Seated T)) → Distinct (numbers xs) → slice_get xs i ≡ Some x → AllAre (λ y. y.number ≡ x.number → y.parent ≡ x.parent) xs
-  same_parent i x xs d at = all_from (λ y. y.number ≡ x.number → y.parent ≡ x.parent) xs
-      (λ j y e same. ap (λ (s : Image_seat). s.parent) (same_seat (as_seat stance y) (as_seat stance x) (sym (found_at xs j y d e) ∙ ap (found xs) same ∙ found_at xs i x d at)))
+  same_parent i x xs d at = all_weaker _ _ (λ y h e. ap (λ (s : Image_seat). s.parent) (h e)) xs (same_seat_as i x xs d at)
 
   -- who waits for a request, and who is ready, waits for no branch
   pub awaited_above : (xs : List (Seated T)) (n r m : ℕ) → IsAwaited r n xs → Above m (found xs n) → ⊥

@@ -12,8 +12,8 @@ use Rattle.model_run.specs.declared.wait.Answer.{Answer}
 use Rattle.model_run.specs.declared.wait.Answer.TheVariants.{Begin, Granted}
 use Rattle.model_run.specs.declared.wait.Wait.{Wait}
 use Rattle.model_run.specs.declared.wait.Wait.TheVariants.{Ready, Request as RequestWait, Branches as BranchesWait}
-use Rattle.model_run.specs.Fitting.{Distinct, ForRequest as IsForRequest, IsOpen, IsWaitedFor, JoinFits, ParentFits, Seat, SharedFits, Some_of, outermost, seat_of, started_by}
-use Rattle.model_run.specs.Nesting.{Spot, innermost}
+use Rattle.model_run.specs.Fitting.{Distinct, ForRequest as IsForRequest, IsOpen, IsWaitedFor, JoinFits, ParentFits, Seat, SharedFits, Some_of, concat_map, context_above, outermost, own_held_of, seat_of, started_by}
+use Rattle.model_run.specs.Nesting.{CallsClosures, Spot, innermost}
 use Rattle.model_run.specs.State.{Common}
 use Rattle.model_run.specs.Threads.{Closure, Runs, Script}
 use Rattle.model_run.specs.World.{run_limits}
@@ -21,7 +21,7 @@ use Rattle.run_laws.specs.Worlds.{EndIf}
 use Rattle.green_threads.specs.declared.runner.Seated.{Seated}
 use Rattle.settle_laws.specs.Stances.{Stance}
 use Rattle.cps_code.specs.Script.{IsScript, script_of}
-use Rattle.cps_frames.specs.Places.{Poised}
+use Rattle.cps_frames.specs.Places.{IsHeld, Poised}
 use Rattle.cps_frames.specs.Standing.{Standing, common_of, setting_of}
 use Rattle.cps_frames.specs.declared.shared.Shared.{Shared}
 use Rattle.cps_frames.specs.declared.thread.Move.{Move}
@@ -89,10 +89,10 @@ JoinsFit u seats n (RequestWait r) = Unit {0}
 JoinsFit u seats n (BranchesWait js) = AllAre (JoinFits u seats n) js × Some_of IsOpen js × Distinct (map (λ j. j.thread) js)
 
 module _ {T : Type 0} (stance : T → Stance) where
-  -- One thread in its seat, from the spot on where its frames begin.
-  pub record SeatStands (u : Shared) (x : Seated T) : Type 0 where
-    pub above : Context
+  -- One thread in its seat, from the spot on where its frames begin, under this context; what its steps and walks have called are closures.
+  pub record SeatStands (u : Shared) (above : Context) (x : Seated T) : Type 0 where
     pub poised : Poised (setting_of u) above (outermost x.parent) (standing_as u (stance x.thread)) (waiting_move x.wait (stance x.thread))
+    pub closures : CallsClosures (script_of u.code) (outermost x.parent) (stance x.thread).frames
     pub begun : HasBegun x.wait (stance x.thread).runs
     pub start : StartStands (stance x.thread).runs x.parent (stance x.thread).frames
     pub number : (stance x.thread).own.number ≡ x.number
@@ -118,12 +118,21 @@ module _ {T : Type 0} (stance : T → Stance) where
     pub parents : AllAre (λ x. ParentFits (map as_seat xs) x.number x.parent) xs
     pub joins : AllAre (λ x. JoinsFit u (map as_seat xs) x.number x.wait) xs
 
-  -- A sound shared state, and threads of different numbers: each stands soundly, and the thread of each open request waits for it.
+  -- the executors of the requests in its context are held
+  abbrev pub HoldsOwn : Shared → Seated T → Type 0
+  HoldsOwn u x = AllAre (IsHeld u.held) (stance x.thread).own.context.held
+
+  -- A sound shared state, and threads of different numbers: each stands soundly under the context of its parent and holds the executors
+  -- of its open bodies, no two bodies have one request, and the thread of each open request waits for it. It is all that the test of an
+  -- image asks of threads (`Fitting`), but for the order of their numbers.
   pub record Fits (xs : List (Seated T)) (u : Shared) : Type 0 where
     pub script : IsScript (script_of u.code)
     pub shared : SharedFits (setting_of u) false (common_of u)
     pub numbers : Distinct (map (λ x. x.number) xs)
     pub family : Family (common_of u) xs
-    pub seats : AllAre (SeatStands u) xs
+    pub seats : AllAre (λ x. SeatStands u (context_above (map as_seat xs) x.parent) x) xs
+    pub holds : AllAre (HoldsOwn u) xs
+    -- the requests of all open `node` bodies, that of the body whose executor is about to be given included
+    pub differ : Distinct (concat_map (own_held_of (common_of u) (map as_seat xs)) (map as_seat xs))
     pub alone : AllAre (IsAlone xs) xs
     pub waited_for : AllAre (IsWaitedFor (map as_seat xs)) u.requests

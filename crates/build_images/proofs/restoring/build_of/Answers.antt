@@ -10,12 +10,13 @@ use Rattle.cps_code.specs.Script.{script_of}
 use Rattle.cps_code.specs.declared.row.Row.{Row}
 use Rattle.cps_frames.specs.declared.shared.Shared.{Shared}
 use Rattle.cps_frames.specs.Standing.{common_of}
+use Rattle.image_check.specs.Standings.{shared_in}
 use Rattle.image_frames.specs.Standings.{IsTold}
 use Rattle.thread_fits.specs.Seats.{as_seat}
 use Rattle.saved_thread.specs.Saving.{seat_in}
 use Rattle.build_core.specs.Builds.{StandsFor}
 use Rattle.build_core.specs.Phases.{SoundIn}
-use Rattle.build_images.specs.Images.{image_in, phase_of, shared_in, world_image}
+use Rattle.build_images.specs.Images.{image_in, phase_of, world_image}
 use Rattle.build_images.proofs.Parts.{cells_sound, nodes_numbered}
 use Rattle.build_images.proofs.RestoredBuilds.{all_at_nodes, whole_grouped, whole_here, whole_sound, whole_stands}
 use Rattle.build_images.proofs.restoring.build_of.Goals as goal

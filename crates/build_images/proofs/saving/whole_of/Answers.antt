@@ -2,7 +2,7 @@ use Rattle.std.proofs.Common.{◌≡◌, ◌∙◌, List, ap, sym, subst}
 use Rattle.std.specs.List.{AllByRecursion as AllAre}
 use Rattle.green_threads.specs.declared.runner.Seated.{Seated}
 use Rattle.green_threads.specs.Threads.{Threads}
-use Rattle.cps_code.specs.Script.{script_of}
+use Rattle.cps_code.specs.Script.{IsScript, script_of}
 use Rattle.cps_frames.specs.declared.shared.Shared.{Shared}
 use Rattle.saved_thread.specs.Saving.{AtNodes}
 use Rattle.build_images.proofs.SavedBuilds.{at_nodes}
@@ -17,3 +17,6 @@ threads_of-requires g c =
           (at_nodes g.R.ScriptThread.stance g.R.Runner.number g.R.Runner.parent g.R.Runner.branch g.R.Runner.fits g.met.R.SavedThread.storable g.met.R.ScriptThread.shared_fits
           c.args.build.now.phase c.args.build.now.group c.args.build.now.shared c.requires.begun c.requires.goes_on c.shared-shared.ensures.sound));
     }
+
+pub returns-clause-script : goal.returns-clause-script
+returns-clause-script g c = subst (λ (u : Shared). IsScript (script_of u.code)) c.shared-shared.ensures.shared c.len-nodes.ensures.script
