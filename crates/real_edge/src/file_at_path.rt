@@ -73,16 +73,19 @@ impl<'a, R: Files> FileAtPath<'a, R> {
         }
     }
 
-    /// Makes what was written durable, and its name; where it is missing there is nothing to do.
+    /// Makes what was written durable, with its length, and its name; where it is missing there is nothing to do. The times
+    /// of the file are synced with its name, at the first call, and not again.
     pub fn sync(&mut self) -> io::Result<()> {
+        let is_named = self.folder_is_synced;
         let Some(file) = self.open()? else {
             return Ok(());
         };
-        file.sync_all()?;
-        if !self.folder_is_synced {
-            sync_folder(self.files, folder_of(self.path.as_str()))?;
-            self.folder_is_synced = true;
+        if is_named {
+            return file.sync_data();
         }
+        file.sync_all()?;
+        sync_folder(self.files, folder_of(self.path.as_str()))?;
+        self.folder_is_synced = true;
         Ok(())
     }
 }

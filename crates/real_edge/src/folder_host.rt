@@ -8,9 +8,9 @@ ghost use Rattle.real_edge.specs.OwnFolders.{IsOwn, forgotten, MakesOwn, Removes
 
 use crate::children::Children;
 use crate::control::{ControlFolder, text};
+use crate::durable_folder::DurableFolder;
 use crate::own_folders::OwnFolders;
 use crate::pauses::Pauses;
-use crate::sync::make_durable;
 use crate::{Life, tasks};
 use device_faults::{Failed, Faults};
 use std::marker::Model;
@@ -37,6 +37,7 @@ pub struct FolderHost<'a, R: Processes> {
     children: Children<R::Started>,
     pauses: Pauses,
     faults: Faults,
+    parent: DurableFolder,
 }
 
 impl<'a, R: Processes> Model for FolderHost<'a, R> {
@@ -61,6 +62,7 @@ impl<'a, R: Files + Env + AllocGlobal + Eprint + Clock + Processes> FolderHost<'
             children: Children::new(rt.alloc()),
             pauses: Pauses::new(),
             faults: Faults::new(),
+            parent: DurableFolder::new(),
         }
     }
 
@@ -75,7 +77,7 @@ impl<'a, R: Files + Env + AllocGlobal + Eprint + Clock + Processes> FolderHost<'
         tasks::check_workspace(order)?;
         let control = ControlFolder::of(self.rt.alloc(), order)?;
         self.own.reserve()?;
-        make_durable(self.rt, control.parent.as_str())?;
+        self.parent.make(self.rt, control.parent.as_str())?;
         if !self.own.contains(order.task) {
             tasks::make_anew(self.rt, &control)?;
         } else if !tasks::make(self.rt, &control)? {

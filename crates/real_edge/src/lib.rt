@@ -15,6 +15,7 @@
 
 mod children;
 mod control;
+mod durable_folder;
 mod file_at_path;
 mod file_disk;
 mod folder_host;

@@ -2,6 +2,7 @@
 
 use super::*;
 use crate::control::ControlFolder;
+use crate::durable_folder::DurableFolder;
 use crate::launch::spawn;
 use crate::programs::{Programs, find};
 use device_faults::Failed;
@@ -13,7 +14,8 @@ use std::os::unix::fs::PermissionsExt;
 use std::process::{Abort, Command};
 use std::rt::Files;
 use std::test::Fail;
-use std::{env, fs, io};
+use std::time::Duration;
+use std::{env, fs, io, thread};
 use task_host::{Bytes, Host, Look, Made, Order, Pair, Pairs, Started, Stream, Text};
 
 // The test fails where what was found is not what was wanted.
@@ -88,6 +90,23 @@ fn missing_folders_are_made_and_those_that_are_there_stay(rt: HostRuntime) -> Re
     expect_file(&rt, "levels/of/folders/kept", b"x")?;
     put(&rt, "levels/file", "")?;
     assert!(rt; crate::sync::make_durable(&rt, "levels/file/below").is_err());
+    Ok(())
+}
+
+#[test]
+fn a_folder_in_the_place_of_a_durable_one_is_not(rt: HostRuntime) -> Result<(), Fail> {
+    let mut parent = DurableFolder::new();
+    for _ in 0..2 {
+        expect(&rt, parent.is_durable(&rt, "parents/w@tmp"), false);
+        parent.make(&rt, "parents/w@tmp")?;
+        let is_told = fs::metadata(&rt, "parents/w@tmp")?.created().is_ok();
+        expect(&rt, parent.is_durable(&rt, "parents/w@tmp"), is_told);
+        expect(&rt, parent.is_durable(&rt, "parents"), false);
+        thread::sleep(&rt, Duration::from_millis(20));
+        fs::remove_dir(&rt, "parents/w@tmp")?;
+        expect(&rt, parent.is_durable(&rt, "parents/w@tmp"), false);
+        fs::create_dir(&rt, "parents/w@tmp")?;
+    }
     Ok(())
 }
 
