@@ -1,10 +1,14 @@
 pub mod CountLemmas
 pub mod Begun
 pub mod OrderLemmas
+pub mod KindLemmas
+pub mod ReadLemmas
+pub mod ShortChanges
+pub mod AddLemmas
 pub mod LoadLemmas
 pub mod TakeLemmas
 pub mod OpenLemmas
 pub mod Cleared
-pub mod Uncounted
 pub mod Whole
 pub mod Undamaged
+pub mod Sizes

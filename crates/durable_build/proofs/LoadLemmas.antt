@@ -1,11 +1,6 @@
 -- What opening a store finds.
-use Rattle.std.proofs.Common.{◌≡◌, ◌+◌, ◌-◌, ◌<◌, ◌≤◌, ℕ, suc, ◌⊎◌, inl, inr, List, [], ◌∷◌, length, Some, Result, Ok, Err, refl, sym, ap, ◌∙◌, subst, arith, slice_get}
-use Rattle.std.specs.List.{All}
+use Rattle.std.proofs.Common.{◌≡◌, ◌+◌, ◌-◌, ◌<◌, ◌≤◌, ℕ, ◌⊎◌, inl, inr, true, List, [], ◌∷◌, length, Option, Some, None, Result, Ok, Err, refl, sym, ap, ◌∙◌, subst, arith, slice_get}
 use Rattle.std.specs.Prelude.{IsErrAnd}
-use Rattle.std.proofs.lemmas.Option.{slice_get_within, get_or_from_slice_get}
-use Rattle.field_form.specs.Forms.{Spells}
-use Rattle.field_form.specs.Reading.{Gives}
-use Rattle.field_form.specs.declared.refusal.FormRefusal.TheVariants.{Fault}
 use Rattle.model_syntax.specs.declared.fault.ScriptFault.{ScriptFault}
 use Rattle.model_syntax.specs.declared.tree.Tree.{Tree}
 use Rattle.model_syntax.specs.FirstFault.{FirstFault, IsFaultless}
@@ -13,7 +8,17 @@ use Rattle.model_syntax.proofs.FirstFaultLaws.{faultless_or_fault}
 use Rattle.journal_core.specs.Records.{Has}
 use Rattle.journal_core.specs.Answers.{entries_of}
 use Rattle.journal_core.specs.declared.record.Record.{Record}
-use Rattle.record_form.specs.Records.{record_form}
+use Rattle.field_form.specs.Forms.{whole_of}
+use Rattle.field_form.specs.Reading.{Refuses}
+use Rattle.field_form.specs.declared.refusal.FormRefusal.{FormRefusal}
+use Rattle.field_form.specs.declared.refusal.FormRefusal.TheVariants.{Fault}
+use Rattle.record_form.specs.Records.{record_of}
+use Rattle.delta_form.specs.Applying.{◌>>=◌}
+use Rattle.delta_form.specs.declared.delta.Delta.{Delta}
+use Rattle.delta_records.specs.Payloads.{next_image, payload_form}
+use Rattle.delta_records.specs.declared.payload.Payload.{Payload}
+use Rattle.delta_records.specs.declared.payload.Payload.TheVariants as payload
+use Rattle.delta_records.specs.declared.weights.Weights.{Weights}
 use Rattle.record_form.specs.declared.record.EventRecord.{EventRecord}
 use Rattle.image_form.specs.declared.image.Image.{Image}
 use Rattle.model_run.specs.declared.event.Event.{Event}
@@ -26,14 +31,18 @@ use Rattle.model_run.specs.declared.site.Site.{Site}
 use Rattle.cps_code.specs.declared.row.Row.{Row}
 use Rattle.settle_laws.specs.Stances.{Stance}
 use Rattle.build_core.specs.Builds.{Parts}
-use Rattle.store_laws.specs.Store.{Mean, script_limit}
+use Rattle.store_laws.specs.Store.{Mean, image_at, last_image, payload_in, record_at, record_with, script_limit}
+use Rattle.store_laws.proofs.Payloads.{payload_refused}
 use Rattle.store_laws.proofs.Tellings.{one_record}
 use Rattle.durable_build.specs.declared.faults.StoreFault.{StoreFault}
 use Rattle.durable_build.specs.declared.faults.StoreFault.TheVariants.{Memory, Disk, Empty, Damaged}
 use Rattle.durable_build.specs.declared.opening.Source.{Source}
-use Rattle.durable_build.specs.Standing.{IsWhole}
-use Rattle.durable_build.specs.Standing.{last_of, last_place, Opening, Closing, StandsBy}
-use Rattle.durable_build.specs.Opening.{CodeOf, SiteOf, SourceOf, DamagedAt, EventOpens, GoesOnFrom, OpensBy, ClosesBy, LoadFinds, OpenFails, setting_with}
+use Rattle.durable_build.specs.declared.load.Read.{Read}
+use Rattle.durable_build.specs.Kinds.{is_whole, weights_of}
+use Rattle.durable_build.specs.Standing.{last_place, Opening, StandsBy}
+use Rattle.durable_build.specs.Opening.{CodeOf, SiteOf, SourceOf, DamagedAt, EventOpens, FindsImage, GoesOnFrom, HasPayload, MakesImage, OpensBy, LastFound, LoadFinds, OpenFails, setting_with}
+use Rattle.durable_build.proofs.KindLemmas.{first_whole}
+use Rattle.durable_build.proofs.ReadLemmas.{length-entries}
 
 -- what the exit of a `?` returns
 pub passes_on : {T E : Type 0} (r : Result T E) (e : E) (P : Result T E → Type 0) → IsErrAnd r (λ y. y ≡ e) → P (Err e) → P r
@@ -65,28 +74,41 @@ source_opens e script agents at (Err f) is says =
     let same : event.Start s a ≡ event.Start script agents = sym there ∙ is in
     none setting (subst (λ (x : List ℕ). Mean script x setting) (same_agents s a script agents same) (subst (λ (x : List ℕ). Mean x a setting) (same_script s a script agents same) mean))) says
 
-pub opens_by : (r : EventRecord) (p : List ℕ) (at : ℕ) (o : Result Source StoreFault) → Spells record_form r p → EventOpens r.event at o → OpensBy p at o
-opens_by r p at (Ok o) spells is = record { first = r; spells = spells; starts = is.0; mean = is.1 }
-opens_by r p at (Err f) spells is = damaged_less at f _ _
-    (λ none setting script agents opened. none setting script agents (ap (λ (x : EventRecord). x.event) (one_record r opened.first p spells opened.spells) ∙ opened.starts) opened.mean) is
+-- a payload of a whole image tells its event
+first_tells : (e : Event) (image : Image) (p : List ℕ) → payload_in p ≡ Some (payload.Whole e image) → record_at None p ≡ Some (record_of e image)
+first_tells e image p is = ap (λ (o : Option Payload). o >>= record_with None) is
 
-pub no_closing : (setting : Setting) (r : EventRecord) (p : List ℕ) → Spells record_form r p → (IsWhole setting r.image → ⊥) → (image : Image) → Closing image p → IsWhole setting image → ⊥
-no_closing setting r p spells broken image is whole =
-    broken (subst (IsWhole setting) (sym is.is ∙ ap (λ (x : EventRecord). x.image) (one_record is.last r p is.spells spells)) whole)
+pub opens_by : (q : Payload) (e : Event) (image : Image) (p : List ℕ) (at : ℕ) (o : Result Source StoreFault) → payload_in p ≡ Some q → q ≡ payload.Whole e image → EventOpens e at o → OpensBy p at o
+opens_by q e image p at (Ok o) has whole is = record { first = record_of e image; tells = first_tells e image p (has ∙ ap (λ (x : Payload). Some x) whole); starts = is.0; mean = is.1 }
+opens_by q e image p at (Err f) has whole is = damaged_less at f _ _
+    (λ none setting script agents opened.
+    none setting script agents
+    (ap (λ (x : EventRecord). x.event) (one_record None (record_of e image) opened.first p (first_tells e image p (has ∙ ap (λ (x : Payload). Some x) whole)) opened.tells) ∙ opened.starts) opened.mean) is
 
-pub closes_by : {T : Type 0} (stance : T → Stance) (setting : Setting) (r : EventRecord) (p : List ℕ) (at : ℕ) (o : Result (Parts T) StoreFault) → Spells record_form r p → GoesOnFrom stance setting r.image at o → ClosesBy stance setting p at o
-closes_by stance setting r p at (Ok b) spells is = (is.0, is.1, record { last = r; spells = spells; is = sym is.2 })
-closes_by stance setting r p at (Err f) spells is = damaged_less at f _ _ (λ broken. no_closing setting r p spells broken) is
+-- changes tell none, and neither do bytes that were refused
+no_opening : (p : List ℕ) → record_at None p ≡ None → (setting : Setting) (script agents : List ℕ) → ¬ (Opening setting script agents p)
+no_opening p none setting script agents opened = let bad : None ≡ Some opened.first = sym none ∙ opened.tells in cc
 
--- bytes that were refused are no record
-pub no_record : (place : ℕ) (p : List ℕ) → ((r : EventRecord) → Spells record_form r p → Gives {Y = EventRecord} (Err (Fault place)) (Ok r)) → (r : EventRecord) → Spells record_form r p → ⊥
-no_record place p none r spells = let e = none r spells in absurd cc
+pub no_first_changes : (q : Payload) (e : Event) (delta : Delta) (p : List ℕ) → payload_in p ≡ Some q → q ≡ payload.Changed e delta → (setting : Setting) (script agents : List ℕ) → ¬ (Opening setting script agents p)
+no_first_changes q e delta p has changed = no_opening p (ap (λ (o : Option Payload). o >>= record_with None) (has ∙ ap (λ (x : Payload). Some x) changed))
 
-pub no_first : (place : ℕ) (p : List ℕ) → ((r : EventRecord) → Spells record_form r p → Gives {Y = EventRecord} (Err (Fault place)) (Ok r)) → (setting : Setting) (script agents : List ℕ) → ¬ (Opening setting script agents p)
-no_first place p none setting script agents opened = no_record place p none opened.first opened.spells
+pub no_first : (p : List ℕ) (at : ℕ) (f : StoreFault) → HasPayload p at (Err f) → OpensBy p at (Err f)
+no_first p at f is = damaged_less at f _ _ (λ none. no_opening p (ap (λ (o : Option Payload). o >>= record_with None) none)) is
 
-pub no_last : (place : ℕ) (p : List ℕ) → ((r : EventRecord) → Spells record_form r p → Gives {Y = EventRecord} (Err (Fault place)) (Ok r)) → (setting : Setting) (image : Image) → Closing image p → IsWhole setting image → ⊥
-no_last place p none setting image closed whole = no_record place p none closed.last closed.spells
+-- bytes that were refused spell no payload
+pub none_spelled : (p : List ℕ) (refused : FormRefusal) (place : ℕ) → refused ≡ Fault place → Refuses refused (whole_of payload_form p) → payload_in p ≡ None
+none_spelled p refused place is refuses = payload_refused place p (subst (λ (r : FormRefusal). Refuses r (whole_of payload_form p)) is refuses)
+
+-- the image of a payload behind another
+image_has : (before : Option Image) (p : List ℕ) (o : Option Payload) → payload_in p ≡ o → image_at before p ≡ (o >>= next_image before)
+image_has before p o has = ap (λ (x : Option Payload). x >>= next_image before) has
+
+pub image_by : (before : Option Image) (p : List ℕ) (q : Payload) (at : ℕ) (r : Result Image StoreFault) → payload_in p ≡ Some q → MakesImage before q at r → FindsImage before p at r
+image_by before p q at (Ok image) has makes = image_has before p (Some q) has ∙ makes
+image_by before p q at (Err f) has makes = damaged_less at f _ _ (λ none. image_has before p (Some q) has ∙ none) makes
+
+pub image_none : (before : Option Image) (p : List ℕ) (at : ℕ) (f : StoreFault) → HasPayload p at (Err f) → FindsImage before p at (Err f)
+image_none before p at f is = damaged_less at f _ _ (λ none. image_has before p None none) is
 
 -- a script with a fault has no tree
 pub no_tree : (script : List ℕ) (f : ScriptFault) → FirstFault script f → (tree : Tree) → length script ≤ script_limit → IsFaultless script tree → ⊥
@@ -108,18 +130,10 @@ no_site script agents at f is = damaged_less at f _ _ (λ none setting mean. non
 pub no_code : (script agents : List ℕ) (at : ℕ) (f : StoreFault) → CodeOf script at (Err f) → SourceOf script agents at (Err f)
 no_code script agents at f is = damaged_less at f _ _ (λ none setting mean. none mean.tree mean.within mean.faultless) is
 
-pub length-entries : (at : ℕ) (ps : List (List ℕ)) → length (entries_of at ps) ≡ length ps
-length-entries at [] = refl
-length-entries at (p ∷ ps) = ap suc (length-entries (at + 5 + length p) ps)
-
 -- the last entry is that of the last record
-last_at : (at : ℕ) (p : List ℕ) (ps : List (List ℕ)) → slice_get (entries_of at (p ∷ ps)) (length ps) ≡ Some (record { at = last_place at p ps; len = length (last_of p ps) })
-last_at at p [] = refl
+last_at : (at : ℕ) (p : List ℕ) (ps : List (List ℕ)) → (len : ℕ) × (slice_get (entries_of at (p ∷ ps)) (length ps) ≡ Some (record { at = last_place at p ps; len = len }))
+last_at at p [] = (length p, refl)
 last_at at p (q ∷ qs) = last_at (at + 5 + length p) q qs
-
-last_payload : (p : List ℕ) (ps : List (List ℕ)) → slice_get (p ∷ ps) (length ps) ≡ Some (last_of p ps)
-last_payload p [] = refl
-last_payload p (q ∷ qs) = last_payload q qs
 
 same_entry : (x y : Record) → Some x ≡ Some y → x ≡ y
 same_entry x y e = cc
@@ -134,13 +148,12 @@ first_found By p ps entries first r are is found =
     let same : record { at = 0; len = length p } ≡ first = same_entry _ _ here in
     subst (λ (n : ℕ). By p n r ⊎ (r ≡ Err Disk)) (sym (ap (λ (x : Record). x.at) same)) (found 0 p here refl)
 
-last_found : {T : Type 0} (By : List ℕ → ℕ → Result T StoreFault → Type 0) (p : List ℕ) (ps : List (List ℕ)) (entries : List Record) (last : Record) (r : Result T StoreFault) → entries ≡ entries_of 0 (p ∷ ps)
-    → slice_get entries (length entries - 1) ≡ Some last → Found By (p ∷ ps) last r → By (last_of p ps) (last_place 0 p ps) r ⊎ (r ≡ Err Disk)
-last_found By p ps entries last r are is found =
+last_entry_at : (p : List ℕ) (ps : List (List ℕ)) (entries : List Record) (last : Record) → entries ≡ entries_of 0 (p ∷ ps) → slice_get entries (length entries - 1) ≡ Some last → last.at ≡ last_place 0 p ps
+last_entry_at p ps entries last are is =
     let n : length entries - 1 ≡ length ps = omega (arith, ap length are, length-entries 0 (p ∷ ps)) in
     let here : slice_get (entries_of 0 (p ∷ ps)) (length ps) ≡ Some last = subst (λ (es : List Record). slice_get es (length ps) ≡ Some last) are (subst (λ (k : ℕ). slice_get entries k ≡ Some last) n is) in
-    let same : record { at = last_place 0 p ps; len = length (last_of p ps) } ≡ last = same_entry _ _ (sym (last_at 0 p ps) ∙ here) in
-    subst (λ (n : ℕ). By (last_of p ps) n r ⊎ (r ≡ Err Disk)) (sym (ap (λ (x : Record). x.at) same)) (found (length ps) (last_of p ps) here (last_payload p ps))
+    let l = last_at 0 p ps in
+    sym (ap (λ (x : Record). x.at) (same_entry _ _ (sym l.1 ∙ here)))
 
 abbrev IsDiskFault : {T : Type 0} → Result T StoreFault → Type 0
 IsDiskFault r = r ≡ Err Disk
@@ -154,22 +167,9 @@ module _ {T : Type 0} (stance : T → Stance) where
   opening_refused p ps (Damaged n) (inl is) = inl is
   opening_refused p ps (Damaged n) (inr is) = cc
 
-  closing_refused : (p : List ℕ) (ps : List (List ℕ)) (o : Source) (f : StoreFault) → OpensBy p 0 (Ok o) → ClosesBy stance (setting_with o.code o.site) (last_of p ps) (last_place 0 p ps) (Err f) ⊎ IsDiskFault {T = Parts T} (Err f)
-      → LoadFinds stance (p ∷ ps) (Err f)
-  closing_refused p ps o Memory opened is = tt
-  closing_refused p ps o Disk opened is = tt
-  closing_refused p ps o Empty opened (inl is) = is
-  closing_refused p ps o Empty opened (inr is) = cc
-  closing_refused p ps o (Damaged n) opened (inl is) = inr (is.0, setting_with o.code o.site, o.script, o.agents, opened, is.1)
-  closing_refused p ps o (Damaged n) opened (inr is) = cc
-
   is_opened : (p : List ℕ) (o : Source) → OpensBy p 0 (Ok o) ⊎ (Ok o ≡ Err Disk) → OpensBy p 0 (Ok o)
   is_opened p o (inl is) = is
   is_opened p o (inr is) = cc
-
-  is_closed : (setting : Setting) (p : List ℕ) (at : ℕ) (b : Parts T) → ClosesBy stance setting p at (Ok b) ⊎ (Ok b ≡ Err Disk) → ClosesBy stance setting p at (Ok b)
-  is_closed setting p at b (inl is) = is
-  is_closed setting p at b (inr is) = cc
 
   none_there : (entries : List Record) → 0 < length entries → entries ≡ [] → ⊥
   none_there entries some are = omega (arith, some, ap length are)
@@ -180,23 +180,60 @@ module _ {T : Type 0} (stance : T → Stance) where
   load_refused_first [] entries first f are some is found = absurd (none_there entries some are)
   load_refused_first (p ∷ ps) entries first f are some is found = opening_refused p ps f (first_found OpensBy p ps entries first (Err f) are is found)
 
-  pub load_refused_last : (payloads : List (List ℕ)) (entries : List Record) (first last : Record) (o : Source) (f : StoreFault) → entries ≡ entries_of 0 payloads → 0 < length entries → slice_get entries 0 ≡ Some first
-      → slice_get entries (length entries - 1) ≡ Some last → Found OpensBy payloads first (Ok o) → Found (ClosesBy stance (setting_with o.code o.site)) payloads last (Err f) → LoadFinds stance payloads (Err f)
-  load_refused_last [] entries first last o f are some is is_last found found_last = absurd (none_there entries some are)
-  load_refused_last (p ∷ ps) entries first last o f are some is is_last found found_last =
-      closing_refused p ps o f (is_opened p o (first_found OpensBy p ps entries first (Ok o) are is found)) (last_found (ClosesBy stance (setting_with o.code o.site)) p ps entries last (Err f) are is_last found_last)
+  -- want of memory alone
+  pub load_without_memory : (payloads : List (List ℕ)) (f : StoreFault) → f ≡ Memory → LoadFinds stance payloads (Err f)
+  load_without_memory payloads f is = subst (λ (x : StoreFault). LoadFinds stance payloads (Err x)) (sym is) tt
 
-  pub load_done : (payloads : List (List ℕ)) (entries : List Record) (first last : Record) (o : Source) (b : Parts T) → entries ≡ entries_of 0 payloads → 0 < length entries → slice_get entries 0 ≡ Some first
-      → slice_get entries (length entries - 1) ≡ Some last → Found OpensBy payloads first (Ok o) → Found (ClosesBy stance (setting_with o.code o.site)) payloads last (Ok b)
-      → StandsBy stance b o.script o.agents payloads
-  load_done [] entries first last o b are some is is_last found found_last = absurd (none_there entries some are)
-  load_done (p ∷ ps) entries first last o b are some is is_last found found_last =
-      let closed = is_closed (setting_with o.code o.site) (last_of p ps) (last_place 0 p ps) b (last_found (ClosesBy stance (setting_with o.code o.site)) p ps entries last (Ok b) are is_last found_last) in
-      let opened = is_opened p o (first_found OpensBy p ps entries first (Ok o) are is found) in
-      (closed.1, subst (λ (s : Setting). Opening s o.script o.agents p) (sym closed.0) opened, closed.2)
+  -- a record that is read is at fault
+  breaks_there : (p : List ℕ) (ps : List (List ℕ)) (o : Source) (f : StoreFault) → OpensBy p 0 (Ok o) → LastFound (p ∷ ps) (Err f) → LoadFinds stance (p ∷ ps) (Err f)
+  breaks_there p ps o Memory opened found = tt
+  breaks_there p ps o Disk opened found = tt
+  breaks_there p ps o Empty opened found = found
+  breaks_there p ps o (Damaged at) opened found = inr (setting_with o.code o.site, o.script, o.agents, opened, inl found)
 
-pub all_at : (P : Record → Type 0) (xs : List Record) (k : ℕ) (x : Record) → All P xs → slice_get xs k ≡ Some x → P x
-all_at P xs k x all is = subst P (get_or_from_slice_get xs k x x is) (all k x (slice_get_within xs k x is))
+  -- or the image of the last one is
+  unsound_there : (p : List ℕ) (ps : List (List ℕ)) (o : Source) (read : Read) (at : ℕ) (f : StoreFault) → OpensBy p 0 (Ok o) → last_image (p ∷ ps) ≡ Some read.image → at ≡ last_place 0 p ps
+      → GoesOnFrom stance (setting_with o.code o.site) read.image at (Err f) → LoadFinds stance (p ∷ ps) (Err f)
+  unsound_there p ps o read at Memory opened closing place is = tt
+  unsound_there p ps o read at Disk opened closing place is = tt
+  unsound_there p ps o read at Empty opened closing place is = is
+  unsound_there p ps o read at (Damaged n) opened closing place is = inr (setting_with o.code o.site, o.script, o.agents, opened, inr (is.0 ∙ place, (read.image, closing, is.1)))
+
+  module _ (entries : List Record) (first last : Record) (o : Source) (some : 0 < length entries) (is : slice_get entries 0 ≡ Some first) (is_last : slice_get entries (length entries - 1) ≡ Some last) where
+    abbrev Opened : List (List ℕ) → Type 0
+    Opened payloads = Found OpensBy payloads first (Ok o)
+
+    opened_by : (p : List ℕ) (ps : List (List ℕ)) → entries ≡ entries_of 0 (p ∷ ps) → Opened (p ∷ ps) → OpensBy p 0 (Ok o)
+    opened_by p ps are found = is_opened p o (first_found OpensBy p ps entries first (Ok o) are is found)
+
+    abbrev Reads : List (List ℕ) → Result Read StoreFault → Type 0
+    Reads payloads r = (p : List ℕ) (ps : List (List ℕ)) → payloads ≡ p ∷ ps → is_whole p ≡ true → LastFound (p ∷ ps) r
+
+    read_by : (p : List ℕ) (ps : List (List ℕ)) (r : Result Read StoreFault) → entries ≡ entries_of 0 (p ∷ ps) → Opened (p ∷ ps) → Reads (p ∷ ps) r → LastFound (p ∷ ps) r
+    read_by p ps r are found reads = let opened = opened_by p ps are found in reads p ps refl (first_whole p opened.first opened.tells)
+
+    pub load_refused_read : (payloads : List (List ℕ)) (f : StoreFault) → entries ≡ entries_of 0 payloads → Opened payloads → Reads payloads (Err f) → LoadFinds stance payloads (Err f)
+    load_refused_read [] f are found reads = absurd (none_there entries some are)
+    load_refused_read (p ∷ ps) f are found reads = breaks_there p ps o f (opened_by p ps are found) (read_by p ps (Err f) are found reads)
+
+    module _ (read : Read) where
+      pub load_refused_last : (payloads : List (List ℕ)) (f : StoreFault) → entries ≡ entries_of 0 payloads → Opened payloads → Reads payloads (Ok read) → GoesOnFrom stance (setting_with o.code o.site) read.image last.at (Err f) → LoadFinds stance payloads (Err f)
+      load_refused_last [] f are found reads goes = absurd (none_there entries some are)
+      load_refused_last (p ∷ ps) f are found reads goes =
+          unsound_there p ps o read last.at f (opened_by p ps are found) (read_by p ps (Ok read) are found reads).0 (last_entry_at p ps entries last are is_last) goes
+
+      pub load_done : (payloads : List (List ℕ)) (b : Parts T) (at : ℕ) (w : Weights) → entries ≡ entries_of 0 payloads → Opened payloads → Reads payloads (Ok read) → GoesOnFrom stance (setting_with o.code o.site) read.image at (Ok b) → w ≡ read.weights
+          → StandsBy stance b o.script o.agents payloads × (w ≡ weights_of payloads)
+      load_done [] b at w are found reads goes weights = absurd (none_there entries some are)
+      load_done (p ∷ ps) b at w are found reads goes weights =
+          let last_read = read_by p ps (Ok read) are found reads in (
+            (
+              goes.1,
+              subst (λ (s : Setting). Opening s o.script o.agents p) (sym goes.0) (opened_by p ps are found),
+              last_read.0 ∙ ap (λ (i : Image). Some i) (sym goes.2),
+            ),
+            weights ∙ last_read.1,
+          )
 
 pub open_fails : {T : Type 0} (stance : T → Stance) (file : List ℕ) (payloads : List (List ℕ)) (f : StoreFault) → Has payloads file → LoadFinds stance payloads (Err f) → OpenFails file f
 open_fails stance file payloads Memory has is = tt

@@ -1,5 +1,5 @@
 -- An opened build is that of its records, where they are those of one build.
-use Rattle.std.proofs.Common.{◌≡◌, ◌<◌, ℕ, true, List, [], ◌∷◌, ◌++◌, length, sym, ap, ◌∙◌, subst, arith, append-nil, append_assoc}
+use Rattle.std.proofs.Common.{◌≡◌, ◌<◌, ℕ, true, List, [], ◌∷◌, ◌++◌, length, Option, Some, None, sym, ap, ◌∙◌, subst, arith, append-nil, append_assoc}
 use Rattle.std.specs.Prelude.{fold}
 use Rattle.record_form.specs.declared.record.EventRecord.{EventRecord}
 use Rattle.image_form.specs.declared.image.Image.{Image}
@@ -10,12 +10,12 @@ use Rattle.model_run.specs.World as W
 use Rattle.settle_laws.specs.Stances.{Stance}
 use Rattle.script_run.proofs.Begun.{stays_begun}
 use Rattle.build_core.specs.Builds.{Parts, setting_in}
-use Rattle.store_laws.specs.Store.{AllSpell, Starts, Follows, events_of}
-use Rattle.store_laws.proofs.Tellings.{one_record}
+use Rattle.store_laws.specs.Store.{Starts, Follows, Told, events_of}
+use Rattle.store_laws.proofs.Payloads.{image_of_last, told_last}
 use Rattle.store_laws.proofs.Stories.{IsStart}
 use Rattle.durable_build.proofs.Begun.{starts_first}
 use Rattle.build_images.specs.Images.{world_image, image_in}
-use Rattle.durable_build.specs.Standing.{last_of, Closing, StandsBy, StandsForStory}
+use Rattle.durable_build.specs.Standing.{Closing, StandsBy, StandsForStory}
 use Rattle.durable_build.specs.Opening.{StandsWhere}
 
 pub begun_all : (s : Setting) (front more : List Event) → (W.world_in s front).started ≡ true → (W.world_in s (front ++ more)).started ≡ true
@@ -32,13 +32,15 @@ is_start s (event.Lost task why) starts = starts
 is_start s (event.Decided request proceed name) starts = starts
 
 -- the last record's image is that of the world of all events
-last_image : (s : Setting) (w : W.Build) (r : EventRecord) (rs : List EventRecord) (p : List ℕ) (ps : List (List ℕ)) (image : Image) → Follows world_image s w (r ∷ rs) → AllSpell (r ∷ rs) (p ∷ ps) → Closing image (last_of p ps)
-    → image ≡ world_image s (fold (W.after_one s) w (events_of (r ∷ rs)))
-last_image s w r [] p [] image follows spells closing =
-    sym closing.is ∙ ap (λ (x : EventRecord). x.image) (one_record closing.last r p closing.spells spells.0) ∙ follows.1
-last_image s w r (q ∷ qs) p (x ∷ xs) image follows spells closing = last_image s (W.after_one s w r.event) q qs x xs image follows.2 spells.1 closing
-last_image s w r [] p (x ∷ xs) image follows spells closing = absurd spells.1
-last_image s w r (q ∷ qs) p [] image follows spells closing = absurd spells.1
+follows_last : (s : Setting) (w : W.Build) (before : Option Image) (r : EventRecord) (rs : List EventRecord) → Follows world_image s w (r ∷ rs) → image_of_last before (r ∷ rs) ≡ Some (world_image s (fold (W.after_one s) w (events_of (r ∷ rs))))
+follows_last s w before r [] follows = ap (λ (i : Image). Some i) follows.1
+follows_last s w before r (q ∷ qs) follows = follows_last s (W.after_one s w r.event) (Some r.image) q qs follows.2
+
+pub closes : (s : Setting) (w : W.Build) (r : EventRecord) (rs : List EventRecord) (ps : List (List ℕ)) → Follows world_image s w (r ∷ rs) → Told None (r ∷ rs) ps → Closing (world_image s (fold (W.after_one s) w (events_of (r ∷ rs)))) ps
+closes s w r rs ps follows told = told_last None (r ∷ rs) ps told ∙ follows_last s w None r rs follows
+
+pub one_image : (a b : Image) (ps : List (List ℕ)) → Closing a ps → Closing b ps → a ≡ b
+one_image a b ps one other = let same : Some a ≡ Some b = sym one ∙ other in cc
 
 module _ {T : Type 0} (stance : T → Stance) (b : Parts T) (where_it : StandsWhere stance b) where
   -- a build that stands by its records, and for each build of the definitions that has its image, stands for the one that they tell of
@@ -46,8 +48,9 @@ module _ {T : Type 0} (stance : T → Stance) (b : Parts T) (where_it : StandsWh
   opened_story script agents p ps stands [] spells story = absurd spells
   opened_story script agents p ps stands (r ∷ rs) spells story =
       let s = setting_in b in
-      where_it (events_of (r ∷ rs)) (begun_all s (r.event ∷ []) (events_of rs) (starts_first s r.event (is_start s r.event story.starts)))
-      (last_image s W.unbegun r rs p ps (image_in stance b) story.follows spells stands.2)
+      let events = events_of (r ∷ rs) in
+      where_it events (begun_all s (r.event ∷ []) (events_of rs) (starts_first s r.event (is_start s r.event story.starts)))
+      (one_image (image_in stance b) (world_image s (W.world_in s events)) (p ∷ ps) stands.2 (closes s W.unbegun r rs (p ∷ ps) story.follows spells))
 
   pub opened_stories : (script agents : List ℕ) (payloads : List (List ℕ)) → 0 < length payloads → StandsBy stance b script agents payloads → StandsForStory stance b payloads
   opened_stories script agents [] some stands = absurd (omega (arith, some))

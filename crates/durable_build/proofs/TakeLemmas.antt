@@ -1,11 +1,11 @@
 -- What an accepted event adds to a store and its build.
-use Rattle.std.proofs.Common.{◌≡◌, ◌+◌, ◌^◌, ◌≤◌, ℕ, true, false, List, [], ◌∷◌, ◌++◌, length, Option, None, Result, Ok, Err, refl, sym, ap, ◌∙◌, subst}
-use Rattle.std.specs.Prelude.{IsErrOf, OnOk}
-use Rattle.jp_disk.specs.Moments.{AtEachMoment}
-use Rattle.journal_core.specs.Records.{HasWithOrWithout}
-use Rattle.journal_core.specs.State.{State, Holds}
-use Rattle.field_form.specs.Forms.{Spells}
-use Rattle.record_form.specs.Records.{record_form, record_of}
+use Rattle.std.proofs.Common.{◌≡◌, ◌^◌, ◌≤◌, ℕ, Bool, true, false, List, [], ◌∷◌, ◌++◌, Option, Some, None, Result, Ok, Err, refl, sym, ap, ◌∙◌, subst}
+use Rattle.std.specs.Prelude.{IfSome, IsErrOf, if◌then◌else◌}
+use Rattle.journal_core.specs.State.{Holds}
+use Rattle.record_form.specs.Ordered.{IsInOrder}
+use Rattle.record_form.specs.Records.{record_of}
+use Rattle.delta_records.specs.declared.payload.Payload.{Payload}
+use Rattle.delta_records.specs.declared.weights.Weights.{Weights}
 use Rattle.record_form.specs.declared.record.EventRecord.{EventRecord}
 use Rattle.image_form.specs.declared.image.Image.{Image}
 use Rattle.model_run.specs.declared.event.Event.{Event}
@@ -17,7 +17,8 @@ use Rattle.model_run.specs.World as W
 use Rattle.settle_laws.specs.Stances.{Stance}
 use Rattle.build_core.specs.Builds.{Parts, StandsFor, setting_in, standing_of}
 use Rattle.build_core.specs.Phases.{has_begun}
-use Rattle.store_laws.specs.Store.{IsStory, events_of}
+use Rattle.store_laws.specs.Store.{IsStory, events_of, last_image, record_at}
+use Rattle.store_laws.proofs.Payloads.{told_image}
 use Rattle.store_laws.proofs.Tellings.{one_record}
 use Rattle.store_laws.proofs.Stories.{Apart, apart, events-more, world-more, story_front, IsStart}
 use Rattle.store_laws.proofs.Starts.{only_start, no_second_start}
@@ -25,39 +26,28 @@ use Rattle.agent_worker.specs.declared.fault.TakeFault.{TakeFault}
 use Rattle.agent_worker.specs.declared.fault.TakeFault.TheVariants.{Memory, Disk, Full, Stopped}
 use Rattle.durable_build.specs.declared.store.Sources.{Sources}
 use Rattle.build_images.specs.Images.{world_image, image_in}
-use Rattle.durable_build.specs.Standing.{last_of, Opening, Closing, StandsBy, StandsForStory, Kept, Keeps}
-use Rattle.durable_build.specs.Taking.{AddAnswers, AddKeeps, MayStart, Puts, Adds, Risks, IsSized, IsSource, TakeAnswers, TakeKeeps, added, agents_after, kept_script, kept_agents, script_after}
+use Rattle.durable_build.specs.Kinds.{weights_of}
+use Rattle.durable_build.specs.Standing.{Kept, Keeps, Opening, Remembers, StandsBy, StandsForStory, image_before, world_before}
+use Rattle.durable_build.specs.Taking.{Adds, IsBehind, IsDue, IsSized, IsSource, MayStart, Puts, Risks, TakeAnswers, TakeKeeps, TakeLeaves, agents_after, kept_agents, kept_script, script_after}
+use Rattle.durable_build.specs.Adding.{AddDone, AddKeeps, Adding}
+use Rattle.durable_build.proofs.KindLemmas.{image_push}
 
 -- no record tells of the build that has taken no event
 pub empty_story : {T : Type 0} (stance : T → Stance) (b : Parts T) → StandsFor stance b W.unbegun → StandsForStory stance b []
 empty_story stance b stands [] spelled told = stands
 empty_story stance b stands (r ∷ rs) spelled told = absurd spelled
 
--- a payload that was to be added
-pub put_keeps : {D : Type 0} (reads : D → Option (List ℕ)) (may_leave : D → List ℕ → Type 0) (clock : D → ℕ) (since : D → ℕ → List ℕ → Type 0) (old new : State D) (item : EventRecord) (payloads : List (List ℕ)) (p : List ℕ)
-    → Spells record_form item p → old.len + (5 + length p) ≤ 2 ^ 30 → AtEachMoment clock since old.disk new.disk (HasWithOrWithout payloads p) → (r : Result (Unit {0}) TakeFault) → OnOk r (Holds reads may_leave new (payloads ++ p ∷ []))
-    → AddKeeps reads may_leave clock since old new item payloads r
-put_keeps reads may_leave clock since old new item payloads p spells room moments (Ok x) holds = (record { payload = p; spells = spells; room = room; moments = moments }, holds)
-put_keeps reads may_leave clock since old new item payloads p spells room moments (Err Disk) holds = record { payload = p; spells = spells; room = room; moments = moments }
-put_keeps reads may_leave clock since old new item payloads p spells room moments (Err Memory) holds = tt
-put_keeps reads may_leave clock since old new item payloads p spells room moments (Err (Full l a)) holds = tt
-put_keeps reads may_leave clock since old new item payloads p spells room moments (Err Stopped) holds = tt
-
-pub last_of-append : (q : List ℕ) (qs : List (List ℕ)) (p : List ℕ) → last_of q (qs ++ p ∷ []) ≡ p
-last_of-append q [] p = refl
-last_of-append q (r ∷ rs) p = last_of-append r rs p
-
 -- the first record, of a `Start`
 opens : (s : Setting) (e : Event) (o : Option Sources) (script agents : List ℕ) (image : Image) (p : List ℕ) → IsStart e → MayStart s e → IsSource e o
-    → Spells record_form (record_of e image) p → Opening s (kept_script o script) (kept_agents o agents) p
-opens s (event.Start new_script new_agents) o script agents image p start may source spells =
+    → record_at None p ≡ Some (record_of e image) → Opening s (kept_script o script) (kept_agents o agents) p
+opens s (event.Start new_script new_agents) o script agents image p start may source tells =
     subst (λ (x : Option Sources). Opening s (kept_script x script) (kept_agents x agents) p) (sym source)
-    (record { first = record_of (event.Start new_script new_agents) image; spells = spells; starts = refl; mean = may })
-opens s (event.Granted request executor) o script agents image p start may source spells = absurd start
-opens s (event.Output task stream from bytes) o script agents image p start may source spells = absurd start
-opens s (event.Exited task code) o script agents image p start may source spells = absurd start
-opens s (event.Lost task why) o script agents image p start may source spells = absurd start
-opens s (event.Decided request proceed name) o script agents image p start may source spells = absurd start
+    (record { first = record_of (event.Start new_script new_agents) image; tells = tells; starts = refl; mean = may })
+opens s (event.Granted request executor) o script agents image p start may source tells = absurd start
+opens s (event.Output task stream from bytes) o script agents image p start may source tells = absurd start
+opens s (event.Exited task code) o script agents image p start may source tells = absurd start
+opens s (event.Lost task why) o script agents image p start may source tells = absurd start
+opens s (event.Decided request proceed name) o script agents image p start may source tells = absurd start
 
 -- any other event leaves the sources
 no_source : (e : Event) (o : Option Sources) → (IsStart e → ⊥) → IsSource e o → o ≡ None
@@ -77,41 +67,33 @@ kept_after (event.Exited task code) o script agents is = (ap (λ (x : Option Sou
 kept_after (event.Lost task why) o script agents is = (ap (λ (x : Option Sources). kept_script x script) is, ap (λ (x : Option Sources). kept_agents x agents) is)
 kept_after (event.Decided request proceed name) o script agents is = (ap (λ (x : Option Sources). kept_script x script) is, ap (λ (x : Option Sources). kept_agents x agents) is)
 
--- the fault of an accepted event, by what the journal answered to its record
-pub take_answered : {D T : Type 0} (stance : T → Stance) (old new : Kept D T) (e : Event) → old.stopped ≡ false → taken (standing_of old.build) e ≡ Accepted
-    → (f : TakeFault) → AddAnswers old.journal.len (added e (image_in stance new.build)) (Err f) → TakeAnswers stance old new e (Err f)
-take_answered stance old new e running accepted Memory answers = running
-take_answered stance old new e running accepted Disk answers = (running, accepted, answers)
-take_answered stance old new e running accepted (Full len add) answers = (running, accepted, answers.0, answers.1, answers.2)
-take_answered stance old new e running accepted Stopped answers = absurd answers
-
 module _ {T : Type 0} (stance : T → Stance) (b b' : Parts T) (e : Event) (accepted : taken (standing_of b) e ≡ Accepted) (same : setting_in b' ≡ setting_in b) where
   -- it stands by its records and the new one
   pub stands_next : (script agents : List ℕ) (ps : List (List ℕ)) (o : Option Sources) (p : List ℕ) → StandsBy stance b script agents ps → MayStart (setting_in b) e → IsSource e o
-      → has_begun b'.phase ≡ true → Spells record_form (record_of e (image_in stance b')) p → StandsBy stance b' (kept_script o script) (kept_agents o agents) (ps ++ p ∷ [])
-  stands_next script agents [] o p stands may source begun spells = (
+      → has_begun b'.phase ≡ true → record_at (last_image ps) p ≡ Some (record_of e (image_in stance b')) → StandsBy stance b' (kept_script o script) (kept_agents o agents) (ps ++ p ∷ [])
+  stands_next script agents [] o p stands may source begun tells = (
     begun,
     subst (λ (s : Setting). Opening s (kept_script o script) (kept_agents o agents) p) (sym same)
-        (opens (setting_in b) e o script agents (image_in stance b') p (only_start (standing_of b) e stands.0 accepted) may source spells),
-    record { last = record_of e (image_in stance b'); spells = spells; is = refl },
+        (opens (setting_in b) e o script agents (image_in stance b') p (only_start (standing_of b) e stands.0 accepted) may source tells),
+    told_image None p (record_of e (image_in stance b')) tells,
   )
-  stands_next script agents (q ∷ qs) o p stands may source begun spells =
+  stands_next script agents (q ∷ qs) o p stands may source begun tells =
       let none : o ≡ None = no_source e o (no_second_start (standing_of b) e stands.0 accepted) source in (
         begun,
         subst (λ (x : Option Sources). Opening (setting_in b') (kept_script x script) (kept_agents x agents) q) (sym none)
             (subst (λ (s : Setting). Opening s script agents q) (sym same) stands.1),
-        subst (λ (x : List ℕ). Closing (image_in stance b') x) (sym (last_of-append q qs p)) (record { last = record_of e (image_in stance b'); spells = spells; is = refl }),
+        image_push (q ∷ qs) p ∙ told_image (last_image (q ∷ qs)) p (record_of e (image_in stance b')) tells,
       )
 
   module _ (goes : (w : W.Build) → StandsFor stance b w → StandsFor stance b' (W.after_one (setting_in b) w e)) where
     -- and for the build that they tell of
-    pub story_next : (ps : List (List ℕ)) (p : List ℕ) → Spells record_form (record_of e (image_in stance b')) p → StandsForStory stance b ps → StandsForStory stance b' (ps ++ p ∷ [])
-    story_next ps p spells story records spelled told =
-        let a : Apart records ps p = apart records ps p spelled in
+    pub story_next : (ps : List (List ℕ)) (p : List ℕ) → record_at (last_image ps) p ≡ Some (record_of e (image_in stance b')) → StandsForStory stance b ps → StandsForStory stance b' (ps ++ p ∷ [])
+    story_next ps p tells story records spelled told =
+        let a : Apart None records ps p = apart None records ps p spelled in
         let s = setting_in b in
         let here : IsStory world_image s (a.front ++ a.last ∷ []) = subst (λ (rs : List EventRecord). IsStory world_image s rs) a.are (subst (λ (x : Setting). IsStory world_image x records) same told) in
         let before : StandsFor stance b (W.world_in s (events_of a.front)) = story a.front a.spelled (story_front world_image s a.front a.last here) in
-        let event : a.last.event ≡ e = ap (λ (r : EventRecord). r.event) (one_record a.last (record_of e (image_in stance b')) p a.spells spells) in
+        let event : a.last.event ≡ e = ap (λ (r : EventRecord). r.event) (one_record (last_image ps) a.last (record_of e (image_in stance b')) p a.tells tells) in
         let events : events_of records ≡ events_of a.front ++ e ∷ [] =
         ap events_of a.are ∙ events-more a.front a.last ∙ ap (λ (x : Event). events_of a.front ++ x ∷ []) event in
         let world : W.world_in (setting_in b') (events_of records) ≡ W.after_one s (W.world_in s (events_of a.front)) e =
@@ -129,14 +111,15 @@ module _ {D T : Type 0} (reads : D → Option (List ℕ)) (may_leave : D → Lis
     (told : (w : W.Build) → StandsFor stance new.build w → image_in stance new.build ≡ world_image (setting_in new.build) w) where
   pub adds : (ps : List (List ℕ)) (o : Option Sources) → Keeps reads may_leave stance old ps → MayStart (setting_in old.build) e → IsSource e o → has_begun new.build.phase ≡ true
       → new.script ≡ kept_script o old.script → new.agents ≡ kept_agents o old.agents
-      → (puts : Puts clock since old.journal new.journal (record_of e (image_in stance new.build)) ps) → Holds reads may_leave new.journal (ps ++ puts.payload ∷ [])
+      → (puts : Puts clock since old.journal new.journal (record_of e (image_in stance new.build)) ps) → Holds reads may_leave new.journal (ps ++ puts.payload ∷ []) → new.weights ≡ weights_of (ps ++ puts.payload ∷ [])
       → Adds reads may_leave clock since stance old new e ps
-  adds ps o keeps may source begun script agents puts holds = record {
+  adds ps o keeps may source begun script agents puts holds weighs = record {
     puts = puts;
     keeps = record {
       holds = holds;
-      stands = rw (script, agents) (stands_next stance old.build new.build e accepted same old.script old.agents ps o puts.payload keeps.stands may source begun puts.spells);
-      story = story_next stance old.build new.build e accepted same goes ps puts.payload puts.spells keeps.story;
+      weighs = weighs;
+      stands = rw (script, agents) (stands_next stance old.build new.build e accepted same old.script old.agents ps o puts.payload keeps.stands may source begun puts.tells);
+      story = story_next stance old.build new.build e accepted same goes ps puts.payload puts.tells keeps.story;
     };
     image = image_next stance old.build new.build e accepted same goes told;
   }
@@ -144,21 +127,91 @@ module _ {D T : Type 0} (reads : D → Option (List ℕ)) (may_leave : D → Lis
   pub risks : (ps : List (List ℕ)) → Puts clock since old.journal new.journal (record_of e (image_in stance new.build)) ps → Risks clock since stance old new e ps
   risks ps puts = record { puts = puts; image = image_next stance old.build new.build e accepted same goes told }
 
-module _ {D T : Type 0} (reads : D → Option (List ℕ)) (may_leave : D → List ℕ → Type 0) (clock : D → ℕ) (since : D → ℕ → List ℕ → Type 0) (stance : T → Stance) (old new : Kept D T) (e : Event)
-    (accepted : taken (standing_of old.build) e ≡ Accepted) (same : setting_in new.build ≡ setting_in old.build)
-    (goes : (w : W.Build) → StandsFor stance old.build w → StandsFor stance new.build (W.after_one (setting_in old.build) w e)) where
-  -- a fault leaves no trace but that of the disk
-  pub take_failed : (f : TakeFault) (ps : List (List ℕ)) → AddKeeps reads may_leave clock since old.journal new.journal (record_of e (image_in stance new.build)) ps (Err f)
-      → (¬ (IsErrOf {T = Unit {0}} (Err f) Memory) → (w : W.Build) → StandsFor stance new.build w → image_in stance new.build ≡ world_image (setting_in new.build) w) → TakeKeeps reads may_leave clock since stance old new e ps (Err f)
-  take_failed Disk ps puts told = risks reads may_leave clock since stance old new e accepted same goes (told (λ is. cc)) ps puts
-  take_failed Memory ps puts told = tt
-  take_failed (Full l a) ps puts told = tt
-  take_failed Stopped ps puts told = tt
+-- what the kept image says of the last record
+pub kept_behind : {D T : Type 0} (stance : T → Stance) (k : Kept D T) (kept : Option Image) → Remembers stance k.build kept → IsBehind stance k
+kept_behind stance k kept remembers = λ w stands. sym remembers.is ∙ remembers.world w stands
 
-  -- and `Full` tells the size of the event's own record
-  pub take_sized : (f : TakeFault)
-      → (¬ (IsErrOf {T = Unit {0}} (Err f) Memory) → (w : W.Build) → StandsFor stance new.build w → image_in stance new.build ≡ world_image (setting_in new.build) w) → IsSized stance old new e (Err f)
-  take_sized (Full l a) told = image_next stance old.build new.build e accepted same goes (told (λ is. cc))
-  take_sized Memory told = tt
-  take_sized Disk told = tt
-  take_sized Stopped told = tt
+begun_is : {T : Type 0} (stance : T → Stance) (b : Parts T) → has_begun b.phase ≡ true → image_before stance b ≡ Some (image_in stance b)
+begun_is stance b begun = ap (λ (x : Bool). if x then Some (image_in stance b) else None) begun
+
+unbegun_is : {T : Type 0} (stance : T → Stance) (b : Parts T) → has_begun b.phase ≡ false → image_before stance b ≡ None
+unbegun_is stance b begun = ap (λ (x : Bool). if x then Some (image_in stance b) else None) begun
+
+world_begun : {T : Type 0} (stance : T → Stance) (b : Parts T) (w : W.Build) (begun : Bool) → StandsFor stance b w → has_begun b.phase ≡ begun → world_before (setting_in b) w ≡ (if begun then Some (world_image (setting_in b) w) else None)
+world_begun stance b w begun stands is = ap (λ (x : Bool). if x then Some (world_image (setting_in b) w) else None) (stands.started ∙ is)
+
+-- of a build that has taken no event
+pub remembers_none : {T : Type 0} (stance : T → Stance) (b : Parts T) (kept : Option Image) → has_begun b.phase ≡ false → kept ≡ None → Remembers stance b kept
+remembers_none stance b kept begun none = record {
+  is = none ∙ sym (unbegun_is stance b begun);
+  order = subst (λ (o : Option Image). IfSome o IsInOrder) (sym none) tt;
+  world = λ w stands. none ∙ sym (world_begun stance b w false stands begun);
+}
+
+-- and of one that has begun
+pub remembers_image : {T : Type 0} (stance : T → Stance) (b : Parts T) (image : Image) → has_begun b.phase ≡ true → image ≡ image_in stance b → IsInOrder image → ((w : W.Build) → StandsFor stance b w → image ≡ world_image (setting_in b) w)
+    → Remembers stance b (Some image)
+remembers_image stance b image begun is order told = record {
+  is = ap (λ (i : Image). Some i) is ∙ sym (begun_is stance b begun);
+  order = order;
+  world = λ w stands. ap (λ (i : Image). Some i) (told w stands) ∙ sym (world_begun stance b w true stands begun);
+}
+
+pub remembers_added : {T : Type 0} (stance : T → Stance) (b : Parts T) (kept : Option Image) → has_begun b.phase ≡ true → (kept ≡ Some (image_in stance b)) × IsInOrder (image_in stance b)
+    → ((w : W.Build) → StandsFor stance b w → image_in stance b ≡ world_image (setting_in b) w) → Remembers stance b kept
+remembers_added stance b kept begun last told = subst (Remembers stance b) (sym last.0) (remembers_image stance b (image_in stance b) begun refl last.1 told)
+
+-- the last image of the records that a build stands by is its own
+pub stands_last : {T : Type 0} (stance : T → Stance) (b : Parts T) (script agents : List ℕ) (ps : List (List ℕ)) → StandsBy stance b script agents ps → image_before stance b ≡ last_image ps
+stands_last stance b script agents [] stands = unbegun_is stance b stands.0
+stands_last stance b script agents (p ∷ ps) stands = begun_is stance b stands.0 ∙ sym stands.2
+
+module _ {D T : Type 0} (reads : D → Option (List ℕ)) (may_leave : D → List ℕ → Type 0) (clock : D → ℕ) (since : D → ℕ → List ℕ → Type 0) (stance : T → Stance) (old new : Kept D T) (e : Event)
+    (running : old.stopped ≡ false) (accepted : taken (standing_of old.build) e ≡ Accepted) (before : Option Image) (remembers : Remembers stance old.build before) where
+  abbrev image : Image
+  image = image_in stance new.build
+
+  abbrev Done : Weights → Result (Unit {0}) TakeFault → Type 0
+  Done w' r = AddDone reads may_leave clock since old.weights before e image old.journal new.journal w' r
+
+  due_here : (q : Payload) → IsDue old.weights before e image q → IsDue old.weights (image_before stance old.build) e image q
+  due_here q due = subst (λ (o : Option Image). IsDue old.weights o e image q) remembers.is due
+
+  -- the fault of an accepted event, by what became of its payload
+  pub take_answered : (w' : Weights) (f : TakeFault) → Done w' (Err f) → TakeAnswers stance old new e (Err f)
+  take_answered w' Memory done = running
+  take_answered w' Disk done = (running, accepted, (done.payload, due_here done.payload done.due, done.answers))
+  take_answered w' (Full len add) done = (running, accepted, done.answers.0, done.answers.1, (done.payload, due_here done.payload done.due, done.answers.2))
+  take_answered w' Stopped done = absurd done.answers
+
+  -- what it leaves of the journal
+  pub take_left : (w' : Weights) (f : TakeFault) → new.stopped ≡ true → Done w' (Err f) → TakeLeaves stance old new e (Err f)
+  take_left w' Memory stopped done = (stopped, done)
+  take_left w' Disk stopped done = (stopped, done.leaves)
+  take_left w' (Full len add) stopped done = (stopped, done.leaves)
+  take_left w' Stopped stopped done = absurd done.answers
+
+  pub added_left : (w' : Weights) (x : Unit {0}) → new.stopped ≡ false → has_begun new.build.phase ≡ true → Done w' (Ok x) → TakeLeaves stance old new e (Ok Accepted)
+  added_left w' x going begun done = (going, begun, (done.payload, due_here done.payload done.due, done.leaves.0), subst (λ (n : ℕ). n ≤ 2 ^ 30) (sym done.leaves.0) done.answers)
+
+  -- the records, where the journal kept some
+  pub puts_of : (w' : Weights) (r : Result (Unit {0}) TakeFault) (ps : List (List ℕ)) → Adding reads may_leave clock since old.weights before e image old.journal new.journal w' r → Keeps reads may_leave stance old ps
+      → AddKeeps reads may_leave clock since old.journal new.journal (record_of e image) w' ps r
+  puts_of w' r ps done keeps = done.keeps ps keeps.holds (remembers.is ∙ stands_last stance old.build old.script old.agents ps keeps.stands) keeps.weighs
+
+  module _ (same : setting_in new.build ≡ setting_in old.build) (goes : (w : W.Build) → StandsFor stance old.build w → StandsFor stance new.build (W.after_one (setting_in old.build) w e)) where
+    -- a fault leaves no trace but that of the disk
+    pub take_failed : (w' : Weights) (f : TakeFault) (ps : List (List ℕ)) → Done w' (Err f) → Keeps reads may_leave stance old ps
+        → (¬ (IsErrOf {T = Unit {0}} (Err f) Memory) → (w : W.Build) → StandsFor stance new.build w → image ≡ world_image (setting_in new.build) w) → TakeKeeps reads may_leave clock since stance old new e ps (Err f)
+    take_failed w' Disk ps done keeps told = risks reads may_leave clock since stance old new e accepted same goes (told (λ is. cc)) ps (puts_of w' (Err Disk) ps done keeps)
+    take_failed w' Memory ps done keeps told = tt
+    take_failed w' (Full l a) ps done keeps told = tt
+    take_failed w' Stopped ps done keeps told = tt
+
+    -- and `Full` tells the size of the event's own record
+    pub take_sized : (f : TakeFault)
+        → (¬ (IsErrOf {T = Unit {0}} (Err f) Memory) → (w : W.Build) → StandsFor stance new.build w → image ≡ world_image (setting_in new.build) w) → IsSized stance old new e (Err f)
+    take_sized (Full l a) told = (image_next stance old.build new.build e accepted same goes (told (λ is. cc)), kept_behind stance old before remembers)
+    take_sized Memory told = tt
+    take_sized Disk told = tt
+    take_sized Stopped told = tt

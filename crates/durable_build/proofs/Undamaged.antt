@@ -1,9 +1,6 @@
 -- Opening a consistent store never tells of damage.
-use Rattle.std.proofs.Common.{◌≡◌, inl, inr, ℕ, true, false, List, [], ◌∷◌, refl, sym, ap, ◌∙◌, subst}
-use Rattle.std.specs.Prelude.{fold}
-use Rattle.field_form.specs.Forms.{Spells}
+use Rattle.std.proofs.Common.{◌≡◌, inl, inr, ℕ, true, false, List, [], ◌∷◌, Some, None, refl, sym, ap, ◌∙◌, subst}
 use Rattle.journal_core.specs.Records.{Walked}
-use Rattle.record_form.specs.Records.{record_form}
 use Rattle.record_form.specs.declared.record.EventRecord.{EventRecord}
 use Rattle.image_form.specs.declared.image.Image.{Image}
 use Rattle.model_run.specs.declared.event.Event.{Event}
@@ -11,13 +8,14 @@ use Rattle.model_run.specs.declared.event.Event.TheVariants as event
 use Rattle.model_run.specs.State.{Setting}
 use Rattle.model_run.specs.World as W
 use Rattle.build_images.specs.Images.{world_image}
-use Rattle.store_laws.specs.Store.{AllSpell, Follows, IsConsistent, IsStory, Mean, Starts, events_of}
+use Rattle.store_laws.specs.Store.{IsConsistent, IsStory, Mean, Starts, Told, events_of, record_at}
 use Rattle.store_laws.proofs.Tellings.{one_record, one_setting}
 use Rattle.durable_build.specs.declared.faults.StoreFault.TheVariants.{Damaged}
-use Rattle.durable_build.specs.Standing.{Closing, IsDamagedAt, IsWhole, Opening, last_of}
+use Rattle.durable_build.specs.Standing.{IsDamagedAt, IsWhole, Opening}
 use Rattle.durable_build.specs.Opening.{OpenFails}
 use Rattle.durable_build.proofs.Begun.{starts_first}
-use Rattle.durable_build.proofs.OpenLemmas.{begun_all, is_start}
+use Rattle.durable_build.proofs.KindLemmas.{breaks_unclosed}
+use Rattle.durable_build.proofs.OpenLemmas.{begun_all, closes, is_start, one_image}
 use Rattle.durable_build.proofs.Whole.{meant_whole}
 
 -- the first record is that of a `Start`
@@ -26,39 +24,35 @@ pub record Opens (s : Setting) (payload : List ℕ) : Type 0 where
   pub agents : List ℕ
   pub opening : Opening s script agents payload
 
-opens_by : (s : Setting) (r : EventRecord) (p : List ℕ) → Spells record_form r p → (e : Event) → r.event ≡ e → Starts s e → Opens s p
-opens_by s r p spells (event.Start script agents) is starts = record { script = script; agents = agents; opening = record { first = r; spells = spells; starts = is; mean = starts } }
-opens_by s r p spells (event.Granted request executor) is starts = absurd starts
-opens_by s r p spells (event.Output task stream from bytes) is starts = absurd starts
-opens_by s r p spells (event.Exited task code) is starts = absurd starts
-opens_by s r p spells (event.Lost task why) is starts = absurd starts
-opens_by s r p spells (event.Decided request proceed name) is starts = absurd starts
+opens_by : (s : Setting) (r : EventRecord) (p : List ℕ) → record_at None p ≡ Some r → (e : Event) → r.event ≡ e → Starts s e → Opens s p
+opens_by s r p tells (event.Start script agents) is starts = record { script = script; agents = agents; opening = record { first = r; tells = tells; starts = is; mean = starts } }
+opens_by s r p tells (event.Granted request executor) is starts = absurd starts
+opens_by s r p tells (event.Output task stream from bytes) is starts = absurd starts
+opens_by s r p tells (event.Exited task code) is starts = absurd starts
+opens_by s r p tells (event.Lost task why) is starts = absurd starts
+opens_by s r p tells (event.Decided request proceed name) is starts = absurd starts
 
 -- of a script and an agents file that mean the setting
-opening_means : (s t : Setting) (r : EventRecord) (p script agents : List ℕ) → Spells record_form r p → Starts s r.event → Opening t script agents p → Mean script agents s
-opening_means s t r p script agents spells starts opening =
-    subst (Starts s) (ap (λ (x : EventRecord). x.event) (one_record r opening.first p spells opening.spells) ∙ opening.starts) starts
+opening_means : (s t : Setting) (r : EventRecord) (p script agents : List ℕ) → record_at None p ≡ Some r → Starts s r.event → Opening t script agents p → Mean script agents s
+opening_means s t r p script agents tells starts opening =
+    subst (Starts s) (ap (λ (x : EventRecord). x.event) (one_record None r opening.first p tells opening.tells) ∙ opening.starts) starts
 
--- the last one has the image of the world of all events
-closes : (s : Setting) (w : W.Build) (r : EventRecord) (rs : List EventRecord) (p : List ℕ) (ps : List (List ℕ)) → Follows world_image s w (r ∷ rs) → AllSpell (r ∷ rs) (p ∷ ps)
-    → Closing (world_image s (fold (W.after_one s) w (events_of (r ∷ rs)))) (last_of p ps)
-closes s w r [] p [] follows spells = record { last = r; spells = spells.0; is = follows.1 }
-closes s w r (q ∷ qs) p (x ∷ xs) follows spells = closes s (W.after_one s w r.event) q qs x xs follows.2 spells.1
-closes s w r [] p (x ∷ xs) follows spells = absurd spells.1
-closes s w r (q ∷ qs) p [] follows spells = absurd spells.1
-
-undamaged_behind : (s : Setting) (r : EventRecord) (rs : List EventRecord) (p : List ℕ) (ps : List (List ℕ)) (at : ℕ) → AllSpell (r ∷ rs) (p ∷ ps) → IsStory world_image s (r ∷ rs) → IsDamagedAt (p ∷ ps) at → ⊥
-undamaged_behind s r rs p ps at spells story (inl none) =
-    let opens : Opens s p = opens_by s r p spells.0 r.event refl story.starts in
+undamaged_behind : (s : Setting) (r : EventRecord) (rs : List EventRecord) (p : List ℕ) (ps : List (List ℕ)) (at : ℕ) → Told None (r ∷ rs) (p ∷ ps) → IsStory world_image s (r ∷ rs) → IsDamagedAt (p ∷ ps) at → ⊥
+undamaged_behind s r rs p ps at told story (inl none) =
+    let opens : Opens s p = opens_by s r p told.0 r.event refl story.starts in
     none.1 s opens.script opens.agents opens.opening
-undamaged_behind s r rs p ps at spells story (inr (here, t, script, agents, opening, none)) =
-    let mean : Mean script agents s = opening_means s t r p script agents spells.0 story.starts opening in
+undamaged_behind s r rs p ps at told story (inr (t, script, agents, opening, inl breaks)) =
+    let bad = sym (breaks_unclosed (p ∷ ps) at breaks) ∙ closes s W.unbegun r rs (p ∷ ps) story.follows told in
+    absurd (cc)
+undamaged_behind s r rs p ps at told story (inr (t, script, agents, opening, inr (here, (image, closing, none)))) =
+    let mean : Mean script agents s = opening_means s t r p script agents told.0 story.starts opening in
     let events : List Event = events_of (r ∷ rs) in
     let begun : (W.world_in s events).started ≡ true = begun_all s (r.event ∷ []) (events_of rs) (starts_first s r.event (is_start s r.event story.starts)) in
-    let image : Image = world_image s (W.world_in s events) in
-    none image (closes s W.unbegun r rs p ps story.follows spells) (subst (λ (x : Setting). IsWhole x image) (one_setting s t script agents mean opening.mean) (meant_whole script agents s mean events begun))
+    let world : Image = world_image s (W.world_in s events) in
+    let same : image ≡ world = one_image image world (p ∷ ps) closing (closes s W.unbegun r rs (p ∷ ps) story.follows told) in
+    none (subst (IsWhole t) (sym same) (subst (λ (x : Setting). IsWhole x world) (one_setting s t script agents mean opening.mean) (meant_whole script agents s mean events begun)))
 
-undamaged_story : (s : Setting) (records : List EventRecord) (payloads : List (List ℕ)) (at : ℕ) → AllSpell records payloads → IsStory world_image s records → IsDamagedAt payloads at → ⊥
+undamaged_story : (s : Setting) (records : List EventRecord) (payloads : List (List ℕ)) (at : ℕ) → Told None records payloads → IsStory world_image s records → IsDamagedAt payloads at → ⊥
 undamaged_story s [] [] at spells story damaged = damaged
 undamaged_story s (r ∷ rs) (p ∷ ps) at spells story damaged = undamaged_behind s r rs p ps at spells story damaged
 undamaged_story s [] (p ∷ ps) at spells story damaged = absurd spells

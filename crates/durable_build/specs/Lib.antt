@@ -1,3 +1,5 @@
+pub mod Kinds
 pub mod Standing
 pub mod Taking
+pub mod Adding
 pub mod Opening

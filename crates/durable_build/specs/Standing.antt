@@ -1,25 +1,23 @@
 -- What a build over a disk keeps of the records of its journal (this product's own): whatever they say, it stands by the first
 -- and the last of them; and where they are those of one build of the definitions, it stands for that one.
-use Rattle.std.specs.Prelude.{◌≡◌, ◌⊎◌, ◌+◌, ℕ, Bool, true, false, List, [], ◌∷◌, length, Option}
+use Rattle.std.specs.Prelude.{◌≡◌, ◌⊎◌, ◌+◌, ℕ, Bool, true, false, if◌then◌else◌, List, [], ◌∷◌, ◌++◌, length, Option, Some, None, IfSome, IsSome}
+use Rattle.std.specs.List.{AllByRecursion as AllAre}
+use Rattle.journal_core.specs.Records.{framed}
 use Rattle.journal_core.specs.State.{State, Holds}
-use Rattle.field_form.specs.Forms.{Spells}
-use Rattle.record_form.specs.Records.{record_form}
+use Rattle.delta_records.specs.declared.weights.Weights.{Weights}
+use Rattle.record_form.specs.Ordered.{IsInOrder}
 use Rattle.record_form.specs.declared.record.EventRecord.{EventRecord}
 use Rattle.image_form.specs.declared.image.Image.{Image}
 use Rattle.model_run.specs.declared.event.Event.TheVariants as event
 use Rattle.model_run.specs.State.{Setting}
-use Rattle.model_run.specs.World.{world_in}
+use Rattle.model_run.specs.World.{Build, world_in}
 use Rattle.settle_laws.specs.Stances.{Stance}
 use Rattle.build_core.specs.Builds.{Parts, StandsFor, setting_in}
 use Rattle.build_core.specs.Phases.{has_begun}
-use Rattle.store_laws.specs.Store.{AllSpell, IsStory, Mean, events_of}
-use Rattle.image_check.specs.Standings.{Stands}
-use Rattle.build_images.specs.Images.{has_remains, world_image, image_in}
-
--- An image from which a build goes on: it passes the check of images, and where its build has ended it has nothing left.
-pub record IsWhole (setting : Setting) (image : Image) : Type 0 where
-  pub stands : Stands setting image
-  pub clear : has_remains image ≡ false
+use Rattle.store_laws.specs.Store.{IsStory, Mean, Told, events_of, image_at, last_image, record_at}
+use Rattle.durable_build.specs.Kinds.{is_whole, weights_of}
+use Rattle.build_images.specs.Images.{world_image, image_in}
+pub use Rattle.build_images.specs.Images.{IsWhole}
 
 -- the last of these payloads, the first of which is p
 abbrev pub last_of : List ℕ → List (List ℕ) → List ℕ
@@ -34,44 +32,77 @@ last_place at p (q ∷ qs) = last_place (at + 5 + length p) q qs
 -- The first record: the `Start` of this script and this agents file, which mean this setting.
 pub record Opening (setting : Setting) (script agents payload : List ℕ) : Type 0 where
   pub first : EventRecord
-  pub spells : Spells record_form first payload
+  pub tells : record_at None payload ≡ Some first
   pub starts : first.event ≡ event.Start script agents
   pub mean : Mean script agents setting
 
--- The last record has this image.
-pub record Closing (image : Image) (payload : List ℕ) : Type 0 where
-  pub last : EventRecord
-  pub spells : Spells record_form last payload
-  pub is : last.image ≡ image
+-- The last record has this image, whatever the records tell before the last one that holds a whole image.
+abbrev pub Closing : Image → List (List ℕ) → Type 0
+Closing image payloads = last_image payloads ≡ Some image
 
 -- a build and the bytes of its `Start`, by the first and the last record; without a record nothing was taken
 abbrev pub StandsBy : {T : Type 0} → (T → Stance) → Parts T → List ℕ → List ℕ → List (List ℕ) → Type 0
 StandsBy stance b script agents [] = (has_begun b.phase ≡ false) × (script ≡ []) × (agents ≡ [])
-StandsBy stance b script agents (p ∷ ps) = (has_begun b.phase ≡ true) × Opening (setting_in b) script agents p × Closing (image_in stance b) (last_of p ps)
+StandsBy stance b script agents (p ∷ ps) = (has_begun b.phase ≡ true) × Opening (setting_in b) script agents p × Closing (image_in stance b) (p ∷ ps)
 
 -- where the records tell of one build of this setting, it stands for that one
 abbrev pub StandsForStory : {T : Type 0} → (T → Stance) → Parts T → List (List ℕ) → Type 0
 StandsForStory stance b payloads =
-    (records : List EventRecord) → AllSpell records payloads → IsStory world_image (setting_in b) records → StandsFor stance b (world_in (setting_in b) (events_of records))
+    (records : List EventRecord) → Told None records payloads → IsStory world_image (setting_in b) records → StandsFor stance b (world_in (setting_in b) (events_of records))
 
--- What contracts see of a build over a disk: its journal, the build, the bytes of its `Start`, and whether a fault stopped it.
+-- the image of the last record, by the build: its own, where it has begun
+abbrev pub image_before : {T : Type 0} → (T → Stance) → Parts T → Option Image
+image_before stance b = if has_begun b.phase then Some (image_in stance b) else None
+
+-- and by a build of the definitions
+abbrev pub world_before : Setting → Build → Option Image
+world_before setting w = if w.started then Some (world_image setting w) else None
+
+-- What contracts see of a build over a disk: its journal, the build, the bytes of its `Start`, how many bytes the last record of a
+-- whole image has and those behind it, and whether a fault stopped it.
 pub record Kept (D T : Type 0) : Type 0 where
   pub journal : State D
   pub build : Parts T
   pub script : List ℕ
   pub agents : List ℕ
+  pub weights : Weights
   pub stopped : Bool
+
+-- Of private fields alone: the kept image is that of the last record, by the build, and stands in order; and for each build of the
+-- definitions that this one stands for it is that one's.
+pub record Remembers {T : Type 0} (stance : T → Stance) (b : Parts T) (kept : Option Image) : Type 0 where
+  pub is : kept ≡ image_before stance b
+  pub order : IfSome kept IsInOrder
+  pub world : (w : Build) → StandsFor stance b w → kept ≡ world_before (setting_in b) w
 
 -- The journal holds these records, and the build stands by them.
 pub record Keeps {D T : Type 0} (reads : D → Option (List ℕ)) (may_leave : D → List ℕ → Type 0) (stance : T → Stance) (k : Kept D T) (payloads : List (List ℕ)) : Type 0 where
   pub holds : Holds reads may_leave k.journal payloads
+  pub weighs : k.weights ≡ weights_of payloads
   pub stands : StandsBy stance k.build k.script k.agents payloads
   pub story : StandsForStory stance k.build payloads
 
--- The first record is not in its form; or it is, and the last one is not, or its image does not pass the check.
+-- The first record at fault of those that are read, by the place of its gate: it has no image. It holds a whole one, or the record
+-- before it has an image; and none behind it holds a whole one.
+pub record Breaks (payloads : List (List ℕ)) (at : ℕ) : Type 0 where
+  pub front : List (List ℕ)
+  pub payload : List ℕ
+  pub behind : List (List ℕ)
+  pub are : payloads ≡ front ++ payload ∷ behind
+  pub place : at ≡ length (framed front)
+  pub none : image_at (last_image front) payload ≡ None
+  pub first : (is_whole payload ≡ true) ⊎ IsSome (last_image front)
+  pub changes : AllAre (λ p. is_whole p ≡ false) behind
+
+-- The last record has an image, which is not whole.
+abbrev pub IsUnsound : Setting → List (List ℕ) → Type 0
+IsUnsound setting payloads = (image : Image) × Closing image payloads × ¬ (IsWhole setting image)
+
+-- The first record is not that of a `Start`; or it is, and the last one that holds a whole image or one behind it is at fault; or none
+-- is, and the image of the last one does not pass the check.
 abbrev pub IsDamagedAt : List (List ℕ) → ℕ → Type 0
 IsDamagedAt [] at = ⊥
 IsDamagedAt (p ∷ ps) at =
     ((at ≡ 0) × ((setting : Setting) (script agents : List ℕ) → ¬ (Opening setting script agents p)))
-    ⊎ ((at ≡ last_place 0 p ps) × (setting : Setting) × (script : List ℕ) × (agents : List ℕ) × Opening setting script agents p
-    × ((image : Image) → Closing image (last_of p ps) → IsWhole setting image → ⊥))
+    ⊎ ((setting : Setting) × (script : List ℕ) × (agents : List ℕ) × Opening setting script agents p
+    × (Breaks (p ∷ ps) at ⊎ ((at ≡ last_place 0 p ps) × IsUnsound setting (p ∷ ps))))

@@ -1,10 +1,15 @@
 -- When each answer to an event comes, and what it leaves (this product's own).
-use Rattle.std.specs.Prelude.{◌≡◌, ◌<◌, ◌≤◌, ◌+◌, ◌-◌, ◌^◌, ℕ, true, false, List, [], ◌∷◌, ◌++◌, length, min, Option, Some, None, Result, Ok, Err}
+use Rattle.std.specs.Prelude.{◌≡◌, ◌⊎◌, ◌<◌, ◌≤◌, ◌+◌, ◌-◌, ◌^◌, ℕ, true, false, List, [], ◌∷◌, ◌++◌, length, min, Option, Some, None, Result, Ok, Err}
 use Rattle.jp_disk.specs.Moments.{AtEachMoment}
 use Rattle.journal_core.specs.Records.{HasWithOrWithout}
-use Rattle.journal_core.specs.State.{State, Holds}
+use Rattle.journal_core.specs.State.{State}
 use Rattle.field_form.specs.Forms.{Spells}
-use Rattle.record_form.specs.Records.{record_form, record_of}
+use Rattle.record_form.specs.Records.{record_of}
+use Rattle.delta_records.specs.Payloads.{payload_form}
+use Rattle.delta_records.specs.declared.payload.Payload.{Payload}
+use Rattle.delta_records.specs.declared.payload.Payload.TheVariants as payload
+use Rattle.delta_records.specs.declared.weights.Weights.{Weights}
+use Rattle.image_changes.specs.Parts.{LeadsTo}
 use Rattle.record_form.specs.declared.record.EventRecord.{EventRecord}
 use Rattle.image_form.specs.declared.image.Image.{Image}
 use Rattle.model_run.specs.declared.event.Event.{Event}
@@ -17,16 +22,40 @@ use Rattle.model_run.specs.World as W
 use Rattle.settle_laws.specs.Stances.{Stance}
 use Rattle.build_core.specs.Builds.{StandsFor, setting_in, standing_of}
 use Rattle.build_core.specs.Phases.{has_begun}
-use Rattle.store_laws.specs.Store.{Mean}
+use Rattle.store_laws.specs.Store.{Mean, last_image, record_at, record_with}
 use Rattle.agent_worker.specs.declared.fault.TakeFault.{TakeFault}
 use Rattle.agent_worker.specs.declared.fault.TakeFault.TheVariants.{Memory, Disk, Full, Stopped}
 use Rattle.durable_build.specs.declared.store.Sources.{Sources}
 use Rattle.build_images.specs.Images.{world_image, image_in}
-use Rattle.durable_build.specs.Standing.{Kept, Keeps}
+use Rattle.durable_build.specs.Kinds.{is_whole_due, weights_of}
+use Rattle.durable_build.specs.Standing.{Kept, Keeps, image_before, world_before}
 
--- how many bytes a record adds to a journal, or the greatest number of 64 bits where it adds more
-abbrev pub added : Event → Image → ℕ
-added e image = min (5 + length (record_form.spelling (record_of e image))) (2 ^ 64 - 1)
+-- how many bytes a record of this payload adds to a journal, or the greatest number of 64 bits where it adds more
+abbrev pub added : Payload → ℕ
+added q = min (5 + length (payload_form.spelling q)) (2 ^ 64 - 1)
+
+-- what a record of this event and of the image after it may add, behind the record with the image before
+abbrev pub MayAdd : Option Image → Event → Image → ℕ → Type 0
+MayAdd before e image add = (q : Payload) × (record_with before q ≡ Some (record_of e image)) × (add ≡ added q)
+
+-- nothing says what changed from the image before to this one, or there is none before (`changes_between` of image_changes)
+abbrev pub HasNoChanges : Option Image → Image → Type 0
+HasNoChanges None image = Unit {0}
+HasNoChanges (Some before) image = LeadsTo before image None
+
+-- The kind of a payload: it holds a whole image where one is due, or nothing says what changed; else the changes alone.
+abbrev pub IsKind : Weights → Option Image → Payload → Type 0
+IsKind w before (payload.Whole e image) = (is_whole_due w ≡ true) ⊎ HasNoChanges before image
+IsKind w before (payload.Changed e delta) = is_whole_due w ≡ false
+
+-- The payload that is due for an event and the image after it.
+pub record IsDue (w : Weights) (before : Option Image) (e : Event) (image : Image) (q : Payload) : Type 0 where
+  pub tells : record_with before q ≡ Some (record_of e image)
+  pub kind : IsKind w before q
+
+-- what the payload that is due adds, is so
+abbrev pub ForDue : {D T : Type 0} → (T → Stance) → Kept D T → Kept D T → Event → (ℕ → Type 0) → Type 0
+ForDue stance old new e IsSo = (q : Payload) × IsDue old.weights (image_before stance old.build) e (image_in stance new.build) q × IsSo (added q)
 
 -- a first event is of the build's own script and agents file
 abbrev pub MayStart : Setting → Event → Type 0
@@ -38,14 +67,14 @@ MayStart setting e = Unit {0}
 abbrev pub TakeAnswers : {D T : Type 0} → (T → Stance) → Kept D T → Kept D T → Event → Result Taken TakeFault → Type 0
 TakeAnswers stance old new e (Ok answer) = (old.stopped ≡ false) × (answer ≡ taken (standing_of old.build) e)
 TakeAnswers stance old new e (Err Memory) = old.stopped ≡ false
-TakeAnswers stance old new e (Err Disk) = (old.stopped ≡ false) × (taken (standing_of old.build) e ≡ Accepted) × (old.journal.len + added e (image_in stance new.build) ≤ 2 ^ 30)
+TakeAnswers stance old new e (Err Disk) = (old.stopped ≡ false) × (taken (standing_of old.build) e ≡ Accepted) × ForDue stance old new e (λ add. old.journal.len + add ≤ 2 ^ 30)
 TakeAnswers stance old new e (Err (Full len add)) =
-    (old.stopped ≡ false) × (taken (standing_of old.build) e ≡ Accepted) × (len ≡ old.journal.len) × (2 ^ 30 < len + add) × (add ≡ added e (image_in stance new.build))
+    (old.stopped ≡ false) × (taken (standing_of old.build) e ≡ Accepted) × (len ≡ old.journal.len) × (2 ^ 30 < len + add) × ForDue stance old new e (λ due. add ≡ due)
 TakeAnswers stance old new e (Err Stopped) = old.stopped ≡ true
 
 -- Each fault stops the build. Memory, Full and Stopped leave the journal, and what is not accepted leaves all.
 abbrev pub TakeLeaves : {D T : Type 0} → (T → Stance) → Kept D T → Kept D T → Event → Result Taken TakeFault → Type 0
-TakeLeaves stance old new e (Ok Accepted) = (new.stopped ≡ false) × (has_begun new.build.phase ≡ true) × (new.journal.len ≡ old.journal.len + added e (image_in stance new.build)) × (new.journal.len ≤ 2 ^ 30)
+TakeLeaves stance old new e (Ok Accepted) = (new.stopped ≡ false) × (has_begun new.build.phase ≡ true) × ForDue stance old new e (λ add. new.journal.len ≡ old.journal.len + add) × (new.journal.len ≤ 2 ^ 30)
 TakeLeaves stance old new e (Ok NotOpen) = new ≡ old
 TakeLeaves stance old new e (Ok (WrongPlace kept)) = new ≡ old
 TakeLeaves stance old new e (Ok Finished) = new ≡ old
@@ -72,18 +101,25 @@ TakeSources old new e r = (new.script ≡ old.script) × (new.agents ≡ old.age
 abbrev pub IsAfter : {D T : Type 0} → (T → Stance) → Kept D T → Kept D T → Event → Type 0
 IsAfter stance old new e = (w : W.Build) → StandsFor stance old.build w → image_in stance new.build ≡ world_image (setting_in old.build) (W.after_one (setting_in old.build) w e)
 
--- The size that `Full` tells is that of the event's own record.
+-- where the build stood for one of the definitions, the image of the last record is that one's
+abbrev pub IsBehind : {D T : Type 0} → (T → Stance) → Kept D T → Type 0
+IsBehind stance old = (w : W.Build) → StandsFor stance old.build w → image_before stance old.build ≡ world_before (setting_in old.build) w
+
+-- The size that `Full` tells is that of the event's own record, behind the last one.
 abbrev pub IsSized : {D T : Type 0} → (T → Stance) → Kept D T → Kept D T → Event → Result Taken TakeFault → Type 0
 IsSized stance old new e (Ok answer) = Unit {0}
 IsSized stance old new e (Err Memory) = Unit {0}
 IsSized stance old new e (Err Disk) = Unit {0}
-IsSized stance old new e (Err (Full len add)) = IsAfter stance old new e
+IsSized stance old new e (Err (Full len add)) = IsAfter stance old new e × IsBehind stance old
 IsSized stance old new e (Err Stopped) = Unit {0}
 
--- a record was to be added: a crash meanwhile leaves the records from before, or these and the new one
+-- a record was to be added: a crash meanwhile leaves the records from before, or these and the new one, of the kind that is due
 pub record Puts {D : Type 0} (clock : D → ℕ) (since : D → ℕ → List ℕ → Type 0) (old new : State D) (item : EventRecord) (payloads : List (List ℕ)) : Type 0 where
   pub payload : List ℕ
-  pub spells : Spells record_form item payload
+  pub tells : record_at (last_image payloads) payload ≡ Some item
+  pub spelled : Payload
+  pub spells : Spells payload_form spelled payload
+  pub kind : IsKind (weights_of payloads) (last_image payloads) spelled
   pub room : old.len + (5 + length payload) ≤ 2 ^ 30
   pub moments : AtEachMoment clock since old.disk new.disk (HasWithOrWithout payloads payload)
 
@@ -117,23 +153,3 @@ kept_script (Some s) old = s.script
 abbrev pub kept_agents : Option Sources → List ℕ → List ℕ
 kept_agents None old = old
 kept_agents (Some s) old = s.agents
-
--- Of private functions alone: adding a record, of so many bytes with its frame, to a journal of this length.
-abbrev pub AddAnswers : ℕ → ℕ → Result (Unit {0}) TakeFault → Type 0
-AddAnswers len add (Ok _) = len + add ≤ 2 ^ 30
-AddAnswers len add (Err Memory) = Unit {0}
-AddAnswers len add (Err Disk) = len + add ≤ 2 ^ 30
-AddAnswers len add (Err (Full l a)) = (l ≡ len) × (2 ^ 30 < l + a) × (a ≡ add)
-AddAnswers len add (Err Stopped) = ⊥
-
-abbrev pub AddLeaves : {D : Type 0} → State D → State D → ℕ → Result (Unit {0}) TakeFault → Type 0
-AddLeaves old new add (Ok _) = (new.len ≡ old.len + add) × (new.stopped ≡ false)
-AddLeaves old new add (Err Memory) = new ≡ old
-AddLeaves old new add (Err Disk) = new.len ≡ old.len
-AddLeaves old new add (Err (Full l a)) = new ≡ old
-AddLeaves old new add (Err Stopped) = new ≡ old
-
-abbrev pub AddKeeps : {D : Type 0} → (D → Option (List ℕ)) → (D → List ℕ → Type 0) → (D → ℕ) → (D → ℕ → List ℕ → Type 0) → State D → State D → EventRecord → List (List ℕ) → Result (Unit {0}) TakeFault → Type 0
-AddKeeps reads may_leave clock since old new item payloads (Ok _) = (puts : Puts clock since old new item payloads) × Holds reads may_leave new (payloads ++ puts.payload ∷ [])
-AddKeeps reads may_leave clock since old new item payloads (Err Disk) = Puts clock since old new item payloads
-AddKeeps reads may_leave clock since old new item payloads r = Unit {0}

@@ -20,7 +20,7 @@ ghost use Rattle.durable_build.specs.Opening.{OpenFails, Opened, StandsWhere};
 
 use crate::faults::StoreFault;
 use crate::load::{Loaded, load};
-use crate::store::{add, keep_sources, sources_of, take_event};
+use crate::store::{Last, add, keep_sources, no_record, sources_of, take_event};
 use agent_worker::TakeFault;
 use build_core::Build;
 use journal_core::{CreateFault, Journal, OpenFault};
@@ -32,25 +32,26 @@ use std::alloc::Global;
 use std::marker::Model;
 
 /// A build over a disk that nobody else writes. The disk has a record for each event that the build has accepted, with the
-/// image of the build after it.
+/// image of the build after it, or with what the event changed of it.
 #[derive(Drop)]
 pub struct DurableBuild<D: Disk, R: SavedThread> {
     journal: Journal<D>,
     build: Build<R>,
     script: Bytes,
     agents: Bytes,
+    last: Last,
     stopped: bool,
 }
 
 impl<D: Disk, R: SavedThread> Model for DurableBuild<D, R> {
-    ghost use Rattle.std.specs.Prelude.{◌≡◌, true};
-    ghost use Rattle.durable_build.specs.Standing.{Kept};
+    ghost use Rattle.std.specs.Prelude.{◌≡◌, true, false};
+    ghost use Rattle.durable_build.specs.Standing.{Kept, Remembers};
 
     ghost Value = { Kept D R };
 
-    ghost view = { λ d. record { journal = d.journal; build = d.build; script = d.script; agents = d.agents; stopped = d.stopped } };
+    ghost view = { λ d. record { journal = d.journal; build = d.build; script = d.script; agents = d.agents; weights = d.last.weights; stopped = d.stopped } };
 
-    ghost invariant = { λ d. d.journal.stopped ≡ true → d.stopped ≡ true };
+    ghost invariant = { λ d. (d.journal.stopped ≡ true → d.stopped ≡ true) × (d.stopped ≡ false → Remembers R.stance d.build d.last.image) };
 }
 
 impl<D: Disk, R: SavedThread + Drop> DurableBuild<D, R> {
@@ -92,22 +93,24 @@ impl<D: Disk, R: SavedThread + Drop> DurableBuild<D, R> {
                 build,
                 script: Bytes::new(alloc),
                 agents: Bytes::new(alloc),
+                last: no_record(),
                 stopped: false,
             }),
             Err(refused) => Err(refused),
         }
     }
 
-    /// The build of a store. It goes on from the image of the last record alone, whatever the other records say; of these it
-    /// reads the framing, and the whole of the first, which has the script and the agents file. Where the records are those of
-    /// one build from its `Start` on, it is that build. It writes nothing.
+    /// The build of a store. It goes on from the image of the last record, whatever the records before the last whole image
+    /// say; of these it reads the framing, and the whole of the first, which has the script and the agents file. Where the
+    /// records are those of one build from its `Start` on, it is that build. It writes nothing.
     ///
     /// # Errors
     ///
-    /// Each hands the disk back. `Empty` exactly where the disk has no record. `Damaged` exactly where a record is cut short,
-    /// the first is not that of a `Start` of a script and an agents file without a fault, or the last is no record, has an
-    /// image that does not pass the check, or has something left of a build that has ended, with the place of that record's
-    /// gate; so it never comes of a store in which each event was accepted and has the image behind it. `Disk` only where the
+    /// Each hands the disk back. `Empty` exactly where the disk has no record. `Damaged` exactly where a record is cut short;
+    /// the first is not that of a `Start` of a script and an agents file without a fault; the last one that begins with 1, or
+    /// one behind it, is not in its form, or its changes do not fit the image before; or the image of the last does not pass
+    /// the check, or has something left of a build that has ended: with the place of the gate of the first such record, in this
+    /// order. So it never comes of a store in which each event was accepted and has the image behind it. `Disk` only where the
     /// disk's count of faults rose, which it does at no other answer. `Memory` where the memory was refused.
     pub fn open(alloc: Global, disk: D) -> Result<DurableBuild<D, R>, (StoreFault, D)>
         ensures opened { (file : List ℕ) → D.reads disk ≡ Some file → MatchResult result
@@ -134,12 +137,14 @@ impl<D: Disk, R: SavedThread + Drop> DurableBuild<D, R> {
                             script,
                             agents,
                             build,
+                            last,
                         } = loaded;
                         Ok(DurableBuild {
                             journal,
                             build,
                             script,
                             agents,
+                            last,
                             stopped: false,
                         })
                     }
@@ -155,6 +160,8 @@ impl<D: Disk, R: SavedThread + Drop> DurableBuild<D, R> {
 
     /// Takes an event, and answers as the build does. At `Accepted` the event is durable, with the image of the build after it:
     /// each crash from then on leaves both. A crash during the call leaves the events from before, or these and the new one.
+    /// The record holds the image, or what changed of the one before, where the records behind the last whole image have
+    /// together fewer bytes than that one.
     /// The script and the agents file are those of the accepted `Start`; nothing else changes them.
     ///
     /// # Errors
@@ -191,7 +198,7 @@ impl<D: Disk, R: SavedThread + Drop> DurableBuild<D, R> {
             self.stopped = true;
             return Err(TakeFault::Memory);
         };
-        if let Err(fault) = add(&mut self.journal, alloc, &self.build, event) {
+        if let Err(fault) = add(&mut self.journal, alloc, &self.build, event, &mut self.last) {
             self.stopped = true;
             return Err(fault);
         }

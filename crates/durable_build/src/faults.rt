@@ -14,8 +14,9 @@ pub enum StoreFault {
     /// It has no record.
     #[error("the store has no record")]
     Empty,
-    /// The record whose gate stands at this place is cut short; or it is not in the form of the first record or of the last, or its
-    /// image does not pass the check, or has something left of a build that has ended.
+    /// The record whose gate stands at this place is cut short; or it is not in its form, or not that of a `Start` as the first
+    /// one; or its changes do not fit the image before; or its image, as the last one, does not pass the check, or has
+    /// something left of a build that has ended.
     #[error("the record at byte {at} is damaged")]
     Damaged { at: u64 },
 }

@@ -1,24 +1,24 @@
-//! What the first and the last record of a store say.
+//! What the records of a store say that are read: the first, and those from the last whole image on.
 ghost use Rattle.std.specs.Prelude.{◌≡◌, List, ℕ, true, IfOk, IsErrOf};
 ghost use Rattle.build_core.specs.Builds.{setting_in};
 ghost use Rattle.image_check.specs.Standings.{Stands};
 ghost use Rattle.build_core.specs.Phases.{has_begun};
 ghost use Rattle.build_images.specs.Images.{image_in};
 ghost use Rattle.durable_build.specs.Standing.{IsWhole};
-ghost use Rattle.durable_build.specs.Opening.{ClosesBy, CodeOf, EventOpens, GoesOnFrom, OpensBy, SiteOf, SourceOf, StandsWhere, setting_with};
+ghost use Rattle.durable_build.specs.Opening.{CodeOf, EventOpens, FindsImage, GoesOnFrom, HasPayload, MakesImage, OpensBy, SiteOf, SourceOf, StandsWhere, setting_with};
 
 use crate::faults::StoreFault;
 use agents_file::{AgentsRefusal, read_agents};
 use build_core::Build;
 use build_images::{RestoreRefusal, restored};
 use cps_code::{Code, number};
+use delta_records::{DeltaRefusal, FormRefusal, Payload, next_image, read_payload};
 use groovy_parse::parse;
 use image_check::{ImageRefusal, check};
 use image_form::Image;
 use model_run::{Event, Site};
 use model_syntax::ScriptRefusal;
 use model_text::Bytes;
-use record_form::{EventRecord, FormRefusal, read_record};
 use saved_thread::SavedThread;
 use std::alloc::Global;
 
@@ -31,21 +31,27 @@ pub struct Source {
     pub site: Site,
 }
 
+/// The payload of a record, whose gate stands there.
+fn payload_at(alloc: Global, at: u64, bytes: &[u8]) -> Result<Payload, StoreFault>
+    ensures has { HasPayload bytes.now at result }
+    ensures never { IsErrOf result StoreFault.Disk → ⊥ }
+{
+    match read_payload(alloc, bytes) {
+        Ok(payload) => Ok(payload),
+        Err(FormRefusal::Memory) => Err(StoreFault::Memory),
+        Err(FormRefusal::Fault { .. }) => Err(StoreFault::Damaged { at }),
+    }
+}
+
 /// What the first record says, whose gate stands there.
 pub fn opening_of(alloc: Global, at: u64, bytes: &[u8]) -> Result<Source, StoreFault>
     ensures opens { OpensBy bytes.now at result }
     ensures never { IsErrOf result StoreFault.Disk → ⊥ }
 {
-    match read_record(alloc, bytes) {
-        Ok(record) => {
-            let EventRecord {
-                event,
-                image: _image,
-            } = record;
-            event_opening(alloc, at, event)
-        }
-        Err(FormRefusal::Memory) => Err(StoreFault::Memory),
-        Err(FormRefusal::Fault { .. }) => Err(StoreFault::Damaged { at }),
+    match payload_at(alloc, at, bytes) {
+        Ok(Payload::Whole { event, image: _ }) => event_opening(alloc, at, event),
+        Ok(Payload::Changed { .. }) => Err(StoreFault::Damaged { at }),
+        Err(fault) => Err(fault),
     }
 }
 
@@ -103,35 +109,41 @@ fn site_of(alloc: Global, at: u64, agents: &[u8]) -> Result<Site, StoreFault>
     }
 }
 
-/// The build that goes on from the last record, whose gate stands there.
-pub fn closing_of<R: SavedThread + Drop>(
+/// The image of a record, whose gate stands there, behind the record with the image before.
+pub fn image_at(
     alloc: Global,
     at: u64,
+    before: Option<Image>,
     bytes: &[u8],
-    code: Code,
-    site: Site,
-) -> Result<Build<R>, StoreFault>
-    ensures begun { IfOk result (λ build. has_begun build.phase ≡ true) }
-    ensures closes { ClosesBy R.stance (setting_with code site) bytes.now at result }
-    ensures whole { IfOk result (λ build. IsWhole (setting_in build) (image_in R.stance build)) }
-    ensures stands { IfOk result (StandsWhere R.stance) }
+) -> Result<Image, StoreFault>
+    ensures finds { FindsImage before bytes.now at result }
     ensures never { IsErrOf result StoreFault.Disk → ⊥ }
 {
-    match read_record(alloc, bytes) {
-        Ok(record) => {
-            let EventRecord {
-                event: _event,
-                image,
-            } = record;
-            build_from(alloc, at, code, site, image)
-        }
-        Err(FormRefusal::Memory) => Err(StoreFault::Memory),
-        Err(FormRefusal::Fault { .. }) => Err(StoreFault::Damaged { at }),
+    match payload_at(alloc, at, bytes) {
+        Ok(payload) => image_behind(alloc, at, before, payload),
+        Err(fault) => Err(fault),
+    }
+}
+
+/// The image of a payload behind the image before, where the payload's record has its gate there.
+fn image_behind(
+    alloc: Global,
+    at: u64,
+    before: Option<Image>,
+    payload: Payload,
+) -> Result<Image, StoreFault>
+    ensures makes { MakesImage before payload at result }
+    ensures never { IsErrOf result StoreFault.Disk → ⊥ }
+{
+    match next_image(alloc, before, payload) {
+        Ok(image) => Ok(image),
+        Err(DeltaRefusal::Memory) => Err(StoreFault::Memory),
+        Err(DeltaRefusal::Fault) => Err(StoreFault::Damaged { at }),
     }
 }
 
 /// The build that goes on from the image of the last record, where the image passes its check.
-fn build_from<R: SavedThread + Drop>(
+pub fn build_from<R: SavedThread + Drop>(
     alloc: Global,
     at: u64,
     code: Code,

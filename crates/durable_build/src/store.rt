@@ -1,5 +1,5 @@
-//! The record of an event, and how it comes into the journal.
-ghost use Rattle.std.specs.Prelude.{◌≡◌, ◌⊎◌, ◌≤◌, ◌+◌, ◌^◌, List, ℕ, [], ◌∷◌, ◌++◌, true, false, length, Ok, Err, IfOk, IfErr, OnOk, IsErrOf};
+//! The record of an event, whole or of changes alone, and how it comes into the journal.
+ghost use Rattle.std.specs.Prelude.{◌≡◌, ◌⊎◌, ◌≤◌, ◌<◌, ◌+◌, ◌^◌, List, ℕ, [], ◌∷◌, ◌++◌, true, false, length, Some, None, IfSome, IfOk, IfErr, OnOk, IsErrOf};
 ghost use Rattle.device_faults.specs.Faults.{CountsFault};
 ghost use Rattle.jp_disk.specs.Moments.{AtEachMoment};
 ghost use Rattle.journal_core.specs.Records.{HasWithOrWithout};
@@ -9,14 +9,21 @@ ghost use Rattle.model_run.specs.declared.taken.Taken.TheVariants.{Accepted};
 ghost use Rattle.model_run.specs.Taking.{taken};
 ghost use Rattle.build_core.specs.Builds.{StandsFor, setting_in, standing_of};
 ghost use Rattle.build_core.specs.Phases.{has_begun};
-ghost use Rattle.record_form.specs.Records.{record_of};
+ghost use Rattle.image_form.specs.declared.image.Image.{Image as AnyImage};
+ghost use Rattle.delta_records.specs.Payloads.{CanBeWritten, payload_form};
+ghost use Rattle.delta_records.specs.declared.payload.Payload.TheVariants as payload;
 ghost use Rattle.record_form.specs.Ordered.{IsInOrder};
 ghost use Rattle.build_images.specs.Images.{world_image, image_in};
-ghost use Rattle.durable_build.specs.Taking.{AddAnswers, AddLeaves, AddKeeps, IsSource, kept_script, kept_agents, added};
+ghost use Rattle.durable_build.specs.Kinds.{is_whole, weights_of, weights_with};
+ghost use Rattle.durable_build.specs.Adding.{AddDone, AddLeaves, HasRoom, IsDeltaTo, IsDueDelta, SpellsDue, payload_of};
+ghost use Rattle.durable_build.specs.Taking.{IsSource, kept_script, kept_agents};
 
 use agent_worker::TakeFault;
 use build_core::Build;
 use build_images::image_of;
+use delta_form::Delta;
+use delta_records::{Payload, Weights, payload_size, write_payload};
+use image_changes::changes_between;
 use image_form::Image;
 use journal_core::{AppendFault, Journal};
 use jp_disk::Disk;
@@ -28,6 +35,9 @@ use std::alloc::{AllocError, Global};
 
 /// The most bytes that a journal may have.
 const MAX_LENGTH: u64 = 1 << 30;
+
+/// The first byte of a payload that holds a whole image.
+const WHOLE: u8 = 1;
 
 /// Takes an event, as `Build::take` does. A build that has accepted one has begun.
 pub fn take_event<R: SavedThread + Drop>(
@@ -80,24 +90,90 @@ pub fn keep_sources(script: &mut Bytes, agents: &mut Bytes, sources: Option<Sour
     }
 }
 
-/// Adds the record of an event that the build has just taken.
+/// What is kept of the records of a journal: the image of the last one, and how much they weigh.
+#[derive(Drop)]
+pub struct Last {
+    pub image: Option<Image>,
+    pub weights: Weights,
+}
+
+/// What is kept where there is no record.
+pub fn no_record() -> Last
+    ensures { (result.image ≡ None) × (result.weights ≡ weights_of []) }
+{
+    Last {
+        image: None,
+        weights: no_weights(),
+    }
+}
+
+/// The weights of no record.
+pub fn no_weights() -> Weights
+    ensures { result ≡ weights_of [] }
+{
+    Weights {
+        whole: 0,
+        behind: 0,
+    }
+}
+
+/// The weights with the record of a payload more.
+pub fn weights_with(weights: Weights, payload: &[u8]) -> Weights
+    ensures { result ≡ weights_with weights payload.now }
+{
+    let size = payload.len() as u64;
+    if is_whole(payload) {
+        Weights {
+            whole: size,
+            behind: 0,
+        }
+    } else {
+        Weights {
+            whole: weights.whole,
+            behind: weights.behind.saturating_add(size),
+        }
+    }
+}
+
+/// Whether a payload holds a whole image.
+pub fn is_whole(payload: &[u8]) -> bool
+    ensures { result ≡ is_whole payload.now }
+{
+    match payload {
+        [] => false,
+        [kind, ..] => *kind == WHOLE,
+    }
+}
+
+/// Adds the record of an event that the build has just taken, and keeps it as the last.
 pub fn add<D: Disk, R: SavedThread + Drop>(
     journal: &mut Journal<D>,
     alloc: Global,
     build: &Build<R>,
     event: &Event,
+    last: &mut Last,
 ) -> Result<(), TakeFault>
     requires running { journal.old.stopped ≡ false }
     requires begun { has_begun build.now.phase ≡ true }
+    requires order { IfSome last.old.image IsInOrder }
     ensures world { ¬ (IsErrOf result TakeFault.Memory) → (w : W.Build) → StandsFor R.stance build.now w → image_in R.stance build.now ≡ world_image (setting_in build.now) w }
-    ensures answers { AddAnswers journal.old.len (added event.now (image_in R.stance build.now)) result }
-    ensures leaves { AddLeaves journal.old journal.new (added event.now (image_in R.stance build.now)) result }
-    ensures keeps { (payloads : List (List ℕ)) → Holds D.reads D.may_leave journal.old payloads
-        → AddKeeps D.reads D.may_leave D.clock D.may_have_left_since journal.old journal.new (record_of event.now (image_in R.stance build.now)) payloads result }
+    ensures adds { AddDone D.reads D.may_leave D.clock D.may_have_left_since last.old.weights last.old.image event.now (image_in R.stance build.now) journal.old journal.new last.new.weights result }
+    ensures last { OnOk result ((last.new.image ≡ Some (image_in R.stance build.now)) × IsInOrder (image_in R.stance build.now)) }
     ensures cause { CountsFault (D.faults journal.old.disk) (D.faults journal.new.disk) (IsErrOf result TakeFault.Disk) }
 {
     match image_of(build) {
-        Ok(image) => add_record(journal, alloc, event, &image),
+        Ok(image) => {
+            add_record(
+                journal,
+                alloc,
+                event,
+                &last.image,
+                &mut last.weights,
+                &image,
+            )?;
+            last.image = Some(image);
+            Ok(())
+        }
         Err(_) => Err(TakeFault::Memory),
     }
 }
@@ -107,25 +183,122 @@ fn add_record<D: Disk>(
     journal: &mut Journal<D>,
     alloc: Global,
     event: &Event,
+    before: &Option<Image>,
+    weights: &mut Weights,
     image: &Image,
 ) -> Result<(), TakeFault>
     requires running { journal.old.stopped ≡ false }
+    requires before { IfSome before.now IsInOrder }
     requires order { IsInOrder image.now }
-    ensures answers { AddAnswers journal.old.len (added event.now image.now) result }
-    ensures leaves { AddLeaves journal.old journal.new (added event.now image.now) result }
-    ensures keeps { (payloads : List (List ℕ)) → Holds D.reads D.may_leave journal.old payloads
-        → AddKeeps D.reads D.may_leave D.clock D.may_have_left_since journal.old journal.new (record_of event.now image.now) payloads result }
+    ensures adds { AddDone D.reads D.may_leave D.clock D.may_have_left_since weights.old before.now event.now image.now journal.old journal.new weights.new result }
     ensures cause { CountsFault (D.faults journal.old.disk) (D.faults journal.new.disk) (IsErrOf result TakeFault.Disk) }
 {
-    let len = journal.len();
-    let add = record_size(event, image).saturating_add(5);
+    let delta = due_changes(alloc, *weights, before, image)?;
+    let payload = spelled(alloc, journal.len(), event, image, delta)?;
+    append(journal, alloc, payload.as_slice())?;
+    *weights = weights_with(*weights, payload.as_slice());
+    Ok(())
+}
+
+/// What changed from the image before, where the next record is to hold that alone.
+fn due_changes(
+    alloc: Global,
+    weights: Weights,
+    before: &Option<Image>,
+    image: &Image,
+) -> Result<Option<Delta>, TakeFault>
+    requires before { IfSome before.now IsInOrder }
+    requires order { IsInOrder image.now }
+    ensures due { IfOk result (IsDueDelta weights before.now image.now) }
+    ensures fault { IfErr result (λ e. e ≡ TakeFault.Memory) }
+{
+    if weights.whole <= weights.behind {
+        return Ok(None);
+    }
+    match before {
+        None => Ok(None),
+        Some(before) => match changes_between(alloc, before, image) {
+            Ok(delta) => Ok(delta),
+            Err(_) => Err(TakeFault::Memory),
+        },
+    }
+}
+
+/// The payload of an event, with the changes where there are some, or with the whole image after it. `Full` where a record of it
+/// has no room in a journal of this length.
+fn spelled(
+    alloc: Global,
+    len: u64,
+    event: &Event,
+    image: &Image,
+    delta: Option<Delta>,
+) -> Result<Bytes, TakeFault>
+    requires order { IsInOrder image.now }
+    requires leads { IfSome delta (λ d. IsDeltaTo d image.now) }
+    ensures { SpellsDue len (payload_of event.now image.now delta) result }
+{
+    match delta {
+        Some(delta) => spelled_changes(alloc, len, event, delta),
+        None => spelled_whole(alloc, len, event, image),
+    }
+}
+
+/// The payload of an event and of the whole image after it.
+fn spelled_whole(alloc: Global, len: u64, event: &Event, image: &Image) -> Result<Bytes, TakeFault>
+    requires { IsInOrder image.now }
+    ensures { SpellsDue len (payload.Whole event.now image.now) result }
+{
+    if let Err(fault) = check_room(len, record_size(event, image)) {
+        return Err(fault);
+    }
+    match write_record(alloc, event, image) {
+        Ok(payload) => Ok(payload),
+        Err(_) => Err(TakeFault::Memory),
+    }
+}
+
+/// The payload of an event and of what it changed.
+fn spelled_changes(alloc: Global, len: u64, event: &Event, delta: Delta) -> Result<Bytes, TakeFault>
+    requires { (image : AnyImage) × IsInOrder image × IsDeltaTo delta image }
+    ensures { SpellsDue len (payload.Changed event.now delta) result }
+{
+    let Ok(event) = copied(event) else {
+        return Err(TakeFault::Memory);
+    };
+    spelled_payload(alloc, len, &Payload::Changed { event, delta })
+}
+
+/// The same event once more. `AllocError` where the memory was refused.
+fn copied(event: &Event) -> Result<Event, AllocError>
+    ensures { IfOk result (λ copy. copy ≡ event.now) }
+{
+    let copy = event.clone()?;
+    Ok(copy)
+}
+
+/// The spelling of a payload, which has one where it is short enough.
+fn spelled_payload(alloc: Global, len: u64, payload: &Payload) -> Result<Bytes, TakeFault>
+    requires { length (payload_form.spelling payload.now) < 2 ^ 32 → CanBeWritten payload.now }
+    ensures { SpellsDue len payload.now result }
+{
+    if let Err(fault) = check_room(len, payload_size(payload)) {
+        return Err(fault);
+    }
+    match write_payload(alloc, payload) {
+        Ok(bytes) => Ok(bytes),
+        Err(_) => Err(TakeFault::Memory),
+    }
+}
+
+/// Refuses a payload of so many bytes where its record has no room in a journal of this length.
+fn check_room(len: u64, size: u64) -> Result<(), TakeFault>
+    ensures { HasRoom len size result }
+{
+    let add = size.saturating_add(5);
     if add > MAX_LENGTH || len > MAX_LENGTH - add {
         return Err(TakeFault::Full { len, add });
     }
-    match write_record(alloc, event, image) {
-        Ok(payload) => append(journal, alloc, payload.as_slice()),
-        Err(_) => Err(TakeFault::Memory),
-    }
+    Ok(())
 }
 
 /// Adds a payload, for which there is room.

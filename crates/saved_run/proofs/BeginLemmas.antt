@@ -12,8 +12,7 @@ use Rattle.journal_core.specs.Records.{Has, HasWithOrWithout, records, Walked}
 use Rattle.journal_core.specs.State.{State}
 use Rattle.journal_core.specs.declared.faults.CreateFault.{CreateFault}
 use Rattle.journal_core.specs.declared.faults.CreateFault.TheVariants.{Disk as CreateDisk, HasRecord}
-use Rattle.field_form.specs.Forms.{Spells}
-use Rattle.record_form.specs.Records.{record_form, record_of}
+use Rattle.record_form.specs.Records.{record_of}
 use Rattle.record_form.specs.declared.record.EventRecord.{EventRecord}
 use Rattle.agent_worker.specs.declared.fault.TakeFault.{TakeFault}
 use Rattle.agent_worker.specs.declared.fault.TakeFault.TheVariants.{Memory, Disk, Full, Stopped}
@@ -34,13 +33,14 @@ use Rattle.build_core.specs.Builds.{StandsFor, setting_in, standing_of}
 use Rattle.build_images.specs.Images.{image_in, world_image}
 use Rattle.script_run.proofs.Begun.{starts_begun}
 use Rattle.script_run.specs.Standing.{AreNumbered, IsProper}
-use Rattle.store_laws.specs.Store.{AllDue, AllSpell, IsStory, Mean, Starts, events_of}
+use Rattle.store_laws.specs.Store.{AllDue, IsStory, Mean, Starts, Told, events_of, record_at}
 use Rattle.store_laws.proofs.Tellings.{one_record, one_setting}
-use Rattle.durable_build.specs.Standing.{Kept, Keeps, Opening}
+use Rattle.durable_build.specs.Standing.{Kept, Keeps, Opening, image_before}
 use Rattle.durable_build.specs.Opening.{Opened}
 use Rattle.durable_build.proofs.Begun.{starts_first}
+use Rattle.durable_build.proofs.Sizes.{may_add}
 use Rattle.durable_build.proofs.OpenLemmas.{begun_all, is_start}
-use Rattle.durable_build.specs.Taking.{IsSized, Puts, TakeAnswers, TakeLeaves, TakeKeeps, TakeSources, added}
+use Rattle.durable_build.specs.Taking.{IsSized, Puts, TakeAnswers, TakeLeaves, TakeKeeps, TakeSources}
 use Rattle.saved_run.specs.declared.life.Life.{Life}
 use Rattle.saved_run.specs.Saved.{IsTold, Saves, Stores, Survives}
 use Rattle.saved_run.specs.declared.life.BeginFault.TheVariants.{Take}
@@ -93,7 +93,7 @@ module _ {D T : Type 0} (reads : D → Option (List ℕ)) (may_leave : D → Lis
   told_here : (puts : Puts clock since fresh.journal new.journal (record_of start (image_in stance new.build)) [])
       → ((w : Build) → StandsFor stance fresh.build w → image_in stance new.build ≡ world_image (setting_in fresh.build) (after_one (setting_in fresh.build) w start)) → IsTold setting (start ∷ []) (puts.payload ∷ [])
   told_here puts image =
-      told_start setting script agents puts.payload (record_of start (image_in stance new.build)) mean puts.spells refl
+      told_start setting script agents puts.payload (record_of start (image_in stance new.build)) mean puts.tells refl
       (subst (λ (s : Setting). image_in stance new.build ≡ world_image s (after_one s unbegun start)) same (image unbegun stands))
 
   stores_none : (image : List ℕ) → Has [] image → Stores setting [] image
@@ -181,8 +181,8 @@ start_faults stance setting old new e Memory same stands running len answers siz
 start_faults stance setting old new e Disk same stands running len answers size = tt
 start_faults stance setting old new e (Full at add) same stands running len answers size =
     let image : image_in stance new.build ≡ image_after setting (e ∷ []) =
-    subst (λ (s : Setting). image_in stance new.build ≡ world_image s (after_one s unbegun e)) same (size unbegun stands) in
-    (answers.2 ∙ len, answers.3, answers.4 ∙ ap (added e) image)
+    subst (λ (s : Setting). image_in stance new.build ≡ world_image s (after_one s unbegun e)) same (size.0 unbegun stands) in
+    (answers.2 ∙ len, answers.3, may_add (image_before stance old.build) None (image_in stance new.build) (image_after setting (e ∷ [])) e add (size.1 unbegun stands) image (answers.4.0, answers.4.1.tells, answers.4.2))
 start_faults stance setting old new e Stopped same stands running len answers size = let bad : false ≡ true = sym running ∙ answers in absurd (cc)
 
 -- the take of a `Start` failed
@@ -203,9 +203,9 @@ since_either (inl since) = inr (inl since)
 since_either (inr failed) = inl failed.1
 
 -- a record that starts a build starts it in the setting that its script and agents file mean
-same_setting : (s t : Setting) (script agents p : List ℕ) (r : EventRecord) → Opening s script agents p → Spells record_form r p → Starts t r.event → t ≡ s
-same_setting s t script agents p r o spells starts =
-    let same : o.first ≡ r = one_record o.first r p o.spells spells in
+same_setting : (s t : Setting) (script agents p : List ℕ) (r : EventRecord) → Opening s script agents p → record_at None p ≡ Some r → Starts t r.event → t ≡ s
+same_setting s t script agents p r o tells starts =
+    let same : o.first ≡ r = one_record None o.first r p o.tells tells in
     one_setting t s script agents (subst (Starts t) (ap (λ (x : EventRecord). x.event) (sym same) ∙ o.starts) starts) o.mean
 
 same_payloads : (ps qs : List (List ℕ)) (file : List ℕ) → Has ps file → Has qs file → ps ≡ qs
@@ -218,9 +218,9 @@ nothing lt = omega (arith, lt)
 pub reopened : {D T : Type 0} (reads : D → Option (List ℕ)) (may_leave : D → List ℕ → Type 0) (clock : D → ℕ) (since : D → ℕ → List ℕ → Type 0) (stance : T → Stance) (setting : Setting) (events : List Event) (file : List ℕ) (k : Kept D T)
     → Opened reads may_leave stance file k → k.stopped ≡ false → Stores setting events file → Stands reads may_leave clock since stance setting events k
 reopened {D} {T} reads may_leave clock since stance setting events file k o running stores =
-    one o.payloads stores.told.records o.some o.keeps (subst (AllSpell stores.told.records) (same_payloads stores.payloads o.payloads file stores.has o.has) stores.told.spelled) stores.told.story stores.told.due stores.told.are
+    one o.payloads stores.told.records o.some o.keeps (subst (Told None stores.told.records) (same_payloads stores.payloads o.payloads file stores.has o.has) stores.told.spelled) stores.told.story stores.told.due stores.told.are
   where
-    one : (ps : List (List ℕ)) (rs : List EventRecord) → 0 < length ps → Keeps reads may_leave stance k ps → AllSpell rs ps → IsStory world_image setting rs → AllDue setting unbegun rs → events_of rs ≡ events
+    one : (ps : List (List ℕ)) (rs : List EventRecord) → 0 < length ps → Keeps reads may_leave stance k ps → Told None rs ps → IsStory world_image setting rs → AllDue setting unbegun rs → events_of rs ≡ events
         → Stands reads may_leave clock since stance setting events k
     one [] rs some keeps spelled story due are = absurd (nothing some)
     one (p ∷ ps) [] some keeps spelled story due are = absurd spelled

@@ -1,6 +1,6 @@
 -- What a take makes of a life.
-use Rattle.std.specs.Prelude.{◌+◌, length, IfSome, IsSome}
-use Rattle.std.proofs.Common.{◌≡◌, ◌⊎◌, ◌≤◌, ℕ, true, false, List, [], ◌∷◌, ◌++◌, Option, Some, None, Ok, Err, inl, inr, refl, sym, ap, ◌∙◌, subst, append-nil, append_assoc}
+use Rattle.std.specs.Prelude.{◌+◌, if◌then◌else◌, length, IfSome, IsSome}
+use Rattle.std.proofs.Common.{◌≡◌, ◌⊎◌, ◌≤◌, ℕ, Bool, true, false, List, [], ◌∷◌, ◌++◌, Option, Some, None, Ok, Err, inl, inr, refl, sym, ap, ◌∙◌, subst, append-nil, append_assoc}
 use Rattle.jp_disk.specs.Moments.{AtEachMoment}
 use Rattle.jp_disk.proofs.MomentLemmas.{runs_on, at_each_weaker, starts}
 use Rattle.journal_core.specs.Records.{HasWithOrWithout, Walked, framed}
@@ -21,9 +21,10 @@ use Rattle.build_core.specs.Builds.{StandsFor, setting_in, standing_of}
 use Rattle.build_images.specs.Images.{image_in, world_image}
 use Rattle.script_run.proofs.Begun.{stays_begun}
 use Rattle.store_laws.specs.Store.{events_of, grant_of}
-use Rattle.durable_build.specs.Standing.{Kept, Keeps}
+use Rattle.durable_build.specs.Standing.{Kept, Keeps, image_before, world_before}
 use Rattle.store_laws.proofs.Stories.{world-more}
-use Rattle.durable_build.specs.Taking.{IsAfter, IsSized, Puts, TakeAnswers, TakeLeaves, TakeKeeps, added}
+use Rattle.durable_build.specs.Taking.{IsAfter, IsBehind, IsSized, Puts, TakeAnswers, TakeLeaves, TakeKeeps}
+use Rattle.durable_build.proofs.Sizes.{may_add}
 use Rattle.saved_run.specs.Saved.{IsTold, Saves, Stores, Survives, journal_length}
 use Rattle.saved_run.specs.Lives.{image_after, Goes, IsFull, IsOf, MayRisk, Lasts, FailsBy, TellsFault, TellsLength}
 use Rattle.saved_run.proofs.SavedLemmas.{same_standing, told_more, survives_all, survives_risked, survives_more, survives_risk}
@@ -49,7 +50,7 @@ module _ {D T : Type 0} (stance : T → Stance) (old new : Kept D T) (e : Event)
   pub tells_fault : (fault : TakeFault) → TakeAnswers stance old new e (Err fault) → TakeLeaves stance old new e (Err fault) → old.stopped ≡ false → TellsFault stance new fault
   tells_fault Memory answers leaves running = tt
   tells_fault Disk answers leaves running = tt
-  tells_fault (Full len add) answers leaves running = (e, (answers.2 ∙ ap (λ (j : State D). j.len) (sym leaves.1), answers.3, answers.4))
+  tells_fault (Full len add) answers leaves running = (e, image_before stance old.build, (answers.2 ∙ ap (λ (j : State D). j.len) (sym leaves.1), answers.3, (answers.4.0, answers.4.1.tells, answers.4.2)))
   tells_fault Stopped answers leaves running = let bad : false ≡ true = sym running ∙ answers in absurd (cc)
 
 -- it is told of a build that was stopped then, too
@@ -97,7 +98,7 @@ module _ {D T : Type 0} (reads : D → Option (List ℕ)) (may_leave : D → Lis
     record {
       refused = f.0.refused;
       is_next = f.0.is_next;
-      full = subst (λ (j : State D). IfSome f.0.refused (λ (e : Event). IsFull e (image_after setting (events ++ e ∷ [])) j.len fault)) (sym same) f.0.full;
+      full = subst (λ (j : State D). IfSome f.0.refused (λ (e : Event). IsFull (Some (image_after setting events)) e (image_after setting (events ++ e ∷ [])) j.len fault)) (sym same) f.0.full;
       sized = λ known. subst (λ (j : State D). IfSome (reads j.disk) (TellsLength fault)) (sym same) (f.0.sized known);
       risked = f.0.risked;
       may_risk = f.0.may_risk;
@@ -143,7 +144,7 @@ module _ {D T : Type 0} (reads : D → Option (List ℕ)) (may_leave : D → Lis
           → ((w : Build) → StandsFor stance old.build w → image_in stance new.build ≡ world_image (setting_in old.build) (after_one (setting_in old.build) w e))
           → IsTold setting (events ++ e ∷ []) (saves.payloads ++ puts.payload ∷ [])
       told_next puts image =
-          told_more setting events saves.payloads puts.payload (record_of e (image_in stance new.build)) (subst (λ (x : Setting). IsTold x events saves.payloads) lasts.goes.same saves.told) lasts.goes.begun puts.spells accepted due
+          told_more setting events saves.payloads puts.payload (record_of e (image_in stance new.build)) (subst (λ (x : Setting). IsTold x events saves.payloads) lasts.goes.same saves.told) lasts.goes.begun puts.tells accepted due
           (subst (λ (x : Setting). image_in stance new.build ≡ world_image x (after_one x (world_in setting events) e)) lasts.goes.same (image (world_in setting events) lasts.goes.stands))
 
       with_or_without : (p image : List ℕ) → IsTold setting (events ++ e ∷ []) (saves.payloads ++ p ∷ []) → HasWithOrWithout saves.payloads p image
@@ -197,13 +198,19 @@ module _ {D T : Type 0} (reads : D → Option (List ℕ)) (may_leave : D → Lis
         subst (λ (x : Setting). image_in stance new.build ≡ world_image x (after_one x (world_in setting events) e)) lasts.goes.same (after (world_in setting events) lasts.goes.stands)
         ∙ ap (world_image setting) (sym (world-more setting unbegun events e))
 
-    calm : (fault : TakeFault) → new.journal ≡ old.journal → IsOf setting events fault (Some e) → IsFull e (image_after setting (events ++ e ∷ [])) old.journal.len fault → MayRisk fault (Some e) None
+    -- and the image of the record before is that of the world before it
+    image_before_is : IsBehind stance old → image_before stance old.build ≡ Some (image_after setting events)
+    image_before_is behind =
+        behind (world_in setting events) lasts.goes.stands ∙ ap (λ (x : Setting). world_before x (world_in setting events)) lasts.goes.same
+        ∙ ap (λ (b : Bool). if b then Some (image_after setting events) else None) lasts.goes.begun
+
+    calm : (fault : TakeFault) → new.journal ≡ old.journal → IsOf setting events fault (Some e) → IsFull (Some (image_after setting events)) e (image_after setting (events ++ e ∷ [])) old.journal.len fault → MayRisk fault (Some e) None
         → (IsSome entry → IfSome (reads old.journal.disk) (TellsLength fault)) → FailsBy reads may_leave clock since stance setting entry origin before events (λ (x : Event). x ≡ e) fault new
     calm fault same of full may sized = (
       record {
         refused = Some e;
         is_next = of;
-        full = subst (λ (j : State D). IsFull e (image_after setting (events ++ e ∷ [])) j.len fault) (sym same) full;
+        full = subst (λ (j : State D). IsFull (Some (image_after setting events)) e (image_after setting (events ++ e ∷ [])) j.len fault) (sym same) full;
         sized = λ known. subst (λ (j : State D). IfSome (reads j.disk) (TellsLength fault)) (sym same) (sized known);
         risked = None;
         may_risk = may;
@@ -218,7 +225,7 @@ module _ {D T : Type 0} (reads : D → Option (List ℕ)) (may_leave : D → Lis
         → ((ps : List (List ℕ)) → Keeps reads may_leave stance old ps → TakeKeeps reads may_leave clock since stance old new e ps (Err fault)) → FailsBy reads may_leave clock since stance setting entry origin before events (λ (x : Event). x ≡ e) fault new
     fails_taken counts_now Memory answers size leaves keeps = calm Memory leaves.1 tt tt refl (λ known. unsized (reads old.journal.disk) Memory (λ file. tt))
     fails_taken counts_now (Full len add) answers size leaves keeps =
-        calm (Full len add) leaves.1 (record { accepted = accepted; due = due }) (answers.2, answers.3, answers.4 ∙ ap (added e) (image_is size)) refl
+        calm (Full len add) leaves.1 (record { accepted = accepted; due = due }) (answers.2, answers.3, may_add (image_before stance old.build) (Some (image_after setting events)) (image_in stance new.build) (image_after setting (events ++ e ∷ [])) e add (image_before_is size.1) (image_is size.0) (answers.4.0, answers.4.1.tells, answers.4.2)) refl
         (λ known. subst (λ (n : ℕ). IfSome (reads old.journal.disk) (λ file. n ≡ journal_length file)) (sym answers.2) (saved_length events old (lasts.saves known)))
     fails_taken counts_now Stopped answers size leaves keeps = let bad : false ≡ true = sym lasts.goes.running ∙ answers in absurd (cc)
     fails_taken counts_now Disk answers size leaves keeps = (

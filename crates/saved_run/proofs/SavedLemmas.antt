@@ -1,8 +1,6 @@
 -- What one event more makes of a store, and what a crash leaves of it.
 use Rattle.std.proofs.Common.{◌≡◌, ◌⊎◌, ℕ, true, false, List, [], ◌∷◌, ◌++◌, Option, Some, None, inl, inr, refl, sym, ap, ◌∙◌, subst, append-nil, append_assoc}
 use Rattle.std.specs.Prelude.{IsSomeAnd}
-use Rattle.field_form.specs.Forms.{Spells}
-use Rattle.record_form.specs.Records.{record_form}
 use Rattle.record_form.specs.declared.record.EventRecord.{EventRecord}
 use Rattle.model_run.specs.declared.event.Event.{Event}
 use Rattle.model_run.specs.declared.event.Event.TheVariants as event
@@ -16,8 +14,8 @@ use Rattle.build_core.specs.declared.phase.Phase.{Phase}
 use Rattle.build_core.specs.declared.phase.Phase.TheVariants.{Unbegun, Running, Ended, Stopped}
 use Rattle.cps_frames.specs.Standing.{common_of}
 use Rattle.build_images.specs.Images.{world_image}
-use Rattle.store_laws.specs.Store.{FirstStarts, Mean, events_of, grant_of}
-use Rattle.store_laws.proofs.Stories.{spell_more, events-more, due_more, follows_more}
+use Rattle.store_laws.specs.Store.{FirstStarts, Mean, events_of, grant_of, last_image, record_at}
+use Rattle.store_laws.proofs.Stories.{tell_more, events-more, due_more, follows_more}
 use Rattle.saved_run.specs.Saved.{IsTold, Stores, Survives}
 
 shown_requests : (p : Phase) (u : Common) → (shown p u).requests ≡ u.requests
@@ -47,11 +45,11 @@ module _ (setting : Setting) where
   told_none = record { records = []; spelled = tt; story = record { starts = tt; follows = tt }; due = tt; are = refl }
 
   -- a `Start`, and its record
-  pub told_start : (script agents p : List ℕ) (r : EventRecord) → Mean script agents setting → Spells record_form r p → r.event ≡ event.Start script agents
+  pub told_start : (script agents p : List ℕ) (r : EventRecord) → Mean script agents setting → record_at None p ≡ Some r → r.event ≡ event.Start script agents
       → r.image ≡ world_image setting (after_one setting unbegun r.event) → IsTold setting (event.Start script agents ∷ []) (p ∷ [])
-  told_start script agents p r mean spells is image = record {
+  told_start script agents p r mean tells is image = record {
     records = r ∷ [];
-    spelled = (spells, tt);
+    spelled = (tells, tt);
     story = record {
       starts = subst (λ (e : Event). FirstStarts setting (record r { event = e } ∷ [])) (sym is) mean;
       follows = (subst (λ (e : Event). answer_to setting unbegun e ≡ Accepted) (sym is) refl, image, tt);
@@ -65,14 +63,14 @@ module _ (setting : Setting) where
   starts_more (q ∷ qs) r starts begun = starts
 
   -- one event more, and its record
-  pub told_more : (events : List Event) (ps : List (List ℕ)) (p : List ℕ) (r : EventRecord) → IsTold setting events ps → (world_in setting events).started ≡ true → Spells record_form r p
+  pub told_more : (events : List Event) (ps : List (List ℕ)) (p : List ℕ) (r : EventRecord) → IsTold setting events ps → (world_in setting events).started ≡ true → record_at (last_image ps) p ≡ Some r
       → answer_to setting (world_in setting events) r.event ≡ Accepted → next_grant setting (world_in setting events) ≡ grant_of r.event
       → r.image ≡ world_image setting (after_one setting (world_in setting events) r.event) → IsTold setting (events ++ r.event ∷ []) (ps ++ p ∷ [])
-  told_more events ps p r t begun spells accepted due image =
+  told_more events ps p r t begun tells accepted due image =
       let at = sym t.are in
       record {
         records = t.records ++ r ∷ [];
-        spelled = spell_more t.records ps r p t.spelled spells;
+        spelled = tell_more None t.records ps r p t.spelled tells;
         story = record {
           starts = starts_more t.records r t.story.starts (subst (λ (es : List Event). (world_in setting es).started ≡ true) at begun);
           follows = follows_more world_image setting unbegun t.records r t.story.follows (subst (λ (es : List Event). answer_to setting (world_in setting es) r.event ≡ Accepted) at accepted)

@@ -18,7 +18,7 @@ use Rattle.model_run.specs.World.{answer_to, next_grant, world_in}
 use Rattle.image_form.specs.declared.image.Image.{Image}
 use Rattle.build_images.specs.Images.{image_in, world_image}
 use Rattle.store_laws.specs.Store.{grant_of}
-use Rattle.durable_build.specs.Taking.{added}
+use Rattle.durable_build.specs.Taking.{MayAdd}
 use Rattle.settle_laws.specs.Stances.{Stance}
 use Rattle.build_core.specs.Builds.{StandsFor, setting_in}
 use Rattle.durable_build.specs.Standing.{Kept}
@@ -37,13 +37,13 @@ abbrev pub IsLater : Event → Type 0
 IsLater (event.Start script agents) = ⊥
 IsLater e = Unit {0}
 
--- What a fault of the take of an event tells, at a journal of this length, with this image behind the event: of `Full` the journal's length,
--- and what the record of the event would have added, which together are more than 1,073,741,824 bytes.
-abbrev pub IsFull : Event → Image → ℕ → TakeFault → Type 0
-IsFull e image len (Full at add) = (at ≡ len) × (2 ^ 30 < at + add) × (add ≡ added e image)
-IsFull e image len Memory = Unit {0}
-IsFull e image len Disk = Unit {0}
-IsFull e image len Stopped = ⊥
+-- What a fault of the take of an event tells, at a journal of this length, with this image before the event and this one behind it: of `Full`
+-- the journal's length, and what the record of the event would have added, which together are more than 1,073,741,824 bytes.
+abbrev pub IsFull : Option Image → Event → Image → ℕ → TakeFault → Type 0
+IsFull before e image len (Full at add) = (at ≡ len) × (2 ^ 30 < at + add) × MayAdd before e image add
+IsFull before e image len Memory = Unit {0}
+IsFull before e image len Disk = Unit {0}
+IsFull before e image len Stopped = ⊥
 
 -- the image of the build of these events
 abbrev pub image_after : Setting → List Event → Image
@@ -51,7 +51,7 @@ image_after setting events = world_image setting (world_in setting events)
 
 -- What a fault of the take of a `Start` tells: the journal has one byte.
 abbrev pub StartFaults : Setting → Event → TakeFault → Type 0
-StartFaults setting start fault = IsFull start (image_after setting (start ∷ [])) 1 fault
+StartFaults setting start fault = IsFull None start (image_after setting (start ∷ [])) 1 fault
 
 -- What the refusal of a build tells, on each disk: the fault of a `Start` that was not taken.
 abbrev pub TellsStart : Setting → Event → BeginFault → Type 0
@@ -72,12 +72,13 @@ pub record IsBegun {D T : Type 0} (stance : T → Stance) (setting : Setting) (s
   pub has_script : kept.script ≡ script
   pub has_agents : kept.agents ≡ agents
 
--- What the fault of a life tells, on each disk: `Full` is that of the record of some event, with the image that the build has behind it.
+-- What the fault of a life tells, on each disk: `Full` is that of the record of some event, with the image that the build has behind it, and
+-- the image of the record before.
 -- `Stopped` is none.
 abbrev pub TellsFault : {D T : Type 0} → (T → Stance) → Kept D T → TakeFault → Type 0
 TellsFault stance kept Memory = Unit {0}
 TellsFault stance kept Disk = Unit {0}
-TellsFault stance kept (Full at add) = (e : Event) × IsFull e (image_in stance kept.build) kept.journal.len (Full at add)
+TellsFault stance kept (Full at add) = (e : Event) × (before : Option Image) × IsFull before e (image_in stance kept.build) kept.journal.len (Full at add)
 TellsFault stance kept Stopped = ⊥
 
 -- A life that no fault stopped goes on so, or tells its fault, on each disk.
@@ -130,7 +131,7 @@ module _ {D T : Type 0} (reads : D → Option (List ℕ)) (may_leave : D → Lis
   pub record Fails (setting : Setting) (entry : Option (List ℕ)) (origin : D) (before events : List Event) (fault : TakeFault) (kept : Kept D T) : Type 0 where
     pub refused : Option Event
     pub is_next : IsOf setting events fault refused
-    pub full : IfSome refused (λ e. IsFull e (image_after setting (events ++ e ∷ [])) kept.journal.len fault)
+    pub full : IfSome refused (λ e. IsFull (Some (image_after setting events)) e (image_after setting (events ++ e ∷ [])) kept.journal.len fault)
     pub sized : IsSome entry → IfSome (reads kept.journal.disk) (TellsLength fault)
     pub risked : Option Event
     pub may_risk : MayRisk fault refused risked

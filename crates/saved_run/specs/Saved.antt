@@ -1,5 +1,5 @@
 -- What the store of a build holds at each moment of a life, and what a crash leaves (this product's own).
-use Rattle.std.specs.Prelude.{◌≡◌, ◌⊎◌, ◌+◌, ℕ, List, [], ◌∷◌, ◌++◌, length, Option, IsSomeAnd}
+use Rattle.std.specs.Prelude.{◌≡◌, ◌⊎◌, ◌+◌, ℕ, List, [], ◌∷◌, ◌++◌, length, Option, None, IsSomeAnd}
 use Rattle.record_form.specs.declared.record.EventRecord.{EventRecord}
 use Rattle.model_run.specs.declared.event.Event.{Event}
 use Rattle.model_run.specs.State.{Setting}
@@ -7,7 +7,7 @@ use Rattle.model_run.specs.World.{unbegun}
 use Rattle.settle_laws.specs.Stances.{Stance}
 use Rattle.build_core.specs.Builds.{setting_in}
 use Rattle.build_images.specs.Images.{world_image}
-use Rattle.store_laws.specs.Store.{AllDue, AllSpell, IsStory, events_of}
+use Rattle.store_laws.specs.Store.{AllDue, IsStory, Told, events_of}
 use Rattle.journal_core.specs.Records.{Has, framed, records}
 use Rattle.durable_build.specs.Standing.{Kept, Keeps}
 
@@ -15,7 +15,7 @@ use Rattle.durable_build.specs.Standing.{Kept, Keeps}
 -- grant where one is due.
 pub record IsTold (setting : Setting) (events : List Event) (payloads : List (List ℕ)) : Type 0 where
   pub records : List EventRecord
-  pub spelled : AllSpell records payloads
+  pub spelled : Told None records payloads
   pub story : IsStory world_image setting records
   pub due : AllDue setting unbegun records
   pub are : events_of records ≡ events

@@ -122,7 +122,7 @@ kept_tells {D} {T} stance now (Failed noted event ∷ h) fault full is = subst (
     tells : (f : TakeFault) (event : Option Event) → IsFull stance now f event → TellsFault stance now f
     tells take.Memory event full = tt
     tells take.Disk event full = tt
-    tells (take.Full len add) (Some e) full = (e, full)
+    tells (take.Full len add) (Some e) full = (e, full.2.0, (full.0, full.1, full.2.1))
     tells (take.Full len add) None full = absurd full
     tells take.Stopped event full = absurd full
 

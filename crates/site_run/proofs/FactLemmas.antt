@@ -15,10 +15,12 @@ use Rattle.model_run.specs.declared.event.Event.{Event}
 use Rattle.model_run.specs.State.{Setting}
 use Rattle.model_run.specs.World as W
 use Rattle.program_lock.specs.declared.program.Memory.{Memory as NoMemory}
+use Rattle.image_form.specs.declared.image.Image.{Image}
 use Rattle.settle_laws.specs.Stances.{Stance}
 use Rattle.build_core.specs.Builds.{Parts, StandsFor, setting_in}
 use Rattle.build_images.specs.Images.{world_image}
-use Rattle.store_laws.specs.Store.{AllDue, Follows, events_of}
+use Rattle.store_laws.specs.Store.{AllDue, Follows, Told, events_of, last_image}
+use Rattle.store_laws.proofs.Payloads.{image_behind_more, told_append}
 use Rattle.durable_build.specs.Standing.{Kept, Keeps}
 use Rattle.durable_build.proofs.OpenLemmas.{begun_all}
 use Rattle.script_run.specs.declared.rest.Rest.{Rest}
@@ -32,7 +34,7 @@ use Rattle.site_state.proofs.FactLaws.{on_so_far}
 use Rattle.site_state.proofs.HistoryLaws.{kept_fault-append, no_fault, none_pending, pending-append, tooks-append}
 use Rattle.site_run.specs.Ending.{ended_as}
 use Rattle.site_run.specs.Lives.{KeepsOn}
-use Rattle.site_run.proofs.StoreLemmas.{due_append, events-append, follows_append, no_payloads, no_records, spell_append}
+use Rattle.site_run.proofs.StoreLemmas.{due_append, events-append, follows_append, no_payloads, no_records}
 
 -- fronts of records
 front_within : (xs ys : List (List ℕ)) (k : ℕ) → (n : ℕ) × (take k xs ≡ take n (xs ++ ys))
@@ -119,7 +121,7 @@ module _ {D T : Type 0} (reads : D → Option (List ℕ)) (may_leave : D → Lis
 
   module _ (payloads : List (List ℕ)) (g : Grown reads may_leave clock since stance first mid made payloads) (k : Grown reads may_leave clock since stance mid last h (payloads ++ g.added)) where
     none_last : g.last ≡ []
-    none_last = no_payloads g.last_records g.last (no_records g.last_records (g.last_events ∙ none_pending made none)) g.last_spelled
+    none_last = no_payloads (last_image (payloads ++ g.added)) g.last_records g.last (no_records g.last_records (g.last_events ∙ none_pending made none)) g.last_spelled
 
     abbrev both : List (List ℕ)
     both = g.added ++ k.added
@@ -145,11 +147,11 @@ module _ {D T : Type 0} (reads : D → Option (List ℕ)) (may_leave : D → Lis
       records = g.records ++ k.records;
       events = events-append g.records k.records ∙ ap (λ (es : List Event). es ++ events_of k.records) g.events ∙ ap (λ (es : List Event). tooks made ++ es) k.events ∙ sym (tooks-append made h);
       added = both;
-      spelled = spell_append g.records k.records g.added k.added g.spelled k.spelled;
+      spelled = told_append (last_image payloads) g.records k.records g.added k.added g.spelled (subst (λ (o : Option Image). Told o k.records k.added) (image_behind_more None payloads g.added) k.spelled);
       last_records = k.last_records;
       last_events = k.last_events ∙ sym (pending-append made h none);
       last = k.last;
-      last_spelled = k.last_spelled;
+      last_spelled = subst (λ (xs : List (List ℕ)). Told (last_image xs) k.last_records k.last) order k.last_spelled;
       go_on = subst (GoOn stance first.build) (sym (append_assoc g.records k.records k.last_records))
           (go_on_then stance first.build mid.build (tooks made) (one.shown none) g.records (k.records ++ k.last_records) g.events (on_so_far reads may_leave clock since stance first mid made none payloads g) k.go_on);
       ends = k.ends ∙ ap (λ (ps : List (List ℕ)). length (framed ps) + 1) order;
@@ -177,7 +179,7 @@ module _ {D T : Type 0} (reads : D → Option (List ℕ)) (may_leave : D → Lis
   keeps_then : kept_fault h ≡ None → (payloads : List (List ℕ)) → Keeps reads may_leave stance first payloads → KeepsOn reads may_leave clock since stance first last payloads
   keeps_then calm payloads keeps =
       let g = facts_then.grown payloads keeps in
-      let nothing : g.last ≡ [] = no_payloads g.last_records g.last (no_records g.last_records (g.last_events ∙ none_pending (made ++ h) (kept_both ∙ calm))) g.last_spelled in (
+      let nothing : g.last ≡ [] = no_payloads (last_image (payloads ++ g.added)) g.last_records g.last (no_records g.last_records (g.last_events ∙ none_pending (made ++ h) (kept_both ∙ calm))) g.last_spelled in (
         g.added,
         g.keeps (kept_both ∙ calm),
         subst (λ (xs : List (List ℕ)). AtEachMoment clock since first.journal.disk last.journal.disk (HasFront payloads xs)) (ap (λ (xs : List (List ℕ)). g.added ++ xs) nothing ∙ append-nil g.added) g.moments,

@@ -3,7 +3,7 @@
 use Rattle.std.proofs.Common.{◌≡◌, ◌⊎◌, ◌∙◌, ◌+◌, inl, inr, ℕ, zero, suc, true, false, List, [], ◌∷◌, ◌++◌, length, take, Option, Some, None, refl, sym, ap, subst, append_assoc, append-nil}
 use Rattle.std.proofs.lemmas.List.{map-append, take-map}
 use Rattle.std.proofs.Math.Seq.{take-nil}
-use Rattle.std.specs.Prelude.{fold, IfSome, IsSome, IsSomeAnd}
+use Rattle.std.specs.Prelude.{Bool, if◌then◌else◌, fold, IfSome, IsSome, IsSomeAnd}
 use Rattle.std.proofs.lemmas.List.Sums.{fold-append}
 use Rattle.jp_disk.specs.Moments.{AtEachMoment}
 use Rattle.jp_disk.proofs.MomentLemmas.{runs_on, at_each_weaker}
@@ -16,13 +16,17 @@ use Rattle.model_run.specs.declared.event.Event.{Event}
 use Rattle.model_run.specs.declared.event.Event.TheVariants as event
 use Rattle.model_run.specs.State.{Setting}
 use Rattle.model_run.specs.World as W
+use Rattle.image_form.specs.declared.image.Image.{Image}
 use Rattle.settle_laws.specs.Stances.{Stance}
 use Rattle.build_core.specs.Builds.{StandsFor, setting_in}
 use Rattle.build_images.specs.Images.{world_image}
-use Rattle.store_laws.specs.Store.{AllDue, AllSpell, FirstStarts, Follows, Starts, events_of}
+use Rattle.store_laws.specs.Store.{AllDue, FirstStarts, Follows, Starts, Told, events_of, last_image}
+use Rattle.store_laws.proofs.Payloads.{image_behind_more, told_append}
 use Rattle.store_laws.proofs.Stories.{world-more}
-use Rattle.durable_build.specs.Standing.{Kept}
-use Rattle.durable_build.specs.Taking.{added}
+use Rattle.durable_build.specs.Standing.{Kept, world_before}
+use Rattle.durable_build.specs.Taking.{MayAdd}
+use Rattle.durable_build.proofs.OpenLemmas.{begun_all}
+use Rattle.durable_build.proofs.Sizes.{may_add}
 use Rattle.saved_run.specs.Saved.{IsTold, IsFront, Saves, Stores, Survives, journal_length}
 use Rattle.saved_run.specs.Lives.{IsFull as IsFullOf, IsOf, Lasts, Fails, MayRisk, TellsLength, image_after}
 use Rattle.site_state.specs.declared.ask.Entry.{Entry}
@@ -39,18 +43,12 @@ events-append rs qs = map-append (λ (r : EventRecord). r.event) rs qs
 events-take : (k : ℕ) (rs : List EventRecord) → events_of (take k rs) ≡ take k (events_of rs)
 events-take k rs = sym (take-map (λ (r : EventRecord). r.event) k rs)
 
-pub spell_append : (rs qs : List EventRecord) (ps xs : List (List ℕ)) → AllSpell rs ps → AllSpell qs xs → AllSpell (rs ++ qs) (ps ++ xs)
-spell_append [] qs [] xs one two = two
-spell_append [] qs (p ∷ ps) xs one two = absurd one
-spell_append (r ∷ rs) qs [] xs one two = absurd one
-spell_append (r ∷ rs) qs (p ∷ ps) xs one two = (one.0, spell_append rs qs ps xs one.1 two)
-
-spell_take : (k : ℕ) (rs : List EventRecord) (ps : List (List ℕ)) → AllSpell rs ps → AllSpell (take k rs) (take k ps)
-spell_take zero rs ps all = tt
-spell_take (suc k) [] [] all = tt
-spell_take (suc k) [] (p ∷ ps) all = absurd all
-spell_take (suc k) (r ∷ rs) [] all = absurd all
-spell_take (suc k) (r ∷ rs) (p ∷ ps) all = (all.0, spell_take k rs ps all.1)
+told_take : (k : ℕ) (before : Option Image) (rs : List EventRecord) (ps : List (List ℕ)) → Told before rs ps → Told before (take k rs) (take k ps)
+told_take zero before rs ps all = tt
+told_take (suc k) before [] [] all = tt
+told_take (suc k) before [] (p ∷ ps) all = absurd all
+told_take (suc k) before (r ∷ rs) [] all = absurd all
+told_take (suc k) before (r ∷ rs) (p ∷ ps) all = (all.0, told_take k (Some r.image) rs ps all.1)
 
 module _ (s : Setting) where
   pub follows_append : (b : W.Build) (rs qs : List EventRecord) → Follows world_image s b rs → Follows world_image s (fold (W.after_one s) b (events_of rs)) qs → Follows world_image s b (rs ++ qs)
@@ -91,10 +89,10 @@ pub no_records : (rs : List EventRecord) → events_of rs ≡ [] → rs ≡ []
 no_records [] is = refl
 no_records (r ∷ rs) is = absurd (cc)
 
-pub no_payloads : (rs : List EventRecord) (ps : List (List ℕ)) → rs ≡ [] → AllSpell rs ps → ps ≡ []
-no_payloads [] [] none all = refl
-no_payloads [] (p ∷ ps) none all = absurd all
-no_payloads (r ∷ rs) ps none all = absurd (cc)
+pub no_payloads : (before : Option Image) (rs : List EventRecord) (ps : List (List ℕ)) → rs ≡ [] → Told before rs ps → ps ≡ []
+no_payloads before [] [] none all = refl
+no_payloads before [] (p ∷ ps) none all = absurd all
+no_payloads before (r ∷ rs) ps none all = absurd (cc)
 
 -- fronts of events, and of them and one more
 front_all : (xs : List Event) (k : ℕ) → (rest : List Event) × (xs ≡ take k xs ++ rest)
@@ -219,8 +217,9 @@ module _ {D T : Type 0} (reads : D → Option (List ℕ)) (may_leave : D → Lis
     abbrev all_payloads : List (List ℕ)
     all_payloads = grown.added ++ grown.last
 
-    all_spelled : AllSpell all_records all_payloads
-    all_spelled = spell_append grown.records grown.last_records grown.added grown.last grown.spelled grown.last_spelled
+    all_spelled : Told (last_image payloads) all_records all_payloads
+    all_spelled = told_append (last_image payloads) grown.records grown.last_records grown.added grown.last grown.spelled
+        (subst (λ (o : Option Image). Told o grown.last_records grown.last) (image_behind_more None payloads grown.added) grown.last_spelled)
 
     go_on : Follows world_image setting (W.world_in setting es) all_records × AllDue setting (W.world_in setting es) all_records
     go_on = subst (λ (s : Setting). IsMeant s → (W.world_in s es).started ≡ true → StandsFor stance k0.build (W.world_in s es) → Follows world_image s (W.world_in s es) all_records × AllDue s (W.world_in s es) all_records) lasts.goes.same
@@ -230,10 +229,10 @@ module _ {D T : Type 0} (reads : D → Option (List ℕ)) (may_leave : D → Lis
     all_events = events-append grown.records grown.last_records ∙ ap (λ (xs : List Event). xs ++ events_of grown.last_records) grown.events ∙ ap (λ (xs : List Event). tooks h ++ xs) grown.last_events
 
     -- a front of them, told behind the others
-    told_behind : (rs : List EventRecord) (qs : List (List ℕ)) → AllSpell rs qs → Follows world_image setting (W.world_in setting es) rs → AllDue setting (W.world_in setting es) rs → IsTold setting (es ++ events_of rs) (payloads ++ qs)
+    told_behind : (rs : List EventRecord) (qs : List (List ℕ)) → Told (last_image payloads) rs qs → Follows world_image setting (W.world_in setting es) rs → AllDue setting (W.world_in setting es) rs → IsTold setting (es ++ events_of rs) (payloads ++ qs)
     told_behind rs qs spelled follows due = record {
       records = told.records ++ rs;
-      spelled = spell_append told.records rs payloads qs told.spelled spelled;
+      spelled = told_append None told.records rs payloads qs told.spelled spelled;
       story = record {
         starts = starts_append setting told.records rs begun_told told.story.starts;
         follows = follows_append setting W.unbegun told.records rs told.story.follows (subst (λ (xs : List Event). Follows world_image setting (W.world_in setting xs) rs) (sym told.are) follows);
@@ -242,7 +241,7 @@ module _ {D T : Type 0} (reads : D → Option (List ℕ)) (may_leave : D → Lis
       are = events-append told.records rs ∙ ap (λ (xs : List Event). xs ++ events_of rs) told.are;
     }
 
-    stores_behind : (rs : List EventRecord) (qs : List (List ℕ)) (image : List ℕ) → AllSpell rs qs → Follows world_image setting (W.world_in setting es) rs → AllDue setting (W.world_in setting es) rs → Has (payloads ++ qs) image → Stores setting (es ++ events_of rs) image
+    stores_behind : (rs : List EventRecord) (qs : List (List ℕ)) (image : List ℕ) → Told (last_image payloads) rs qs → Follows world_image setting (W.world_in setting es) rs → AllDue setting (W.world_in setting es) rs → Has (payloads ++ qs) image → Stores setting (es ++ events_of rs) image
     stores_behind rs qs image spelled follows due has = record { payloads = payloads ++ qs; has = has; told = told_behind rs qs spelled follows due }
 
     front_follows : (k : ℕ) → Follows world_image setting (W.world_in setting es) (take k all_records)
@@ -295,7 +294,7 @@ module _ {D T : Type 0} (reads : D → Option (List ℕ)) (may_leave : D → Lis
         record {
           kept = es ++ events_of (take k all_records);
           front = front_of risked is k;
-          stores = stores_behind (take k all_records) (take k all_payloads) image (spell_take k all_records all_payloads all_spelled) (front_follows k) (due_take setting k (W.world_in setting es) all_records go_on.1) front.1;
+          stores = stores_behind (take k all_records) (take k all_payloads) image (told_take k (last_image payloads) all_records all_payloads all_spelled) (front_follows k) (due_take setting k (W.world_in setting es) all_records go_on.1) front.1;
         }
 
     -- what survives of the events from before the life survives of all
@@ -355,15 +354,21 @@ module _ {D T : Type 0} (reads : D → Option (List ℕ)) (may_leave : D → Lis
     is_of Stopped ev of = absurd of
 
     sizes : (f : TakeFault) (ev : Option Event) → IsFaultOf setting now f ev → IsFull stance k1 f ev → ((w : W.Build) → StandsFor stance k0.build w → IsSized (setting_in k0.build) (fold (W.after_one (setting_in k0.build)) w (tooks front)) f ev)
-        → IfSome ev (λ e. IsFullOf e (image_after setting (now ++ e ∷ [])) k1.journal.len f)
+        → IfSome ev (λ e. IsFullOf (Some (image_after setting now)) e (image_after setting (now ++ e ∷ [])) k1.journal.len f)
     sizes f None of full size = tt
     sizes Memory (Some e) of full size = tt
     sizes Disk (Some e) of full size = tt
     sizes (Full len add) (Some e) of full size =
-        let at : add ≡ added e (world_image setting (W.after_one setting (fold (W.after_one setting) (W.world_in setting es) (tooks front)) e)) =
-        subst (λ (s : Setting). StandsFor stance k0.build (W.world_in s es) → add ≡ added e (world_image s (W.after_one s (fold (W.after_one s) (W.world_in s es) (tooks front)) e))) lasts.goes.same (λ at. size (W.world_in (setting_in k0.build) es) at) lasts.goes.stands in
+        let behind : W.Build = fold (W.after_one setting) (W.world_in setting es) (tooks front) in
+        let at : MayAdd (world_before setting behind) e (world_image setting (W.after_one setting behind e)) add =
+        subst (λ (s : Setting). StandsFor stance k0.build (W.world_in s es) → let w : W.Build = fold (W.after_one s) (W.world_in s es) (tooks front) in MayAdd (world_before s w) e (world_image s (W.after_one s w e)) add) lasts.goes.same
+        (λ at. size (W.world_in (setting_in k0.build) es) at) lasts.goes.stands in
         let here : fold (W.after_one setting) (W.world_in setting es) (tooks front) ≡ W.world_in setting now = sym (fold-append (W.after_one setting) W.unbegun es (tooks front)) ∙ ap (λ (xs : List Event). W.world_in setting (es ++ xs)) (sym same_tooks) in
-        (full.0, full.1, subst (λ (w : W.Build). add ≡ added e (world_image setting w)) (ap (λ (w : W.Build). W.after_one setting w e) here ∙ sym (world-more setting W.unbegun now e)) at)
+        let world : W.Build = W.world_in setting now in
+        let at_now : MayAdd (world_before setting world) e (world_image setting (W.after_one setting world e)) add = subst (λ (w : W.Build). MayAdd (world_before setting w) e (world_image setting (W.after_one setting w e)) add) here at in
+        let before_is : world_before setting world ≡ Some (image_after setting now) = ap (λ (b : Bool). if b then Some (image_after setting now) else None) (begun_all setting es (tooks h) lasts.goes.begun) in
+        let after_is : world_image setting (W.after_one setting world e) ≡ image_after setting (now ++ e ∷ []) = ap (world_image setting) (sym (world-more setting W.unbegun now e)) in
+        (full.0, full.1, may_add (world_before setting world) (Some (image_after setting now)) (world_image setting (W.after_one setting world e)) (image_after setting (now ++ e ∷ [])) e add before_is after_is at_now)
     sizes Stopped (Some e) of full size = absurd of
 
     -- the journal ends behind the records of the events that were taken
@@ -375,7 +380,7 @@ module _ {D T : Type 0} (reads : D → Option (List ℕ)) (may_leave : D → Lis
     length_told known (Full len add) (Some e) one full file left = full.0 ∙ (grown known).ends ∙ by ((grown known).images file left)
       where
         no_last : (grown known).last ≡ []
-        no_last = no_payloads (grown known).last_records (grown known).last (no_records (grown known).last_records ((grown known).last_events ∙ one)) (grown known).last_spelled
+        no_last = no_payloads (last_image (payloads known ++ (grown known).added)) (grown known).last_records (grown known).last (no_records (grown known).last_records ((grown known).last_events ∙ one)) (grown known).last_spelled
 
         here : (ps : List (List ℕ)) → Has ps file → length (framed ps) + 1 ≡ journal_length file
         here ps has = ap (λ (r : Walked). length (framed r.payloads) + 1) (sym has)

@@ -2,7 +2,7 @@
 //!
 //! [`go_on`] makes the grants that a stop left out, lets the members (executors with their hosts, and the operator with the answers)
 //! work on the build through the program lock, in rounds, and says why the life rests or which fault stopped it. Each event is on
-//! the disk, with the image of the build behind it, before the next one comes.
+//! the disk, with the image of the build behind it or with what it changed, before the next one comes.
 //!
 //! Which events come, and why, stands in `specs/Going`; how a life rests or breaks off in `specs/Lives`; what it makes of the
 //! hosts and of the answers in `specs/Serving`; which orders were given and which lines heard in `specs/Telling`; and lives one

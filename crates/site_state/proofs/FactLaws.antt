@@ -13,16 +13,19 @@ use Rattle.model_run.specs.declared.taken.Taken.{Taken}
 use Rattle.model_run.specs.declared.taken.Taken.TheVariants.{Accepted, NotOpen, WrongPlace, Finished}
 use Rattle.model_run.specs.State.{Setting}
 use Rattle.model_run.specs.World as W
+use Rattle.image_form.specs.declared.image.Image.{Image}
 use Rattle.settle_laws.specs.Stances.{Stance}
 use Rattle.build_core.specs.Builds.{Parts, StandsFor, setting_in}
 use Rattle.build_core.specs.Phases.{has_begun}
 use Rattle.build_images.specs.Images.{world_image, image_in}
-use Rattle.store_laws.specs.Store.{AllSpell, events_of, grant_of}
-use Rattle.store_laws.proofs.Stories.{spell_more, events-more, world-more, due_more, follows_more}
+use Rattle.store_laws.specs.Store.{Told, events_of, grant_of, last_image, record_at}
+use Rattle.store_laws.proofs.Payloads.{image_behind_more}
+use Rattle.store_laws.proofs.Stories.{tell_more, events-more, world-more, due_more, follows_more}
 use Rattle.agent_worker.specs.declared.fault.TakeFault.{TakeFault}
 use Rattle.agent_worker.specs.declared.fault.TakeFault.TheVariants.{Memory, Disk, Full, Stopped}
-use Rattle.durable_build.specs.Standing.{Kept, Keeps}
-use Rattle.durable_build.specs.Taking.{Adds, Risks, IsSized as TellsSize, TakeAnswers, TakeKeeps, TakeLeaves, added}
+use Rattle.durable_build.specs.Standing.{Kept, Keeps, image_before, world_before}
+use Rattle.durable_build.specs.Taking.{Adds, Risks, IsSized as TellsSize, TakeAnswers, TakeKeeps, TakeLeaves}
+use Rattle.durable_build.proofs.Sizes.{may_add}
 use Rattle.site_state.specs.declared.ask.Entry.{Entry}
 use Rattle.site_state.specs.declared.ask.Entry.TheVariants.{Took, Failed}
 use Rattle.site_state.specs.Histories.{tooks, kept_fault, at_risk, Quiet}
@@ -44,10 +47,10 @@ no_records : (rs : List EventRecord) → events_of rs ≡ [] → rs ≡ []
 no_records [] is = refl
 no_records (r ∷ rs) is = absurd (cc)
 
-no_payloads : (rs : List EventRecord) (ps : List (List ℕ)) → rs ≡ [] → AllSpell rs ps → ps ≡ []
-no_payloads [] [] none all = refl
-no_payloads [] (p ∷ ps) none all = absurd all
-no_payloads (r ∷ rs) ps none all = absurd (cc)
+no_payloads : (before : Option Image) (rs : List EventRecord) (ps : List (List ℕ)) → rs ≡ [] → Told before rs ps → ps ≡ []
+no_payloads before [] [] none all = refl
+no_payloads before [] (p ∷ ps) none all = absurd all
+no_payloads before (r ∷ rs) ps none all = absurd (cc)
 
 -- fronts of a list
 front_within : (xs ys : List (List ℕ)) (k : ℕ) → (n : ℕ) × (take k xs ≡ take n (xs ++ ys))
@@ -112,7 +115,7 @@ module _ {D T : Type 0} (reads : D → Option (List ℕ)) (may_leave : D → Lis
   no_last_records = no_records g.last_records (g.last_events ∙ none_pending h none)
 
   none_last : g.last ≡ []
-  none_last = no_payloads g.last_records g.last no_last_records g.last_spelled
+  none_last = no_payloads (last_image (ps ++ g.added)) g.last_records g.last no_last_records g.last_spelled
 
   only_added : g.added ++ g.last ≡ g.added
   only_added = ap (λ (xs : List (List ℕ)). g.added ++ xs) none_last ∙ append-nil g.added
@@ -145,7 +148,7 @@ module _ {D T : Type 0} (reads : D → Option (List ℕ)) (may_leave : D → Lis
           records = g.records ++ r ∷ [];
           events = events-more g.records r ∙ ap (λ (es : List Event). es ++ e ∷ []) g.events ∙ sym (tooks-append h (Took e ∷ []));
           added = all;
-          spelled = spell_more g.records g.added r p g.spelled a.puts.spells;
+          spelled = tell_more (last_image ps) g.records g.added r p g.spelled (subst (λ (o : Option Image). record_at o p ≡ Some r) (image_behind_more None ps g.added) a.puts.tells);
           last_records = [];
           last_events = sym (pending-append h (Took e ∷ []) none);
           last = [];
@@ -188,7 +191,7 @@ module _ {D T : Type 0} (reads : D → Option (List ℕ)) (may_leave : D → Lis
           last_records = record_of e (image_in stance new.build) ∷ [];
           last_events = sym (pending-append h (Failed Disk (Some e) ∷ []) none);
           last = p ∷ [];
-          last_spelled = (a.puts.spells, tt);
+          last_spelled = (a.puts.tells, tt);
           go_on = on;
           ends = len ∙ g.ends;
           keeps = λ is. absurd (fault_not_none h Disk (Some e) none is);
@@ -346,14 +349,15 @@ module _ {D T : Type 0} (reads : D → Option (List ℕ)) (may_leave : D → Lis
           → (IsErrOf r Disk → Rose (faults old.journal.disk) (faults new.journal.disk)) → (¬ (IsErrOf r Disk) → faults new.journal.disk ≡ faults old.journal.disk)
           → Known opening new (h ++ noted e r)
       facts_one counts_now e (Ok Accepted) run order answers leaves size setting stands keeps cause calm =
-          facts_more e (calm (λ is. cc)) (omega (arith, leaves.2)) leaves.0 leaves.1 order (record { accepted = sym answers.1; setting = setting; stands = stands }) keeps
+          facts_more e (calm (λ is. cc)) (omega (arith, leaves.2.2)) leaves.0 leaves.1 order (record { accepted = sym answers.1; setting = setting; stands = stands }) keeps
       facts_one counts_now e (Ok NotOpen) run order answers leaves size setting stands keeps cause calm = facts_same leaves
       facts_one counts_now e (Ok (WrongPlace kept)) run order answers leaves size setting stands keeps cause calm = facts_same leaves
       facts_one counts_now e (Ok Finished) run order answers leaves size setting stands keeps cause calm = facts_same leaves
       facts_one counts_now e (Err Memory) run order answers leaves size setting stands keeps cause calm = facts_still Memory None refl memory_disk tt (λ w at. tt) leaves.1
       facts_one counts_now e (Err Disk) run order answers leaves size setting stands keeps cause calm = facts_torn counts_now e leaves.1 (cause refl) order answers.1 keeps
       facts_one counts_now e (Err (Full len add)) run order answers leaves size setting stands keeps cause calm =
-          facts_still (Full len add) (Some e) refl (full_disk len add) (answers.2 ∙ ap (λ j. j.len) (sym leaves.1), answers.3, answers.4) (λ w at. answers.4 ∙ ap (added e) (size w at)) leaves.1
+          facts_still (Full len add) (Some e) refl (full_disk len add) (answers.2 ∙ ap (λ j. j.len) (sym leaves.1), answers.3, (image_before stance old.build, (answers.4.0, answers.4.1.tells, answers.4.2)))
+          (λ w at. may_add (image_before stance old.build) (world_before (setting_in old.build) w) (image_in stance new.build) (world_image (setting_in old.build) (W.after_one (setting_in old.build) w e)) e add (size.1 w at) (size.0 w at) (answers.4.0, answers.4.1.tells, answers.4.2)) leaves.1
       facts_one counts_now e (Err Stopped) run order answers leaves size setting stands keeps cause calm = absurd (true_false (sym answers ∙ run))
 
     -- want of memory is noted

@@ -1,6 +1,6 @@
 -- One grant, and the grants behind it.
 use Rattle.std.proofs.Common.{◌≡◌, ◌<◌, ◌≤◌, ◌+◌, ◌∙◌, ℕ, true, false, List, [], ◌∷◌, ◌++◌, Option, Some, None, Result, Ok, Err, refl, sym, ap, subst, append_assoc, append-nil, arith}
-use Rattle.std.specs.Prelude.{OnOk}
+use Rattle.std.specs.Prelude.{◌-◌, ◌^◌, OnOk, length, min}
 use Rattle.model_run.specs.declared.event.Event.{Event}
 use Rattle.model_run.specs.declared.event.Event.TheVariants.{Granted}
 use Rattle.model_run.specs.declared.taken.Taken.{Taken}
@@ -10,6 +10,7 @@ use Rattle.settle_laws.specs.Stances.{Stance}
 use Rattle.build_core.specs.Builds.{Parts, StandsFor, setting_in}
 use Rattle.agent_worker.specs.declared.fault.TakeFault.{TakeFault}
 use Rattle.agent_worker.specs.declared.fault.TakeFault.TheVariants.{Memory, Disk, Full, Stopped}
+use Rattle.delta_records.specs.Payloads.{payload_form}
 use Rattle.durable_build.specs.Standing.{Kept}
 use Rattle.durable_build.specs.Taking.{TakeAnswers, TakeLeaves}
 use Rattle.site_state.specs.declared.ask.Entry.{Entry}
@@ -83,19 +84,20 @@ failed_is b e Disk may = refl
 failed_is b e (Full len add) may = refl
 failed_is b e Stopped may = absurd may
 
+-- a record makes the journal longer
+longer_by : (old new size : ℕ) → new ≡ old + min (5 + size) (2 ^ 64 - 1) → old < new
+longer_by old new size is = omega (arith, is)
+
 -- each answer of one take, by what `take` of the build says
 pub one_says : {D T : Type 0} (stance : T → Stance) (old new : Kept D T) (e : Event) (r : Result Taken TakeFault) → old.stopped ≡ false → TakeAnswers stance old new e r → TakeLeaves stance old new e r
     → OnOk r (setting_in new.build ≡ setting_in old.build) → OnOk r ((w : W.Build) → StandsFor stance old.build w → StandsFor stance new.build (W.after_one (setting_in old.build) w e))
-    → (r ≡ Ok Accepted → old.journal.len < new.journal.len) → OneSays stance old new e r
-one_says stance old new e (Ok Accepted) run answers leaves setting stands longer =
-    record { next = record { accepted = sym answers.1; setting = setting; stands = stands }; running = leaves.0; begun = leaves.1; longer = longer refl; within = leaves.3 }
-one_says stance old new e (Ok NotOpen) run answers leaves setting stands longer = (sym answers.1, leaves)
-one_says stance old new e (Ok (WrongPlace kept)) run answers leaves setting stands longer = (sym answers.1, leaves)
-one_says stance old new e (Ok Finished) run answers leaves setting stands longer = (sym answers.1, leaves)
-one_says stance old new e (Err Memory) run answers leaves setting stands longer = tt
-one_says stance old new e (Err Disk) run answers leaves setting stands longer = answers.1
-one_says stance old new e (Err (Full len add)) run answers leaves setting stands longer = (answers.1, answers.3)
-one_says stance old new e (Err Stopped) run answers leaves setting stands longer = absurd (true_false (sym answers ∙ run))
-
-pub longer_by : (old new add : ℕ) → new ≡ old + add → 5 ≤ add → old < new
-longer_by old new add is some = omega (arith, is, some)
+    → OneSays stance old new e r
+one_says stance old new e (Ok Accepted) run answers leaves setting stands =
+    record { next = record { accepted = sym answers.1; setting = setting; stands = stands }; running = leaves.0; begun = leaves.1; longer = longer_by old.journal.len new.journal.len (length (payload_form.spelling leaves.2.0)) leaves.2.2; within = leaves.3 }
+one_says stance old new e (Ok NotOpen) run answers leaves setting stands = (sym answers.1, leaves)
+one_says stance old new e (Ok (WrongPlace kept)) run answers leaves setting stands = (sym answers.1, leaves)
+one_says stance old new e (Ok Finished) run answers leaves setting stands = (sym answers.1, leaves)
+one_says stance old new e (Err Memory) run answers leaves setting stands = tt
+one_says stance old new e (Err Disk) run answers leaves setting stands = answers.1
+one_says stance old new e (Err (Full len add)) run answers leaves setting stands = (answers.1, answers.3)
+one_says stance old new e (Err Stopped) run answers leaves setting stands = absurd (true_false (sym answers ∙ run))

@@ -7,14 +7,15 @@ use Rattle.record_form.specs.declared.record.EventRecord.{EventRecord}
 use Rattle.model_run.specs.declared.event.Event.{Event}
 use Rattle.model_run.specs.State.{Setting}
 use Rattle.model_run.specs.World as W
+use Rattle.image_form.specs.declared.image.Image.{Image}
 use Rattle.settle_laws.specs.Stances.{Stance}
 use Rattle.build_core.specs.Builds.{Parts, StandsFor, setting_in}
 use Rattle.build_images.specs.Images.{world_image, image_in}
-use Rattle.store_laws.specs.Store.{AllDue, AllSpell, Follows, Mean, events_of}
+use Rattle.store_laws.specs.Store.{AllDue, Follows, Mean, Told, events_of, last_image}
 use Rattle.agent_worker.specs.declared.fault.TakeFault.{TakeFault}
 use Rattle.agent_worker.specs.declared.fault.TakeFault.TheVariants.{Memory, Disk, Full, Stopped}
-use Rattle.durable_build.specs.Standing.{Kept, Keeps}
-use Rattle.durable_build.specs.Taking.{added}
+use Rattle.durable_build.specs.Standing.{Kept, Keeps, world_before}
+use Rattle.durable_build.specs.Taking.{MayAdd}
 use Rattle.site_state.specs.declared.ask.Entry.{Entry}
 use Rattle.site_state.specs.declared.ask.Entry.TheVariants.{Took, Claimed, Line, Failed}
 use Rattle.site_state.specs.Histories.{tooks, kept_fault, pending}
@@ -42,12 +43,12 @@ pub record Grown {D T : Type 0} (reads : D → Option (List ℕ)) (may_leave : D
   pub records : List EventRecord
   pub events : events_of records ≡ tooks history
   pub added : List (List ℕ)
-  pub spelled : AllSpell records added
+  pub spelled : Told (last_image payloads) records added
   -- of the event that the disk failed
   pub last_records : List EventRecord
   pub last_events : events_of last_records ≡ pending history
   pub last : List (List ℕ)
-  pub last_spelled : AllSpell last_records last
+  pub last_spelled : Told (last_image (payloads ++ added)) last_records last
   pub go_on : GoOn stance opening.build (records ++ last_records)
   -- the journal ends behind those of the events that were taken
   pub ends : now.journal.len ≡ length (framed (payloads ++ added)) + 1
@@ -57,9 +58,9 @@ pub record Grown {D T : Type 0} (reads : D → Option (List ℕ)) (may_leave : D
   pub moments : AtEachMoment clock since opening.journal.disk now.journal.disk (HasFront payloads (added ++ last))
   pub images : (image : List ℕ) → may_leave now.journal.disk image → Has (payloads ++ added) image ⊎ Has (payloads ++ added ++ last) image
 
--- `Full` tells the length of the journal, and what the record of its event adds, which is too much
+-- `Full` tells the length of the journal, and what the record of its event adds behind some image, which is too much
 abbrev pub IsFull : {D T : Type 0} → (T → Stance) → Kept D T → TakeFault → Option Event → Type 0
-IsFull stance now (Full len add) (Some e) = (len ≡ now.journal.len) × (2 ^ 30 < len + add) × (add ≡ added e (image_in stance now.build))
+IsFull stance now (Full len add) (Some e) = (len ≡ now.journal.len) × (2 ^ 30 < len + add) × ((before : Option Image) × MayAdd before e (image_in stance now.build) add)
 IsFull stance now (Full len add) None = ⊥
 IsFull stance now Memory event = Unit {0}
 IsFull stance now Disk event = Unit {0}
@@ -74,9 +75,9 @@ IsFullAt stance now (Line line ∷ es) = IsFullAt stance now es
 IsFullAt stance now (Failed fault event ∷ es) = IsFull stance now fault event
 
 -- of a kept `Full`, in a history of which this build of the definitions stood before: what it says the record of its event adds is so by
--- the image of the build after it
+-- the images of the builds before it and after it
 abbrev pub IsSized : Setting → W.Build → TakeFault → Option Event → Type 0
-IsSized s w (Full len add) (Some e) = add ≡ added e (world_image s (W.after_one s w e))
+IsSized s w (Full len add) (Some e) = MayAdd (world_before s w) e (world_image s (W.after_one s w e)) add
 IsSized s w (Full len add) None = Unit {0}
 IsSized s w Memory event = Unit {0}
 IsSized s w Disk event = Unit {0}

@@ -21,10 +21,17 @@ use Rattle.model_text.specs.contracts.sequence.Sequence as Sequence
 use Rattle.model_text.specs.contracts.text.Text as Text
 use Rattle.model_values.specs.contracts.cell.Binding as Binding
 use Rattle.model_values.specs.contracts.cell.Cell as Cell
+use Rattle.model_values.specs.contracts.value.Value as Value
 use Rattle.model_run.specs.contracts.event.Event as Event
 use Rattle.model_run.specs.contracts.flow.FlowNode as FlowNode
 use Rattle.model_run.specs.contracts.request.OpenRequest as OpenRequest
 use Rattle.model_run.specs.contracts.site.Site as Site
+use Rattle.model_run.specs.contracts.context.Context as Context
+use Rattle.model_run.specs.contracts.held.Held as Held
+use Rattle.model_run.specs.contracts.wait.Wait as Wait
+use Rattle.image_form.specs.contracts.image.Image as Image
+use Rattle.image_form.specs.contracts.image.ImageFrame as ImageFrame
+use Rattle.image_form.specs.contracts.image.ImageThread as ImageThread
 use Rattle.cell_heap.specs.contracts.heap.Heap as Heap
 use Rattle.model_syntax.specs.contracts.node.NodeForm as NodeForm
 use Rattle.cps_code.specs.contracts.row.Row as Row
@@ -43,6 +50,8 @@ use Rattle.build_core.specs.contracts.build.Build.TheInside as BuildInside
 use Rattle.jp_disk.specs.declared.disk.Disk as Disk
 use Rattle.journal_core.specs.contracts.journal.Journal as Journal
 use Rattle.durable_build.specs.contracts.durable.DurableBuild as DurableBuild
+use Rattle.durable_build.specs.contracts.durable.DurableBuild.TheInside as DurableInside
+use Rattle.durable_build.specs.contracts.store.Last as Last
 use Rattle.site_state.specs.contracts.ask.Ask as Ask
 use Rattle.site_state.specs.contracts.ask.Entry as Entry
 use Rattle.site_state.specs.contracts.ask.Reply as Reply
@@ -176,6 +185,52 @@ shared_send code site heap binding graph log request = declared_send Shared.the_
   ),
 )
 
+-- the image that a build over a disk keeps: field by field
+values_send : IsSend (Sequence.the_row Value.the_row)
+values_send = search (sendable, crosses) depth 40 fits 100000
+
+context_send : IsSend Context.the_row
+context_send = search (sendable, crosses) depth 40 fits 100000
+
+wait_send : IsSend Wait.the_row
+wait_send = search (sendable, crosses) depth 40 fits 100000
+
+held_send : IsSend Held.the_row
+held_send = search (sendable, crosses) depth 40 fits 100000
+
+image_frame_send : IsSend (Chain.the_row Binding.the_row) → IsSend ImageFrame.the_row
+image_frame_send env = declared_send ImageFrame.the_type (search (sendable, crosses) depth 20, (search (sendable, crosses) depth 20, (search (sendable, crosses) depth 20, (env, (values_send, tt)))))
+
+image_thread_send : IsSend ImageFrame.the_row → IsSend ImageThread.the_row
+image_thread_send frame = declared_send ImageThread.the_type (search (sendable, crosses) depth 20, (search (sendable, crosses) depth 20, (search (sendable, crosses) depth 20, (wait_send, (context_send, (search (sendable, crosses) depth 30, tt))))))
+
+image_send : IsSend Binding.the_row → IsSend Cell.the_row → IsSend FlowNode.the_row → IsSend OpenRequest.the_row → IsSend Held.the_row → IsSend ImageThread.the_row → IsSend Image.the_row
+image_send binding cell flow request held thread = declared_send Image.the_type (
+  search (sendable, crosses) depth 20,
+  (
+    search (sendable, crosses) depth 20,
+    (
+      search (sendable, crosses) depth 20,
+      (
+        search (sendable, crosses) depth 20,
+        (
+          search (sendable, crosses) depth 30,
+          (
+            search (sendable, crosses) depth 30,
+            (
+              search (sendable, crosses) depth 30,
+              (search (sendable, crosses) depth 30, (search (sendable, crosses) depth 30, (search (sendable, crosses) depth 30, (search (sendable, crosses) depth 30, tt)))),
+            ),
+          ),
+        ),
+      ),
+    ),
+  ),
+)
+
+last_send : IsSend Image.the_row → IsSend Last.the_row
+last_send image = declared_send Last.the_type (search (sendable, crosses) depth 20, (search (sendable, crosses) depth 20, tt))
+
 pub event_send : IsSend Event.the_row
 event_send = search (sendable, crosses) depth 40
 
@@ -196,8 +251,9 @@ module _ (D R : RattleType) (gd : Disk.Ghosts D.Denot) (gs : ScriptThread.Ghosts
   pub journal_send : IsSend D → IsSend (Journal.the_row D gd)
   journal_send d = search (sendable, crosses) depth 40
 
-  pub durable_send : IsSend (Journal.the_row D gd) → IsSend (Build.the_row R gs gr) → IsSend (DurableBuild.the_row D R gd gs gr)
-  durable_send j b = search (sendable, crosses) depth 40 fits 100000
+  pub durable_send : IsSend (Journal.the_row D gd) → IsSend (Build.the_row R gs gr) → IsSend Last.the_row → IsSend (DurableBuild.the_row D R gd gs gr)
+  durable_send j b l = view_send _ _ _ _ _ (declared_send (DurableInside.the_type D R gd gs gr)
+      (j, (b, (search (sendable, crosses) depth 30, (search (sendable, crosses) depth 30, (l, (search (sendable, crosses) depth 20, tt)))))))
 
   pub state_send : IsSend Entry.the_row → IsSend (DurableBuild.the_row D R gd gs gr) → IsSend (SiteState.the_row D R gd gs gr)
   state_send e d = declared_send (SiteState.the_type D R gd gs gr) (search (sendable, crosses) depth 20, (d, (search (sendable, crosses) depth 30, (search (sendable, crosses) depth 30, tt))))
@@ -226,8 +282,13 @@ module _ (a : NamedLft) (W D R H A : RattleType) (gd : Disk.Ghosts D.Denot) (gs 
   TheProgram = Program.the_row State Ask.the_row Entry.the_row Reply.the_row Base (TheImpl.ghosts D R gd TheImpl.no_dict gv TheImpl.no_dict gs TheImpl.no_dict gr TheImpl.no_dict TheImpl.no_dict)
 
   state_of : IsSend D → IsSend R → IsSend State
-  state_of d r = state_send D R gd gs gr (entry_send event_send) (durable_send D R gd gs gr (journal_send D R gd gs gr d) (build_send R gs gr r
-      (shared_send (code_send (row_send form_send)) site_send (heap_send (cell_send (chain_send Binding.the_row binding_send binding_sync))) binding_send (graph_send flow_send) log_send request_send) (group_send R gs gr r (seated_send R gs gr r))))
+  state_of d r =
+      let binding : IsSend (Chain.the_row Binding.the_row) = chain_send Binding.the_row binding_send binding_sync in
+      let cell : IsSend Cell.the_row = cell_send binding in
+      let shared : IsSend Shared.the_row = shared_send (code_send (row_send form_send)) site_send (heap_send cell) binding_send (graph_send flow_send) log_send request_send in
+      let last : IsSend Last.the_row = last_send (image_send binding_send cell flow_send request_send held_send (image_thread_send (image_frame_send binding))) in
+      state_send D R gd gs gr (entry_send event_send)
+      (durable_send D R gd gs gr (journal_send D R gd gs gr d) (build_send R gs gr r shared (group_send R gs gr r (seated_send R gs gr r))) last)
 
   pass_some : IsSend (PassOf.the_row State Entry.the_row Base) → IsSend (Option.the_row (PassOf.the_row State Entry.the_row Base))
   pass_some p = search (sendable, crosses) depth 20

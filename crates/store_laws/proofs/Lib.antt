@@ -1,3 +1,4 @@
+pub mod Payloads
 pub mod Tellings
 pub mod Stories
 pub mod Starts

@@ -1,8 +1,6 @@
 -- What one record more makes of the records of a build, and which build they tell of.
-use Rattle.std.proofs.Common.{◌≡◌, ℕ, List, [], ◌∷◌, ◌++◌, refl, ap}
+use Rattle.std.proofs.Common.{◌≡◌, ℕ, List, [], ◌∷◌, ◌++◌, refl, sym, ap, ◌∙◌, Option, Some}
 use Rattle.std.specs.Prelude.{fold}
-use Rattle.field_form.specs.Forms.{Spells}
-use Rattle.record_form.specs.Records.{record_form}
 use Rattle.record_form.specs.declared.record.EventRecord.{EventRecord}
 use Rattle.image_form.specs.declared.image.Image.{Image}
 use Rattle.model_run.specs.declared.event.Event.{Event}
@@ -10,35 +8,43 @@ use Rattle.model_run.specs.declared.event.Event.TheVariants as event
 use Rattle.model_run.specs.declared.taken.Taken.TheVariants.{Accepted}
 use Rattle.model_run.specs.State.{Setting}
 use Rattle.model_run.specs.World.{Build, unbegun, answer_to, after_one, next_grant, world_in}
-use Rattle.store_laws.specs.Store.{AllSpell, Starts, FirstStarts, Follows, AllDue, IsStory, events_of, grant_of}
+use Rattle.store_laws.proofs.Payloads.{told_image}
+use Rattle.store_laws.specs.Store.{Told, image_from, record_at, Starts, FirstStarts, Follows, AllDue, IsStory, events_of, grant_of}
 
--- the records spell one more
-pub spell_more : (records : List EventRecord) (payloads : List (List ℕ)) (r : EventRecord) (p : List ℕ) → AllSpell records payloads → Spells record_form r p → AllSpell (records ++ r ∷ []) (payloads ++ p ∷ [])
-spell_more [] [] r p all one = (one, tt)
-spell_more (q ∷ qs) (x ∷ xs) r p all one = (all.0, spell_more qs xs r p all.1 one)
-spell_more [] (x ∷ xs) r p all one = absurd all
-spell_more (q ∷ qs) [] r p all one = absurd all
+-- the records tell one more
+pub tell_more : (before : Option Image) (records : List EventRecord) (payloads : List (List ℕ)) (r : EventRecord) (p : List ℕ) → Told before records payloads → record_at (image_from before payloads) p ≡ Some r
+    → Told before (records ++ r ∷ []) (payloads ++ p ∷ [])
+tell_more before [] [] r p all one = (one, tt)
+tell_more before (q ∷ qs) (x ∷ xs) r p all one = (all.0, tell_more (Some q.image) qs xs r p all.1 (ap (λ (o : Option Image). record_at (image_from o xs) p) (sym (told_image before x q all.0)) ∙ one))
+tell_more before [] (x ∷ xs) r p all one = absurd all
+tell_more before (q ∷ qs) [] r p all one = absurd all
 
 pub events-more : (records : List EventRecord) (r : EventRecord) → events_of (records ++ r ∷ []) ≡ events_of records ++ r.event ∷ []
 events-more [] r = refl
 events-more (q ∷ qs) r = ap (λ (es : List Event). q.event ∷ es) (events-more qs r)
 
--- records that spell these payloads and one more, taken apart
-pub record Apart (records : List EventRecord) (payloads : List (List ℕ)) (p : List ℕ) : Type 0 where
+-- records that these payloads and one more tell, taken apart
+pub record Apart (before : Option Image) (records : List EventRecord) (payloads : List (List ℕ)) (p : List ℕ) : Type 0 where
   pub front : List EventRecord
   pub last : EventRecord
   pub are : records ≡ front ++ last ∷ []
-  pub spelled : AllSpell front payloads
-  pub spells : Spells record_form last p
+  pub spelled : Told before front payloads
+  pub tells : record_at (image_from before payloads) p ≡ Some last
 
-pub apart : (records : List EventRecord) (payloads : List (List ℕ)) (p : List ℕ) → AllSpell records (payloads ++ p ∷ []) → Apart records payloads p
-apart (r ∷ []) [] p all = record { front = []; last = r; are = refl; spelled = tt; spells = all.0 }
-apart (r ∷ (q ∷ qs)) [] p all = absurd all.1
-apart [] [] p all = absurd all
-apart [] (x ∷ xs) p all = absurd all
-apart (r ∷ rs) (x ∷ xs) p all =
-    let more = apart rs xs p all.1 in
-    record { front = r ∷ more.front; last = more.last; are = ap (λ (l : List EventRecord). r ∷ l) more.are; spelled = (all.0, more.spelled); spells = more.spells }
+pub apart : (before : Option Image) (records : List EventRecord) (payloads : List (List ℕ)) (p : List ℕ) → Told before records (payloads ++ p ∷ []) → Apart before records payloads p
+apart before (r ∷ []) [] p all = record { front = []; last = r; are = refl; spelled = tt; tells = all.0 }
+apart before (r ∷ (q ∷ qs)) [] p all = absurd all.1
+apart before [] [] p all = absurd all
+apart before [] (x ∷ xs) p all = absurd all
+apart before (r ∷ rs) (x ∷ xs) p all =
+    let more = apart (Some r.image) rs xs p all.1 in
+    record {
+      front = r ∷ more.front;
+      last = more.last;
+      are = ap (λ (l : List EventRecord). r ∷ l) more.are;
+      spelled = (all.0, more.spelled);
+      tells = ap (λ (o : Option Image). record_at (image_from o xs) p) (told_image before x r all.0) ∙ more.tells;
+    }
 
 -- the world of one event more
 pub world-more : (s : Setting) (b : Build) (es : List Event) (e : Event) → fold (after_one s) b (es ++ e ∷ []) ≡ after_one s (fold (after_one s) b es) e

@@ -1,10 +1,14 @@
 -- The store of a build: what the records of its journal tell (this product's own). A record is an event and the image of the
--- build after it, and its payload is their spelling.
-use Rattle.std.specs.Prelude.{◌≡◌, ◌≤◌, ℕ, List, [], ◌∷◌, length, map, Option, Some, None}
+-- build after it; its payload holds the event, and the image or what the event changed of the image before.
+use Rattle.std.specs.Prelude.{◌≡◌, ◌≤◌, ℕ, List, [], ◌∷◌, length, map, Option, Some, None, Result, Ok, Err}
+use Rattle.std.specs.Option.{option_map}
 use Rattle.journal_core.specs.Records.{Has}
-use Rattle.field_form.specs.Forms.{Spells}
-use Rattle.record_form.specs.Records.{record_form}
+use Rattle.field_form.specs.Forms.{Spells, whole_of}
+use Rattle.record_form.specs.Records.{record_form, record_of}
 use Rattle.record_form.specs.declared.record.EventRecord.{EventRecord}
+use Rattle.delta_form.specs.Applying.{◌>>=◌}
+use Rattle.delta_records.specs.Payloads.{payload_form, event_of_payload, next_image}
+use Rattle.delta_records.specs.declared.payload.Payload.{Payload}
 use Rattle.image_form.specs.declared.image.Image.{Image}
 use Rattle.model_syntax.specs.declared.tree.Tree.{Tree}
 use Rattle.model_syntax.specs.FirstFault.{IsFaultless}
@@ -17,11 +21,47 @@ use Rattle.model_run.specs.State.{Setting}
 use Rattle.model_run.specs.Terms.{term}
 use Rattle.model_run.specs.World.{Build, unbegun, run_limits, setting_of, answer_to, after_one, next_grant}
 
--- each payload is the spelling of its record
-abbrev pub AllSpell : List EventRecord → List (List ℕ) → Type 0
-AllSpell [] [] = Unit {0}
-AllSpell (r ∷ records) (payload ∷ payloads) = Spells record_form r payload × AllSpell records payloads
-AllSpell records payloads = ⊥
+-- what was read, where nothing was at fault
+abbrev pub when_read : {V : Type 0} → Result V ℕ → Option V
+when_read (Ok v) = Some v
+when_read (Err place) = None
+
+-- the payload that the bytes, all of them, spell (docs/FORMATS.md)
+unfoldable pub payload_in : List ℕ → Option Payload
+payload_in bytes = when_read (whole_of payload_form bytes)
+
+-- What a payload tells behind the record with this image: its event, and the image that it holds or that its changes make.
+abbrev pub record_with : Option Image → Payload → Option EventRecord
+record_with before payload = option_map (record_of (event_of_payload payload)) (next_image before payload)
+
+-- what bytes tell there
+abbrev pub record_at : Option Image → List ℕ → Option EventRecord
+record_at before bytes = payload_in bytes >>= record_with before
+
+-- The payloads tell these records, one behind the other, the first of them behind the record with this image.
+abbrev pub Told : Option Image → List EventRecord → List (List ℕ) → Type 0
+Told before [] [] = Unit {0}
+Told before (r ∷ records) (payload ∷ payloads) = (record_at before payload ≡ Some r) × Told (Some r.image) records payloads
+Told before records payloads = ⊥
+
+-- The image of the record that bytes tell behind the record with this image, and that of the last of more payloads. Where bytes
+-- tell none there is none, up to the next payload that holds a whole image.
+abbrev pub image_at : Option Image → List ℕ → Option Image
+image_at before bytes = payload_in bytes >>= next_image before
+
+abbrev pub image_from : Option Image → List (List ℕ) → Option Image
+image_from before [] = before
+image_from before (payload ∷ payloads) = image_from (image_at before payload) payloads
+
+-- the image of the last of all payloads
+abbrev pub last_image : List (List ℕ) → Option Image
+last_image payloads = image_from None payloads
+
+-- Each payload holds the whole image of its record: so the program wrote all of them before it wrote changes.
+abbrev pub AllWhole : List EventRecord → List (List ℕ) → Type 0
+AllWhole [] [] = Unit {0}
+AllWhole (r ∷ records) (payload ∷ payloads) = Spells record_form r payload × AllWhole records payloads
+AllWhole records payloads = ⊥
 
 abbrev pub events_of : List EventRecord → List Event
 events_of records = map (λ r. r.event) records
@@ -30,7 +70,7 @@ events_of records = map (λ r. r.event) records
 pub record Tells (records : List EventRecord) (file : List ℕ) : Type 0 where
   pub payloads : List (List ℕ)
   pub has : Has payloads file
-  pub spelled : AllSpell records payloads
+  pub spelled : Told None records payloads
 
 -- the events that a store has taken
 pub record HasEvents (events : List Event) (file : List ℕ) : Type 0 where

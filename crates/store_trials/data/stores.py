@@ -8,13 +8,16 @@ import sys
 sys.dont_write_bytecode = True
 CRATES = f"{os.path.dirname(os.path.realpath(__file__))}/../.."
 sys.path += [f"{CRATES}/form_trials/data", f"{CRATES}/script_trials/data"]
+from deltas import delta, grown  # noqa: E402
 from image_trials import ASKED, BEGUN, INPUT, OUTSIDE, a_text, an_input, node  # noqa: E402
-from images import NONE, NULL, frame, image, in_cell, name, rows, text, thread, u8, u32, whole  # noqa: E402
+from images import FALSE, NONE, NULL, context, frame, image, in_cell, name, rows, text, thread, u8, u32, whole  # noqa: E402
 
 AGENTS = b'{"job":"demo","agents":[{"name":"m","root":"/w","executors":1}]}'
 INPUT_SCRIPT = b"input 'go?'\n"
 SET_SCRIPT = b"x = 6\ninput 'go?'\necho \"x=${x}\"\n"
 NODE_SCRIPT = b"node { }\n"
+STEPS_SCRIPT = b"node {\n  sh 'make'\n  sh 'ship'\n}\n"
+ROUND_SCRIPT = b"input 'a?'\ninput 'b?'\ninput 'c?'\necho 'over'\n"
 
 
 def start(script):
@@ -26,7 +29,13 @@ def decided(number, proceeds, who):
 
 
 def record(event, after):
+    """A record of an event and of the build after it."""
     return u8(1) + event + after
+
+
+def changes(event, delta_of_it):
+    """A record of an event and of what it changed."""
+    return u8(2) + event + delta_of_it
 
 
 def store(*payloads):
@@ -48,12 +57,13 @@ def asked_image(cell):
                  [thread(0, NONE, 3, u8(0) + u32(1), OUTSIDE, [frame(0, 0, 0, [], []), frame(43, 2, 1, [], [])])])
 
 
+OVER = b"[Pipeline] End of Pipeline\nFinished: SUCCESS\n"
+
+
 def approved(who):
-    """What a build of asked_image(0) keeps when somebody lets it go on: it ends."""
-    log = BEGUN + ASKED + b"Approved by " + who + b"\n[Pipeline] End of Pipeline\nFinished: SUCCESS\n"
-    return record(decided(1, 1, who),
-                  image(3, 1, 0, 1, [name(b"y", 0)], [u8(0) + whole(7)],
-                        [node(0, b""), node(1, b"input", 2), node(6, b"", 3)], log, [], [], []))
+    """What changes of a build of asked_image(0) when somebody lets it go on: it ends."""
+    return changes(decided(1, 1, who), delta(3, 1, 0, 1, nodes=[node(6, b"", 3)], log=b"Approved by " + who + b"\n" + OVER,
+                                             closed=[1], ended_threads=[0]))
 
 
 # NODE_SCRIPT where it waits for an executor, which is free. The nodes of the script: 2 the call of `node`, 3 its
@@ -64,14 +74,169 @@ DUE = image(2, 1, 0, 0, [], [CLOSURE], [node(0, b""), node(2, b"node", 2)], BEGU
             [u32(1, 0) + u8(0) + NONE], [],
             [thread(0, NONE, 3, u8(0) + u32(1), OUTSIDE,
                     [frame(0, 0, 0, [], []), frame(38, 2, 1, [], [in_cell(0)])])])
-# The same where it has got the executor: it ends. Cell 1 is the closure's `it`; the nodes behind that of `node` are its
-# body, the ends of both, and the end.
-ROOMED = image(2, 1, 0, 1, [], [CLOSURE, u8(0) + NULL],
-               [node(0, b""), node(2, b"node", 2), node(3, b"", 3), node(4, b"", 4, start=4), node(5, b"", 5, start=3),
-                node(6, b"", 6)],
-               BEGUN + ASKS + b"Running on m in /w/workspace/demo\n[Pipeline] {\n[Pipeline] }\n[Pipeline] // node\n"
-               + b"[Pipeline] End of Pipeline\nFinished: SUCCESS\n", [], [], [])
-GRANT = record(u8(1) + u32(1, 0), ROOMED)
+# What changes where it has got the executor: it ends. Cell 1 is the closure's `it`; the nodes behind that of `node` are
+# its body, the ends of both, and the end.
+GRANT = changes(u8(1) + u32(1, 0),
+                delta(2, 1, 0, 1, cells=[u32(1) + u8(0) + NULL],
+                      nodes=[node(3, b"", 3), node(4, b"", 4, start=4), node(5, b"", 5, start=3), node(6, b"", 6)],
+                      log=b"Running on m in /w/workspace/demo\n[Pipeline] {\n[Pipeline] }\n[Pipeline] // node\n" + OVER,
+                      closed=[1], ended_threads=[0]))
+
+# STEPS_SCRIPT, two shell steps on an executor. The nodes of the script: 2 the call of `node`, 3 its closure, 4 the block,
+# 5 the first statement, 6 its call, 7 its text; 8, 9 and 10 the second one. The cells: the closure, its `it`, and the
+# texts.
+STEPS = [b"make", b"ship"]
+PLACE = b"/w/workspace/demo"
+IT = [name(b"it", 1)]
+RUNNING = [(b"JOB_NAME", b"demo"), (b"BUILD_NUMBER", b"1"), (b"NODE_NAME", b"m"), (b"EXECUTOR_NUMBER", b"0"),
+           (b"WORKSPACE", PLACE)]
+STEP_CELLS = [CLOSURE, u8(0) + NULL, *map(a_text, STEPS)]
+STEP_NODES = [node(0, b""), node(2, b"node", 2), node(3, b"", 3), node(1, b"sh", 4), node(1, b"sh", 5),
+              node(4, b"", 6, start=4), node(5, b"", 7, start=3), node(6, b"", 8)]
+AROUND = [frame(0, 0, 0, [], []), frame(39, 2, 1, [], [whole(3), whole(4)]), frame(33, 3, 0, [], [])]
+HELD = [u32(0, 1, 1)]
+STARTED = b"Running on m in " + PLACE + b"\n[Pipeline] {\n[Pipeline] sh\n"
+CLOSED = b"[Pipeline] }\n[Pipeline] // node\n" + OVER
+
+
+def u64(value):
+    return u32(0, value)
+
+
+def printed(step):
+    return b"+ " + STEPS[step] + b"\n"
+
+
+def a_task(step, taken):
+    """The open request of this step, of whose log so many bytes are taken."""
+    return (u32(2 + step, 0) + u8(1) + u32(0) + text(PLACE) + text(PLACE) + rows(*(text(a) + text(b) for a, b in RUNNING))
+            + text(STEPS[step]) + u8(0, 0) + u64(taken) + text(b""))
+
+
+def step_frames(step):
+    return [frame(0, 4, step, IT, []), frame(42, 6 + 3 * step, 1, IT, [FALSE, FALSE])]
+
+
+def step_log(step):
+    return BEGUN + ASKS + STARTED + (printed(0) + b"[Pipeline] sh\n" if step == 1 else b"")
+
+
+def step_image(step, taken):
+    return image(3 + step, 1, 0, 0, [], STEP_CELLS[:3 + step], STEP_NODES[:4 + step],
+                 step_log(step) + printed(step)[:taken], [a_task(step, taken)], HELD,
+                 [thread(0, NONE, 5 + step, u8(0) + u32(2 + step), context([1], [PLACE], []),
+                         AROUND + step_frames(step))])
+
+
+def step_thread(step, kept_frames, frames):
+    return (u32(0) + NONE + u32(5 + step) + u8(0) + u32(2 + step) + context([1], [PLACE], []) + u32(kept_frames)
+            + rows(*frames))
+
+
+def output(step):
+    return u8(2) + u32(2 + step) + u8(0) + u64(0) + text(printed(step))
+
+
+def exited(step):
+    return u8(3) + u32(2 + step, 0)
+
+
+def takes(step):
+    """The record of what a step printed: the task grows."""
+    return (record(output(step), step_image(step, len(printed(step)))),
+            changes(output(step), delta(3 + step, log=printed(step), requests=[grown(2 + step, len(printed(step)), b"")],
+                                        held=HELD)))
+
+
+# The executor is got: of the thread's two frames the outer one is the same. The first step has ended, and the next one
+# begins: three frames are. The second one has ended, and so has the build.
+STEPS_GRANTED = (record(u8(1) + u32(1, 0), step_image(0, 0)),
+                 changes(u8(1) + u32(1, 0),
+                         delta(3, cells=[u32(1) + STEP_CELLS[1], u32(2) + STEP_CELLS[2]], nodes=STEP_NODES[2:4], log=STARTED,
+                               closed=[1], requests=[u8(0) + a_task(0, 0)], held=HELD,
+                               threads=[step_thread(0, 1, AROUND[1:] + step_frames(0))])))
+STEPS_NEXT = (record(exited(0), step_image(1, 0)),
+              changes(exited(0), delta(4, cells=[u32(3) + STEP_CELLS[3]], nodes=STEP_NODES[4:5], log=b"[Pipeline] sh\n",
+                                       closed=[2], requests=[u8(0) + a_task(1, 0)], held=HELD,
+                                       threads=[step_thread(1, 3, step_frames(1))])))
+STEPS_OVER = (record(exited(1), image(4, 1, 0, 1, [], STEP_CELLS, STEP_NODES, step_log(1) + printed(1) + CLOSED, [], [], [])),
+              changes(exited(1), delta(4, 1, 0, 1, nodes=STEP_NODES[5:], log=CLOSED, closed=[3], ended_threads=[0])))
+
+# ROUND_SCRIPT asks three times. The nodes of the script: 1 the first statement, 2 its call, 3 its argument, and so on;
+# each text gets a cell.
+WORDS = [b"a?", b"b?", b"c?"]
+
+
+def asked(word):
+    return b"[Pipeline] input\n" + word + b"\nProceed or Abort\n"
+
+
+def asking(number):
+    """The thread that asks for the time of this number."""
+    return [frame(0, 0, number - 1, [], []), frame(43, 3 * number - 1, 1, [], [])]
+
+
+def round_log(number):
+    return BEGUN + b"Approved by ann\n".join(asked(word) for word in WORDS[:number])
+
+
+def round_nodes(number):
+    return [node(0, b"")] + [node(1, b"input", k + 2) for k in range(number)]
+
+
+def round_image(number):
+    """The build that asks for the time of this number: ann let it go on each time before."""
+    return image(number + 1, 1, 0, 0, [], [a_text(word) for word in WORDS[:number]], round_nodes(number),
+                 round_log(number), [an_input(number)], [],
+                 [thread(0, NONE, number + 2, u8(0) + u32(number), OUTSIDE, asking(number))])
+
+
+def round_delta(number):
+    """What changes of round_image(number - 1) to round_image(number): no frame is the same."""
+    return delta(number + 1, cells=[u32(number - 1) + a_text(WORDS[number - 1])], nodes=[node(1, b"input", number + 1)],
+                 log=b"Approved by ann\n" + asked(WORDS[number - 1]), closed=[number - 1],
+                 requests=[u8(0) + an_input(number)],
+                 threads=[u32(0) + NONE + u32(number + 2) + u8(0) + u32(number) + OUTSIDE + u32(0)
+                          + rows(*asking(number))])
+
+
+def yes(number):
+    return decided(number, 1, b"ann")
+
+
+ROUND_BEGIN = record(start(ROUND_SCRIPT), round_image(1))
+# The build that has ended, and what changes of round_image(3) then.
+ROUND_NODES = [node(1, b"echo", 5), node(6, b"", 6)]
+ROUND_LOG = b"Approved by ann\n[Pipeline] echo\nover\n" + OVER
+ROUND_OVER = record(yes(3), image(4, 1, 0, 1, [], [a_text(word) for word in WORDS + [b"over"]],
+                                  round_nodes(3) + ROUND_NODES, round_log(3) + ROUND_LOG, [], [], []))
+ROUND_END = changes(yes(3), delta(4, 1, 0, 1, cells=[u32(3) + a_text(b"over")], nodes=ROUND_NODES, log=ROUND_LOG,
+                                  closed=[3], ended_threads=[0]))
+SECOND = changes(yes(1), round_delta(2))
+# A binding whose cell no image has.
+UNBOUND = changes(yes(1), delta(2, bindings=[name(b"y", 9)]))
+
+
+def gap(number):
+    """Changes of round_image(number - 1) that do not fit it: a cell behind a gap."""
+    return changes(yes(number - 1), delta(number + 1, cells=[u32(5) + a_text(b"b?")], closed=[number - 1],
+                                          requests=[u8(0) + an_input(number)]))
+
+
+def kept(*records):
+    """The records as a program keeps them: all of a build where nothing is kept of it yet, or where what is kept behind
+    the last one of all of it has as many bytes as that one; else what changed."""
+    written, behind = [], 0
+    for all_of_it, changed in records:
+        if not written or behind >= full:
+            written, full, behind = written + [all_of_it], len(all_of_it), 0
+        else:
+            written, behind = written + [changed], behind + len(changed)
+    return store(*written)
+
+
+ROUND = kept((ROUND_BEGIN, None), *((record(yes(k), round_image(k + 1)), changes(yes(k), round_delta(k + 1)))
+                                    for k in (1, 2)), (ROUND_OVER, ROUND_END))
 
 BEGIN = record(start(INPUT_SCRIPT), INPUT)
 # It waits again, as its log does not tell.
@@ -111,6 +276,20 @@ STORES = [
     ("a store with room for the grant that is due", filled(NODE_BEGIN, NODE_ROOM, NODE_WAITS)),
     ("a store without room for the grant that is due", filled(NODE_BEGIN, NODE_ROOM + 1, NODE_WAITS)),
     ("commands that leave each byte of the store", store(NODE_BEGIN, GRANT)),
+    ("a build of which some records hold what changed", ROUND),
+    ("shell steps of which records hold what changed",
+     kept((record(start(STEPS_SCRIPT), DUE), None), STEPS_GRANTED, takes(0), STEPS_NEXT, takes(1), STEPS_OVER)),
+    ("a build of which records hold all, as they did in earlier programs",
+     store(ROUND_BEGIN, *(record(yes(k), round_image(k + 1)) for k in (1, 2)))),
+    ("the same, one question later", store(ROUND_BEGIN, *(record(yes(k), round_image(k + 1)) for k in (1, 2)), ROUND_END)),
+    ("changes of what is not read, before all of a build",
+     store(ROUND_BEGIN, gap(2), record(yes(2), round_image(3)))),
+    ("changes that leave a gap", store(ROUND_BEGIN, SECOND, gap(3))),
+    ("changes that leave a gap, and others behind them", store(ROUND_BEGIN, gap(2), changes(yes(2), round_delta(3)))),
+    ("changes with a byte too many", store(ROUND_BEGIN, SECOND + b"\x00")),
+    ("changes of a third kind", store(ROUND_BEGIN, b"\x03" + SECOND[1:])),
+    ("changes that give an image with a fault", store(ROUND_BEGIN, UNBOUND)),
+    ("changes before all of a build", store(changes(start(ROUND_SCRIPT), round_delta(2)))),
 ]
 
 if __name__ == "__main__":

@@ -17,6 +17,7 @@ returns-in-Ok-clause-created g c = λ file told.
       o.1,
       record {
         holds = o.2;
+        weighs = c.no_record.ensures.1;
         stands = (c.requires.unbegun, c.new.ensures, c.new-in-Ok.ensures);
         story = empty_story g.R.ScriptThread.stance c.args.build c.requires.stands;
       },

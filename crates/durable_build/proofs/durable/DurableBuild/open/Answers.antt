@@ -13,15 +13,16 @@ returns-in-Ok-load-clause-opened g c = λ file told.
     let stance = g.R.ScriptThread.stance in
     let o = c.in-Ok.ensures.found file told in
     let loaded = c.in-Ok-load.loaded in
-    let stands = c.in-Ok-load.ensures.found o.payloads o.holds (c.deref.ensures.value ∙ o.entries_are) in (
+    let found = c.in-Ok-load.ensures.found o.payloads o.holds (c.deref.ensures.value ∙ o.entries_are) in (
       record {
         payloads = o.payloads;
         some = o.some;
         has = o.has;
         keeps = record {
           holds = still_holds D.reads D.may_leave D.clock D.may_have_left_since D.end c.in-Ok.journal c.load.new.journal o.payloads c.in-Ok-load.ensures.quiet c.in-Ok-load.ensures.same.0 o.holds;
-          stands = stands;
-          story = opened_stories stance loaded.build c.in-Ok-load.ensures.stands loaded.script loaded.agents o.payloads o.some stands;
+          weighs = found.1;
+          stands = found.0;
+          story = opened_stories stance loaded.build c.in-Ok-load.ensures.stands loaded.script loaded.agents o.payloads o.some found.0;
         };
       },
       c.in-Ok-load.ensures.quiet.told ∙ c.in-Ok.ensures.told file told,

@@ -1,0 +1,24 @@
+-- What a record may add.
+use Rattle.std.proofs.Common.{◌≡◌, ◌∙◌, ℕ, Option, Some, None, ap, subst}
+use Rattle.image_form.specs.declared.image.Image.{Image}
+use Rattle.model_run.specs.declared.event.Event.{Event}
+use Rattle.record_form.specs.Records.{record_of}
+use Rattle.record_form.specs.declared.record.EventRecord.{EventRecord}
+use Rattle.delta_records.specs.declared.payload.Payload.{Payload}
+use Rattle.delta_records.specs.declared.payload.Payload.TheVariants as payload
+use Rattle.store_laws.specs.Store.{record_with}
+use Rattle.durable_build.specs.Taking.{MayAdd, added}
+
+-- it may add so much behind the same image, with the same image
+pub may_add : (before front : Option Image) (image now : Image) (e : Event) (add : ℕ) → before ≡ front → image ≡ now → MayAdd before e image add → MayAdd front e now add
+may_add before front image now e add first next adds = subst (λ (i : Image). MayAdd front e i add) next (subst (λ (o : Option Image). MayAdd o e image add) first adds)
+
+-- and where there is no record before, all of the image
+whole_alone : (q : Payload) (e : Event) (image : Image) → record_with None q ≡ Some (record_of e image) → q ≡ payload.Whole e image
+whole_alone (payload.Whole e i) event image is =
+    let same : record_of e i ≡ record_of event image = cc in
+    ap (λ (r : EventRecord). payload.Whole r.event r.image) same
+whole_alone (payload.Changed e delta) event image is = absurd (cc)
+
+pub start_adds : (e : Event) (image : Image) (add : ℕ) → MayAdd None e image add → add ≡ added (payload.Whole e image)
+start_adds e image add (q, tells, is) = is ∙ ap added (whole_alone q e image tells)

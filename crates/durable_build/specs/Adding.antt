@@ -1,0 +1,83 @@
+-- How a record comes into the journal (of private functions alone).
+use Rattle.std.specs.Prelude.{◌≡◌, ◌⊎◌, ◌<◌, ◌≤◌, ◌+◌, ◌-◌, ◌^◌, ℕ, true, false, List, [], ◌∷◌, ◌++◌, length, min, Option, Some, None, Result, Ok, Err}
+use Rattle.journal_core.specs.State.{State, Holds}
+use Rattle.field_form.specs.Forms.{Spells}
+use Rattle.record_form.specs.Records.{record_of}
+use Rattle.record_form.specs.declared.record.EventRecord.{EventRecord}
+use Rattle.image_form.specs.declared.image.Image.{Image}
+use Rattle.delta_form.specs.After.{after}
+use Rattle.delta_form.specs.Applying.{◌>>=◌}
+use Rattle.delta_form.specs.declared.delta.Delta.{Delta}
+use Rattle.delta_records.specs.Payloads.{payload_form}
+use Rattle.delta_records.specs.declared.payload.Payload.{Payload}
+use Rattle.delta_records.specs.declared.payload.Payload.TheVariants as payload
+use Rattle.delta_records.specs.declared.weights.Weights.{Weights}
+use Rattle.model_run.specs.declared.event.Event.{Event}
+use Rattle.agent_worker.specs.declared.fault.TakeFault.{TakeFault}
+use Rattle.agent_worker.specs.declared.fault.TakeFault.TheVariants.{Memory, Disk, Full, Stopped}
+use Rattle.store_laws.specs.Store.{last_image}
+use Rattle.durable_build.specs.Kinds.{is_whole_due, weights_of}
+use Rattle.durable_build.specs.Taking.{HasNoChanges, IsDue, Puts, added}
+
+-- these changes lead to the image
+abbrev pub IsDeltaTo : Delta → Image → Type 0
+IsDeltaTo delta image = (before : Image) × (after before delta ≡ Some image)
+
+-- the changes that the next record is to hold, or that it is to hold a whole image
+abbrev pub IsDueDelta : Weights → Option Image → Image → Option Delta → Type 0
+IsDueDelta w before image None = (is_whole_due w ≡ true) ⊎ HasNoChanges before image
+IsDueDelta w before image (Some delta) = (is_whole_due w ≡ false) × ((before >>= λ i. after i delta) ≡ Some image)
+
+-- the payload that holds them
+abbrev pub payload_of : Event → Image → Option Delta → Payload
+payload_of e image None = payload.Whole e image
+payload_of e image (Some delta) = payload.Changed e delta
+
+-- a payload of so many bytes has room in a journal of this length, or not
+abbrev pub HasRoom : ℕ → ℕ → Result (Unit {0}) TakeFault → Type 0
+HasRoom len size (Ok _) = len + (5 + size) ≤ 2 ^ 30
+HasRoom len size (Err (Full l a)) = (l ≡ len) × (2 ^ 30 < l + a) × (a ≡ min (5 + size) (2 ^ 64 - 1))
+HasRoom len size (Err e) = ⊥
+
+-- the spelling of a payload that has room in a journal of this length
+abbrev pub SpellsDue : ℕ → Payload → Result (List ℕ) TakeFault → Type 0
+SpellsDue len q (Ok bytes) = Spells payload_form q bytes × (len + (5 + length bytes) ≤ 2 ^ 30)
+SpellsDue len q (Err (Full l a)) = (l ≡ len) × (2 ^ 30 < l + a) × (a ≡ added q)
+SpellsDue len q (Err Memory) = Unit {0}
+SpellsDue len q (Err e) = ⊥
+
+-- adding a record, of so many bytes with its frame, to a journal of this length
+abbrev pub AddAnswers : ℕ → ℕ → Result (Unit {0}) TakeFault → Type 0
+AddAnswers len add (Ok _) = len + add ≤ 2 ^ 30
+AddAnswers len add (Err Memory) = Unit {0}
+AddAnswers len add (Err Disk) = len + add ≤ 2 ^ 30
+AddAnswers len add (Err (Full l a)) = (l ≡ len) × (2 ^ 30 < l + a) × (a ≡ add)
+AddAnswers len add (Err Stopped) = ⊥
+
+abbrev pub AddLeaves : {D : Type 0} → State D → State D → ℕ → Result (Unit {0}) TakeFault → Type 0
+AddLeaves old new add (Ok _) = (new.len ≡ old.len + add) × (new.stopped ≡ false)
+AddLeaves old new add (Err Memory) = new ≡ old
+AddLeaves old new add (Err Disk) = new.len ≡ old.len
+AddLeaves old new add (Err (Full l a)) = new ≡ old
+AddLeaves old new add (Err Stopped) = new ≡ old
+
+-- the weights afterwards are those of the records with the new one
+abbrev pub AddKeeps : {D : Type 0} → (D → Option (List ℕ)) → (D → List ℕ → Type 0) → (D → ℕ) → (D → ℕ → List ℕ → Type 0) → State D → State D → EventRecord → Weights → List (List ℕ) → Result (Unit {0}) TakeFault → Type 0
+AddKeeps reads may_leave clock since old new item weights payloads (Ok _) =
+    (puts : Puts clock since old new item payloads) × Holds reads may_leave new (payloads ++ puts.payload ∷ []) × (weights ≡ weights_of (payloads ++ puts.payload ∷ []))
+AddKeeps reads may_leave clock since old new item weights payloads (Err Disk) = Puts clock since old new item payloads
+AddKeeps reads may_leave clock since old new item weights payloads r = Unit {0}
+
+-- What became of the payload that is due, with the weights and the image of the record before.
+pub record Adding {D : Type 0} (reads : D → Option (List ℕ)) (may_leave : D → List ℕ → Type 0) (clock : D → ℕ) (since : D → ℕ → List ℕ → Type 0) (w : Weights) (before : Option Image) (e : Event) (image : Image) (old new : State D) (w' : Weights)
+    (r : Result (Unit {0}) TakeFault) : Type 0 where
+  pub payload : Payload
+  pub due : IsDue w before e image payload
+  pub answers : AddAnswers old.len (added payload) r
+  pub leaves : AddLeaves old new (added payload) r
+  pub keeps : (payloads : List (List ℕ)) → Holds reads may_leave old payloads → before ≡ last_image payloads → w ≡ weights_of payloads
+      → AddKeeps reads may_leave clock since old new (record_of e image) w' payloads r
+
+abbrev pub AddDone : {D : Type 0} → (D → Option (List ℕ)) → (D → List ℕ → Type 0) → (D → ℕ) → (D → ℕ → List ℕ → Type 0) → Weights → Option Image → Event → Image → State D → State D → Weights → Result (Unit {0}) TakeFault → Type 0
+AddDone reads may_leave clock since w before e image old new w' (Err Memory) = new ≡ old
+AddDone reads may_leave clock since w before e image old new w' r = Adding reads may_leave clock since w before e image old new w' r
