@@ -120,7 +120,7 @@ module _ {D T H A : Type 0} (reads : D → Option (List ℕ)) (may_leave : D →
         broke r status is (as_told BreaksSo r DiskFailed says (disk_failed made (accepted_going setting (world_in setting now) next.0 next.1.accepted) (rose refl))) told
     finishes_broken now (take.Full at add) r status takes k says rose is told =
         let next = some_next (IsNext setting now) (ComesSo now) k.fails.refused k.fails.is_next k.caused in
-        let sizes = at_some k.fails.refused next.0 (λ e. IsFullOf e (image_after setting (now ++ e ∷ [])) kept.journal.len (take.Full at add)) next.3 k.fails.full in
+        let sizes = at_some k.fails.refused next.0 (λ e. IsFullOf (Some (image_after setting now)) e (image_after setting (now ++ e ∷ [])) kept.journal.len (take.Full at add)) next.3 k.fails.full in
         let made = made_broken now (take.Full at add) takes k None k.fails.may_risk tt in
         broke r status is (as_said BreaksSo r 14 (full_text at add) says (no_memory made) (full at add made (accepted_going setting (world_in setting now) next.0 next.1.accepted) (record {
           event = next.0;
@@ -131,7 +131,7 @@ module _ {D T H A : Type 0} (reads : D → Option (List ℕ)) (may_leave : D →
         }))) told
     finishes_broken now take.Stopped r status takes k says rose is told =
         let next = some_next (IsNext setting now) (ComesSo now) k.fails.refused k.fails.is_next k.caused in
-        absurd (at_some k.fails.refused next.0 (λ e. IsFullOf e (image_after setting (now ++ e ∷ [])) kept.journal.len take.Stopped) next.3 k.fails.full)
+        absurd (at_some k.fails.refused next.0 (λ e. IsFullOf (Some (image_after setting now)) e (image_after setting (now ++ e ∷ [])) kept.journal.len take.Stopped) next.3 k.fails.full)
 
     finishes_rested : (now : List Event) (status : ℕ) → HeardSo → MadeSo now None → ((world_in setting now).ended ≡ true) ⊎ IdlesSo now → StandsFor stance kept.build (world_in setting now) → TellsRest (StandsFor stance kept.build) (image_in stance kept.build) wrote now_written c d status → EndsSo status
     finishes_rested now status heard made rests stands told =
@@ -195,7 +195,7 @@ less_prop m n = hlevel props
 
 -- the two numbers of a full journal are together too many, whatever the store has
 pub told_long : {D T : Type 0} (stance : T → Stance) (kept : Kept D T) (f : TakeFault) (at add : ℕ) → f ≡ take.Full at add → TellsFault stance kept f → 2 ^ 30 < at + add
-told_long stance kept f at add is told = (subst (λ (x : TakeFault). TellsFault stance kept x) is told).1.1
+told_long stance kept f at add is told = (subst (λ (x : TakeFault). TellsFault stance kept x) is told).2.1
 
 pub ended_long : {D T : Type 0} (stance : T → Stance) (kept : Kept D T) (ended : Result Rest TakeFault) → IfErr ended (λ f. ∥ TellsFault stance kept f ∥₁) → (at add : ℕ) → ended ≡ Err (take.Full at add) → 2 ^ 30 < at + add
 ended_long stance kept ended told at add is =

@@ -1,12 +1,12 @@
 -- Why a consistent store was not opened.
-use Rattle.std.proofs.Common.{◌≡◌, ℕ, List, [], ◌∷◌, refl, sym, ap, ◌∙◌, subst}
+use Rattle.std.proofs.Common.{◌≡◌, ℕ, List, [], ◌∷◌, None, refl, sym, ap, ◌∙◌, subst}
 use Rattle.device_faults.specs.Faults.{Rose}
 use Rattle.journal_core.specs.Records.{Walked}
 use Rattle.record_form.specs.declared.record.EventRecord.{EventRecord}
 use Rattle.model_run.specs.declared.event.Event.{Event}
 use Rattle.model_run.specs.State.{Setting}
 use Rattle.build_images.specs.Images.{world_image}
-use Rattle.store_laws.specs.Store.{AllSpell, IsConsistent, events_of}
+use Rattle.store_laws.specs.Store.{IsConsistent, Told, events_of}
 use Rattle.durable_build.specs.declared.faults.StoreFault.{StoreFault}
 use Rattle.durable_build.specs.declared.faults.StoreFault.TheVariants as fault
 use Rattle.durable_build.specs.Opening.{OpenFails}
@@ -27,9 +27,9 @@ is_consistent setting events file s = record {
   due = s.told.due;
 }
 
-no_events : (records : List EventRecord) (payloads : List (List ℕ)) → payloads ≡ [] → AllSpell records payloads → events_of records ≡ []
+no_events : (records : List EventRecord) (payloads : List (List ℕ)) → payloads ≡ [] → Told None records payloads → events_of records ≡ []
 no_events [] payloads none spelled = refl
-no_events (r ∷ rs) payloads none spelled = absurd (subst (AllSpell (r ∷ rs)) none spelled)
+no_events (r ∷ rs) payloads none spelled = absurd (subst (Told None (r ∷ rs)) none spelled)
 
 pub not_opened : (setting : Setting) (events : List Event) (file : List ℕ) (a b : ℕ) (f : StoreFault) (r : Refusal) → TellsFault f r → OpenFails file f → Stores setting events file → ((at : ℕ) → f ≡ fault.Damaged at → ⊥) → (f ≡ fault.Disk → Rose a b)
     → NotOpened events a b (refusal_status r) (refusal_text r)

@@ -1,8 +1,6 @@
 -- What a store tells that was opened.
-use Rattle.std.proofs.Common.{◌≡◌, ◌<◌, ℕ, true, false, List, [], ◌∷◌, length, Option, inl, inr, refl, sym, ap, ◌∙◌, subst, arith}
+use Rattle.std.proofs.Common.{◌≡◌, ◌<◌, ℕ, true, false, List, [], ◌∷◌, length, Option, Some, None, ◌⊎◌, inl, inr, refl, sym, ap, ◌∙◌, subst, arith}
 use Rattle.journal_core.specs.Records.{Has, Walked}
-use Rattle.field_form.specs.Forms.{Spells}
-use Rattle.record_form.specs.Records.{record_form}
 use Rattle.record_form.specs.declared.record.EventRecord.{EventRecord}
 use Rattle.image_form.specs.declared.image.Image.{Image}
 use Rattle.model_run.specs.State.{Common, Setting}
@@ -13,10 +11,11 @@ use Rattle.build_core.specs.Phases.{has_begun, shown}
 use Rattle.build_core.specs.declared.phase.Phase.{Phase}
 use Rattle.build_core.specs.declared.phase.Phase.TheVariants.{Unbegun, Running, Ended, Stopped}
 use Rattle.build_images.specs.Images.{image_in, world_image}
-use Rattle.store_laws.specs.Store.{AllSpell, IsStory, Starts, events_of}
+use Rattle.store_laws.specs.Store.{IsStory, Starts, Told, events_of, record_at}
 use Rattle.store_laws.proofs.Tellings.{one_record, one_setting}
 use Rattle.durable_build.specs.declared.faults.StoreFault.TheVariants.{Damaged}
-use Rattle.durable_build.specs.Standing.{IsWhole, IsDamagedAt, Kept, Closing, Opening, StandsBy, StandsForStory, last_of}
+use Rattle.durable_build.specs.Standing.{Breaks, IsDamagedAt, IsUnsound, IsWhole, Kept, Closing, Opening, StandsBy, StandsForStory, last_place}
+use Rattle.durable_build.proofs.KindLemmas.{breaks_unclosed}
 use Rattle.durable_build.specs.Opening.{OpenFails, Opened}
 use Rattle.build_commands.specs.Showing.{HasBuild, ShowsBuild}
 
@@ -27,9 +26,9 @@ nothing : 0 < 0 → ⊥
 nothing lt = omega (arith, lt)
 
 -- a record that starts a build starts it in the setting that its script and agents file mean
-same_setting : (s t : Setting) (script agents p : List ℕ) (r : EventRecord) → Opening s script agents p → Spells record_form r p → Starts t r.event → t ≡ s
-same_setting s t script agents p r o spells starts =
-    let same : o.first ≡ r = one_record o.first r p o.spells spells in
+same_setting : (s t : Setting) (script agents p : List ℕ) (r : EventRecord) → Opening s script agents p → record_at None p ≡ Some r → Starts t r.event → t ≡ s
+same_setting s t script agents p r o tells starts =
+    let same : o.first ≡ r = one_record None o.first r p o.tells tells in
     one_setting t s script agents (subst (Starts t) (ap (λ (x : EventRecord). x.event) (sym same) ∙ o.starts) starts) o.mean
 
 -- a build that has begun shows all its nodes
@@ -41,7 +40,7 @@ shown_nodes Stopped u begun = refl
 
 module _ {T : Type 0} (stance : T → Stance) (b : Parts T) (script agents : List ℕ) where
   stands_for : (payloads : List (List ℕ)) (s : Setting) (records : List EventRecord) → 0 < length payloads → StandsBy stance b script agents payloads → StandsForStory stance b payloads
-      → AllSpell records payloads → IsStory world_image s records → StandsFor stance b (world_in s (events_of records))
+      → Told None records payloads → IsStory world_image s records → StandsFor stance b (world_in s (events_of records))
   stands_for [] s records some stands of_story spelled story = absurd (nothing some)
   stands_for (p ∷ ps) s [] some stands of_story spelled story = absurd spelled
   stands_for (p ∷ ps) s (r ∷ rs) some stands of_story spelled story =
@@ -51,10 +50,17 @@ module _ {T : Type 0} (stance : T → Stance) (b : Parts T) (script agents : Lis
   not_damaged : (payloads : List (List ℕ)) (at : ℕ) → 0 < length payloads → StandsBy stance b script agents payloads → IsWhole (setting_in b) (image_in stance b) → IsDamagedAt payloads at → ⊥
   not_damaged [] at some stands whole damaged = nothing some
   not_damaged (p ∷ ps) at some stands whole (inl first) = first.1 (setting_in b) script agents stands.1
-  not_damaged (p ∷ ps) at some stands whole (inr last) =
-      let o = last.4 in
-      let same : last.1 ≡ setting_in b = same_setting (setting_in b) last.1 script agents p o.first stands.1 o.spells (subst (Starts last.1) (sym o.starts) o.mean) in
-      last.5 (image_in stance b) stands.2 (subst (λ (t : Setting). IsWhole t (image_in stance b)) (sym same) whole)
+  not_damaged (p ∷ ps) at some stands whole (inr last) = by last.4
+    where
+      same : last.0 ≡ setting_in b
+      same = let o = last.3 in same_setting (setting_in b) last.0 script agents p o.first stands.1 o.tells (subst (Starts last.0) (sym o.starts) o.mean)
+
+      by : Breaks (p ∷ ps) at ⊎ ((at ≡ last_place 0 p ps) × IsUnsound last.0 (p ∷ ps)) → ⊥
+      by (inl breaks) = let no : Some (image_in stance b) ≡ None = sym stands.2 ∙ breaks_unclosed (p ∷ ps) at breaks in absurd (cc)
+      by (inr (place, (image, closing, unsound))) =
+          let both : Some (image_in stance b) ≡ Some image = sym stands.2 ∙ closing in
+          let is : image_in stance b ≡ image = cc in
+          unsound (subst (λ (t : Setting). IsWhole t image) (sym same) (subst (IsWhole (setting_in b)) is whole))
 
 module _ {D T : Type 0} (reads : D → Option (List ℕ)) (may_leave : D → List ℕ → Type 0) (stance : T → Stance) (file : List ℕ) (k : Kept D T) (o : Opened reads may_leave stance file k) where
   has_some : Has [] file → ⊥
@@ -75,12 +81,12 @@ module _ {D T : Type 0} (reads : D → Option (List ℕ)) (may_leave : D → Lis
     some = has_some;
     sound = sound whole;
     is = λ setting records tells story.
-        let spelled = subst (AllSpell records) (same_payloads tells.payloads o.payloads file tells.has o.has) tells.spelled in
+        let spelled = subst (Told None records) (same_payloads tells.payloads o.payloads file tells.has o.has) tells.spelled in
         is (world_in setting (events_of records)) (stands_for stance k.build k.script k.agents o.payloads setting records o.some o.keeps.stands o.keeps.story spelled story);
   }
 
   -- the last record's image is that of the opened build
-  pub last_is : (p : List ℕ) (ps : List (List ℕ)) (image : Image) → Has (p ∷ ps) file → Closing image (last_of p ps) → image_in stance k.build ≡ image
+  pub last_is : (p : List ℕ) (ps : List (List ℕ)) (image : Image) → Has (p ∷ ps) file → Closing image (p ∷ ps) → image_in stance k.build ≡ image
   last_is p ps image has closing =
       let s = subst (λ (qs : List (List ℕ)). StandsBy stance k.build k.script k.agents qs) (same_payloads o.payloads (p ∷ ps) file o.has has) o.keeps.stands in
-      sym s.2.is ∙ ap (λ (r : EventRecord). r.image) (one_record s.2.last closing.last (last_of p ps) s.2.spells closing.spells) ∙ closing.is
+      let both : Some (image_in stance k.build) ≡ Some image = sym s.2 ∙ closing in cc

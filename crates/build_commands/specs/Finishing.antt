@@ -1,5 +1,5 @@
 -- How a life ends that a command lets go on, with its status and its text (this product's own).
-use Rattle.std.specs.Prelude.{◌≡◌, ◌⊎◌, ◌+◌, ◌<◌, ◌^◌, ℕ, false, List, [], ◌∷◌, ◌++◌, Option, None, true, IfSome, IsSome, IsSomeAnd, Result, Ok, Err}
+use Rattle.std.specs.Prelude.{◌≡◌, ◌⊎◌, ◌+◌, ◌<◌, ◌^◌, ℕ, false, List, [], ◌∷◌, ◌++◌, Option, Some, None, true, IfSome, IsSome, IsSomeAnd, Result, Ok, Err}
 use Rattle.device_faults.specs.Faults.{Rose}
 use Rattle.jp_disk.specs.Moments.{AtEachMoment}
 use Rattle.agent_worker.specs.declared.fault.TakeFault.{TakeFault}
@@ -11,7 +11,7 @@ use Rattle.run_command.specs.Statuses.{world_status, HasLog}
 use Rattle.run_command.specs.Texts.{read_failed_text}
 use Rattle.script_run.specs.declared.rest.Rest.{Rest}
 use Rattle.script_run.specs.declared.rest.Rest.TheVariants.{AnswersFailed}
-use Rattle.durable_build.specs.Taking.{added}
+use Rattle.durable_build.specs.Taking.{MayAdd}
 use Rattle.saved_run.specs.Lives.{image_after, IsNext}
 use Rattle.saved_run.specs.Saved.{Stores, Survives, journal_length}
 use Rattle.build_commands.specs.declared.refusal.Refusal.{Refusal}
@@ -32,7 +32,7 @@ pub record IsFull (Comes : List Event → Event → Type 0) (setting : Setting) 
   pub event : Event
   pub next : ComesNext Comes setting events event
   pub too_long : 2 ^ 30 < len + add
-  pub adds : add ≡ added event (image_after setting (events ++ event ∷ []))
+  pub adds : MayAdd (Some (image_after setting events)) event (image_after setting (events ++ event ∷ [])) add
   pub length_is : IsSome entry → IfSome now (λ file. len ≡ journal_length file)
 
 -- What a life is, is open here: which events it may have taken, why one comes next behind them, behind which nobody goes on, or the answers could not be

@@ -12,4 +12,4 @@ use Rattle.build_commands.specs.Reporting.{IsTooLong}
 pub record IsLed {H A : Type 0} (honest : H → Type 0) (faults : H → ℕ) (calls : H → Option (List Call)) (launches dirs : H → List ℕ) (output : H → ℕ → Stream → List ℕ) (exited : H → ℕ → Option ℤ)
     (left : A → Option (List ℕ)) (source_faults : A → ℕ) (looks : ℕ) (setting : Setting) (hosts rest : List H) (answers unread : A) (history : List Entry) (written now : Option (List ℕ)) (sink_before sink_after status : ℕ) : Type 0 where
   pub lived : Lived honest faults calls launches dirs output exited left source_faults looks setting hosts rest answers unread history
-  pub too_long : status ≡ 14 → ∥ IsTooLong (IsRefused honest faults calls launches dirs output exited left source_faults looks lived.turns) written now sink_before sink_after ∥₁
+  pub too_long : status ≡ 14 → ∥ IsTooLong (IsRefused honest faults calls launches dirs output exited left source_faults looks lived.turns) history written now sink_before sink_after ∥₁

@@ -76,8 +76,8 @@ module _ {H A : Type 0} (honest : H → Type 0) (faults : H → ℕ) (calls : H 
   abbrev pub ComesBy : Setting → List (Turn H A) → List Event → Event → Type 0
   ComesBy setting turns events event = ((is_grant event ≡ true) ⊎ IsRefused turns event) × ((heard : List (List ℕ)) × Comes setting (IsRefused turns) events event heard)
 
-  -- A life over a build, with this history: its members, which are made of these hosts and answers, their turns, which made all of the history, and what they
-  -- became, whatever they were replied; and hosts and answers as they came back.
+  -- A life with this history and the executors of this setting, whatever its members were replied, so that no build is in it: its members, which are made of these
+  -- hosts and answers, their turns, which made all of the history, and what they became; and hosts and answers as they came back.
   pub record Lived (setting : Setting) (hosts rest : List H) (answers unread : A) (history : List Entry) : Type 0 where
     pub new : List (Member H A)
     pub turns : List (Turn H A)

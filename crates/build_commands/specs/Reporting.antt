@@ -1,15 +1,22 @@
 -- How a command ends that lets a build go on, by the counts of its devices and what is written: over any disk, also one that tells none of its
 -- bytes (this product's own).
-use Rattle.std.specs.Prelude.{◌≡◌, ◌⊎◌, ◌+◌, ◌<◌, ◌≤◌, ◌^◌, ℕ, true, List, [], ◌∷◌, ◌++◌, length, Option}
+use Rattle.std.specs.Prelude.{◌≡◌, ◌⊎◌, ◌+◌, ◌<◌, ◌≤◌, ◌^◌, ℕ, true, List, [], ◌∷◌, ◌++◌, length, Option, Some}
+use Rattle.std.specs.List.{AllByRecursion as AllAre}
 use Rattle.device_faults.specs.Faults.{Rose}
 use Rattle.jp_disk.specs.Moments.{AtEachMoment}
 use Rattle.journal_core.specs.Records.{Has, framed}
 use Rattle.image_form.specs.declared.image.Image.{Image}
+use Rattle.record_form.specs.declared.record.EventRecord.{EventRecord}
 use Rattle.model_run.specs.declared.event.Event.{Event}
 use Rattle.model_run.specs.State.{Setting}
-use Rattle.durable_build.specs.Standing.{Closing, Opening, last_of}
-use Rattle.durable_build.specs.Taking.{added}
+use Rattle.store_laws.specs.Store.{Told, events_of, last_image}
+use Rattle.agent_worker.specs.declared.fault.TakeFault.TheVariants.{Full}
+use Rattle.durable_build.specs.Standing.{Closing, Opening}
+use Rattle.durable_build.specs.Taking.{MayAdd}
+use Rattle.site_state.specs.declared.ask.Entry.{Entry}
+use Rattle.site_state.specs.declared.ask.Entry.TheVariants.{Failed}
 use Rattle.site_state.specs.Facts.{HasFront}
+use Rattle.site_state.specs.Histories.{pending, tooks}
 use Rattle.site_gate.specs.Tales.{is_grant}
 use Rattle.run_command.specs.Statuses.{HasLog, status_of}
 use Rattle.run_command.specs.Texts.{read_failed_text}
@@ -37,36 +44,71 @@ image_status image = status_of image.ended image.result
 abbrev pub length_with : List (List ℕ) → ℕ
 length_with payloads = length (framed payloads) + 1
 
--- What becomes of a store that kept these records, whatever they tell, in a life from there on: it has them still, and perhaps others behind them; and with 5
--- perhaps one record more is on it. A crash meanwhile leaves them and the first of those behind them. A log, or its front, is that of the image of the last
--- record of all, with the status of the build of that image; and 14 tells the length of the journal of all of them, which the record of an event would have
--- made too long.
-pub record KeepsRecords {D : Type 0} (may_leave : D → List ℕ → Type 0) (clock : D → ℕ) (since : D → ℕ → List ℕ → Type 0) (old : D) (payloads : List (List ℕ)) (disk : D) (written now : Option (List ℕ)) (sink_before sink_after status : ℕ) : Type 0 where
+-- A log was written, or its front: that of the image of the last of these records, with the status of the build of that image.
+pub record ShowsEnd (payloads : List (List ℕ)) (written now : Option (List ℕ)) (sink_before sink_after status : ℕ) : Type 0 where
+  pub image : Image
+  pub ends : Closing image payloads
+  pub wrote : Writes written now sink_before sink_after image.log (image_status image) status
+
+-- all of these events are grants, which nobody asks for
+abbrev pub AreGrants : List Event → Type 0
+AreGrants events = AllAre (λ e. is_grant e ≡ true) events
+
+-- These are the records of a life with this history, behind the record with the image before: one of each event that was taken, in order, and before them those of the grants that were made at its opening.
+pub record TellTaken (before : Option Image) (history : List Entry) (payloads : List (List ℕ)) : Type 0 where
+  pub granted : List Event
+  pub are_grants : AreGrants granted
+  pub records : List EventRecord
+  pub events : events_of records ≡ granted ++ tooks history
+  pub spelled : Told before records payloads
+
+-- The record that may be on the disk though its take failed: that of the event which the history says that the disk failed; or where the opening was refused, of
+-- which no history tells, that of a grant.
+pub record TellRisked (before : Option Image) (history : List Entry) (payloads : List (List ℕ)) : Type 0 where
+  pub records : List EventRecord
+  pub events : (events_of records ≡ pending history) ⊎ ((history ≡ []) × AreGrants (events_of records))
+  pub spelled : Told before records payloads
+
+-- What becomes of a store that kept these records, whatever they tell, in a life from there on with this history: it has them still, and behind them the records of the
+-- life, and no other; and with 5 perhaps that of the event whose take the disk failed. A crash meanwhile leaves them and the first of those behind them. A log, or
+-- its front, is that of the image of the last record of all, which has one then, with the status of the build of that image; and 14 tells the length of the journal of
+-- all of them, which the record of an event would have made too long. Which image a new record has, nothing says of a build that is no world's.
+pub record KeepsRecords {D : Type 0} (may_leave : D → List ℕ → Type 0) (clock : D → ℕ) (since : D → ℕ → List ℕ → Type 0) (old : D) (payloads : List (List ℕ)) (history : List Entry) (disk : D) (written now : Option (List ℕ)) (sink_before sink_after status : ℕ) : Type 0 where
   pub more : List (List ℕ)
+  pub taken : TellTaken (last_image payloads) history more
   pub risked : List (List ℕ)
+  pub at_risk : TellRisked (last_image (payloads ++ more)) history risked
   pub one : length risked ≤ 1
   pub sure : ¬ (status ≡ 5) → risked ≡ []
   pub at_end : (image : List ℕ) → may_leave disk image → Has (payloads ++ more) image ⊎ Has (payloads ++ more ++ risked) image
   pub moments : AtEachMoment clock since old disk (HasFront payloads (more ++ risked))
-  pub shown : IsBroken status ⊎ ((p : List ℕ) (ps : List (List ℕ)) (image : Image) → payloads ++ more ≡ p ∷ ps → Closing image (last_of p ps) → Writes written now sink_before sink_after image.log (image_status image) status)
+  pub shown : IsBroken status ⊎ ShowsEnd (payloads ++ more) written now sink_before sink_after status
   pub full : status ≡ 14 → (add : ℕ) × (2 ^ 30 < length_with (payloads ++ more) + add) × Tells written now sink_before sink_after (full_text (length_with (payloads ++ more)) add)
 
 -- What becomes of a store whose build is gone on with, whatever its records tell; the setting of the build is that of the first record. Up to a moment a crash
 -- leaves nothing new.
-pub record LeavesStore {D : Type 0} (may_leave : D → List ℕ → Type 0) (clock : D → ℕ) (since : D → ℕ → List ℕ → Type 0) (setting : Setting) (file : List ℕ) (old disk : D) (written now : Option (List ℕ)) (sink_before sink_after status : ℕ) : Type 0 where
+pub record LeavesStore {D : Type 0} (may_leave : D → List ℕ → Type 0) (clock : D → ℕ) (since : D → ℕ → List ℕ → Type 0) (setting : Setting) (file : List ℕ) (history : List Entry) (old disk : D) (written now : Option (List ℕ)) (sink_before sink_after status : ℕ) : Type 0 where
   pub payloads : List (List ℕ)
   pub has : Has payloads file
   pub begun : (p : List ℕ) (ps : List (List ℕ)) → payloads ≡ p ∷ ps → (script : List ℕ) × (agents : List ℕ) × Opening setting script agents p
   pub opened : D
   pub up_to : AtEachMoment clock since old opened (may_leave old)
-  pub keeps : ∥ KeepsRecords may_leave clock since opened payloads disk written now sink_before sink_after status ∥₁
+  pub keeps : ∥ KeepsRecords may_leave clock since opened payloads history disk written now sink_before sink_after status ∥₁
 
--- The record of this event did not fit into the store: it is a grant, or was asked for. The text tells how long the journal is, and what the record would add, with
--- the image that the build has behind the event.
-pub record IsTooLong (Asked : Event → Type 0) (written now : Option (List ℕ)) (sink_before sink_after : ℕ) : Type 0 where
+-- the history says that the record of this event did not fit, with these two numbers: the length of the journal, and what it would add
+abbrev pub IsNoted : List Entry → ℕ → ℕ → Event → Type 0
+IsNoted history len add event = (before : List Entry) × (behind : List Entry) × (history ≡ before ++ Failed (Full len add) (Some event) ∷ behind)
+
+-- The record of this event did not fit into the store: the history says so, of an event that was asked for or of a grant behind one; or the opening was refused, and it
+-- is a grant. The text tells how long the journal is, and what the record would add, with some image behind the event and some image of the record before.
+pub record IsTooLong (Asked : Event → Type 0) (history : List Entry) (written now : Option (List ℕ)) (sink_before sink_after : ℕ) : Type 0 where
   pub event : Event
   pub asked : (is_grant event ≡ true) ⊎ Asked event
+  pub before : Option Image
   pub image : Image
   pub len : ℕ
-  pub too_long : 2 ^ 30 < len + added event image
-  pub told : Tells written now sink_before sink_after (full_text len (added event image))
+  pub add : ℕ
+  pub adds : MayAdd before event image add
+  pub noted : IsNoted history len add event ⊎ ((history ≡ []) × (is_grant event ≡ true))
+  pub too_long : 2 ^ 30 < len + add
+  pub told : Tells written now sink_before sink_after (full_text len add)

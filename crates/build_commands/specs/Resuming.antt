@@ -52,6 +52,6 @@ module _ {D H A : Type 0} (reads : D → Option (List ℕ)) (may_leave : D → L
     goes_on : {status : ℕ} (setting : Setting)
         → IsLed honest host_faults calls launches dirs output exited left source_faults (max setting.site.looks 1) setting hosts rest answers unread history written now sink_before sink_after status
         → HostsStay honest host_faults calls hosts rest → LaunchedOnce launches hosts rest → IfSome (reads old) HasBuild
-        → ((file : List ℕ) → reads old ≡ Some file → LeavesStore may_leave clock since setting file old disk written now sink_before sink_after status)
+        → ((file : List ℕ) → reads old ≡ Some file → LeavesStore may_leave clock since setting file history old disk written now sink_before sink_after status)
         → Reports (faults old) (faults disk) (source_faults answers) (source_faults unread) written now sink_before sink_after status
         → Reopens old disk written now sink_before sink_after status

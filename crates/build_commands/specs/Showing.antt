@@ -10,7 +10,7 @@ use Rattle.build_images.specs.Images.{world_image}
 use Rattle.store_laws.specs.Store.{IsStory, Tells, events_of}
 use Rattle.durable_build.specs.declared.faults.StoreFault.TheVariants.{Damaged}
 use Rattle.durable_build.specs.Opening.{OpenFails}
-use Rattle.durable_build.specs.Standing.{Closing, last_of}
+use Rattle.durable_build.specs.Standing.{Closing}
 use Rattle.build_commands.specs.Texts.{out_of_memory_text, disk_failed_text, no_build_text, damaged_text}
 use Rattle.build_commands.specs.Writing as writing
 use Rattle.build_commands.specs.Writing.{Writes}
@@ -42,10 +42,10 @@ pub data Shows (text_of : Build → List ℕ) (stored : Option (List ℕ)) (befo
   refusal : {text : List ℕ} {status : ℕ} → Decides text_of stored before after status text → 0 < status → writing.Tells old new sink_before sink_after text
       → Shows text_of stored before after old new sink_before sink_after status
 
--- Where a build was shown, its text is that of the last record's image, whatever the other records tell.
+-- Where a build was shown, its text is that of the last record's image, whatever else the records tell.
 abbrev pub ShowsLast : (Image → List ℕ) → List ℕ → Option (List ℕ) → Option (List ℕ) → ℕ → ℕ → ℕ → Type 0
 ShowsLast text_in file old new sink_before sink_after status =
-    (p : List ℕ) (ps : List (List ℕ)) (image : Image) → Has (p ∷ ps) file → Closing image (last_of p ps) → (status ≡ 0) ⊎ (status ≡ 7)
+    (p : List ℕ) (ps : List (List ℕ)) (image : Image) → Has (p ∷ ps) file → Closing image (p ∷ ps) → (status ≡ 0) ⊎ (status ≡ 7)
     → Writes old new sink_before sink_after (text_in image) 0 status
 
 -- The text of a build, for each build of the definitions that it stands for, was written or not; or its memory was refused.

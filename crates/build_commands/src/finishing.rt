@@ -69,7 +69,7 @@ pub fn finish<
         hosts.items result.hosts.items answers result.answers result.history.items (K.written out.old) (K.written out.new) (K.faults out.old) (K.faults out.new) result.status }
     ensures reports { Reports (D.faults durable.journal.disk) (D.faults result.disk) (A.faults answers) (A.faults result.answers) (K.written out.old) (K.written out.new) (K.faults out.old) (K.faults out.new) result.status }
     ensures last { (payloads : List (List ℕ)) → Keeps D.reads D.may_leave R.stance durable payloads
-        → ∥ KeepsRecords D.may_leave D.clock D.may_have_left_since durable.journal.disk payloads result.disk (K.written out.old) (K.written out.new) (K.faults out.old) (K.faults out.new) result.status ∥₁ }
+        → ∥ KeepsRecords D.may_leave D.clock D.may_have_left_since durable.journal.disk payloads result.history.items result.disk (K.written out.old) (K.written out.new) (K.faults out.old) (K.faults out.new) result.status ∥₁ }
     ensures finishes { (setting : Setting) (entry : Option (List ℕ)) (origin : D) (before : List AnEvent)
         → Lasts D.reads D.may_leave D.clock D.may_have_left_since R.stance setting entry origin before before durable
         → ∥ Finished D.reads D.may_leave D.clock D.may_have_left_since H.honest H.faults H.calls H.launches H.dirs H.output H.exited A.left A.faults (max setting.site.looks 1)
@@ -125,7 +125,7 @@ fn live<
     ensures reports { (executors : List SiteExecutor) (hosts : List H) (answers : A) → crew.members.items ≡ members_of executors hosts answers
         → Reports (D.faults durable.journal.disk) (D.faults result.disk) (A.faults answers) (A.faults result.answers) (K.written out.old) (K.written out.new) (K.faults out.old) (K.faults out.new) result.status }
     ensures last { (payloads : List (List ℕ)) → Keeps D.reads D.may_leave R.stance durable payloads
-        → ∥ KeepsRecords D.may_leave D.clock D.may_have_left_since durable.journal.disk payloads result.disk (K.written out.old) (K.written out.new) (K.faults out.old) (K.faults out.new) result.status ∥₁ }
+        → ∥ KeepsRecords D.may_leave D.clock D.may_have_left_since durable.journal.disk payloads result.history.items result.disk (K.written out.old) (K.written out.new) (K.faults out.old) (K.faults out.new) result.status ∥₁ }
     ensures finishes { (hosts : List H) (answers : A) (setting : Setting) (entry : Option (List ℕ)) (origin : D) (before : List AnEvent) → crew.members.items ≡ members_of setting.site.executors hosts answers
         → crew.others.items ≡ reverse (others_of setting.site.executors hosts) → Lasts D.reads D.may_leave D.clock D.may_have_left_since R.stance setting entry origin before before durable
         → ∥ Finished D.reads D.may_leave D.clock D.may_have_left_since H.honest H.faults H.calls H.launches H.dirs H.output H.exited A.left A.faults looks

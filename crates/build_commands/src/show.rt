@@ -26,7 +26,7 @@ use std::alloc::{AllocError, Global};
 /// | 0 | else | the log so far |
 /// | 8 | want of memory | `controller: out of memory` |
 ///
-/// It is the log of the last record's image, whatever the other records tell. Where the store is that of one build, its log is
+/// It is the log of the last record's image, whatever else the records tell. Where the store is that of one build, its log is
 /// that of the world of the events that the store has.
 pub fn log<D: Disk, R: SavedThread + Drop, K: Sink>(alloc: Global, disk: D, out: &mut K) -> Done<D>
     ensures causes { Causes (D.reads disk) (D.faults disk) (D.faults result.disk) (K.faults out.old) (K.faults out.new) result.status }

@@ -1,19 +1,21 @@
 -- What a reader gets of the promises alone, without the code: some sentences of docs/PROOFS.md, derived.
 use Rattle.std.proofs.Common.{◌≡◌, ◌⊎◌, ◌+◌, ◌<◌, ◌^◌, ℕ, max, true, List, [], ◌∷◌, ◌++◌, Some, inl, inr, refl, sym, ap, append-nil, subst, ⊎_elim, arith}
 use Rattle.std.specs.Prelude.{IfSome, is_some, nat_eq}
-use Rattle.std.specs.List.{AllZip, IsDistinct}
+use Rattle.std.specs.List.{AllByRecursion as AllAre, AllZip, IsDistinct}
 use Rattle.std.proofs.Math.Logic.{∥∥₁_map}
 use Rattle.agent_worker.specs.declared.member.Member.{Member}
 use Rattle.agent_worker.specs.declared.member.Member.TheVariants.{Executor, Operator}
 use Rattle.command_words.specs.declared.command.Command.TheVariants.{Resume}
-use Rattle.image_form.specs.declared.image.Image.{Image}
 use Rattle.journal_core.specs.Records.{Has}
-use Rattle.durable_build.specs.Standing.{Closing, last_of}
+use Rattle.launch_laws.specs.Fitting.{AllFit, all_launches, numbered}
+use Rattle.launch_laws.proofs.LifeLaws.{none_fits}
+use Rattle.agent_worker.specs.Serve.{tasks_at}
 use Rattle.model_run.specs.declared.event.Event.{Event}
 use Rattle.model_run.specs.declared.site.Executor.{Executor as SiteExecutor}
 use Rattle.model_run.specs.State.{Setting}
 use Rattle.model_run.specs.World.{world_in}
 use Rattle.saved_run.specs.Saved.{Stores, journal_length}
+use Rattle.store_laws.specs.Store.{last_image}
 use Rattle.site_gate.specs.Tales.{claimed_of}
 use Rattle.site_gate.specs.Turning.{tasks_of}
 use Rattle.site_life.specs.Coming.{EachIs}
@@ -22,12 +24,14 @@ use Rattle.site_life.proofs.WayLaws.{LaunchesMore, MemberLaunches, launches_same
 use Rattle.site_run.specs.Telling.{ClaimedInTime}
 use Rattle.site_crew.specs.Crews.{hosts_in, members_of, others_of}
 use Rattle.run_command.specs.Statuses.{HasRun, world_status}
-use Rattle.build_commands.specs.Reporting.{IsBroken, KeepsRecords, image_status}
+use Rattle.build_commands.specs.Living.{HostsStay}
+use Rattle.build_commands.specs.Reporting.{IsBroken, KeepsRecords, ShowsEnd, TellTaken}
 use Rattle.build_commands.specs.Resuming.{IsUntouched}
 use Rattle.build_commands.specs.Showing.{HasNone}
 use Rattle.build_commands.specs.Texts.{full_text}
 use Rattle.controller.specs.Call.{Call, Devices, Finds, Is, IsUnled, LifeIn, Takes, Tells, Unopened, Writes}
 use Rattle.controller.specs.Causes.{Causes, Stops, ended, waits, cut, unheard, disk_failed, full, no_memory, WentOn}
+use Rattle.controller.specs.Launches.{FitLeft, Launches, executor_hosts, tasks_on}
 use Rattle.controller.specs.Output.{Delivers, Output}
 use Rattle.controller.proofs.CallLemmas.{unrun, world_log}
 
@@ -118,14 +122,15 @@ module _ {D H A : Type 0} (v : Devices D H A) (c : Call D H A) where
   pub went_launches : (setting : Setting) (before : List Event) → WentOn v setting before c → LaunchedSo setting before
   went_launches setting before went = takes_launches setting before (before ++ went.more) went.takes
 
-  -- A `resume` that shows a log, over whichever store that the disk tells and that was opened: it has its records still, and others behind them, and so has each
-  -- image that a crash leaves; log and status are those of the image of the last of all.
+  -- A `resume` that shows a log, over whichever store that the disk tells and that was opened: it has its records still, and behind them those of the events of the
+  -- history and of grants before them, and no other, and so has each image that a crash leaves; the last of all has an image, and log and status are those of it.
   pub record ShowsLastImage (file : List ℕ) : Type 0 where
     pub payloads : List (List ℕ)
     pub more : List (List ℕ)
     pub has : Has payloads file
     pub kept : (image : List ℕ) → v.may_leave c.now image → Has (payloads ++ more) image
-    pub shown : (p : List ℕ) (ps : List (List ℕ)) (image : Image) → payloads ++ more ≡ p ∷ ps → Closing image (last_of p ps) → Writes image.log (image_status image) c
+    pub taken : TellTaken (last_image payloads) c.history more
+    pub shown : ShowsEnd (payloads ++ more) c.old c.new c.sink_before c.sink_after c.status
 
   broken_shows_none : (n : ℕ) → IsBroken n → HasRun n → ⊥
   broken_shows_none n (inl six) run = unrun 6 n six refl run
@@ -136,7 +141,7 @@ module _ {D H A : Type 0} (v : Devices D H A) (c : Call D H A) where
   unopened_shows_none : Unopened v c → HasRun c.status → ⊥
   unopened_shows_none u run = ⊎_elim (λ nine. unrun 9 c.status nine refl run) (⊎_elim (λ five. unrun 5 c.status five refl run) (λ eight. unrun 8 c.status eight refl run)) u.why
 
-  keeps_last : (file : List ℕ) (payloads : List (List ℕ)) (opened : D) → Has payloads file → HasRun c.status → KeepsRecords v.may_leave v.clock v.since opened payloads c.now c.old c.new c.sink_before c.sink_after c.status → ShowsLastImage file
+  keeps_last : (file : List ℕ) (payloads : List (List ℕ)) (opened : D) → Has payloads file → HasRun c.status → KeepsRecords v.may_leave v.clock v.since opened payloads c.history c.now c.old c.new c.sink_before c.sink_after c.status → ShowsLastImage file
   keeps_last file payloads opened has run k =
       let none = k.sure (λ five. broken_shows_none c.status (inr (inl five)) run) in
       record {
@@ -145,6 +150,7 @@ module _ {D H A : Type 0} (v : Devices D H A) (c : Call D H A) where
         has = has;
         kept = λ image left. ⊎_elim (λ all. all)
             (λ all. subst (λ (ps : List (List ℕ)). Has ps image) (append-nil (payloads ++ k.more)) (subst (λ (r : List (List ℕ)). Has (payloads ++ k.more ++ r) image) none all)) (k.at_end image left);
+        taken = k.taken;
         shown = ⊎_elim (λ broken. absurd (broken_shows_none c.status broken run)) (λ shown. shown) k.shown;
       }
 
@@ -152,3 +158,51 @@ module _ {D H A : Type 0} (v : Devices D H A) (c : Call D H A) where
   resume_shows_last output is run file told =
       ⊎_elim (λ unopened. absurd (unopened_shows_none unopened run))
       (λ goes. let leaves = goes.leaves file told in ∥∥₁_map leaves.keeps (keeps_last file leaves.payloads leaves.opened leaves.has run)) ((output.command Resume is).1)
+
+module _ {D H A : Type 0} (v : Devices D H A) where
+  -- the disk told its bytes at the beginning of the call, and they were a consistent store
+  abbrev pub FindsStore : Call D H A → Type 0
+  FindsStore c = (setting : Setting) × (events : List Event) × Finds v setting events c
+
+  -- Calls one after the other, each over a store so found and with what the contract says of launches: each but the first gets the hosts that the one before it
+  -- gave back, and a disk that may leave only what that one may have left, by itself or in a crash.
+  pub data Calls (first : Call D H A) : Call D H A → Type 0 where
+    begins : FindsStore first → Launches v first → Calls first first
+    follows : {last c : Call D H A} → Calls first last → FindsStore c → Launches v c → c.hosts ≡ last.hosts_now
+        → ((image : List ℕ) → v.may_leave c.disk image → v.may_leave last.now image) → Calls first c
+
+  honest_still : (hosts rest : List H) → HostsStay v.honest v.host_faults v.calls hosts rest → AllAre v.honest hosts → AllAre v.honest rest
+  honest_still [] [] stay all = tt
+  honest_still [] (now ∷ rest) stay all = absurd stay
+  honest_still (host ∷ hosts) [] stay all = absurd stay
+  honest_still (host ∷ hosts) (now ∷ rest) stay all = (stay.0.honest_stays.1 all.0, honest_still hosts rest stay.1 all.1)
+
+  finds_of : {first c : Call D H A} → Calls first c → FindsStore c
+  finds_of (begins finds launches) = finds
+  finds_of (follows calls finds launches same left) = finds
+
+  launches_by : {first c : Call D H A} → Calls first c → Launches v c
+  launches_by (begins finds launches) = launches
+  launches_by (follows calls finds launches same left) = launches
+
+  -- One call hands on to the next: the hosts fit what the disk of the next one may leave.
+  pub next_call : (c d : Call D H A) → FindsStore c → Launches v c → d.hosts ≡ c.hosts_now → ((image : List ℕ) → v.may_leave d.disk image → v.may_leave c.now image)
+      → AllAre v.honest c.hosts → FitLeft v c.disk c.hosts → AllAre v.honest d.hosts × FitLeft v d.disk d.hosts
+  next_call c d finds launches same left honest fit = (
+    subst (AllAre v.honest) (sym same) (honest_still c.hosts c.hosts_now launches.stay honest),
+    λ image at setting events stores. subst (λ (hosts : List H). ∥ AllFit setting events (executor_hosts v hosts) ∥₁) (sym same) (launches.fit finds.0 finds.1 finds.2 honest fit image (left image at) setting events stores),
+  )
+
+  -- hosts that have launched nothing fit whatever a disk may leave
+  none_fit : (hosts : List H) (number : ℕ) (setting : Setting) (events : List Event) → AllAre (λ host. v.launches host ≡ []) hosts → AllFit setting events (numbered number (tasks_on v hosts))
+  none_fit [] number setting events none = tt
+  none_fit (host ∷ hosts) number setting events none = (none_fits setting events number (tasks_at (v.launches host) (v.dirs host)) none.0, none_fit hosts (number + 1) setting events none.1)
+
+  module _ (first : Call D H A) (honest : AllAre v.honest first.hosts) (none : AllAre (λ host. v.launches host ≡ []) first.hosts) where
+    fit_at : {c : Call D H A} → Calls first c → AllAre v.honest c.hosts × FitLeft v c.disk c.hosts
+    fit_at (begins finds launches) = (honest, λ image at setting events stores. ∣ none_fit first.hosts 0 setting events none ∣₁)
+    fit_at (follows {last = last} {c = c} calls finds launches same left) = let f = fit_at calls in next_call last c (finds_of calls) (launches_by calls) same left f.0 f.1
+
+    -- Over any number of calls, the first with honest hosts that have launched nothing, no task is launched twice in all of them, on whichever of the hosts.
+    pub calls_launch_once : {c : Call D H A} → Calls first c → IsDistinct nat_eq (all_launches (executor_hosts v c.hosts_now))
+    calls_launch_once {c = c} calls = let f = fit_at calls in (launches_by calls).once (finds_of calls).0 (finds_of calls).1 (finds_of calls).2 f.0 f.1

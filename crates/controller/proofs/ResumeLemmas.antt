@@ -121,7 +121,7 @@ module _ {D H A : Type 0} (v : Devices D H A) (told_image : (d : D) → IfSome (
       by (resume.goes_on setting led stay launched has store reports) is = inr (record {
         setting = setting;
         life = led.lived;
-        leaves = λ file told. subst (λ (m : ℕ). LeavesStore v.may_leave v.clock v.since setting file c.disk c.now c.old c.new c.sink_before c.sink_after m) is (store file told);
+        leaves = λ file told. subst (λ (m : ℕ). LeavesStore v.may_leave v.clock v.since setting file c.history c.disk c.now c.old c.new c.sink_before c.sink_after m) is (store file told);
         too_long = λ fourteen. led.too_long (is ∙ fourteen);
       })
 

@@ -23,8 +23,9 @@ use Rattle.script_run.specs.Standing.{script_setting}
 use Rattle.saved_run.specs.declared.life.BeginFault.{BeginFault}
 use Rattle.saved_run.specs.declared.life.BeginFault.TheVariants as fault
 use Rattle.record_form.specs.declared.record.EventRecord.{EventRecord}
-use Rattle.store_laws.specs.Store.{AllSpell, Mean, events_of}
-use Rattle.saved_run.specs.Lives.{BeginRefuses, StartFails, MayRisk, TellsStart}
+use Rattle.store_laws.specs.Store.{Mean, Told, events_of}
+use Rattle.durable_build.proofs.Sizes.{start_adds}
+use Rattle.saved_run.specs.Lives.{BeginRefuses, StartFails, MayRisk, image_after, TellsStart}
 use Rattle.saved_run.specs.Saved.{Stores, Survives}
 use Rattle.run_command.specs.Files.{HasFault, HasSite, IsRefused, by_fault, by_length, OfFiles, Builds}
 use Rattle.run_command.specs.Statuses.{HasLog, HasRun}
@@ -229,7 +230,7 @@ begin_unrun (begin.full len add) run = unrun 14 14 refl refl run
 begin_unrun (begin.no_memory other) run = unrun 8 8 refl refl run
 
 -- a store without an event has no record
-no_record : (records : List EventRecord) (payloads : List (List ℕ)) → events_of records ≡ [] → AllSpell records payloads → payloads ≡ []
+no_record : (records : List EventRecord) (payloads : List (List ℕ)) → events_of records ≡ [] → Told None records payloads → payloads ≡ []
 no_record [] [] none spelled = refl
 no_record [] (p ∷ ps) none spelled = absurd spelled
 no_record (r ∷ rs) payloads none spelled = absurd (cc)
@@ -474,12 +475,14 @@ module _ {D H A T : Type 0} (v : Devices D H A) (stance : T → Stance) (told_im
   module _ (s a : List ℕ) (tree : Tree) (site : Site) (builds : Builds s a tree site) where
     full_at_once : (len add : ℕ) → TellsStart (script_setting tree site) (StartEvent s a) (fault.Take (take.Full len add)) → Tells (full_text len add) c → IsFullAtOnce v s a c
     full_at_once len add sizes tells =
+        let start : Event = StartEvent s a in
+        let adds = start_adds start (image_after (script_setting tree site) (start ∷ [])) add sizes.2 in
         let all : (2 ^ 30 < 1 + add) × Tells (full_text 1 add) c = subst (λ (l : ℕ). (2 ^ 30 < l + add) × Tells (full_text l add) c) sizes.0 (sizes.1, tells) in
         record {
           setting = script_setting tree site;
           mean = mean_of builds;
-          too_long = subst (λ (m : ℕ). 2 ^ 30 < 1 + m) sizes.2 all.0;
-          told = subst (λ (m : ℕ). Tells (full_text 1 m) c) sizes.2 all.1;
+          too_long = subst (λ (m : ℕ). 2 ^ 30 < 1 + m) adds all.0;
+          told = subst (λ (m : ℕ). Tells (full_text 1 m) c) adds all.1;
         }
 
     unbegun_why : {n : ℕ} {text : List ℕ} {f : BeginFault} → n ≡ c.status → BeginSays f n text → TellsStart (script_setting tree site) (StartEvent s a) f → Tells text c

@@ -137,8 +137,8 @@ module _ {D H A : Type 0} (v : Devices D H A) where
     pub told : v.reads c.disk ≡ Some file
     pub stores : Stores setting events file
 
-  -- A life of a build of this setting, with the history of the call and the members that are made of its hosts and answers: what they did, and what they became. A
-  -- site's number of looks is at least 1.
+  -- A life with the history of the call and the members that are made of its hosts and answers, for the executors of this setting: what they did, and what they
+  -- became, whatever they were replied; which build replied, `Takes` says. A site's number of looks is at least 1.
   abbrev pub LifeIn : Setting → Call D H A → Type 0
   LifeIn setting c = Lived v.honest v.host_faults v.calls v.launches v.dirs v.output v.exited v.left v.source_faults (max setting.site.looks 1) setting c.hosts c.hosts_now c.answers c.answers_now c.history
 

@@ -12,6 +12,7 @@ use Rattle.model_run.specs.declared.event.Event.TheVariants.{Start as StartEvent
 use Rattle.model_run.specs.State.{Setting}
 use Rattle.model_run.specs.World.{world_in}
 use Rattle.store_laws.specs.Store.{Mean}
+use Rattle.delta_records.specs.declared.payload.Payload.TheVariants.{Whole}
 use Rattle.durable_build.specs.Taking.{added}
 use Rattle.saved_run.specs.Lives.{image_after}
 use Rattle.saved_run.specs.Saved.{Stores}
@@ -76,8 +77,8 @@ module _ {D H A : Type 0} (v : Devices D H A) where
   pub record IsFullAtOnce (script agents : List ℕ) (c : Call D H A) : Type 0 where
     pub setting : Setting
     pub mean : Mean script agents setting
-    pub too_long : 2 ^ 30 < 1 + added (StartEvent script agents) (image_after setting (StartEvent script agents ∷ []))
-    pub told : Tells (full_text 1 (added (StartEvent script agents) (image_after setting (StartEvent script agents ∷ [])))) c
+    pub too_long : 2 ^ 30 < 1 + added (Whole (StartEvent script agents) (image_after setting (StartEvent script agents ∷ [])))
+    pub told : Tells (full_text 1 (added (Whole (StartEvent script agents) (image_after setting (StartEvent script agents ∷ []))))) c
 
   -- No build of these files was begun: the store has one, or the disk failed, or memory was wanting, or the `Start` is too long. Of a disk that told its bytes a
   -- crash leaves then what it might have left at the beginning, or the records that the file had; or with 5, where it had none, the `Start`.

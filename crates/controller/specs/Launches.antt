@@ -31,7 +31,7 @@ module _ {D H A : Type 0} (v : Devices D H A) where
     pub enough : (agents : List ℕ) (site : Site) → agents_file agents ≡ Means site → length site.executors ≤ length c.hosts
     -- each host comes back at its place, over any store: honest where it was, its count of faults not lower, and with its calls behind those from before
     pub stay : HostsStay v.honest v.host_faults v.calls c.hosts c.hosts_now
-    -- by each command, over any store: hosts and answers came back as they were, or as the members left them that were made of them, in a life of a build of this setting
+    -- by each command, over any store: hosts and answers came back as they were, or as the members left them that were made of them, in a life whatever they were replied
     pub led : IsUnled c ⊎ ∥ ((setting : Setting) × LifeIn v setting c) ∥₁
     -- and what a host has launched in this call stands behind its launches from before, no task twice, on whichever hosts
     pub launched : LaunchedOnce v.launches c.hosts c.hosts_now

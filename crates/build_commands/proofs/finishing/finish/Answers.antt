@@ -52,9 +52,9 @@ pub returns-in-Err-clause-last : goal.returns-in-Err-clause-last
 returns-in-Err-clause-last g c = λ payloads keeps.
     let D = g.D.Disk in
     let K = g.K.Sink in
-    ∣ subst (λ (d : g.row.D.Denot). KeepsRecords D.may_leave D.clock D.may_have_left_since c.args.durable.journal.disk payloads d (K.written c.args.out.now) (K.written c.tell-status.new.out) (K.faults c.args.out.now) (K.faults c.tell-status.new.out) c.tell-status.result) (sym c.close.ensures)
-    (nothing_kept D.reads D.may_leave D.clock D.may_have_left_since (g.met.D.Disk g.world.𝓛 g.world.𝓜 g.world.𝓡 ((λ s x. x), (λ x. x), (λ x. x), λ x. x)).only_now g.R.ScriptThread.stance c.args.durable payloads
-    (K.written c.args.out.now) (K.written c.tell-status.new.out) (K.faults c.args.out.now) (K.faults c.tell-status.new.out) c.tell-status.result keeps c.tell-status.ensures.status) ∣₁
+    ∣ subst (λ (d : g.row.D.Denot). KeepsRecords D.may_leave D.clock D.may_have_left_since c.args.durable.journal.disk payloads c.new.result.items d (K.written c.args.out.now) (K.written c.tell-status.new.out) (K.faults c.args.out.now) (K.faults c.tell-status.new.out) c.tell-status.result) (sym c.close.ensures)
+    (nothing_kept D.reads D.may_leave D.clock D.may_have_left_since (g.met.D.Disk g.world.𝓛 g.world.𝓜 g.world.𝓡 ((λ s x. x), (λ x. x), (λ x. x), λ x. x)).only_now g.R.ScriptThread.stance c.args.durable payloads c.new.result.items
+    (K.written c.args.out.now) (K.written c.tell-status.new.out) (K.faults c.args.out.now) (K.faults c.tell-status.new.out) c.tell-status.result keeps c.new.ensures.items c.tell-status.ensures.status) ∣₁
 
 pub returns-in-Err-clause-launched : goal.returns-in-Err-clause-launched
 returns-in-Err-clause-launched g c =
