@@ -200,16 +200,10 @@ class Output(Shell):
         log = self.ends("run", 0, "0123456789abcdef", "Finished: SUCCESS")
         self.assertEqual(log.count(b"0123456789abcdef\n"), 8_388_608 // 17)
 
-    def test_a_log_of_100_mebibytes_fills_the_store_and_what_came_before_stays(self):
+    def test_a_log_of_100_mebibytes_ends_the_build_at_the_limit_of_a_log(self):
         self.build("node { echo 'before'; sh '#!/bin/sh\\nyes 0123456789abcdef | head -c 104857600' }")
-        told, status = self.ran("run")
-        self.assertEqual(status, 14)
-        self.assertRegex(told, rb"^program.dat: full: \d+ \+ \d+ > 1073741824\n$")
-        log, status = self.ran("log")
-        self.assertEqual(status, 0)
-        self.assertIn(b"\nbefore\n[Pipeline] sh\n0123456789abcdef\n", log)
-        self.assertGreater(len(log), 11_000_000)
-        self.assertEqual(self.ran("resume"), (told, 14))
+        log = self.ends("run", 1, "before", "[Pipeline] sh", "0123456789abcdef", "Limit reached: log size", "Finished: FAILURE")
+        self.assertGreater(len(log), 16_000_000)
 
     def test_output_of_100_mebibytes_for_the_script_passes_the_longest_text(self):
         self.build("node { def text = sh(script: '#!/bin/sh\\nyes | head -c 104857600', returnStdout: true); echo 'never' }")
@@ -253,9 +247,11 @@ class Tasks(Shell):
         self.build(f"node {{ sh {script('sleep 60')} }}")
         controller = self.start("run")
         self.wait_until(lambda: self.launches(), "a launch")
-        named = subprocess.run("ps -eo pid,args | grep '[d]urable-.*/script.sh'", shell=True, capture_output=True, text=True, check=True).stdout
+        with open(f"{TOP}/docs/USING.md", encoding="utf-8") as page:
+            names, kill = re.findall(r"`((?:ps|kill) [^`]*)`", page.read().split("**To end a step**")[1])[:2]
+        named = subprocess.run(names, shell=True, capture_output=True, text=True, check=True).stdout
         [pid] = [line.split()[0] for line in named.splitlines() if self.room in line]
-        os.kill(int(pid), signal.SIGTERM)
+        subprocess.run(kill.replace("PID", pid), shell=True, check=True)
         log, _ = controller.communicate(timeout=PATIENCE)
         self.assertIn(b"ERROR: script returned exit code 143\n", log)
 
