@@ -170,10 +170,15 @@ SAME, REORDERED, COST = "as the undisturbed run", "as the undisturbed run in ano
 CUT = "as the undisturbed run in another order, with a line that another branch cut"
 
 
+def without_places(log):
+    """A log without the places of nodes and of `dir`, which name the executor that each got."""
+    return re.sub(r"Running (?:on \w+ )?in \S+", "Running", log)
+
+
 def in_any_order(ended, launches):
-    """The lines of a log, without the places of nodes, and those of each step in their order; the status and the number of launches."""
+    """The lines of a log, without places, and those of each step in their order; the status and the number of launches."""
     log, status = ended
-    lines, steps = re.sub("^Running on .*", "Running", log, flags=re.M).split("\n"), collections.defaultdict(list)
+    lines, steps = without_places(log).split("\n"), collections.defaultdict(list)
     for line in lines:
         if step := re.match(r"(?:step )?(\d+)\b", line):
             steps[step[1]].append(line)
@@ -181,9 +186,9 @@ def in_any_order(ended, launches):
 
 
 def letters(ended, launches):
-    """How often each character but the newline stands in a log, without the places of nodes; the status and the number of launches."""
+    """How often each character but the newline stands in a log, without places; the status and the number of launches."""
     log, status = ended
-    return collections.Counter(re.sub("^Running on .*", "Running", log, flags=re.M).replace("\n", "")), status, sum(launches.values())
+    return collections.Counter(without_places(log).replace("\n", "")), status, sum(launches.values())
 
 
 def judged(first, first_launches, second, launches, has_branches):
