@@ -15,9 +15,10 @@ use Rattle.delta_form.specs.Applying.{◌>>=◌, in_turn}
 use Rattle.delta_form.specs.After.{put_cell, put_node}
 use Rattle.delta_form.specs.Deltas.{new_node_parts}
 use Rattle.delta_form.specs.declared.delta.NumberedCell.{NumberedCell}
+use Rattle.delta_form.proofs.Orders.{all_to}
 use Rattle.image_changes.specs.Parts.{as_new}
 use Rattle.image_changes.specs.Walks.{PutsFrom}
-use Rattle.image_changes.proofs.Turns.{all_to, less_is, rises_with}
+use Rattle.image_changes.proofs.Turns.{less_is, rises_with}
 
 abbrev pub numbered : ℕ → Cell → NumberedCell
 numbered place cell = record { number = place; cell = cell }

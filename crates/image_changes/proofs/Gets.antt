@@ -20,6 +20,11 @@ from_item [] k x e = absurd cc
 from_item (y ∷ ys) zero x e = let same : y ≡ x = cc in ap (λ (z : _). z ∷ ys) same
 from_item (y ∷ ys) (suc k) x e = from_item ys k x e
 
+pub first_behind : {X : Type 0} (k : ℕ) (xs : List X) → slice_get (drop k xs) 0 ≡ slice_get xs k
+first_behind zero xs = refl
+first_behind (suc k) [] = ap (λ (l : List _). slice_get l 0) (drop_all (suc k) [] (omega arith))
+first_behind (suc k) (x ∷ xs) = first_behind k xs
+
 pub from_end : {X : Type 0} (xs : List X) (k : ℕ) → slice_get xs k ≡ None → drop k xs ≡ []
 from_end [] k e = drop_all k [] (omega arith)
 from_end (y ∷ ys) zero e = absurd cc

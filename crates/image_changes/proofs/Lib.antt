@@ -8,3 +8,10 @@ pub mod KeptFrames
 pub mod Reaching
 pub mod Leading
 pub mod Necessary
+pub mod Finding
+pub mod Needed
+pub mod OneList
+pub mod OneRenewal
+pub mod OneChange
+pub mod OnePart
+pub mod Least

@@ -42,14 +42,24 @@ pub record Makes (before now : Image) (d : Delta) : Type 0 where
   pub cells : in_turn put_cell d.cells before.cells ≡ Some now.cells
   pub nodes : in_turn put_node d.nodes before.nodes ≡ Some now.nodes
   pub log : now.log ≡ before.log ++ d.log
+  pub requests : requests_after d.closed_requests d.requests before.requests ≡ Some now.requests
+  pub threads : threads_after d.ended_threads d.threads before.threads ≡ Some now.threads
+  pub next_request : d.next_request ≡ now.next_request
+  pub next_thread : d.next_thread ≡ now.next_thread
+  pub result : d.result ≡ now.result
+  pub ended : d.ended ≡ now.ended
+  pub held : d.held ≡ now.held
 
-in_order_is : (before now : Image) (d : Delta) (t : Bool) → (if t then with_changes before d else None) ≡ Some now → with_changes before d ≡ Some now
-in_order_is before now d true e = e
+in_order_is : (before now : Image) (d : Delta) (t : Bool) → (if t then with_changes before d else None) ≡ Some now → (t ≡ true) × (with_changes before d ≡ Some now)
+in_order_is before now d true e = (refl, e)
 in_order_is before now d false e = absurd cc
+
+pub ordered : (before now : Image) (d : Delta) → after before d ≡ Some now → in_order d ≡ true
+ordered before now d e = (in_order_is before now d (in_order d) e).0
 
 pub makes : (before now : Image) (d : Delta) → after before d ≡ Some now → Makes before now d
 makes before now d e =
-    let bindings = bound (changed binding_changes d.bindings before.bindings) _ now (in_order_is before now d (in_order d) e) in
+    let bindings = bound (changed binding_changes d.bindings before.bindings) _ now (in_order_is before now d (in_order d) e).1 in
     let cells = bound (in_turn put_cell d.cells before.cells) _ now bindings.2 in
     let nodes = bound (in_turn put_node d.nodes before.nodes) _ now cells.2 in
     let requests = bound (requests_after d.closed_requests d.requests before.requests) _ now nodes.2 in
@@ -74,6 +84,13 @@ makes before now d e =
       cells = cells.1 ∙ ap (λ (i : Image). Some i.cells) is;
       nodes = nodes.1 ∙ ap (λ (i : Image). Some i.nodes) is;
       log = sym (ap (λ (i : Image). i.log) is);
+      requests = requests.1 ∙ ap (λ (i : Image). Some i.requests) is;
+      threads = threads.1 ∙ ap (λ (i : Image). Some i.threads) is;
+      next_request = ap (λ (i : Image). i.next_request) is;
+      next_thread = ap (λ (i : Image). i.next_thread) is;
+      result = ap (λ (i : Image). i.result) is;
+      ended = ap (λ (i : Image). i.ended) is;
+      held = ap (λ (i : Image). i.held) is;
     }
 
 -- ---- where a part now cannot be made, the image now cannot

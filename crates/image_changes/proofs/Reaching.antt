@@ -134,15 +134,15 @@ module _ {C X : Type 0} (by : X → ℕ) (number : C → ℕ) (made : C → Opti
       (item_added by number made n c (drop old.had before) (drop (suc old.has) now) closed written its makes above (rest_now old.has n at) rest) in
       subst (λ (l : List C). Leads by number made before now (old.gone ++ closed) l) (sym (one_before old.written written c)) (reaches closed (c ∷ written) more)
 
-  pub stayed_reaches : (old new : Walk C) (b n : X) → by b ≡ by n → slice_get before old.had ≡ Some b → slice_get now old.has ≡ Some n → Stays by number made old b n new → Reaches by number made before now old → Reaches by number made before now new
-  stayed_reaches old new b n same at_before at_now (inl (is_same, is)) reaches = subst (Reaches by number made before now) (sym is) λ closed written leads.
+  pub stayed_reaches : (shortest : C → X → Type 0) (old new : Walk C) (b n : X) → by b ≡ by n → slice_get before old.had ≡ Some b → slice_get now old.has ≡ Some n → Stays by number made shortest old b n new → Reaches by number made before now old → Reaches by number made before now new
+  stayed_reaches shortest old new b n same at_before at_now (inl (is_same, is)) reaches = subst (Reaches by number made before now) (sym is) λ closed written leads.
       let rest : LeadsFrom (suc old.had) (suc old.has) closed written = subst (λ (k : ℕ). LeadsFrom (suc old.had) k closed written) (add-one old.has) (subst (λ (k : ℕ). LeadsFrom k (old.has + 1) closed written) (add-one old.had) leads) in
       let above : Above nat_cmp by (by b) (drop (suc old.has) now) = subst (λ (k : ℕ). Above nat_cmp by k (drop (suc old.has) now)) (sym same) (rest_now old.has n at_now) in
       reaches closed written
       (subst (λ (bs : List X). Leads by number made bs (drop old.has now) closed written) (sym (from_item before old.had b at_before))
       (subst (λ (ns : List X). Leads by number made (b ∷ drop (suc old.had) before) ns closed written) (sym (from_item now old.has n at_now ∙ ap (λ (x : X). x ∷ drop (suc old.has) now) (sym is_same)))
       (item_stays by number made b (drop (suc old.had) before) (drop (suc old.has) now) closed written (rest_before old.had b at_before) above rest)))
-  stayed_reaches old new b n same at_before at_now (inr (c, its, makes, is)) reaches = subst (Reaches by number made before now) (sym is) λ closed written leads.
+  stayed_reaches shortest old new b n same at_before at_now (inr (c, (differs, its, makes, short), is)) reaches = subst (Reaches by number made before now) (sym is) λ closed written leads.
       let rest : LeadsFrom (suc old.had) (suc old.has) closed written = subst (λ (k : ℕ). LeadsFrom (suc old.had) k closed written) (add-one old.has) (subst (λ (k : ℕ). LeadsFrom k (old.has + 1) closed written) (add-one old.had) leads) in
       let more : LeadsFrom old.had old.has closed (c ∷ written) =
       subst (λ (bs : List X). Leads by number made bs (drop old.has now) closed (c ∷ written)) (sym (from_item before old.had b at_before))

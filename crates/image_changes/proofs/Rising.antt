@@ -34,7 +34,7 @@ module _ {X : Type 0} (by : X → ℕ) where
   pub rest_above : (k : ℕ) (x : X) (xs : List X) → nat_cmp k (by x) ≡ Less → Rises (map by (x ∷ xs)) → Above nat_cmp by k (x ∷ xs)
   rest_above k x xs less rise = (less, below_rest nat_cmp nat_cmp_total by (λ (n : ℕ). n) (λ c o. None) k x xs less (rises_above x xs rise))
 
-names_behind : (b : Binding) (bs : List Binding) → NamesRise (b ∷ bs) → NamesRise bs
+pub names_behind : (b : Binding) (bs : List Binding) → NamesRise (b ∷ bs) → NamesRise bs
 names_behind b [] rise = tt
 names_behind b (c ∷ bs) rise = rise.1
 

@@ -1,9 +1,12 @@
 -- Tasks that have grown.
-use Rattle.std.proofs.Common.{◌≡◌, ℕ, List, [], ◌++◌, Some, sym, ap}
+use Rattle.std.proofs.Common.{◌≡◌, ◌∙◌, ℕ, List, [], ◌++◌, Option, Some, None, refl, sym, ap}
+use Rattle.std.specs.Option.{option_map}
 use Rattle.model_run.specs.declared.request.Request.{Request}
 use Rattle.model_run.specs.declared.request.Request.TheVariants as request
+use Rattle.model_run.specs.declared.request.OpenRequest.{OpenRequest}
 use Rattle.delta_form.specs.After.{grown}
-use Rattle.image_changes.specs.Growing.{IsSameTask}
+use Rattle.image_changes.specs.Least.{CannotGrow}
+use Rattle.image_changes.specs.Growing.{IsSameTask, TaskGrows}
 
 abbrev pub taken_of : Request → ℕ
 taken_of (request.Task executor workspace folder env script status keep_out taken out) = taken
@@ -22,3 +25,23 @@ out_grown (request.Task e w f v s t k was had) item taken added is =
     let same : request.Task e w f v s t k taken (had ++ added) ≡ item = cc in
     ap out_of (sym same)
 out_grown r item taken added is = absurd cc
+
+pub taken_grown : (stood item : Request) (taken : ℕ) (added : List ℕ) → grown taken added stood ≡ Some item → taken_of item ≡ taken
+taken_grown (request.Task e w f v s t k was had) item taken added is =
+    let same : request.Task e w f v s t k taken (had ++ added) ≡ item = cc in
+    ap taken_of (sym same)
+taken_grown r item taken added is = absurd cc
+
+-- what grows is of the thread that it was of, and its task grows
+pub growth : (stood item : OpenRequest) (taken : ℕ) (added : List ℕ) (o : Option Request) → grown taken added stood.request ≡ o → option_map (λ q. Some (record stood { request = q })) o ≡ Some (Some item)
+    → (stood.thread ≡ item.thread) × (grown taken added stood.request ≡ Some item.request)
+growth stood item taken added None is made = absurd cc
+growth stood item taken added (Some q) is made =
+    let same : record stood { request = q } ≡ item = cc in
+    (ap (λ (r : OpenRequest). r.thread) same, is ∙ ap (λ (r : OpenRequest). Some r.request) same)
+
+pub of_another_thread : (stood item : OpenRequest) → ¬ (stood.thread ≡ item.thread) → CannotGrow stood item
+of_another_thread stood item differs = λ number taken added made. differs (growth stood item taken added (grown taken added stood.request) refl made).0
+
+pub not_grown : (stood item : OpenRequest) → TaskGrows stood.request item.request None → CannotGrow stood item
+not_grown stood item none = λ number taken added made. none taken added (growth stood item taken added (grown taken added stood.request) refl made).1

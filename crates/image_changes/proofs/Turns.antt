@@ -12,11 +12,8 @@ use Rattle.std.proofs.lemmas.Bool.{eqb-true}
 use Rattle.delta_form.specs.Applying.{◌>>=◌, in_turn}
 use Rattle.delta_form.specs.Changes.{Changing, Parted, changed, changed_at, part_before, parted, rising}
 use Rattle.delta_form.specs.After.{are_apart}
+use Rattle.delta_form.proofs.Orders.{all_to}
 use Rattle.image_changes.specs.Walks.{Above}
-
-pub all_to : {A : Type 0} (P Q : A → Type 0) → ((x : A) → P x → Q x) → (xs : List A) → AllAre P xs → AllAre Q xs
-all_to P Q to [] all = tt
-all_to P Q to (x ∷ xs) all = (to x all.0, all_to P Q to xs all.1)
 
 -- one change more
 pub one_more : {C V : Type 0} (change : C → V → Option V) (cs : List C) (c : C) (v w : V) → in_turn change cs v ≡ Some w → in_turn change (cs ++ c ∷ []) v ≡ change c w

@@ -8,6 +8,7 @@ use Rattle.delta_form.specs.After.{grown, written_request}
 use Rattle.delta_form.specs.Numbers.{written_number}
 use Rattle.delta_form.specs.declared.delta.WrittenRequest.{WrittenRequest}
 use Rattle.delta_form.specs.declared.delta.WrittenThread.{WrittenThread}
+use Rattle.image_changes.specs.Least.{CannotGrow, IsShort}
 use Rattle.image_changes.specs.declared.requests.Growth.{Growth}
 
 -- both are tasks of the same executor, workspace, folder and environment
@@ -32,8 +33,8 @@ TaskGrows stood item None = (taken : ℕ) (added : List ℕ) → grown taken add
 TaskGrows stood item (Some g) = grown g.taken g.out stood ≡ Some item
 
 abbrev pub Grows : OpenRequest → OpenRequest → Option WrittenRequest → Type 0
-Grows stood item None = Unit {0}
-Grows stood item (Some w) = (written_number w ≡ item.number) × (written_request w (Some stood) ≡ Some (Some item))
+Grows stood item None = CannotGrow stood item
+Grows stood item (Some w) = (written_number w ≡ item.number) × (written_request w (Some stood) ≡ Some (Some item)) × IsShort w stood
 
 -- two threads differ at most in their frames
 abbrev pub HasSameNumbers : ImageThread → ImageThread → Type 0

@@ -1,3 +1,4 @@
+pub mod Least
 pub mod Parts
 pub mod Growing
 pub mod Walks

@@ -1,5 +1,5 @@
 -- What a walk over a list before and a list now has still to find, and what it makes of both (of private functions alone).
-use Rattle.std.specs.Prelude.{◌≡◌, ◌⊎◌, ◌≤◌, ◌+◌, ℕ, true, List, [], ◌∷◌, ◌++◌, length, drop, map, slice_get, Option, Some, None}
+use Rattle.std.specs.Prelude.{◌≡◌, ◌⊎◌, ◌≤◌, ◌+◌, ℕ, true, List, [], ◌∷◌, ◌++◌, length, drop, take, map, slice_get, Option, Some, None}
 use Rattle.std.specs.List.{AllByRecursion as AllAre}
 use Rattle.std.specs.Ordering.{nat_cmp, on}
 use Rattle.std.specs.Cmp.Lexicographic.{slice_cmp}
@@ -11,6 +11,7 @@ use Rattle.delta_form.specs.Applying.{in_turn}
 use Rattle.delta_form.specs.Changes.{by_number, changed, rising}
 use Rattle.delta_form.specs.After.{are_apart, binding_changes, gone, put_cell}
 use Rattle.delta_form.specs.declared.delta.NumberedCell.{NumberedCell}
+use Rattle.image_changes.specs.Least.{AllNeeded}
 use Rattle.image_changes.specs.declared.walk.Walk.{Walk}
 
 -- all items have keys above this one
@@ -60,10 +61,14 @@ Reaches {C} by number made before now walk =
     (closed : List ℕ) (written : List C) → Leads by number made (drop walk.had before) (drop walk.has now) closed written
     → Leads by number made before now (walk.gone ++ closed) (walk.written ++ written)
 
--- What is written makes the item of what stood at its number; nothing is written exactly where it stood so.
-abbrev pub Writes : {C X : Type 0} → (X → ℕ) → (C → ℕ) → (C → Option X → Option (Option X)) → X → X → Option C → Type 0
-Writes by number made stood item None = stood ≡ item
-Writes by number made stood item (Some c) = ¬ (stood ≡ item) × (number c ≡ by item) × (made c (Some stood) ≡ Some (Some item))
+-- What is written makes the item of what stood at its number, which is another one, and is the shortest that does.
+abbrev pub Changes : {C X : Type 0} → (X → ℕ) → (C → ℕ) → (C → Option X → Option (Option X)) → (C → X → Type 0) → X → X → C → Type 0
+Changes by number made shortest stood item c = ¬ (stood ≡ item) × (number c ≡ by item) × (made c (Some stood) ≡ Some (Some item)) × shortest c stood
+
+-- Nothing is written exactly where it stood so.
+abbrev pub Writes : {C X : Type 0} → (X → ℕ) → (C → ℕ) → (C → Option X → Option (Option X)) → (C → X → Type 0) → X → X → Option C → Type 0
+Writes by number made shortest stood item None = stood ≡ item
+Writes by number made shortest stood item (Some c) = Changes by number made shortest stood item c
 
 -- one item more was passed that is new
 abbrev pub Adds : {C X : Type 0} → (X → ℕ) → (C → ℕ) → (C → Option X → Option (Option X)) → Walk C → X → Walk C → Type 0
@@ -71,10 +76,20 @@ Adds {C} by number made old item new =
     (c : C) × (number c ≡ by item) × (made c None ≡ Some (Some item)) × (new ≡ record old { has = old.has + 1; written = old.written ++ c ∷ [] })
 
 -- one item more was passed that stood, and was changed or was not
-abbrev pub Stays : {C X : Type 0} → (X → ℕ) → (C → ℕ) → (C → Option X → Option (Option X)) → Walk C → X → X → Walk C → Type 0
-Stays {C} by number made old stood item new =
+abbrev pub Stays : {C X : Type 0} → (X → ℕ) → (C → ℕ) → (C → Option X → Option (Option X)) → (C → X → Type 0) → Walk C → X → X → Walk C → Type 0
+Stays {C} by number made shortest old stood item new =
     ((stood ≡ item) × (new ≡ record old { had = old.had + 1; has = old.has + 1 }))
-    ⊎ ((c : C) × (number c ≡ by item) × (made c (Some stood) ≡ Some (Some item)) × (new ≡ record old { had = old.had + 1; has = old.has + 1; written = old.written ++ c ∷ [] }))
+    ⊎ ((c : C) × Changes by number made shortest stood item c × (new ≡ record old { had = old.had + 1; has = old.has + 1; written = old.written ++ c ∷ [] }))
+
+-- Each item before that was passed is below each item now that was not.
+abbrev pub Passed : {C X : Type 0} → (X → ℕ) → List X → List X → Walk C → Type 0
+Passed by before now walk = AllAre (λ b. Above nat_cmp by (by b) (drop walk.has now)) (take walk.had before)
+
+-- what was found so far, and what the rest needs, are what all needs; and all that was found is needed
+pub record Goes {C X : Type 0} (by : X → ℕ) (number : C → ℕ) (made : C → Option X → Option (Option X)) (shortest : C → X → Type 0) (before now : List X) (walk : Walk C) : Type 0 where
+  pub reaches : Reaches by number made before now walk
+  pub passed : Passed by before now walk
+  pub needed : AllNeeded by number made shortest before walk.written
 
 -- a cell stood so at its place, or it was put behind the changed ones
 abbrev pub NotesCell : List Cell → ℕ → Cell → List NumberedCell → List NumberedCell → Type 0

@@ -1,8 +1,9 @@
 -- What leads from one image to another, part by part (of private functions alone).
 use Rattle.std.specs.Prelude.{◌≡◌, Option, Some, None}
 use Rattle.image_form.specs.declared.image.Image.{Image}
-use Rattle.delta_form.specs.After.{request_changes, thread_changes}
+use Rattle.delta_form.specs.After.{request_changes, thread_changes, written_request, written_thread}
 use Rattle.delta_form.specs.Numbers.{written_number}
+use Rattle.image_changes.specs.Least.{AllNeeded, CellsDiffer, IsShort, KeepsMost}
 use Rattle.image_changes.specs.Parts.{FrontOf, LeadsTo, PutsBindings, PutsCells, PutsNodes, Renews}
 use Rattle.image_changes.specs.declared.between.Parts.{Parts}
 
@@ -16,3 +17,9 @@ PartsLead before now (Some p) =
     × Renews (λ r. r.number) written_number request_changes before.requests now.requests p.requests.gone p.requests.written
     × (p.held ≡ now.held)
     × Renews (λ t. t.number) (λ w. w.number) thread_changes before.threads now.threads p.threads.gone p.threads.written
+
+abbrev pub AreLeast : Image → Parts → Type 0
+AreLeast before p =
+    CellsDiffer before.cells p.cells
+    × AllNeeded (λ r. r.number) written_number written_request IsShort before.requests p.requests.written
+    × AllNeeded (λ t. t.number) (λ w. w.number) written_thread KeepsMost before.threads p.threads.written

@@ -1,11 +1,12 @@
 //! The changes from one image to another.
 
-ghost use Rattle.std.specs.Prelude.{◌≡◌, IfOk, Some};
+ghost use Rattle.std.specs.Prelude.{◌≡◌, IfOk, IfSome, Some};
 ghost use Rattle.record_form.specs.Ordered.{IsInOrder};
 ghost use Rattle.delta_form.specs.After.{after};
 ghost use Rattle.image_form.specs.declared.image.Image.{Image as AnyImage};
+ghost use Rattle.image_changes.specs.Least.{IsLeast};
 ghost use Rattle.image_changes.specs.Parts.{LeadsTo};
-ghost use Rattle.image_changes.specs.Whole.{PartsLead};
+ghost use Rattle.image_changes.specs.Whole.{AreLeast, PartsLead};
 
 use crate::lists::{added_log, changed_cells, new_bindings, new_nodes};
 use crate::walk::{Walk, renewal};
@@ -20,8 +21,9 @@ use std::alloc::{AllocError, Global};
 /// before does not stand there now, or there are more than 4,294,967,296 cells. `AllocError` where the memory was
 /// refused.
 ///
-/// Requests and threads that did not change are not written, a thread keeps all its frames in front that are the
-/// same, and a task that differs in what was taken and in its output alone is written short.
+/// It holds what changed alone, so there is one such delta: cells, requests and threads that did not change are not
+/// listed, a thread keeps all its frames in front that are the same, and a task that differs in what was taken and in
+/// what came to its output alone is written short.
 pub fn changes_between(
     alloc: Global,
     before: &Image,
@@ -29,7 +31,8 @@ pub fn changes_between(
 ) -> Result<Option<Delta>, AllocError>
     requires before { IsInOrder before.now }
     requires now { IsInOrder now.now }
-    ensures { IfOk result (LeadsTo before.now now.now) }
+    ensures leads { IfOk result (LeadsTo before.now now.now) }
+    ensures least { IfOk result (λ changes. IfSome changes (IsLeast before.now)) }
 {
     match parts_between(alloc, before, now)? {
         Some(parts) => Ok(Some(delta_of(now, parts))),
@@ -53,7 +56,8 @@ pub(crate) struct Parts {
 fn parts_between(alloc: Global, before: &Image, now: &Image) -> Result<Option<Parts>, AllocError>
     requires before { IsInOrder before.now }
     requires now { IsInOrder now.now }
-    ensures { IfOk result (PartsLead before.now now.now) }
+    ensures leads { IfOk result (PartsLead before.now now.now) }
+    ensures least { IfOk result (λ parts. IfSome parts (AreLeast before.now)) }
 {
     let Some(log) = added_log(alloc, before.log.as_slice(), now.log.as_slice())? else {
         return Ok(None);
@@ -85,7 +89,8 @@ fn parts_between(alloc: Global, before: &Image, now: &Image) -> Result<Option<Pa
 /// The delta of these parts.
 fn delta_of(now: &Image, parts: Parts) -> Delta
     requires { IsInOrder now.now }
-    ensures { (before : AnyImage) → PartsLead before now.now (Some parts) → after before result ≡ Some now.now }
+    ensures leads { (before : AnyImage) → PartsLead before now.now (Some parts) → after before result ≡ Some now.now }
+    ensures least { (before : AnyImage) → AreLeast before parts → IsLeast before result }
 {
     let Parts {
         bindings,

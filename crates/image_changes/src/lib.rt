@@ -1,7 +1,7 @@
 //! What changed of a build from one of its images to a later one.
 //!
 //! [`changes_between`] gives the delta that leads from one image to the other: `delta_form::apply` makes the other of
-//! the one again. It is linear in the images, and the delta holds what changed alone.
+//! the one again. It is linear in the images, and the delta holds what changed alone: of two images there is one such.
 //!
 //! ```text
 //! if let Some(delta) = changes_between(alloc, &before, &now)? {

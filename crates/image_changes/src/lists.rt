@@ -1,8 +1,9 @@
 //! Lists that only get more behind them, or whose items are replaced in their places.
 
-ghost use Rattle.std.specs.Prelude.{◌≡◌, ◌<◌, ◌^◌, IfOk, OnOk, map};
+ghost use Rattle.std.specs.Prelude.{◌≡◌, ◌<◌, ◌^◌, IfOk, IfSome, OnOk, map};
 ghost use Rattle.std.specs.List.{AllByRecursion as AllAre};
 ghost use Rattle.model_run.specs.Fitting.{NamesRise, NodesFit};
+ghost use Rattle.image_changes.specs.Least.{CellsDiffer};
 ghost use Rattle.image_changes.specs.Parts.{FrontOf, PutsBindings, PutsCells, PutsNodes, as_new};
 ghost use Rattle.image_changes.specs.Walks.{NotesBinding, NotesCell};
 
@@ -74,7 +75,8 @@ pub(crate) fn changed_cells(
     before: &[Cell],
     now: &[Cell],
 ) -> Result<Option<NumberedCells>, AllocError>
-    ensures { IfOk result (PutsCells before.now now.now) }
+    ensures puts { IfOk result (PutsCells before.now now.now) }
+    ensures differ { IfOk result (λ cells. IfSome cells (CellsDiffer before.now)) }
 {
     if now.len() < before.len() || now.len() > 4_294_967_296 {
         return Ok(None);

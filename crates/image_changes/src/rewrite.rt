@@ -1,6 +1,7 @@
 //! How items by numbers are written that are new or were changed.
 
 ghost use Rattle.std.specs.Prelude.{◌≡◌, ℕ, IfOk, Option, Some, None};
+ghost use Rattle.image_changes.specs.Least.{IsShort, KeepsMost};
 ghost use Rattle.image_changes.specs.Walks.{Writes};
 ghost use Rattle.delta_form.specs.After.{written_request, written_thread};
 ghost use Rattle.delta_form.specs.Numbers.{written_number};
@@ -21,6 +22,8 @@ pub(crate) trait Rewrite<T>: Drop + Sized {
 
     ghost made: { Self → Option T → Option (Option T) };
 
+    ghost shortest: { Self → T → Type 0 };
+
     /// The number of an item.
     fn number_of(item: &T) -> u32
         ensures { result ≡ by item.now };
@@ -30,10 +33,10 @@ pub(crate) trait Rewrite<T>: Drop + Sized {
         ensures number { IfOk result (λ c. number c ≡ by item.now) }
         ensures made { IfOk result (λ c. made c None ≡ Some (Some item.now)) };
 
-    /// An item of which another stood at its number, or nothing where it stood so.
+    /// An item of which another stood at its number, as short as it can be written, or nothing where it stood so.
     fn changed_one(alloc: Global, stood: &T, item: &T) -> Result<Option<Self>, AllocError>
         requires { by stood.now ≡ by item.now }
-        ensures { IfOk result (Writes by number made stood.now item.now) };
+        ensures { IfOk result (Writes by number made shortest stood.now item.now) };
 }
 
 impl Rewrite<OpenRequest> for WrittenRequest {
@@ -42,6 +45,8 @@ impl Rewrite<OpenRequest> for WrittenRequest {
     ghost number = { written_number };
 
     ghost made = { written_request };
+
+    ghost shortest = { IsShort };
 
     fn number_of(item: &OpenRequest) -> u32 {
         item.number
@@ -72,6 +77,8 @@ impl Rewrite<ImageThread> for WrittenThread {
     ghost number = { λ w. w.number };
 
     ghost made = { written_thread };
+
+    ghost shortest = { KeepsMost };
 
     fn number_of(item: &ImageThread) -> u32 {
         item.number

@@ -3,8 +3,9 @@
 ghost use Rattle.std.specs.Prelude.{◌≡◌, ◌⊎◌, ◌<◌, ◌≤◌, ◌+◌, ◌++◌, ◌∷◌, [], IfOk, OnOk, length, map};
 ghost use Rattle.model_run.specs.Fitting.{Rises};
 ghost use Rattle.delta_form.specs.Changes.{by_number};
+ghost use Rattle.image_changes.specs.Least.{AllNeeded};
 ghost use Rattle.image_changes.specs.Parts.{Renews};
-ghost use Rattle.image_changes.specs.Walks.{Adds, Reaches, Stays};
+ghost use Rattle.image_changes.specs.Walks.{Adds, Goes, Stays};
 
 use crate::rewrite::Rewrite;
 use model_text::{Ids, Sequence};
@@ -32,7 +33,8 @@ pub(crate) fn renewal<T, C: Rewrite<T>>(
 ) -> Result<Walk<C>, AllocError>
     requires before { Rises (map C.by before.now) }
     requires now { Rises (map C.by now.now) }
-    ensures { IfOk result (λ walk. Renews C.by C.number (by_number C.by C.number C.made) before.now now.now walk.gone walk.written) }
+    ensures renews { IfOk result (λ walk. Renews C.by C.number (by_number C.by C.number C.made) before.now now.now walk.gone walk.written) }
+    ensures needed { IfOk result (λ walk. AllNeeded C.by C.number C.made C.shortest before.now walk.written) }
 {
     let mut walk = Walk {
         had: 0,
@@ -59,7 +61,7 @@ fn pass<T, C: Rewrite<T>>(
     requires more { (walk.old.had < length before.now) ⊎ (walk.old.has < length now.now) }
     ensures within { OnOk result ((walk.new.had ≤ length before.now) × (walk.new.has ≤ length now.now)) }
     ensures further { OnOk result (walk.old.had + walk.old.has < walk.new.had + walk.new.has) }
-    ensures reaches { Reaches C.by C.number C.made before.now now.now walk.old → OnOk result (Reaches C.by C.number C.made before.now now.now walk.new) }
+    ensures goes { Goes C.by C.number C.made C.shortest before.now now.now walk.old → OnOk result (Goes C.by C.number C.made C.shortest before.now now.now walk.new) }
 {
     match (before.get(walk.had), now.get(walk.has)) {
         (Some(stood), Some(item)) => match C::number_of(stood).cmp(&C::number_of(item)) {
@@ -102,7 +104,7 @@ fn keep<T, C: Rewrite<T>>(
 ) -> Result<(), AllocError>
     requires same { C.by stood.now ≡ C.by item.now }
     requires fits { (walk.old.had < 18446744073709551615) × (walk.old.has < 18446744073709551615) }
-    ensures { OnOk result (Stays C.by C.number C.made walk.old stood.now item.now walk.new) }
+    ensures { OnOk result (Stays C.by C.number C.made C.shortest walk.old stood.now item.now walk.new) }
 {
     if let Some(change) = C::changed_one(alloc, stood, item)? {
         walk.written.push(change)?;

@@ -2,8 +2,8 @@ use Rattle.std.proofs.Common.{refl}
 use Rattle.image_changes.proofs.Leading.{leads}
 use Rattle.image_changes.proofs.between.delta_of.Goals as goal
 
-pub returns : goal.returns
-returns c = λ before parts.
+pub returns-clause-leads : goal.returns-clause-leads
+returns-clause-leads c = λ before parts.
     let now = c.args.now.now in
     let p = c.args.parts in
     leads before now (record {
@@ -21,3 +21,6 @@ returns c = λ before parts.
       ended_threads = p.threads.gone;
       threads = p.threads.written;
     }) refl refl refl refl parts.5 parts.0 parts.1 parts.2 parts.3 parts.4 parts.6 c.requires.held
+
+pub returns-clause-least : goal.returns-clause-least
+returns-clause-least c = λ before least. record { cells = least.0; requests = least.1; threads = least.2 }

@@ -1,12 +1,12 @@
 use Rattle.std.proofs.Common.{◌≤◌, ◌+◌, ◌-◌, length}
-use Rattle.image_changes.specs.Walks.{Reaches}
+use Rattle.image_changes.specs.Walks.{Goes}
 use Rattle.image_changes.proofs.walk.renewal.Given as goal
 
 abbrev pub invariant-loop-walk : goal.invariant-loop-walk
 invariant-loop-walk g l = record {
   had : l.walk.had ≤ length l.before;
   has : l.walk.has ≤ length l.now;
-  reaches : Reaches g.C.Rewrite.by g.C.Rewrite.number g.C.Rewrite.made l.before l.now l.walk;
+  goes : Goes g.C.Rewrite.by g.C.Rewrite.number g.C.Rewrite.made g.C.Rewrite.shortest l.before l.now l.walk;
 }
 
 abbrev pub decreases-loop-walk : goal.decreases-loop-walk
