@@ -19,14 +19,14 @@ use Rattle.agent_worker.specs.declared.fault.TakeFault.TheVariants.{Memory, Disk
 use Rattle.store_laws.specs.Store.{last_image, record_at, record_with}
 use Rattle.store_laws.proofs.Payloads.{payload_spelled}
 use Rattle.durable_build.specs.Kinds.{weights_of, weights_with}
-use Rattle.durable_build.specs.Taking.{IsDue, IsKind, Puts, added}
+use Rattle.durable_build.specs.Taking.{HoldsLeast, IsDue, IsKind, Puts, added}
 use Rattle.durable_build.specs.Adding.{AddDone, AddLeaves, HasRoom, IsDueDelta, SpellsDue, payload_of}
 use Rattle.durable_build.proofs.KindLemmas.{weights_push}
 
 -- the payload of the changes that are due, or of the whole image, is due
 pub due_is : (w : Weights) (before : Option Image) (e : Event) (image : Image) (delta : Option Delta) → IsDueDelta w before image delta → IsDue w before e image (payload_of e image delta)
-due_is w before e image None due = record { tells = refl; kind = due }
-due_is w before e image (Some delta) due = record { tells = ap (option_map (record_of e)) due.1; kind = due.0 }
+due_is w before e image None due = record { tells = refl; kind = due; least = tt }
+due_is w before e image (Some delta) due = record { tells = ap (option_map (record_of e)) due.1; kind = due.0; least = due.2 }
 
 -- a payload that has room in a journal, and one that has none
 pub room_refused : (len size : ℕ) (q : Payload) (f : TakeFault) → size ≡ size_in payload_form q → HasRoom len size (Err f) → SpellsDue len q (Err f)
@@ -45,22 +45,22 @@ short_there len size q is room = omega (arith, room, is)
 pub adds_so : (q : Payload) (p : List ℕ) (len : ℕ) → Spells payload_form q p → len + (5 + length p) ≤ 2 ^ 30 → added q ≡ 5 + length p
 adds_so q p len spells room = omega (arith, room, ap length spells.is_spelling)
 
--- want of memory leaves all
-pub no_memory : {D : Type 0} (reads : D → Option (List ℕ)) (may_leave : D → List ℕ → Type 0) (clock : D → ℕ) (since : D → ℕ → List ℕ → Type 0) (w : Weights) (before : Option Image) (e : Event) (image : Image) (j : State D) (w' : Weights) (f : TakeFault)
-    → f ≡ Memory → AddDone reads may_leave clock since w before e image j j w' (Err f)
-no_memory reads may_leave clock since w before e image j w' Memory is = refl
-no_memory reads may_leave clock since w before e image j w' Disk is = absurd (cc)
-no_memory reads may_leave clock since w before e image j w' (Full l a) is = absurd (cc)
-no_memory reads may_leave clock since w before e image j w' Stopped is = absurd (cc)
+-- a fault leaves the length of the journal
+pub fault_keeps : {D : Type 0} (reads : D → Option (List ℕ)) (may_leave : D → List ℕ → Type 0) (clock : D → ℕ) (since : D → ℕ → List ℕ → Type 0) (w : Weights) (before : Option Image) (e : Event) (image : Image) (old new : State D) (w' : Weights) (f : TakeFault)
+    → AddDone reads may_leave clock since w before e image old new w' (Err f) → new.len ≡ old.len
+fault_keeps reads may_leave clock since w before e image old new w' Memory done = ap (λ j. j.len) done.0
+fault_keeps reads may_leave clock since w before e image old new w' Disk done = done.leaves
+fault_keeps reads may_leave clock since w before e image old new w' (Full l a) done = ap (λ j. j.len) done.leaves
+fault_keeps reads may_leave clock since w before e image old new w' Stopped done = absurd done.answers
 
 module _ {D : Type 0} (reads : D → Option (List ℕ)) (may_leave : D → List ℕ → Type 0) (clock : D → ℕ) (since : D → ℕ → List ℕ → Type 0) (w : Weights) (before : Option Image) (e : Event) (image : Image) (old new : State D)
     (q : Payload) (due : IsDue w before e image q) where
   -- no payload was spelled
-  pub not_spelled : (w' : Weights) (f : TakeFault) → new ≡ old → SpellsDue old.len q (Err f) → AddDone reads may_leave clock since w before e image old new w' (Err f)
-  not_spelled w' Memory same is = same
-  not_spelled w' (Full l a) same is = record { payload = q; due = due; answers = is; leaves = same; keeps = λ payloads holds b k. tt }
-  not_spelled w' Disk same is = absurd is
-  not_spelled w' Stopped same is = absurd is
+  pub not_spelled : (f : TakeFault) → new ≡ old → SpellsDue old.len q (Err f) → AddDone reads may_leave clock since w before e image old new w (Err f)
+  not_spelled Memory same is = (same, refl)
+  not_spelled (Full l a) same is = record { payload = q; due = due; answers = is; leaves = same; weighs = refl; keeps = λ payloads holds b k. tt }
+  not_spelled Disk same is = absurd is
+  not_spelled Stopped same is = absurd is
 
   module _ (p : List ℕ) (spells : Spells payload_form q p) (room : old.len + (5 + length p) ≤ 2 ^ 30)
       (moments : (payloads : List (List ℕ)) → Holds reads may_leave old payloads → AtEachMoment clock since old.disk new.disk (HasWithOrWithout payloads p)) where
@@ -71,6 +71,7 @@ module _ {D : Type 0} (reads : D → Option (List ℕ)) (may_leave : D → List 
       spelled = q;
       spells = spells;
       kind = subst (λ (o : Option Image). IsKind (weights_of payloads) o q) image_is (subst (λ (v : Weights). IsKind v before q) weights_are due.kind);
+      least = subst (λ (o : Option Image). HoldsLeast o q) image_is due.least;
       room = room;
       moments = moments payloads holds;
     }
@@ -86,6 +87,7 @@ module _ {D : Type 0} (reads : D → Option (List ℕ)) (may_leave : D → List 
       due = due;
       answers = subst (λ (n : ℕ). old.len + n ≤ 2 ^ 30) (sym adds) room;
       leaves = (leaves.0 ∙ ap (λ (n : ℕ). old.len + n) (sym adds), leaves.1);
+      weighs = ap (weights_with w) spells.is_spelling;
       keeps = λ payloads holds image_is weights_are. (
         puts payloads holds image_is weights_are,
         holds_more payloads holds,
@@ -94,11 +96,17 @@ module _ {D : Type 0} (reads : D → Option (List ℕ)) (may_leave : D → List 
     }
 
     -- or it was not, or perhaps
-    pub not_added : (w' : Weights) (f : TakeFault) → (f ≡ Memory) ⊎ (f ≡ Disk) → AddLeaves old new (5 + length p) (Err f) → AddDone reads may_leave clock since w before e image old new w' (Err f)
-    not_added w' Memory fault leaves = leaves
-    not_added w' Disk fault leaves =
-        record { payload = q; due = due; answers = subst (λ (n : ℕ). old.len + n ≤ 2 ^ 30) (sym adds) room; leaves = leaves; keeps = λ payloads holds image_is weights_are. puts payloads holds image_is weights_are }
-    not_added w' (Full l a) (inl is) leaves = absurd (cc)
-    not_added w' (Full l a) (inr is) leaves = absurd (cc)
-    not_added w' Stopped (inl is) leaves = absurd (cc)
-    not_added w' Stopped (inr is) leaves = absurd (cc)
+    pub not_added : (f : TakeFault) → (f ≡ Memory) ⊎ (f ≡ Disk) → AddLeaves old new (5 + length p) (Err f) → AddDone reads may_leave clock since w before e image old new w (Err f)
+    not_added Memory fault leaves = (leaves, refl)
+    not_added Disk fault leaves = record {
+      payload = q;
+      due = due;
+      answers = subst (λ (n : ℕ). old.len + n ≤ 2 ^ 30) (sym adds) room;
+      leaves = leaves;
+      weighs = refl;
+      keeps = λ payloads holds image_is weights_are. puts payloads holds image_is weights_are;
+    }
+    not_added (Full l a) (inl is) leaves = absurd (cc)
+    not_added (Full l a) (inr is) leaves = absurd (cc)
+    not_added Stopped (inl is) leaves = absurd (cc)
+    not_added Stopped (inr is) leaves = absurd (cc)

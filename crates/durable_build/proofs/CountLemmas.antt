@@ -1,15 +1,14 @@
--- Counts of faults over two calls, of which the first has not failed; and journals that were only read.
-use Rattle.std.proofs.Common.{◌≡◌, ℕ, List, Option, subst, ◌∙◌}
-use Rattle.device_faults.specs.Faults.{CountsFault}
+-- How many records a journal has; and journals that were only read.
+use Rattle.std.proofs.Common.{◌≡◌, ◌+◌, ◌<◌, ℕ, List, [], ◌∷◌, length, Option, ◌∙◌, arith}
+use Rattle.journal_core.specs.Answers.{StandInTurn}
+use Rattle.journal_core.specs.declared.record.Record.{Record}
 use Rattle.journal_core.specs.State.{State, Holds}
 use Rattle.journal_core.specs.Moments.{OnlyReads}
 
-pub counts_on : (before mid now : ℕ) (Fails : Type 0) → mid ≡ before → CountsFault mid now Fails → CountsFault before now Fails
-counts_on before mid now Fails same counts = subst (λ (n : ℕ). CountsFault n now Fails) same counts
-
--- a call that does not fail behind one that has counted
-pub counts_still : (before now : ℕ) (Was Fails : Type 0) → (Was → Fails) → (Fails → Was) → CountsFault before now Was → CountsFault before now Fails
-counts_still before now Was Fails to from counts = record { never_falls = counts.never_falls; calm = λ none. counts.calm (λ was. none (to was)); failed = λ fails. counts.failed (from fails) }
+-- it has fewer records than bytes
+pub few_entries : (at : ℕ) (entries : List Record) (len : ℕ) → StandInTurn at entries len → at + length entries < len
+few_entries at [] len turn = omega (arith, turn)
+few_entries at (e ∷ es) len turn = omega (arith, few_entries (at + 5 + e.len) es len turn.1)
 
 module _ {D : Type 0} (reads : D → Option (List ℕ)) (may_leave : D → List ℕ → Type 0) where
   -- reading leaves the records

@@ -12,3 +12,4 @@ pub mod Cleared
 pub mod Whole
 pub mod Undamaged
 pub mod Sizes
+pub mod Due

@@ -7,6 +7,7 @@ use Rattle.model_syntax.specs.FirstFault.{FirstFault, IsFaultless}
 use Rattle.model_syntax.proofs.FirstFaultLaws.{faultless_or_fault}
 use Rattle.journal_core.specs.Records.{Has}
 use Rattle.journal_core.specs.Answers.{entries_of}
+use Rattle.journal_core.proofs.FindingLemmas.{length-entries}
 use Rattle.journal_core.specs.declared.record.Record.{Record}
 use Rattle.field_form.specs.Forms.{whole_of}
 use Rattle.field_form.specs.Reading.{Refuses}
@@ -42,7 +43,6 @@ use Rattle.durable_build.specs.Kinds.{is_whole, weights_of}
 use Rattle.durable_build.specs.Standing.{last_place, Opening, StandsBy}
 use Rattle.durable_build.specs.Opening.{CodeOf, SiteOf, SourceOf, DamagedAt, EventOpens, FindsImage, GoesOnFrom, HasPayload, MakesImage, OpensBy, LastFound, LoadFinds, OpenFails, setting_with}
 use Rattle.durable_build.proofs.KindLemmas.{first_whole}
-use Rattle.durable_build.proofs.ReadLemmas.{length-entries}
 
 -- what the exit of a `?` returns
 pub passes_on : {T E : Type 0} (r : Result T E) (e : E) (P : Result T E → Type 0) → IsErrAnd r (λ y. y ≡ e) → P (Err e) → P r

@@ -2,11 +2,12 @@
 use Rattle.std.proofs.Common.{◌≡◌, ◌+◌, ◌-◌, ◌<◌, ℕ, zero, suc, ◌⊎◌, inl, inr, Bool, true, false, List, [], ◌∷◌, ◌++◌, length, take, drop, Option, Some, None, Result, Ok, Err, refl, sym, ap, ◌∙◌, subst, arith, append_assoc, length-drop, slice_get}
 use Rattle.std.specs.Prelude.{IfSome, IsSome}
 use Rattle.std.specs.List.{All, AllByRecursion as AllAre}
-use Rattle.std.proofs.lemmas.List.{drop_all, take_all}
+use Rattle.std.proofs.lemmas.List.{drop_all, take-append-drop, take_all}
 use Rattle.std.proofs.lemmas.Option.{get_or_from_slice_get, slice_get_within}
 use Rattle.journal_core.specs.Records.{framed}
 use Rattle.journal_core.specs.Answers.{entries_of}
 use Rattle.journal_core.specs.declared.record.Record.{Record}
+use Rattle.journal_core.proofs.FindingLemmas.{length-entries}
 use Rattle.journal_core.proofs.RecordLemmas.{length-frame}
 use Rattle.image_form.specs.declared.image.Image.{Image}
 use Rattle.delta_records.specs.declared.weights.Weights.{Weights}
@@ -34,11 +35,6 @@ module _ {A : Type 0} where
   drop_at_item (y ∷ ys) zero x is = let same : y ≡ x = cc in ap (λ (z : A). z ∷ ys) same
   drop_at_item (y ∷ ys) (suc k) x is = drop_at_item ys k x is
 
-  both_parts : (xs : List A) (k : ℕ) → xs ≡ take k xs ++ drop k xs
-  both_parts xs zero = refl
-  both_parts [] (suc k) = refl
-  both_parts (y ∷ ys) (suc k) = ap (λ (l : List A). y ∷ l) (both_parts ys k)
-
   all_dropped : (P : A → Type 0) (k : ℕ) (xs : List A) → AllAre P xs → AllAre P (drop k xs)
   all_dropped P zero xs all = all
   all_dropped P (suc k) [] all = all
@@ -54,10 +50,6 @@ module _ {A : Type 0} where
 
 length-framed_first : (p : List ℕ) (ps : List (List ℕ)) → length (framed (p ∷ ps)) ≡ 5 + length p + length (framed ps)
 length-framed_first p ps = length-frame p (framed ps)
-
-pub length-entries : (at : ℕ) (ps : List (List ℕ)) → length (entries_of at ps) ≡ length ps
-length-entries at [] = refl
-length-entries at (p ∷ ps) = ap suc (length-entries (at + 5 + length p) ps)
 
 -- what holds of all entries
 pub all_at : (P : Record → Type 0) (xs : List Record) (k : ℕ) (x : Record) → All P xs → slice_get xs k ≡ Some x → P x
@@ -248,7 +240,7 @@ breaks_last front ps q at whole changes b = by b.passed b.is b.place b.none b.fi
     by (suc n) is place none (inr some) =
         let before : List (List ℕ) = q ∷ take n ps in
         let here : last_image (front ++ before) ≡ last_image before = from_whole front (take n ps) q whole in
-        let split : ps ≡ take n ps ++ b.payload ∷ drop (suc n) ps = both_parts ps n ∙ ap (λ (l : List (List ℕ)). take n ps ++ l) (drop_at_item ps n b.payload is) in
+        let split : ps ≡ take n ps ++ b.payload ∷ drop (suc n) ps = sym (take-append-drop n ps) ∙ ap (λ (l : List (List ℕ)). take n ps ++ l) (drop_at_item ps n b.payload is) in
         record {
           front = front ++ before;
           payload = b.payload;
@@ -271,7 +263,7 @@ last_found : (p : List ℕ) (ps : List (List ℕ)) (k : ℕ) (q : List ℕ) (r :
 last_found p ps k q r whole is last found =
     let all : List (List ℕ) = p ∷ ps in
     let tail : drop k all ≡ q ∷ drop (suc k) all = drop_at_item all k q is in
-    subst (λ (l : List (List ℕ)). LastFound l r) (sym (both_parts all k ∙ ap (λ (l : List (List ℕ)). take k all ++ l) tail))
+    subst (λ (l : List (List ℕ)). LastFound l r) (ap (λ (l : List (List ℕ)). take k all ++ l) (sym tail) ∙ take-append-drop k all)
     (found_last (take k all) (drop (suc k) all) q r (whole_there p ps k q whole is last.0) last.1 (subst (λ (l : List (List ℕ)). FoundFrom (take k all) l r) tail found))
 
 tail_entries : (all : List (List ℕ)) (entries : List Record) (k : ℕ) (e : Record) → entries ≡ entries_of 0 all → slice_get entries k ≡ Some e → e ∷ drop (suc k) entries ≡ entries_of (length (framed (take k all))) (drop k all)
@@ -294,7 +286,7 @@ pub last_of_all : (p : List ℕ) (ps : List (List ℕ)) (entries : List Record) 
 last_of_all p ps entries k e r whole are is last found =
     let all : List (List ℕ) = p ∷ ps in
     let entry = entry_found 0 all k e (subst (λ (es : List Record). slice_get es k ≡ Some e) are is) in
-    last_found p ps k entry.payload r whole entry.is last (found (take k all) (drop k all) (both_parts all k) (tail_entries all entries k e are is))
+    last_found p ps k entry.payload r whole entry.is last (found (take k all) (drop k all) (sym (take-append-drop k all)) (tail_entries all entries k e are is))
 
 -- the search for it was refused
 pub not_found : (all : List (List ℕ)) (f : StoreFault) → (f ≡ Memory) ⊎ (f ≡ Disk) → LastFound all (Err f)
@@ -302,10 +294,6 @@ not_found all f (inl is) = subst (λ (x : StoreFault). LastFound all (Err x)) (s
 not_found all f (inr is) = subst (λ (x : StoreFault). LastFound all (Err x)) (sym is) tt
 
 -- ---- the search for it, from the end
-
--- the entry at a place of the list of entries
-pub entry_there : (payloads : List (List ℕ)) (entries : List Record) (k : ℕ) (e : Record) → entries ≡ entries_of 0 payloads → slice_get entries k ≡ Some e → slice_get (entries_of 0 payloads) k ≡ Some e
-entry_there payloads entries k e are is = subst (λ (es : List Record). slice_get es k ≡ Some e) are is
 
 -- what was found of the payload of an entry
 abbrev pub FoundWhole : List (List ℕ) → ℕ → Record → Bool → Type 0
@@ -315,7 +303,7 @@ FoundWhole payloads k e whole = (p : List ℕ) → slice_get (entries_of 0 paylo
 pub is_last : (payloads : List (List ℕ)) (entries : List Record) (k : ℕ) (e : Record) (whole : Bool) → entries ≡ entries_of 0 payloads → slice_get entries k ≡ Some e → whole ≡ true → FoundWhole payloads k e whole
     → AllAre (λ p. is_whole p ≡ false) (drop (suc k) payloads) → IsLastWhole payloads k
 is_last payloads entries k e whole are is told found all =
-    let at = entry_there payloads entries k e are is in
+    let at : slice_get (entries_of 0 payloads) k ≡ Some e = subst (λ (es : List Record). slice_get es k ≡ Some e) are is in
     let entry = entry_found 0 payloads k e at in
     (inr (subst (λ (o : Option (List ℕ)). IfSome o (λ p. is_whole p ≡ true)) (sym entry.is) (sym (found entry.payload at entry.is) ∙ told)), all)
 
@@ -323,7 +311,7 @@ is_last payloads entries k e whole are is told found all =
 pub none_more : (payloads : List (List ℕ)) (entries : List Record) (k : ℕ) (e : Record) (whole : Bool) → entries ≡ entries_of 0 payloads → slice_get entries k ≡ Some e → whole ≡ false → FoundWhole payloads k e whole
     → AllAre (λ p. is_whole p ≡ false) (drop (suc k) payloads) → 0 < k → AllAre (λ p. is_whole p ≡ false) (drop (suc (k - 1)) payloads)
 none_more payloads entries k e whole are is told found all some =
-    let at = entry_there payloads entries k e are is in
+    let at : slice_get (entries_of 0 payloads) k ≡ Some e = subst (λ (es : List Record). slice_get es k ≡ Some e) are is in
     let entry = entry_found 0 payloads k e at in
     let here : AllAre (λ (p : List ℕ). is_whole p ≡ false) (drop k payloads) =
     subst (AllAre (λ (p : List ℕ). is_whole p ≡ false)) (sym (drop_at_item payloads k entry.payload entry.is)) (sym (found entry.payload at entry.is) ∙ told, all) in

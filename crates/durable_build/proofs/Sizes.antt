@@ -1,4 +1,4 @@
--- What a record may add.
+-- What the record that is due adds.
 use Rattle.std.proofs.Common.{◌≡◌, ◌∙◌, ℕ, Option, Some, None, ap, subst}
 use Rattle.image_form.specs.declared.image.Image.{Image}
 use Rattle.model_run.specs.declared.event.Event.{Event}
@@ -6,12 +6,14 @@ use Rattle.record_form.specs.Records.{record_of}
 use Rattle.record_form.specs.declared.record.EventRecord.{EventRecord}
 use Rattle.delta_records.specs.declared.payload.Payload.{Payload}
 use Rattle.delta_records.specs.declared.payload.Payload.TheVariants as payload
+use Rattle.delta_records.specs.declared.weights.Weights.{Weights}
 use Rattle.store_laws.specs.Store.{record_with}
-use Rattle.durable_build.specs.Taking.{MayAdd, added}
+use Rattle.durable_build.specs.Taking.{DueAdds, added}
 
--- it may add so much behind the same image, with the same image
-pub may_add : (before front : Option Image) (image now : Image) (e : Event) (add : ℕ) → before ≡ front → image ≡ now → MayAdd before e image add → MayAdd front e now add
-may_add before front image now e add first next adds = subst (λ (i : Image). MayAdd front e i add) next (subst (λ (o : Option Image). MayAdd o e image add) first adds)
+-- the record that is due adds so much by the same weights, behind the same image, with the same image
+pub due_adds : (w v : Weights) (before front : Option Image) (image now : Image) (e : Event) (add : ℕ) → w ≡ v → before ≡ front → image ≡ now → DueAdds w before e image add → DueAdds v front e now add
+due_adds w v before front image now e add same first next adds =
+    subst (λ (x : Weights). DueAdds x front e now add) same (subst (λ (i : Image). DueAdds w front e i add) next (subst (λ (o : Option Image). DueAdds w o e image add) first adds))
 
 -- and where there is no record before, all of the image
 whole_alone : (q : Payload) (e : Event) (image : Image) → record_with None q ≡ Some (record_of e image) → q ≡ payload.Whole e image
@@ -20,5 +22,5 @@ whole_alone (payload.Whole e i) event image is =
     ap (λ (r : EventRecord). payload.Whole r.event r.image) same
 whole_alone (payload.Changed e delta) event image is = absurd (cc)
 
-pub start_adds : (e : Event) (image : Image) (add : ℕ) → MayAdd None e image add → add ≡ added (payload.Whole e image)
-start_adds e image add (q, tells, is) = is ∙ ap added (whole_alone q e image tells)
+pub start_adds : (w : Weights) (e : Event) (image : Image) (add : ℕ) → DueAdds w None e image add → add ≡ added (payload.Whole e image)
+start_adds w e image add (q, due, is) = is ∙ ap added (whole_alone q e image due.tells)

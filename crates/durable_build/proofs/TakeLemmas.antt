@@ -1,5 +1,5 @@
 -- What an accepted event adds to a store and its build.
-use Rattle.std.proofs.Common.{◌≡◌, ◌^◌, ◌≤◌, ℕ, Bool, true, false, List, [], ◌∷◌, ◌++◌, Option, Some, None, Result, Ok, Err, refl, sym, ap, ◌∙◌, subst}
+use Rattle.std.proofs.Common.{◌≡◌, ◌+◌, ◌^◌, ◌≤◌, ℕ, Bool, true, false, List, [], ◌∷◌, ◌++◌, Option, Some, None, Result, Ok, Err, refl, sym, ap, ◌∙◌, subst, arith, length-append}
 use Rattle.std.specs.Prelude.{IfSome, IsErrOf, if◌then◌else◌}
 use Rattle.journal_core.specs.State.{Holds}
 use Rattle.record_form.specs.Ordered.{IsInOrder}
@@ -27,8 +27,8 @@ use Rattle.agent_worker.specs.declared.fault.TakeFault.TheVariants.{Memory, Disk
 use Rattle.durable_build.specs.declared.store.Sources.{Sources}
 use Rattle.build_images.specs.Images.{world_image, image_in}
 use Rattle.durable_build.specs.Kinds.{weights_of}
-use Rattle.durable_build.specs.Standing.{Kept, Keeps, Opening, Remembers, StandsBy, StandsForStory, image_before, world_before}
-use Rattle.durable_build.specs.Taking.{Adds, IsBehind, IsDue, IsSized, IsSource, MayStart, Puts, Risks, TakeAnswers, TakeKeeps, TakeLeaves, agents_after, kept_agents, kept_script, script_after}
+use Rattle.durable_build.specs.Standing.{IsWhole, Kept, Keeps, Opening, Remembers, StandsBy, StandsForStory, image_before, world_before}
+use Rattle.durable_build.specs.Taking.{Adds, IsBehind, IsDue, IsSized, IsSource, LeavesWhole, Longer, MayStart, Puts, Risks, TakeAnswers, TakeKeeps, TakeLeaves, agents_after, kept_agents, kept_script, script_after}
 use Rattle.durable_build.specs.Adding.{AddDone, AddKeeps, Adding}
 use Rattle.durable_build.proofs.KindLemmas.{image_push}
 
@@ -112,12 +112,13 @@ module _ {D T : Type 0} (reads : D → Option (List ℕ)) (may_leave : D → Lis
   pub adds : (ps : List (List ℕ)) (o : Option Sources) → Keeps reads may_leave stance old ps → MayStart (setting_in old.build) e → IsSource e o → has_begun new.build.phase ≡ true
       → new.script ≡ kept_script o old.script → new.agents ≡ kept_agents o old.agents
       → (puts : Puts clock since old.journal new.journal (record_of e (image_in stance new.build)) ps) → Holds reads may_leave new.journal (ps ++ puts.payload ∷ []) → new.weights ≡ weights_of (ps ++ puts.payload ∷ [])
-      → Adds reads may_leave clock since stance old new e ps
-  adds ps o keeps may source begun script agents puts holds weighs = record {
+      → new.records ≡ old.records + 1 → Adds reads may_leave clock since stance old new e ps
+  adds ps o keeps may source begun script agents puts holds weighs counted = record {
     puts = puts;
     keeps = record {
       holds = holds;
       weighs = weighs;
+      counted = omega (arith, counted, keeps.counted, length-append ps (puts.payload ∷ []));
       stands = rw (script, agents) (stands_next stance old.build new.build e accepted same old.script old.agents ps o puts.payload keeps.stands may source begun puts.tells);
       story = story_next stance old.build new.build e accepted same goes ps puts.payload puts.tells keeps.story;
     };
@@ -145,21 +146,28 @@ pub remembers_none : {T : Type 0} (stance : T → Stance) (b : Parts T) (kept : 
 remembers_none stance b kept begun none = record {
   is = none ∙ sym (unbegun_is stance b begun);
   order = subst (λ (o : Option Image). IfSome o IsInOrder) (sym none) tt;
+  whole = subst (λ (o : Option Image). IfSome o (IsWhole (setting_in b))) (sym none) tt;
   world = λ w stands. none ∙ sym (world_begun stance b w false stands begun);
 }
 
 -- and of one that has begun
-pub remembers_image : {T : Type 0} (stance : T → Stance) (b : Parts T) (image : Image) → has_begun b.phase ≡ true → image ≡ image_in stance b → IsInOrder image → ((w : W.Build) → StandsFor stance b w → image ≡ world_image (setting_in b) w)
-    → Remembers stance b (Some image)
-remembers_image stance b image begun is order told = record {
+pub remembers_image : {T : Type 0} (stance : T → Stance) (b : Parts T) (image : Image) → has_begun b.phase ≡ true → image ≡ image_in stance b → IsInOrder image → IsWhole (setting_in b) image
+    → ((w : W.Build) → StandsFor stance b w → image ≡ world_image (setting_in b) w) → Remembers stance b (Some image)
+remembers_image stance b image begun is order whole told = record {
   is = ap (λ (i : Image). Some i) is ∙ sym (begun_is stance b begun);
   order = order;
+  whole = whole;
   world = λ w stands. ap (λ (i : Image). Some i) (told w stands) ∙ sym (world_begun stance b w true stands begun);
 }
 
 pub remembers_added : {T : Type 0} (stance : T → Stance) (b : Parts T) (kept : Option Image) → has_begun b.phase ≡ true → (kept ≡ Some (image_in stance b)) × IsInOrder (image_in stance b)
-    → ((w : W.Build) → StandsFor stance b w → image_in stance b ≡ world_image (setting_in b) w) → Remembers stance b kept
-remembers_added stance b kept begun last told = subst (Remembers stance b) (sym last.0) (remembers_image stance b (image_in stance b) begun refl last.1 told)
+    → IsWhole (setting_in b) (image_in stance b) → ((w : W.Build) → StandsFor stance b w → image_in stance b ≡ world_image (setting_in b) w) → Remembers stance b kept
+remembers_added stance b kept begun last whole told = subst (Remembers stance b) (sym last.0) (remembers_image stance b (image_in stance b) begun refl last.1 whole told)
+
+-- a build that has begun and its kept image: the build's own image is whole
+pub kept_whole : {T : Type 0} (stance : T → Stance) (b : Parts T) (kept : Option Image) → Remembers stance b kept → has_begun b.phase ≡ true → IsWhole (setting_in b) (image_in stance b)
+kept_whole stance b kept remembers begun =
+    let here : kept ≡ Some (image_in stance b) = remembers.is ∙ begun_is stance b begun in subst (λ (o : Option Image). IfSome o (IsWhole (setting_in b))) here remembers.whole
 
 -- the last image of the records that a build stands by is its own
 pub stands_last : {T : Type 0} (stance : T → Stance) (b : Parts T) (script agents : List ℕ) (ps : List (List ℕ)) → StandsBy stance b script agents ps → image_before stance b ≡ last_image ps
@@ -171,42 +179,47 @@ module _ {D T : Type 0} (reads : D → Option (List ℕ)) (may_leave : D → Lis
   abbrev image : Image
   image = image_in stance new.build
 
-  abbrev Done : Weights → Result (Unit {0}) TakeFault → Type 0
-  Done w' r = AddDone reads may_leave clock since old.weights before e image old.journal new.journal w' r
+  abbrev Done : Result (Unit {0}) TakeFault → Type 0
+  Done r = AddDone reads may_leave clock since old.weights before e image old.journal new.journal new.weights r
 
   due_here : (q : Payload) → IsDue old.weights before e image q → IsDue old.weights (image_before stance old.build) e image q
   due_here q due = subst (λ (o : Option Image). IsDue old.weights o e image q) remembers.is due
 
   -- the fault of an accepted event, by what became of its payload
-  pub take_answered : (w' : Weights) (f : TakeFault) → Done w' (Err f) → TakeAnswers stance old new e (Err f)
-  take_answered w' Memory done = running
-  take_answered w' Disk done = (running, accepted, (done.payload, due_here done.payload done.due, done.answers))
-  take_answered w' (Full len add) done = (running, accepted, done.answers.0, done.answers.1, (done.payload, due_here done.payload done.due, done.answers.2))
-  take_answered w' Stopped done = absurd done.answers
+  pub take_answered : (f : TakeFault) → Done (Err f) → TakeAnswers stance old new e (Err f)
+  take_answered Memory done = running
+  take_answered Disk done = (running, accepted, (done.payload, due_here done.payload done.due, done.answers))
+  take_answered (Full len add) done = (running, accepted, done.answers.0, done.answers.1, (done.payload, due_here done.payload done.due, done.answers.2))
+  take_answered Stopped done = absurd done.answers
 
-  -- what it leaves of the journal
-  pub take_left : (w' : Weights) (f : TakeFault) → new.stopped ≡ true → Done w' (Err f) → TakeLeaves stance old new e (Err f)
-  take_left w' Memory stopped done = (stopped, done)
-  take_left w' Disk stopped done = (stopped, done.leaves)
-  take_left w' (Full len add) stopped done = (stopped, done.leaves)
-  take_left w' Stopped stopped done = absurd done.answers
+  -- what it leaves of the journal, and of what is counted
+  pub take_left : (f : TakeFault) → new.stopped ≡ true → new.records ≡ old.records → Done (Err f) → TakeLeaves stance old new e (Err f)
+  take_left Memory stopped records done = (stopped, done.0, (done.1, records))
+  take_left Disk stopped records done = (stopped, done.leaves, (done.weighs, records))
+  take_left (Full len add) stopped records done = (stopped, done.leaves, (done.weighs, records))
+  take_left Stopped stopped records done = absurd done.answers
 
-  pub added_left : (w' : Weights) (x : Unit {0}) → new.stopped ≡ false → has_begun new.build.phase ≡ true → Done w' (Ok x) → TakeLeaves stance old new e (Ok Accepted)
-  added_left w' x going begun done = (going, begun, (done.payload, due_here done.payload done.due, done.leaves.0), subst (λ (n : ℕ). n ≤ 2 ^ 30) (sym done.leaves.0) done.answers)
+  pub added_left : (x : Unit {0}) → new.stopped ≡ false → has_begun new.build.phase ≡ true → new.records ≡ old.records + 1 → Done (Ok x) → TakeLeaves stance old new e (Ok Accepted)
+  added_left x going begun records done = (
+    going,
+    begun,
+    record { payload = done.payload; due = due_here done.payload done.due; len = done.leaves.0; weights = done.weighs; records = records },
+    subst (λ (n : ℕ). n ≤ 2 ^ 30) (sym done.leaves.0) done.answers,
+  )
 
   -- the records, where the journal kept some
-  pub puts_of : (w' : Weights) (r : Result (Unit {0}) TakeFault) (ps : List (List ℕ)) → Adding reads may_leave clock since old.weights before e image old.journal new.journal w' r → Keeps reads may_leave stance old ps
-      → AddKeeps reads may_leave clock since old.journal new.journal (record_of e image) w' ps r
-  puts_of w' r ps done keeps = done.keeps ps keeps.holds (remembers.is ∙ stands_last stance old.build old.script old.agents ps keeps.stands) keeps.weighs
+  pub puts_of : (r : Result (Unit {0}) TakeFault) (ps : List (List ℕ)) → Adding reads may_leave clock since old.weights before e image old.journal new.journal new.weights r → Keeps reads may_leave stance old ps
+      → AddKeeps reads may_leave clock since old.journal new.journal (record_of e image) new.weights ps r
+  puts_of r ps done keeps = done.keeps ps keeps.holds (remembers.is ∙ stands_last stance old.build old.script old.agents ps keeps.stands) keeps.weighs
 
   module _ (same : setting_in new.build ≡ setting_in old.build) (goes : (w : W.Build) → StandsFor stance old.build w → StandsFor stance new.build (W.after_one (setting_in old.build) w e)) where
     -- a fault leaves no trace but that of the disk
-    pub take_failed : (w' : Weights) (f : TakeFault) (ps : List (List ℕ)) → Done w' (Err f) → Keeps reads may_leave stance old ps
+    pub take_failed : (f : TakeFault) (ps : List (List ℕ)) → Done (Err f) → Keeps reads may_leave stance old ps
         → (¬ (IsErrOf {T = Unit {0}} (Err f) Memory) → (w : W.Build) → StandsFor stance new.build w → image ≡ world_image (setting_in new.build) w) → TakeKeeps reads may_leave clock since stance old new e ps (Err f)
-    take_failed w' Disk ps done keeps told = risks reads may_leave clock since stance old new e accepted same goes (told (λ is. cc)) ps (puts_of w' (Err Disk) ps done keeps)
-    take_failed w' Memory ps done keeps told = tt
-    take_failed w' (Full l a) ps done keeps told = tt
-    take_failed w' Stopped ps done keeps told = tt
+    take_failed Disk ps done keeps told = risks reads may_leave clock since stance old new e accepted same goes (told (λ is. cc)) ps (puts_of (Err Disk) ps done keeps)
+    take_failed Memory ps done keeps told = tt
+    take_failed (Full l a) ps done keeps told = tt
+    take_failed Stopped ps done keeps told = tt
 
     -- and `Full` tells the size of the event's own record
     pub take_sized : (f : TakeFault)
@@ -215,3 +228,10 @@ module _ {D T : Type 0} (reads : D → Option (List ℕ)) (may_leave : D → Lis
     take_sized Memory told = tt
     take_sized Disk told = tt
     take_sized Stopped told = tt
+
+-- a fault but want of memory leaves a whole image
+pub fault_whole : {T : Type 0} (stance : T → Stance) (setting : Setting) (b : Parts T) (f : TakeFault) → setting_in b ≡ setting → (¬ (IsErrOf {T = Unit {0}} (Err f) Memory) → IsWhole (setting_in b) (image_in stance b)) → LeavesWhole stance setting b (Err f)
+fault_whole stance setting b Memory same whole = tt
+fault_whole stance setting b Disk same whole = subst (λ (s : Setting). IsWhole s (image_in stance b)) same (whole (λ is. cc))
+fault_whole stance setting b (Full l a) same whole = subst (λ (s : Setting). IsWhole s (image_in stance b)) same (whole (λ is. cc))
+fault_whole stance setting b Stopped same whole = tt

@@ -1,5 +1,5 @@
 -- How a record comes into the journal (of private functions alone).
-use Rattle.std.specs.Prelude.{◌≡◌, ◌⊎◌, ◌<◌, ◌≤◌, ◌+◌, ◌-◌, ◌^◌, ℕ, true, false, List, [], ◌∷◌, ◌++◌, length, min, Option, Some, None, Result, Ok, Err}
+use Rattle.std.specs.Prelude.{◌≡◌, ◌⊎◌, ◌<◌, ◌≤◌, ◌+◌, ◌-◌, ◌^◌, ℕ, true, false, List, [], ◌∷◌, ◌++◌, length, min, Option, Some, None, IfSome, Result, Ok, Err}
 use Rattle.journal_core.specs.State.{State, Holds}
 use Rattle.field_form.specs.Forms.{Spells}
 use Rattle.record_form.specs.Records.{record_of}
@@ -12,11 +12,12 @@ use Rattle.delta_records.specs.Payloads.{payload_form}
 use Rattle.delta_records.specs.declared.payload.Payload.{Payload}
 use Rattle.delta_records.specs.declared.payload.Payload.TheVariants as payload
 use Rattle.delta_records.specs.declared.weights.Weights.{Weights}
+use Rattle.image_changes.specs.Least.{IsLeast}
 use Rattle.model_run.specs.declared.event.Event.{Event}
 use Rattle.agent_worker.specs.declared.fault.TakeFault.{TakeFault}
 use Rattle.agent_worker.specs.declared.fault.TakeFault.TheVariants.{Memory, Disk, Full, Stopped}
 use Rattle.store_laws.specs.Store.{last_image}
-use Rattle.durable_build.specs.Kinds.{is_whole_due, weights_of}
+use Rattle.durable_build.specs.Kinds.{is_whole_due, weights_of, weights_with}
 use Rattle.durable_build.specs.Taking.{HasNoChanges, IsDue, Puts, added}
 
 -- these changes lead to the image
@@ -26,7 +27,7 @@ IsDeltaTo delta image = (before : Image) × (after before delta ≡ Some image)
 -- the changes that the next record is to hold, or that it is to hold a whole image
 abbrev pub IsDueDelta : Weights → Option Image → Image → Option Delta → Type 0
 IsDueDelta w before image None = (is_whole_due w ≡ true) ⊎ HasNoChanges before image
-IsDueDelta w before image (Some delta) = (is_whole_due w ≡ false) × ((before >>= λ i. after i delta) ≡ Some image)
+IsDueDelta w before image (Some delta) = (is_whole_due w ≡ false) × ((before >>= λ i. after i delta) ≡ Some image) × IfSome before (λ i. IsLeast i delta)
 
 -- the payload that holds them
 abbrev pub payload_of : Event → Image → Option Delta → Payload
@@ -61,6 +62,11 @@ AddLeaves old new add (Err Disk) = new.len ≡ old.len
 AddLeaves old new add (Err (Full l a)) = new ≡ old
 AddLeaves old new add (Err Stopped) = new ≡ old
 
+-- the weights are those with the payload more where it was added, and stay so at each fault
+abbrev pub AddWeighs : Weights → Payload → Weights → Result (Unit {0}) TakeFault → Type 0
+AddWeighs old q new (Ok _) = new ≡ weights_with old (payload_form.spelling q)
+AddWeighs old q new (Err e) = new ≡ old
+
 -- the weights afterwards are those of the records with the new one
 abbrev pub AddKeeps : {D : Type 0} → (D → Option (List ℕ)) → (D → List ℕ → Type 0) → (D → ℕ) → (D → ℕ → List ℕ → Type 0) → State D → State D → EventRecord → Weights → List (List ℕ) → Result (Unit {0}) TakeFault → Type 0
 AddKeeps reads may_leave clock since old new item weights payloads (Ok _) =
@@ -75,9 +81,10 @@ pub record Adding {D : Type 0} (reads : D → Option (List ℕ)) (may_leave : D 
   pub due : IsDue w before e image payload
   pub answers : AddAnswers old.len (added payload) r
   pub leaves : AddLeaves old new (added payload) r
+  pub weighs : AddWeighs w payload w' r
   pub keeps : (payloads : List (List ℕ)) → Holds reads may_leave old payloads → before ≡ last_image payloads → w ≡ weights_of payloads
       → AddKeeps reads may_leave clock since old new (record_of e image) w' payloads r
 
 abbrev pub AddDone : {D : Type 0} → (D → Option (List ℕ)) → (D → List ℕ → Type 0) → (D → ℕ) → (D → ℕ → List ℕ → Type 0) → Weights → Option Image → Event → Image → State D → State D → Weights → Result (Unit {0}) TakeFault → Type 0
-AddDone reads may_leave clock since w before e image old new w' (Err Memory) = new ≡ old
+AddDone reads may_leave clock since w before e image old new w' (Err Memory) = (new ≡ old) × (w' ≡ w)
 AddDone reads may_leave clock since w before e image old new w' r = Adding reads may_leave clock since w before e image old new w' r

@@ -19,11 +19,6 @@ use Rattle.durable_build.specs.Kinds.{is_whole, weights_of}
 use Rattle.build_images.specs.Images.{world_image, image_in}
 pub use Rattle.build_images.specs.Images.{IsWhole}
 
--- the last of these payloads, the first of which is p
-abbrev pub last_of : List ℕ → List (List ℕ) → List ℕ
-last_of p [] = p
-last_of p (q ∷ qs) = last_of q qs
-
 -- where the last record's gate stands, if the first one's stands here
 abbrev pub last_place : ℕ → List ℕ → List (List ℕ) → ℕ
 last_place at p [] = at
@@ -59,26 +54,29 @@ abbrev pub world_before : Setting → Build → Option Image
 world_before setting w = if w.started then Some (world_image setting w) else None
 
 -- What contracts see of a build over a disk: its journal, the build, the bytes of its `Start`, how many bytes the last record of a
--- whole image has and those behind it, and whether a fault stopped it.
+-- whole image has and those behind it, how many records there are, and whether a fault stopped it.
 pub record Kept (D T : Type 0) : Type 0 where
   pub journal : State D
   pub build : Parts T
   pub script : List ℕ
   pub agents : List ℕ
   pub weights : Weights
+  pub records : ℕ
   pub stopped : Bool
 
--- Of private fields alone: the kept image is that of the last record, by the build, and stands in order; and for each build of the
--- definitions that this one stands for it is that one's.
+-- Of private fields alone: the kept image is that of the last record, by the build, stands in order and is whole; and for each build
+-- of the definitions that this one stands for it is that one's.
 pub record Remembers {T : Type 0} (stance : T → Stance) (b : Parts T) (kept : Option Image) : Type 0 where
   pub is : kept ≡ image_before stance b
   pub order : IfSome kept IsInOrder
+  pub whole : IfSome kept (IsWhole (setting_in b))
   pub world : (w : Build) → StandsFor stance b w → kept ≡ world_before (setting_in b) w
 
 -- The journal holds these records, and the build stands by them.
 pub record Keeps {D T : Type 0} (reads : D → Option (List ℕ)) (may_leave : D → List ℕ → Type 0) (stance : T → Stance) (k : Kept D T) (payloads : List (List ℕ)) : Type 0 where
   pub holds : Holds reads may_leave k.journal payloads
   pub weighs : k.weights ≡ weights_of payloads
+  pub counted : k.records ≡ length payloads
   pub stands : StandsBy stance k.build k.script k.agents payloads
   pub story : StandsForStory stance k.build payloads
 

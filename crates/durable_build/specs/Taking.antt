@@ -1,5 +1,5 @@
 -- When each answer to an event comes, and what it leaves (this product's own).
-use Rattle.std.specs.Prelude.{◌≡◌, ◌⊎◌, ◌<◌, ◌≤◌, ◌+◌, ◌-◌, ◌^◌, ℕ, true, false, List, [], ◌∷◌, ◌++◌, length, min, Option, Some, None, Result, Ok, Err}
+use Rattle.std.specs.Prelude.{◌≡◌, ◌⊎◌, ◌<◌, ◌≤◌, ◌+◌, ◌-◌, ◌^◌, ℕ, true, false, List, [], ◌∷◌, ◌++◌, length, min, Option, Some, None, IfSome, Result, Ok, Err}
 use Rattle.jp_disk.specs.Moments.{AtEachMoment}
 use Rattle.journal_core.specs.Records.{HasWithOrWithout}
 use Rattle.journal_core.specs.State.{State}
@@ -9,6 +9,7 @@ use Rattle.delta_records.specs.Payloads.{payload_form}
 use Rattle.delta_records.specs.declared.payload.Payload.{Payload}
 use Rattle.delta_records.specs.declared.payload.Payload.TheVariants as payload
 use Rattle.delta_records.specs.declared.weights.Weights.{Weights}
+use Rattle.image_changes.specs.Least.{IsLeast}
 use Rattle.image_changes.specs.Parts.{LeadsTo}
 use Rattle.record_form.specs.declared.record.EventRecord.{EventRecord}
 use Rattle.image_form.specs.declared.image.Image.{Image}
@@ -20,23 +21,19 @@ use Rattle.model_run.specs.State.{Setting}
 use Rattle.model_run.specs.Taking.{taken}
 use Rattle.model_run.specs.World as W
 use Rattle.settle_laws.specs.Stances.{Stance}
-use Rattle.build_core.specs.Builds.{StandsFor, setting_in, standing_of}
+use Rattle.build_core.specs.Builds.{Parts, StandsFor, setting_in, standing_of}
 use Rattle.build_core.specs.Phases.{has_begun}
 use Rattle.store_laws.specs.Store.{Mean, last_image, record_at, record_with}
 use Rattle.agent_worker.specs.declared.fault.TakeFault.{TakeFault}
 use Rattle.agent_worker.specs.declared.fault.TakeFault.TheVariants.{Memory, Disk, Full, Stopped}
 use Rattle.durable_build.specs.declared.store.Sources.{Sources}
 use Rattle.build_images.specs.Images.{world_image, image_in}
-use Rattle.durable_build.specs.Kinds.{is_whole_due, weights_of}
-use Rattle.durable_build.specs.Standing.{Kept, Keeps, image_before, world_before}
+use Rattle.durable_build.specs.Kinds.{is_whole_due, weights_of, weights_with}
+use Rattle.durable_build.specs.Standing.{IsWhole, Kept, Keeps, image_before, world_before}
 
 -- how many bytes a record of this payload adds to a journal, or the greatest number of 64 bits where it adds more
 abbrev pub added : Payload → ℕ
 added q = min (5 + length (payload_form.spelling q)) (2 ^ 64 - 1)
-
--- what a record of this event and of the image after it may add, behind the record with the image before
-abbrev pub MayAdd : Option Image → Event → Image → ℕ → Type 0
-MayAdd before e image add = (q : Payload) × (record_with before q ≡ Some (record_of e image)) × (add ≡ added q)
 
 -- nothing says what changed from the image before to this one, or there is none before (`changes_between` of image_changes)
 abbrev pub HasNoChanges : Option Image → Image → Type 0
@@ -48,10 +45,20 @@ abbrev pub IsKind : Weights → Option Image → Payload → Type 0
 IsKind w before (payload.Whole e image) = (is_whole_due w ≡ true) ⊎ HasNoChanges before image
 IsKind w before (payload.Changed e delta) = is_whole_due w ≡ false
 
+-- A payload of changes holds what changed of the image before alone.
+abbrev pub HoldsLeast : Option Image → Payload → Type 0
+HoldsLeast before (payload.Whole e image) = Unit {0}
+HoldsLeast before (payload.Changed e delta) = IfSome before (λ image. IsLeast image delta)
+
 -- The payload that is due for an event and the image after it.
 pub record IsDue (w : Weights) (before : Option Image) (e : Event) (image : Image) (q : Payload) : Type 0 where
   pub tells : record_with before q ≡ Some (record_of e image)
   pub kind : IsKind w before q
+  pub least : HoldsLeast before q
+
+-- what the payload that is due adds
+abbrev pub DueAdds : Weights → Option Image → Event → Image → ℕ → Type 0
+DueAdds w before e image add = (q : Payload) × IsDue w before e image q × (add ≡ added q)
 
 -- what the payload that is due adds, is so
 abbrev pub ForDue : {D T : Type 0} → (T → Stance) → Kept D T → Kept D T → Event → (ℕ → Type 0) → Type 0
@@ -72,16 +79,37 @@ TakeAnswers stance old new e (Err (Full len add)) =
     (old.stopped ≡ false) × (taken (standing_of old.build) e ≡ Accepted) × (len ≡ old.journal.len) × (2 ^ 30 < len + add) × ForDue stance old new e (λ due. add ≡ due)
 TakeAnswers stance old new e (Err Stopped) = old.stopped ≡ true
 
--- Each fault stops the build. Memory, Full and Stopped leave the journal, and what is not accepted leaves all.
+-- The journal is longer by the record of the payload that is due, and this one is counted.
+pub record Longer {D T : Type 0} (stance : T → Stance) (old new : Kept D T) (e : Event) : Type 0 where
+  pub payload : Payload
+  pub due : IsDue old.weights (image_before stance old.build) e (image_in stance new.build) payload
+  pub len : new.journal.len ≡ old.journal.len + added payload
+  pub weights : new.weights ≡ weights_with old.weights (payload_form.spelling payload)
+  pub records : new.records ≡ old.records + 1
+
+-- what is counted of the records stays so
+abbrev pub SameCounts : {D T : Type 0} → Kept D T → Kept D T → Type 0
+SameCounts old new = (new.weights ≡ old.weights) × (new.records ≡ old.records)
+
+-- Each fault stops the build, and leaves what is counted of the records. Memory, Full and Stopped leave the journal, and what is not
+-- accepted leaves all.
 abbrev pub TakeLeaves : {D T : Type 0} → (T → Stance) → Kept D T → Kept D T → Event → Result Taken TakeFault → Type 0
-TakeLeaves stance old new e (Ok Accepted) = (new.stopped ≡ false) × (has_begun new.build.phase ≡ true) × ForDue stance old new e (λ add. new.journal.len ≡ old.journal.len + add) × (new.journal.len ≤ 2 ^ 30)
+TakeLeaves stance old new e (Ok Accepted) = (new.stopped ≡ false) × (has_begun new.build.phase ≡ true) × Longer stance old new e × (new.journal.len ≤ 2 ^ 30)
 TakeLeaves stance old new e (Ok NotOpen) = new ≡ old
 TakeLeaves stance old new e (Ok (WrongPlace kept)) = new ≡ old
 TakeLeaves stance old new e (Ok Finished) = new ≡ old
-TakeLeaves stance old new e (Err Memory) = (new.stopped ≡ true) × (new.journal ≡ old.journal)
-TakeLeaves stance old new e (Err Disk) = (new.stopped ≡ true) × (new.journal.len ≡ old.journal.len)
-TakeLeaves stance old new e (Err (Full len add)) = (new.stopped ≡ true) × (new.journal ≡ old.journal)
+TakeLeaves stance old new e (Err Memory) = (new.stopped ≡ true) × (new.journal ≡ old.journal) × SameCounts old new
+TakeLeaves stance old new e (Err Disk) = (new.stopped ≡ true) × (new.journal.len ≡ old.journal.len) × SameCounts old new
+TakeLeaves stance old new e (Err (Full len add)) = (new.stopped ≡ true) × (new.journal ≡ old.journal) × SameCounts old new
 TakeLeaves stance old new e (Err Stopped) = new ≡ old
+
+-- The image after an accepted event is whole for the build's setting, whether its record was added or not: `open` goes on from a
+-- store that ends with it.
+abbrev pub LeavesWhole : {T : Type 0} → (T → Stance) → Setting → Parts T → Result Taken TakeFault → Type 0
+LeavesWhole stance setting b (Ok Accepted) = IsWhole setting (image_in stance b)
+LeavesWhole stance setting b (Err Disk) = IsWhole setting (image_in stance b)
+LeavesWhole stance setting b (Err (Full len add)) = IsWhole setting (image_in stance b)
+LeavesWhole stance setting b r = Unit {0}
 
 -- the script and the agents file behind an accepted event: those of a `Start`, or those from before
 abbrev pub script_after : Event → List ℕ → List ℕ
@@ -120,6 +148,7 @@ pub record Puts {D : Type 0} (clock : D → ℕ) (since : D → ℕ → List ℕ
   pub spelled : Payload
   pub spells : Spells payload_form spelled payload
   pub kind : IsKind (weights_of payloads) (last_image payloads) spelled
+  pub least : HoldsLeast (last_image payloads) spelled
   pub room : old.len + (5 + length payload) ≤ 2 ^ 30
   pub moments : AtEachMoment clock since old.disk new.disk (HasWithOrWithout payloads payload)
 

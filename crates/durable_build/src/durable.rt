@@ -13,9 +13,9 @@ ghost use Rattle.build_core.specs.Builds.{StandsFor, setting_in, standing_of};
 ghost use Rattle.build_core.specs.Phases.{has_begun};
 ghost use Rattle.build_images.specs.Images.{image_in, world_image};
 ghost use Rattle.store_laws.specs.Store.{IsConsistent};
-ghost use Rattle.durable_build.specs.Standing.{IsWhole};
-ghost use Rattle.durable_build.specs.Standing.{Keeps};
-ghost use Rattle.durable_build.specs.Taking.{IsSized, MayStart, TakeAnswers, TakeKeeps, TakeLeaves, TakeSources};
+ghost use Rattle.durable_build.specs.Kinds.{weights_of};
+ghost use Rattle.durable_build.specs.Standing.{IsWhole, Keeps};
+ghost use Rattle.durable_build.specs.Taking.{IsSized, LeavesWhole, MayStart, TakeAnswers, TakeKeeps, TakeLeaves, TakeSources};
 ghost use Rattle.durable_build.specs.Opening.{OpenFails, Opened, StandsWhere};
 
 use crate::faults::StoreFault;
@@ -40,18 +40,19 @@ pub struct DurableBuild<D: Disk, R: SavedThread> {
     script: Bytes,
     agents: Bytes,
     last: Last,
+    records: u64,
     stopped: bool,
 }
 
 impl<D: Disk, R: SavedThread> Model for DurableBuild<D, R> {
-    ghost use Rattle.std.specs.Prelude.{◌≡◌, true, false};
+    ghost use Rattle.std.specs.Prelude.{◌≡◌, ◌<◌, true, false};
     ghost use Rattle.durable_build.specs.Standing.{Kept, Remembers};
 
     ghost Value = { Kept D R };
 
-    ghost view = { λ d. record { journal = d.journal; build = d.build; script = d.script; agents = d.agents; weights = d.last.weights; stopped = d.stopped } };
+    ghost view = { λ d. record { journal = d.journal; build = d.build; script = d.script; agents = d.agents; weights = d.last.weights; records = d.records; stopped = d.stopped } };
 
-    ghost invariant = { λ d. (d.journal.stopped ≡ true → d.stopped ≡ true) × (d.stopped ≡ false → Remembers R.stance d.build d.last.image) };
+    ghost invariant = { λ d. (d.journal.stopped ≡ true → d.stopped ≡ true) × (d.stopped ≡ false → Remembers R.stance d.build d.last.image) × (d.records < d.journal.len) };
 }
 
 impl<D: Disk, R: SavedThread + Drop> DurableBuild<D, R> {
@@ -78,6 +79,7 @@ impl<D: Disk, R: SavedThread + Drop> DurableBuild<D, R> {
         ensures closed { (file : List ℕ) → D.reads disk ≡ Some file → (file ≡ []) ⊎ (slice_index file 0 ≡ 1)
             → IfOk result (λ d. D.reads d.journal.disk ≡ Some (after_write file 0 (0 ∷ []))) }
         ensures fresh { IfOk result (λ d. (d.build ≡ build) × (d.stopped ≡ false) × (d.journal.len ≡ 1)) }
+        ensures counts { IfOk result (λ d. (d.weights ≡ weights_of []) × (d.records ≡ 0)) }
         ensures sources { IfOk result (λ d. (d.script ≡ []) × (d.agents ≡ [])) }
         ensures any_moment { (file : List ℕ) → D.reads disk ≡ Some file → MatchResult result
             (λ d. SinceSync D.clock D.may_have_left_since D.may_leave file disk d.journal.disk (λ image. records image ≡ records file))
@@ -94,6 +96,7 @@ impl<D: Disk, R: SavedThread + Drop> DurableBuild<D, R> {
                 script: Bytes::new(alloc),
                 agents: Bytes::new(alloc),
                 last: no_record(),
+                records: 0,
                 stopped: false,
             }),
             Err(refused) => Err(refused),
@@ -145,6 +148,7 @@ impl<D: Disk, R: SavedThread + Drop> DurableBuild<D, R> {
                             script,
                             agents,
                             last,
+                            records: entries.len() as u64,
                             stopped: false,
                         })
                     }
@@ -160,15 +164,16 @@ impl<D: Disk, R: SavedThread + Drop> DurableBuild<D, R> {
 
     /// Takes an event, and answers as the build does. At `Accepted` the event is durable, with the image of the build after it:
     /// each crash from then on leaves both. A crash during the call leaves the events from before, or these and the new one.
-    /// The record holds the image, or what changed of the one before, where the records behind the last whole image have
-    /// together fewer bytes than that one.
+    /// The record holds what changed alone of the image before, where the records behind the last whole image have together
+    /// fewer bytes than that one and changes lead from it; else the image.
     /// The script and the agents file are those of the accepted `Start`; nothing else changes them.
     ///
     /// # Errors
     ///
     /// After each of them every later call answers `Stopped`, and what the build is then is open. `Stopped` comes nowhere else,
     /// but behind [`DurableBuild::stop`]. `Full` exactly where an accepted event's record does not fit into the journal, with the
-    /// journal's length and what the record adds, 5 and its bytes (`u64::MAX` where it adds more); nothing was spelled for it.
+    /// journal's length and what the record adds, 5 and its bytes (`u64::MAX` where it adds more); nothing was spelled for it,
+    /// and the event not copied.
     /// `Disk` only of an accepted event whose record fits, and only where the disk's count of faults rose, which it does at no
     /// other answer. `Memory` where the memory was refused. Only `Disk` leaves it open whether the event is on the disk; at the
     /// others nothing was written.
@@ -178,6 +183,7 @@ impl<D: Disk, R: SavedThread + Drop> DurableBuild<D, R> {
         ensures leaves { TakeLeaves R.stance self.old self.new event.now result }
         ensures sources { TakeSources self.old self.new event.now result }
         ensures size { IsSized R.stance self.old self.new event.now result }
+        ensures whole { LeavesWhole R.stance (setting_in self.old.build) self.new.build result }
         ensures setting { OnOk result (setting_in self.new.build ≡ setting_in self.old.build) }
         ensures stands { OnOk result ((w : W.Build) → StandsFor R.stance self.old.build w → StandsFor R.stance self.new.build (W.after_one (setting_in self.old.build) w event.now)) }
         ensures keeps { (payloads : List (List ℕ)) → Keeps D.reads D.may_leave R.stance self.old payloads
@@ -202,15 +208,26 @@ impl<D: Disk, R: SavedThread + Drop> DurableBuild<D, R> {
             self.stopped = true;
             return Err(fault);
         }
+        self.records += 1;
         keep_sources(&mut self.script, &mut self.agents, sources);
         Ok(answer)
     }
 
-    /// The build. After a fault of `take` it is open what it gives.
+    /// The build. As long as nothing has stopped it, its image is whole once it has begun: [`DurableBuild::open`] goes on from it.
+    /// After a fault of `take` it is open what it gives.
     pub fn build(&self) -> &Build<R>
-        ensures { result.now ≡ self.now.build }
+        ensures is { result.now ≡ self.now.build }
+        ensures whole { self.now.stopped ≡ false → has_begun self.now.build.phase ≡ true → IsWhole (setting_in self.now.build) (image_in R.stance self.now.build) }
     {
         &self.build
+    }
+
+    /// How many records the journal has: those that were in the store when this `DurableBuild` was created or opened, and one for
+    /// each event accepted since. It needs no memory.
+    pub fn records(&self) -> u64
+        ensures { result ≡ self.now.records }
+    {
+        self.records
     }
 
     /// The bytes of the script; none before its `Start`.

@@ -13,7 +13,8 @@ ghost use Rattle.image_form.specs.declared.image.Image.{Image as AnyImage};
 ghost use Rattle.delta_records.specs.Payloads.{CanBeWritten, payload_form};
 ghost use Rattle.delta_records.specs.declared.payload.Payload.TheVariants as payload;
 ghost use Rattle.record_form.specs.Ordered.{IsInOrder};
-ghost use Rattle.build_images.specs.Images.{world_image, image_in};
+ghost use Rattle.record_form.specs.Sizes.{size_in};
+ghost use Rattle.build_images.specs.Images.{IsWhole, world_image, image_in};
 ghost use Rattle.durable_build.specs.Kinds.{is_whole, weights_of, weights_with};
 ghost use Rattle.durable_build.specs.Adding.{AddDone, AddLeaves, HasRoom, IsDeltaTo, IsDueDelta, SpellsDue, payload_of};
 ghost use Rattle.durable_build.specs.Taking.{IsSource, kept_script, kept_agents};
@@ -22,14 +23,14 @@ use agent_worker::TakeFault;
 use build_core::Build;
 use build_images::image_of;
 use delta_form::Delta;
-use delta_records::{Payload, Weights, payload_size, write_payload};
+use delta_records::{Payload, Weights, write_payload};
 use image_changes::changes_between;
 use image_form::Image;
 use journal_core::{AppendFault, Journal};
 use jp_disk::Disk;
 use model_run::{Event, Taken};
 use model_text::{Bytes, Sequence};
-use record_form::{record_size, write_record};
+use record_form::{Measured, record_size, write_record};
 use saved_thread::SavedThread;
 use std::alloc::{AllocError, Global};
 
@@ -159,6 +160,7 @@ pub fn add<D: Disk, R: SavedThread + Drop>(
     ensures world { ¬ (IsErrOf result TakeFault.Memory) → (w : W.Build) → StandsFor R.stance build.now w → image_in R.stance build.now ≡ world_image (setting_in build.now) w }
     ensures adds { AddDone D.reads D.may_leave D.clock D.may_have_left_since last.old.weights last.old.image event.now (image_in R.stance build.now) journal.old journal.new last.new.weights result }
     ensures last { OnOk result ((last.new.image ≡ Some (image_in R.stance build.now)) × IsInOrder (image_in R.stance build.now)) }
+    ensures whole { ¬ (IsErrOf result TakeFault.Memory) → IsWhole (setting_in build.now) (image_in R.stance build.now) }
     ensures cause { CountsFault (D.faults journal.old.disk) (D.faults journal.new.disk) (IsErrOf result TakeFault.Disk) }
 {
     match image_of(build) {
@@ -257,15 +259,28 @@ fn spelled_whole(alloc: Global, len: u64, event: &Event, image: &Image) -> Resul
     }
 }
 
-/// The payload of an event and of what it changed.
+/// The payload of an event and of what it changed. The event is copied only where there is room.
 fn spelled_changes(alloc: Global, len: u64, event: &Event, delta: Delta) -> Result<Bytes, TakeFault>
     requires { (image : AnyImage) × IsInOrder image × IsDeltaTo delta image }
     ensures { SpellsDue len (payload.Changed event.now delta) result }
 {
+    if let Err(fault) = check_room(len, changes_size(event, &delta)) {
+        return Err(fault);
+    }
     let Ok(event) = copied(event) else {
         return Err(TakeFault::Memory);
     };
-    spelled_payload(alloc, len, &Payload::Changed { event, delta })
+    match write_payload(alloc, &Payload::Changed { event, delta }) {
+        Ok(payload) => Ok(payload),
+        Err(_) => Err(TakeFault::Memory),
+    }
+}
+
+/// How many bytes the payload of an event and of what it changed has, or `u64::MAX` where it has more. It takes no memory.
+fn changes_size(event: &Event, delta: &Delta) -> u64
+    ensures { result ≡ size_in payload_form (payload.Changed event.now delta.now) }
+{
+    event.size().saturating_add(delta.size()).saturating_add(1)
 }
 
 /// The same event once more. `AllocError` where the memory was refused.
@@ -274,20 +289,6 @@ fn copied(event: &Event) -> Result<Event, AllocError>
 {
     let copy = event.clone()?;
     Ok(copy)
-}
-
-/// The spelling of a payload, which has one where it is short enough.
-fn spelled_payload(alloc: Global, len: u64, payload: &Payload) -> Result<Bytes, TakeFault>
-    requires { length (payload_form.spelling payload.now) < 2 ^ 32 → CanBeWritten payload.now }
-    ensures { SpellsDue len payload.now result }
-{
-    if let Err(fault) = check_room(len, payload_size(payload)) {
-        return Err(fault);
-    }
-    match write_payload(alloc, payload) {
-        Ok(bytes) => Ok(bytes),
-        Err(_) => Err(TakeFault::Memory),
-    }
 }
 
 /// Refuses a payload of so many bytes where its record has no room in a journal of this length.

@@ -1,6 +1,7 @@
 use Rattle.std.proofs.Common.{Ok, Some, ap, subst}
 use Rattle.image_form.specs.declared.image.Image.{Image}
 use Rattle.build_core.specs.Builds.{setting_in}
+use Rattle.build_images.specs.Images.{IsWhole}
 use Rattle.record_form.specs.Ordered.{IsInOrder}
 use Rattle.durable_build.specs.Adding.{AddDone}
 use Rattle.durable_build.proofs.OrderLemmas.{in_order}
@@ -18,3 +19,6 @@ returns-in_ok-add_record-in-Ok-clause-adds g c =
 pub returns-in_ok-add_record-in-Ok-clause-last : goal.returns-in_ok-add_record-in-Ok-clause-last
 returns-in_ok-add_record-in-Ok-clause-last g c =
     (ap (λ (i : Image). Some i) c.in-Ok.ensures.here, subst IsInOrder c.in-Ok.ensures.here (in_order (setting_in c.args.build.now) c.in-Ok.image c.in-Ok.ensures.ordered))
+
+pub returns-in_ok-add_record-in-Ok-clause-whole : goal.returns-in_ok-add_record-in-Ok-clause-whole
+returns-in_ok-add_record-in-Ok-clause-whole g c = λ there. subst (IsWhole (setting_in c.args.build.now)) c.in-Ok.ensures.here c.in-Ok.ensures.whole

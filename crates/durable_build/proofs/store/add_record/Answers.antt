@@ -14,7 +14,7 @@ returns-in_err-payload-clause-adds g c =
     let due = due_is c.args.weights.now c.args.before.now c.args.event.now c.args.image.now c.in_ok-delta.delta c.in_ok-delta.ensures.due in
     let f = c.in_err-payload.field-0.0 in
     passes_on c.from_residual-in_err-payload.result f (AddDone D.reads D.may_leave D.clock D.may_have_left_since c.args.weights.now c.args.before.now c.args.event.now c.args.image.now c.args.journal.now j c.args.weights.now) c.from_residual-in_err-payload.ensures.1
-    (not_spelled D.reads D.may_leave D.clock D.may_have_left_since c.args.weights.now c.args.before.now c.args.event.now c.args.image.now c.args.journal.now j q due c.args.weights.now f refl (subst (λ (n : ℕ). SpellsDue n q (Err f)) c.len.ensures c.in_err-payload.ensures))
+    (not_spelled D.reads D.may_leave D.clock D.may_have_left_since c.args.weights.now c.args.before.now c.args.event.now c.args.image.now c.args.journal.now j q due f refl (subst (λ (n : ℕ). SpellsDue n q (Err f)) c.len.ensures c.in_err-payload.ensures))
 
 pub returns-in_err-append-clause-adds : goal.returns-in_err-append-clause-adds
 returns-in_err-append-clause-adds g c =
@@ -27,7 +27,7 @@ returns-in_err-append-clause-adds g c =
     let spelled = subst (λ (b : List ℕ). SpellsDue j.len q (Ok b)) (sym c.as_slice.ensures) (subst (λ (n : ℕ). SpellsDue n q (Ok c.in_ok-payload.payload)) c.len.ensures c.in_ok-payload.ensures) in
     passes_on c.from_residual-in_err-append.result f (AddDone D.reads D.may_leave D.clock D.may_have_left_since c.args.weights.now c.args.before.now c.args.event.now c.args.image.now c.args.journal.now c.append.new.journal c.args.weights.now) c.from_residual-in_err-append.ensures.1
     (not_added D.reads D.may_leave D.clock D.may_have_left_since c.args.weights.now c.args.before.now c.args.event.now c.args.image.now c.args.journal.now c.append.new.journal q due p spelled.0 spelled.1 (λ payloads holds. c.append.ensures.any_moment payloads holds)
-    c.args.weights.now f c.in_err-append.ensures.faults c.in_err-append.ensures.leaves)
+    f c.in_err-append.ensures.faults c.in_err-append.ensures.leaves)
 
 pub returns-clause-adds : goal.returns-clause-adds
 returns-clause-adds g c =

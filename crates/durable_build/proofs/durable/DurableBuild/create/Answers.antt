@@ -1,3 +1,4 @@
+use Rattle.std.proofs.Common.{refl}
 use Rattle.durable_build.proofs.TakeLemmas.{empty_story}
 use Rattle.durable_build.proofs.durable.DurableBuild.create.Goals as goal
 
@@ -18,6 +19,7 @@ returns-in-Ok-clause-created g c = λ file told.
       record {
         holds = o.2;
         weighs = c.no_record.ensures.1;
+        counted = refl;
         stands = (c.requires.unbegun, c.new.ensures, c.new-in-Ok.ensures);
         story = empty_story g.R.ScriptThread.stance c.args.build c.requires.stands;
       },

@@ -1,7 +1,8 @@
-use Rattle.std.proofs.Common.{◌∙◌, ap, subst}
+use Rattle.std.proofs.Common.{◌≡◌, ◌∙◌, false, true, length, ap, subst, sym, arith}
 use Rattle.jp_disk.proofs.MomentLemmas.{at_each_weaker, runs_on}
+use Rattle.journal_core.proofs.FindingLemmas.{length-entries}
 use Rattle.durable_build.specs.Opening.{OpenFails}
-use Rattle.durable_build.proofs.CountLemmas.{still_holds}
+use Rattle.durable_build.proofs.CountLemmas.{few_entries, still_holds}
 use Rattle.durable_build.proofs.LoadLemmas.{open_fails}
 use Rattle.durable_build.proofs.OpenLemmas.{opened_stories}
 use Rattle.durable_build.proofs.Undamaged.{never_damaged}
@@ -21,6 +22,7 @@ returns-in-Ok-load-clause-opened g c = λ file told.
         keeps = record {
           holds = still_holds D.reads D.may_leave D.clock D.may_have_left_since D.end c.in-Ok.journal c.load.new.journal o.payloads c.in-Ok-load.ensures.quiet c.in-Ok-load.ensures.same.0 o.holds;
           weighs = found.1;
+          counted = c.len.ensures ∙ sym c.deref.ensures.len ∙ ap length (c.deref.ensures.value ∙ o.entries_are) ∙ length-entries 0 o.payloads;
           stands = found.0;
           story = opened_stories stance loaded.build c.in-Ok-load.ensures.stands loaded.script loaded.agents o.payloads o.some found.0;
         };
@@ -51,3 +53,10 @@ returns-in-Ok-clause-undamaged g c = λ file told store at is.
     let o = c.in-Ok.ensures.found file told in
     never_damaged file store at
     (subst (OpenFails file) is (open_fails g.R.ScriptThread.stance file o.payloads c.in-Err.fault o.has (c.in-Err.ensures.found o.payloads o.holds (c.deref.ensures.value ∙ o.entries_are))))
+
+pub invariant_of-result : goal.invariant_of-result
+invariant_of-result g c = (
+  λ stopped. sym c.in-Ok.ensures.running ∙ sym c.in-Ok-load.ensures.same.1 ∙ stopped,
+  λ running. c.in-Ok-load.ensures.kept,
+  omega (arith, c.in-Ok-load.ensures.same.0, c.len.ensures, c.deref.ensures.len, ap length c.deref.ensures.value, few_entries 0 _ _ c.in-Ok.ensures.in_turn),
+)
