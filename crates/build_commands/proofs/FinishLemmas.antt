@@ -120,18 +120,19 @@ module _ {D T H A : Type 0} (reads : D → Option (List ℕ)) (may_leave : D →
         broke r status is (as_told BreaksSo r DiskFailed says (disk_failed made (accepted_going setting (world_in setting now) next.0 next.1.accepted) (rose refl))) told
     finishes_broken now (take.Full at add) r status takes k says rose is told =
         let next = some_next (IsNext setting now) (ComesSo now) k.fails.refused k.fails.is_next k.caused in
-        let sizes = at_some k.fails.refused next.0 (λ e. IsFullOf (Some (image_after setting now)) e (image_after setting (now ++ e ∷ [])) kept.journal.len (take.Full at add)) next.3 k.fails.full in
+        let sizes = at_some k.fails.refused next.0 (λ e. IsFullOf kept.weights (Some (image_after setting now)) e (image_after setting (now ++ e ∷ [])) kept.journal.len (take.Full at add)) next.3 k.fails.full in
         let made = made_broken now (take.Full at add) takes k None k.fails.may_risk tt in
         broke r status is (as_said BreaksSo r 14 (full_text at add) says (no_memory made) (full at add made (accepted_going setting (world_in setting now) next.0 next.1.accepted) (record {
           event = next.0;
           next = record { is_next = next.1; caused = next.2 };
           too_long = sizes.1;
+          weights = kept.weights;
           adds = sizes.2;
-          length_is = k.fails.sized;
+          stored = k.fails.sized;
         }))) told
     finishes_broken now take.Stopped r status takes k says rose is told =
         let next = some_next (IsNext setting now) (ComesSo now) k.fails.refused k.fails.is_next k.caused in
-        absurd (at_some k.fails.refused next.0 (λ e. IsFullOf (Some (image_after setting now)) e (image_after setting (now ++ e ∷ [])) kept.journal.len take.Stopped) next.3 k.fails.full)
+        absurd (at_some k.fails.refused next.0 (λ e. IsFullOf kept.weights (Some (image_after setting now)) e (image_after setting (now ++ e ∷ [])) kept.journal.len take.Stopped) next.3 k.fails.full)
 
     finishes_rested : (now : List Event) (status : ℕ) → HeardSo → MadeSo now None → ((world_in setting now).ended ≡ true) ⊎ IdlesSo now → StandsFor stance kept.build (world_in setting now) → TellsRest (StandsFor stance kept.build) (image_in stance kept.build) wrote now_written c d status → EndsSo status
     finishes_rested now status heard made rests stands told =

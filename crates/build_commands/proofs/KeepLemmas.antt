@@ -1,6 +1,6 @@
 -- What becomes of a store whose build is gone on with, whatever its records tell, and the two numbers of a full one.
-use Rattle.std.proofs.Common.{◌≡◌, ◌⊎◌, ◌≤◌, ◌<◌, ◌+◌, ◌^◌, ◌∙◌, ℕ, suc, Bool, true, false, List, [], ◌∷◌, ◌++◌, length, Option, Some, None, Result, Ok, Err, inl, inr, refl, sym, ap, subst, append-nil, ⊎_elim, arith}
-use Rattle.std.specs.Prelude.{if◌then◌else◌}
+use Rattle.std.proofs.Common.{◌≡◌, ◌⊎◌, ◌≤◌, ◌<◌, ◌+◌, ◌^◌, ◌∙◌, ℕ, zero, suc, Bool, true, false, List, [], ◌∷◌, ◌++◌, length, Option, Some, None, Result, Ok, Err, inl, inr, refl, sym, ap, subst, append-nil, ⊎_elim, arith}
+use Rattle.std.specs.Prelude.{if◌then◌else◌, take as take_list}
 use Rattle.std.specs.List.{AllByRecursion as AllAre}
 use Rattle.jp_disk.proofs.MomentLemmas.{starts}
 use Rattle.journal_core.specs.Records.{Has}
@@ -8,6 +8,8 @@ use Rattle.journal_core.proofs.StepLemmas.{stores_has}
 use Rattle.record_form.specs.declared.record.EventRecord.{EventRecord}
 use Rattle.image_form.specs.declared.image.Image.{Image}
 use Rattle.store_laws.specs.Store.{Told as TellsRecords, events_of, last_image}
+use Rattle.store_laws.proofs.Payloads.{image_behind_more, image_of_last, told_append, told_last}
+use Rattle.durable_build.proofs.TakeLemmas.{stands_last}
 use Rattle.program_lock.specs.declared.program.Memory.{Memory as NoMemory}
 use Rattle.agent_worker.specs.declared.fault.TakeFault.{TakeFault}
 use Rattle.agent_worker.specs.declared.fault.TakeFault.TheVariants as take
@@ -15,12 +17,15 @@ use Rattle.agent_worker.specs.declared.member.Member.{Member}
 use Rattle.agent_worker.specs.Gate.{Told, told_at}
 use Rattle.model_run.specs.declared.event.Event.{Event}
 use Rattle.model_run.specs.declared.result.BuildResult.TheVariants.{Success, Unstable, Failure, NotBuilt, Aborted}
+use Rattle.model_run.specs.State.{Setting}
 use Rattle.model_run.specs.World.{Build}
 use Rattle.settle_laws.specs.Stances.{Stance}
-use Rattle.build_core.specs.Builds.{Parts, StandsFor}
+use Rattle.build_core.specs.Builds.{Parts, StandsFor, setting_in}
 use Rattle.build_core.specs.Phases.{has_begun}
 use Rattle.build_images.specs.Images.{image_in}
-use Rattle.durable_build.specs.Standing.{Closing, Keeps, Kept, StandsBy}
+use Rattle.delta_records.specs.declared.weights.Weights.{Weights}
+use Rattle.durable_build.specs.Kinds.{weights_of}
+use Rattle.durable_build.specs.Standing.{Closing, IsWhole, Keeps, Kept, StandsBy}
 use Rattle.script_run.specs.declared.rest.Rest.{Rest}
 use Rattle.script_run.specs.declared.rest.Rest.TheVariants.{Ended, Waits, AnswersFailed}
 use Rattle.run_command.specs.Statuses.{HasLog, result_status}
@@ -34,12 +39,12 @@ use Rattle.site_state.proofs.HistoryLaws.{kept_fault-append, no_fault, pending-a
 use Rattle.site_gate.specs.Tales.{asked_for, is_grant, told_of}
 use Rattle.site_gate.proofs.TaleLemmas.{grants_silent}
 use Rattle.site_run.specs.Ending.{ended_as}
-use Rattle.site_run.proofs.StoreLemmas.{no_payloads, no_records}
+use Rattle.site_run.proofs.StoreLemmas.{no_payloads, no_records, told_take}
 use Rattle.site_run.proofs.WalkLemmas.{all_behind}
 use Rattle.build_commands.specs.declared.refusal.Refusal.{Refusal}
 use Rattle.build_commands.specs.Finishing.{TellsEnd, TellsRest}
 use Rattle.build_commands.specs.Refusals.{SaysTake, refusal_status, refusal_text}
-use Rattle.build_commands.specs.Reporting.{AreGrants, IsBroken, IsNoted, IsTooLong, KeepsRecords, ShowsEnd, image_status}
+use Rattle.build_commands.specs.Reporting.{AreGrants, EndsWhole, IsBroken, IsFullBehind, IsNoted, IsTooLong, KeepsRecords, ShowsEnd, image_status, length_with}
 use Rattle.build_commands.specs.Texts.{full_text}
 use Rattle.build_commands.specs.Writing as writing
 use Rattle.build_commands.specs.Writing.{Tells, Writes}
@@ -87,14 +92,14 @@ grants_tell (refused request executor take.Stopped is may) = (tt, tt)
 grants_tell not_found = (tt, tt)
 
 -- The event whose record did not fit into the journal, in a history that keeps that fault: a grant, or it was asked for.
-record RefusedFull {D T : Type 0} (stance : T → Stance) (now : Kept D T) (Asked : Told → Type 0) (h : List Entry) (at add : ℕ) : Type 0 where
+record RefusedFull {D T : Type 0} (stance : T → Stance) (w : Weights) (before : Option Image) (now : Kept D T) (Asked : Told → Type 0) (h : List Entry) (at add : ℕ) : Type 0 where
   event : Event
   asked : (is_grant event ≡ true) ⊎ Asked (told_at event false)
-  is : IsFull stance now (take.Full at add) (Some event)
+  is : IsFull stance w before now (take.Full at add) (Some event)
   noted : IsNoted h at add event
 
-module _ {D T : Type 0} (stance : T → Stance) (now : Kept D T) where
-  full_behind : (made h : List Entry) → kept_fault made ≡ None → IsFullAt stance now (made ++ h) → IsFullAt stance now h
+module _ {D T : Type 0} (stance : T → Stance) (w : Weights) (before : Option Image) (now : Kept D T) where
+  full_behind : (made h : List Entry) → kept_fault made ≡ None → IsFullAt stance w before now (made ++ h) → IsFullAt stance w before now h
   full_behind [] h none full = full
   full_behind (Took e ∷ made) h none full = full_behind made h none full
   full_behind (Claimed executor task keep_out kept_log kept_out ∷ made) h none full = full_behind made h none full
@@ -109,20 +114,46 @@ module _ {D T : Type 0} (stance : T → Stance) (now : Kept D T) where
         by true is one = inl is
         by false is one = inr ((subst (λ (g : Bool). AllAre Asked ((if g then [] else told_at e false ∷ []) ++ rest)) is one).0)
 
-    refused_one : (fault : TakeFault) (event : Option Event) (rest : List Entry) (at add : ℕ) → fault ≡ take.Full at add → IsFull stance now fault event → AllAre Asked (told_of (Failed fault event ∷ rest)) → RefusedFull stance now Asked (Failed fault event ∷ rest) at add
-    refused_one fault None rest at add is full told = absurd (subst (λ (f : TakeFault). IsFull stance now f None) is full)
+    refused_one : (fault : TakeFault) (event : Option Event) (rest : List Entry) (at add : ℕ) → fault ≡ take.Full at add → IsFull stance w before now fault event → AllAre Asked (told_of (Failed fault event ∷ rest)) → RefusedFull stance w before now Asked (Failed fault event ∷ rest) at add
+    refused_one fault None rest at add is full told = absurd (subst (λ (f : TakeFault). IsFull stance w before now f None) is full)
     refused_one fault (Some e) rest at add is full told =
-        record { event = e; asked = asked_one e (told_of rest) told; is = subst (λ (f : TakeFault). IsFull stance now f (Some e)) is full; noted = ([], rest, ap (λ (f : TakeFault). Failed f (Some e) ∷ rest) is) }
+        record { event = e; asked = asked_one e (told_of rest) told; is = subst (λ (f : TakeFault). IsFull stance w before now f (Some e)) is full; noted = ([], rest, ap (λ (f : TakeFault). Failed f (Some e) ∷ rest) is) }
 
-    refused_behind : (entry : Entry) (h : List Entry) (at add : ℕ) → RefusedFull stance now Asked h at add → RefusedFull stance now Asked (entry ∷ h) at add
+    refused_behind : (entry : Entry) (h : List Entry) (at add : ℕ) → RefusedFull stance w before now Asked h at add → RefusedFull stance w before now Asked (entry ∷ h) at add
     refused_behind entry h at add r = record { event = r.event; asked = r.asked; is = r.is; noted = (entry ∷ r.noted.0, r.noted.1, ap (λ (es : List Entry). entry ∷ es) r.noted.2) }
 
-    refused_full : (h : List Entry) (at add : ℕ) → kept_fault h ≡ Some (take.Full at add) → IsFullAt stance now h → AllAre Asked (told_of h) → RefusedFull stance now Asked h at add
+    refused_full : (h : List Entry) (at add : ℕ) → kept_fault h ≡ Some (take.Full at add) → IsFullAt stance w before now h → AllAre Asked (told_of h) → RefusedFull stance w before now Asked h at add
     refused_full [] at add is full told = absurd (no_fault (take.Full at add) (sym is))
     refused_full (Took e ∷ h) at add is full told = refused_behind (Took e) h at add (refused_full h at add is full (all_behind Asked (asked_for e true) (told_of h) told))
     refused_full (Claimed executor task keep_out kept_log kept_out ∷ h) at add is full told = refused_behind (Claimed executor task keep_out kept_log kept_out) h at add (refused_full h at add is full told)
     refused_full (Line line ∷ h) at add is full told = refused_behind (Line line) h at add (refused_full h at add is full told)
     refused_full (Failed fault event ∷ h) at add is full told = refused_one fault event h at add (same_fault fault (take.Full at add) is) full told
+
+-- The last image of records of whole ones, behind a whole one, is whole.
+last_whole : (setting : Setting) (first : Image) (rs : List EventRecord) → IsWhole setting first → AllAre (λ (r : EventRecord). IsWhole setting r.image) rs → (image : Image) × (image_of_last (Some first) rs ≡ Some image) × IsWhole setting image
+last_whole setting first [] whole all = (first, refl, whole)
+last_whole setting first (r ∷ rs) whole all = last_whole setting r.image rs all.0 all.1
+
+whole_take : (setting : Setting) (k : ℕ) (rs : List EventRecord) → AllAre (λ (r : EventRecord). IsWhole setting r.image) rs → AllAre (λ (r : EventRecord). IsWhole setting r.image) (take_list k rs)
+whole_take setting zero rs all = tt
+whole_take setting (suc k) [] all = tt
+whole_take setting (suc k) (r ∷ rs) all = (all.0, whole_take setting k rs all.1)
+
+module _ {D T : Type 0} (reads : D → Option (List ℕ)) (may_leave : D → List ℕ → Type 0) (stance : T → Stance) (k : Kept D T) (payloads : List (List ℕ)) (begun : has_begun k.build.phase ≡ true) (keeps : Keeps reads may_leave stance k payloads) where
+  -- a build that has begun stands by the image of its last record
+  closes_so : Closing (image_in stance k.build) payloads
+  closes_so = sym (stands_last stance k.build k.script k.agents payloads keeps.stands) ∙ ap (λ (b : Bool). if b then Some (image_in stance k.build) else None) begun
+
+  -- Where that is whole, and so are those of records behind it, the last image of the first ones of these is.
+  sound_so : IsWhole (setting_in k.build) (image_in stance k.build) → (rs : List EventRecord) (ps : List (List ℕ)) → TellsRecords (last_image payloads) rs ps → AllAre (λ (r : EventRecord). IsWhole (setting_in k.build) r.image) rs
+      → (n : ℕ) → EndsWhole (setting_in k.build) (payloads ++ take_list n ps)
+  sound_so whole rs ps told all n =
+      let last = last_whole (setting_in k.build) (image_in stance k.build) (take_list n rs) whole (whole_take (setting_in k.build) n rs all) in (
+        last.0,
+        image_behind_more None payloads (take_list n ps) ∙ told_last (last_image payloads) (take_list n rs) (take_list n ps) (told_take n (last_image payloads) rs ps told)
+            ∙ ap (λ (o : Option Image). image_of_last o (take_list n rs)) closes_so ∙ last.1,
+        last.2,
+      )
 
 -- why a life rests tells that it keeps no fault, and its fault is the kept one, but for want of memory
 rest_keeps : {H A : Type 0} (o : Option TakeFault) (how : Result Progress NoMemory) (members : List (Member H A)) (rest : Rest) → Ok rest ≡ ended_as o how members → o ≡ None
@@ -175,16 +206,17 @@ module _ (wrote now_written : Option (List ℕ)) (c d status : ℕ) where
     end_disk ended is told = let t = subst (λ (e : Result Rest TakeFault). TellsEnd Stands image wrote now_written c d e status) is told in broken_disk t.0 t.1 t.2
 
   -- the record did not fit, by the journal and the image of now
-  too_long : {D T : Type 0} (stance : T → Stance) (now : Kept D T) (Asked : Event → Type 0) (history : List Entry) (at add : ℕ) (event : Event) → (is_grant event ≡ true) ⊎ Asked event → IsFull stance now (take.Full at add) (Some event)
-      → IsNoted history at add event ⊎ ((history ≡ []) × (is_grant event ≡ true)) → Tells wrote now_written c d (full_text at add) → IsTooLong Asked history wrote now_written c d
-  too_long stance now Asked history at add event asked full noted tells = record {
+  too_long : {D T : Type 0} (stance : T → Stance) (w : Weights) (before : Option Image) (now : Kept D T) (Asked : Event → Type 0) (Idle : Type 0) (history : List Entry) (at add : ℕ) (event : Event) → (is_grant event ≡ true) ⊎ Asked event
+      → IsFull stance w before now (take.Full at add) (Some event) → IsNoted history at add event ⊎ ((history ≡ []) × Idle × (is_grant event ≡ true)) → Tells wrote now_written c d (full_text at add) → IsTooLong Asked Idle history wrote now_written c d
+  too_long stance w before now Asked Idle history at add event asked full noted tells = record {
     event = event;
     asked = asked;
-    before = full.2.0;
+    before = before;
     image = image_in stance now.build;
     len = at;
     add = add;
-    adds = full.2.1;
+    weights = w;
+    adds = full.2;
     noted = noted;
     too_long = full.1;
     told = tells;
@@ -193,13 +225,25 @@ module _ (wrote now_written : Option (List ℕ)) (c d status : ℕ) where
 module _ {D T : Type 0} (reads : D → Option (List ℕ)) (may_leave : D → List ℕ → Type 0) (clock : D → ℕ) (since : D → ℕ → List ℕ → Type 0) (disk_faults : D → ℕ) (stance : T → Stance) (old kept : Kept D T) (payloads : List (List ℕ))
     (wrote now_written : Option (List ℕ)) (c d status : ℕ) where
   abbrev KeptSo : List Entry → Type 0
-  KeptSo history = KeepsRecords may_leave clock since old.journal.disk payloads history kept.journal.disk wrote now_written c d status
+  KeptSo history = KeepsRecords may_leave clock since (setting_in old.build) old.journal.disk payloads history kept.journal.disk wrote now_written c d status
 
   abbrev ShownSo : List (List ℕ) → Type 0
-  ShownSo all = IsBroken status ⊎ ShowsEnd all wrote now_written c d status
+  ShownSo all = IsBroken status ⊎ ShowsEnd (setting_in old.build) all wrote now_written c d status
 
-  abbrev FullSo : ℕ → Type 0
-  FullSo len = status ≡ 14 → (add : ℕ) × (2 ^ 30 < len + add) × Tells wrote now_written c d (full_text len add)
+  -- the record that was due behind these records did not fit
+  full_so : (ps : List (List ℕ)) (history : List Entry) (at add : ℕ) (event : Event) → kept.journal.len ≡ length_with ps → IsFull stance (weights_of ps) (last_image ps) kept (take.Full at add) (Some event)
+      → IsNoted history at add event ⊎ ((history ≡ []) × (is_grant event ≡ true)) → Tells wrote now_written c d (full_text at add) → IsFullBehind ps history wrote now_written c d
+  full_so ps history at add event ends full noted tells =
+      let is : at ≡ length_with ps = full.0 ∙ ends in
+      record {
+        event = event;
+        image = image_in stance kept.build;
+        add = add;
+        adds = full.2;
+        noted = subst (λ (n : ℕ). IsNoted history n add event ⊎ ((history ≡ []) × (is_grant event ≡ true))) is noted;
+        too_long = subst (λ (n : ℕ). 2 ^ 30 < n + add) is full.1;
+        told = subst (λ (n : ℕ). Tells wrote now_written c d (full_text n add)) is tells;
+      }
 
   -- of what was taken and what failed, the history tells all but the grants of the opening
   record Splits (all history : List Entry) : Type 0 where
@@ -208,9 +252,10 @@ module _ {D T : Type 0} (reads : D → Option (List ℕ)) (may_leave : D → Lis
     taken : tooks all ≡ grants ++ tooks history
     risked : (pending all ≡ pending history) ⊎ ((history ≡ []) × AreGrants (pending all))
 
-  kept_by : (all history : List Entry) → Splits all history → (kept_fault all ≡ Some take.Disk → status ≡ 5) → (g : Grown reads may_leave clock since stance old kept all payloads)
-      → ShownSo (payloads ++ g.added) → FullSo kept.journal.len → KeptSo history
-  kept_by all history s five g shown full = record {
+  kept_by : (all history : List Entry) → ((rs : List EventRecord) (ps : List (List ℕ)) → TellsRecords (last_image payloads) rs ps → AllAre (λ (r : EventRecord). IsWhole (setting_in old.build) r.image) rs → (n : ℕ) → EndsWhole (setting_in old.build) (payloads ++ take_list n ps))
+      → Splits all history → (kept_fault all ≡ Some take.Disk → status ≡ 5) → (g : Grown reads may_leave clock since stance old kept all payloads)
+      → ShownSo (payloads ++ g.added) → (status ≡ 14 → IsFullBehind (payloads ++ g.added) history wrote now_written c d) → KeptSo history
+  kept_by all history sound s five g shown full = record {
     more = g.added;
     taken = record { granted = s.grants; are_grants = s.are_grants; records = g.records; events = g.events ∙ s.taken; spelled = g.spelled };
     risked = g.last;
@@ -223,8 +268,10 @@ module _ {D T : Type 0} (reads : D → Option (List ℕ)) (may_leave : D → Lis
     sure = λ other. no_payloads (last_image (payloads ++ g.added)) g.last_records g.last (no_records g.last_records (g.last_events ∙ not_risked all (λ is. other (five is)))) g.last_spelled;
     at_end = g.images;
     moments = g.moments;
+    sound = sound (g.records ++ g.last_records) (g.added ++ g.last)
+        (told_append (last_image payloads) g.records g.last_records g.added g.last g.spelled (subst (λ (o : Option Image). TellsRecords o g.last_records g.last) (image_behind_more None payloads g.added) g.last_spelled)) g.whole;
     shown = shown;
-    full = subst FullSo g.ends full;
+    full = full;
   }
 
   -- a build that had begun and kept these records ends in the image of the build that stands by them and others behind them
@@ -235,15 +282,16 @@ module _ {D T : Type 0} (reads : D → Option (List ℕ)) (may_leave : D → Lis
   abbrev EndSo : Result Rest TakeFault → Type 0
   EndSo ended = TellsEnd (StandsFor stance kept.build) (image_in stance kept.build) wrote now_written c d ended status
 
-  rest_shown : TellsRest (StandsFor stance kept.build) (image_in stance kept.build) wrote now_written c d status → (all : List (List ℕ)) → Closing (image_in stance kept.build) all → ShownSo all
+  rest_shown : TellsRest (StandsFor stance kept.build) (image_in stance kept.build) wrote now_written c d status → (all : List (List ℕ)) → Closing (image_in stance kept.build) all × IsWhole (setting_in old.build) (image_in stance kept.build) → ShownSo all
   rest_shown told all ends = inr (record {
     image = image_in stance kept.build;
-    ends = ends;
+    ends = ends.0;
+    whole = ends.1;
     wrote = subst (λ (l : List ℕ). Writes wrote now_written c d l (image_status (image_in stance kept.build)) status) told.shown
         (subst (λ (n : ℕ). Writes wrote now_written c d told.log n status) told.by_image told.wrote);
   })
 
-  end_shown : (ended : Result Rest TakeFault) (all : List (List ℕ)) → EndSo ended → ((rest : Rest) → ended ≡ Ok rest → Closing (image_in stance kept.build) all) → ShownSo all
+  end_shown : (ended : Result Rest TakeFault) (all : List (List ℕ)) → EndSo ended → ((rest : Rest) → ended ≡ Ok rest → Closing (image_in stance kept.build) all × IsWhole (setting_in old.build) (image_in stance kept.build)) → ShownSo all
   end_shown (Ok AnswersFailed) all told ends = inl (inl told.0)
   end_shown (Ok Ended) all told ends = rest_shown told all (ends Ended refl)
   end_shown (Ok Waits) all told ends = rest_shown told all (ends Waits refl)
@@ -252,16 +300,17 @@ module _ {D T : Type 0} (reads : D → Option (List ℕ)) (may_leave : D → Lis
   -- a life that was led, behind the grants of its opening
   module _ {H A : Type 0} (made history : List Entry) (grants : Grants stance old.build made) (none : kept_fault made ≡ None) (facts : Facts reads may_leave clock since disk_faults stance old kept (made ++ history))
       (how : Result Progress NoMemory) (members : List (Member H A)) (ended : Result Rest TakeFault) (is : ended ≡ ended_as (kept_fault history) how members) (told : EndSo ended) where
-    life_full : (Asked : Told → Type 0) → AllAre Asked (told_of history) → status ≡ 14 → (at : ℕ) × (add : ℕ) × RefusedFull stance kept Asked history at add × Tells wrote now_written c d (full_text at add)
-    life_full Asked all fourteen =
+    life_full : (w : Weights) (before : Option Image) → IsFullAt stance w before kept (made ++ history) → (Asked : Told → Type 0) → AllAre Asked (told_of history) → status ≡ 14
+        → (at : ℕ) × (add : ℕ) × RefusedFull stance w before kept Asked history at add × Tells wrote now_written c d (full_text at add)
+    life_full w before full Asked all fourteen =
         let f = end_full wrote now_written c d status (StandsFor stance kept.build) (image_in stance kept.build) ended told fourteen in
         let fault : kept_fault history ≡ Some (take.Full f.2.at f.2.add) = full_kept (kept_fault history) how members f.2.at f.2.add (sym (f.1 ∙ ap Err f.2.is) ∙ is) in
-        (f.2.at, f.2.add, refused_full stance kept Asked history f.2.at f.2.add fault (full_behind stance kept made history none facts.full) all, f.2.tells)
+        (f.2.at, f.2.add, refused_full stance w before kept Asked history f.2.at f.2.add fault (full_behind stance w before kept made history none full) all, f.2.tells)
 
-    pub life_long : (Asked : Told → Type 0) → AllAre Asked (told_of history) → status ≡ 14 → IsTooLong (λ e. Asked (told_at e false)) history wrote now_written c d
-    life_long Asked all fourteen =
-        let f = life_full Asked all fourteen in
-        too_long wrote now_written c d status stance kept (λ e. Asked (told_at e false)) history f.0 f.1 f.2.event f.2.asked f.2.is (inl f.2.noted) f.3
+    pub life_long : (Asked : Told → Type 0) (Idle : Type 0) → AllAre Asked (told_of history) → status ≡ 14 → IsTooLong (λ e. Asked (told_at e false)) Idle history wrote now_written c d
+    life_long Asked Idle all fourteen =
+        let f = life_full kept.weights facts.full.0 facts.full.1 Asked all fourteen in
+        too_long wrote now_written c d status stance kept.weights facts.full.0 kept (λ e. Asked (told_at e false)) Idle history f.0 f.1 f.2.event f.2.asked f.2.is (inl f.2.noted) f.3
 
     any_told : (ts : List Told) → AllAre (λ (t : Told). Unit {0}) ts
     any_told [] = tt
@@ -270,15 +319,21 @@ module _ {D T : Type 0} (reads : D → Option (List ℕ)) (may_leave : D → Lis
     life_splits : Splits (made ++ history) history
     life_splits = record { grants = tooks made; are_grants = (grants_tell grants).0; taken = tooks-append made history; risked = inl (pending-append made history none) }
 
-    pub life_kept : has_begun old.build.phase ≡ true → Keeps reads may_leave stance old payloads → KeptSo history
-    life_kept begun keeps =
+    pub life_kept : has_begun old.build.phase ≡ true → IsWhole (setting_in old.build) (image_in stance old.build) → (kept.stopped ≡ false → has_begun kept.build.phase ≡ true → IsWhole (setting_in kept.build) (image_in stance kept.build)) → Keeps reads may_leave stance old payloads → KeptSo history
+    life_kept begun first whole keeps =
         let g = facts.grown payloads keeps in
         let same = kept_fault-append made history none in
-        kept_by (made ++ history) history life_splits
+        let calm : (rest : Rest) → ended ≡ Ok rest → kept_fault (made ++ history) ≡ None = λ rest rests. same ∙ rest_keeps (kept_fault history) how members rest (sym rests ∙ is) in
+        kept_by (made ++ history) history (sound_so reads may_leave stance old payloads begun keeps first) life_splits
         (λ disk. end_disk wrote now_written c d status (StandsFor stance kept.build) (image_in stance kept.build) ended (is ∙ ap (λ (o : Option TakeFault). ended_as o how members) (sym same ∙ disk)) told) g
-        (end_shown ended (payloads ++ g.added) told (λ rest rests. ends_in payloads g.added begun keeps.stands (g.keeps (same ∙ rest_keeps (kept_fault history) how members rest (sym rests ∙ is))).stands))
-        (λ fourteen. let f = life_full (λ (t : Told). Unit {0}) (any_told (told_of history)) fourteen in
-        (f.1, subst (λ (n : ℕ). 2 ^ 30 < n + f.1) f.2.is.0 f.2.is.1, subst (λ (n : ℕ). Tells wrote now_written c d (full_text n f.1)) f.2.is.0 f.3))
+        (end_shown ended (payloads ++ g.added) told (λ rest rests.
+        let none_now = calm rest rests in
+        let shown = facts.shown none_now in
+        (ends_in payloads g.added begun keeps.stands (g.keeps none_now).stands, subst (λ (s : Setting). IsWhole s (image_in stance kept.build)) shown.setting (whole (facts.running none_now) shown.begun))))
+        (λ fourteen.
+        let all = payloads ++ g.added in
+        let f = life_full (weights_of all) (last_image all) g.full (λ (t : Told). Unit {0}) (any_told (told_of history)) fourteen in
+        full_so all history f.0 f.1 f.2.event g.ends f.2.is (inl f.2.noted) f.3)
 
   -- a life whose opening was refused
   module _ (made : List Entry) (facts : Facts reads may_leave clock since disk_faults stance old kept made) (fault : TakeFault) (refuses : OpenRefuses stance old kept made fault)
@@ -287,16 +342,19 @@ module _ {D T : Type 0} (reads : D → Option (List ℕ)) (may_leave : D → Lis
     opening_fault (inl grants) f kept_is = same_fault fault f (sym grants.1 ∙ kept_is)
     opening_fault (inr nothing) f kept_is = absurd (no_fault f (sym kept_is ∙ ap kept_fault nothing.0))
 
-    opening_full : OpenRefuses stance old kept made fault → (at add : ℕ) → fault ≡ take.Full at add → RefusedFull stance kept (λ (t : Told). ⊥) made at add
-    opening_full (inl grants) at add full_is = refused_full stance kept (λ (t : Told). ⊥) made at add (grants.1 ∙ ap Some full_is) facts.full (subst (AllAre (λ (t : Told). ⊥)) (sym (grants_silent grants.0).told) tt)
-    opening_full (inr nothing) at add full_is = let bad : take.Memory ≡ take.Full at add = sym nothing.2 ∙ full_is in absurd (cc)
+    opening_full : (w : Weights) (before : Option Image) → IsFullAt stance w before kept made → OpenRefuses stance old kept made fault → (at add : ℕ) → fault ≡ take.Full at add → RefusedFull stance w before kept (λ (t : Told). ⊥) made at add
+    opening_full w before full (inl grants) at add full_is = refused_full stance w before kept (λ (t : Told). ⊥) made at add (grants.1 ∙ ap Some full_is) full (subst (AllAre (λ (t : Told). ⊥)) (sym (grants_silent grants.0).told) tt)
+    opening_full w before full (inr nothing) at add full_is = let bad : take.Memory ≡ take.Full at add = sym nothing.2 ∙ full_is in absurd (cc)
 
-    pub opening_long : (Asked : Event → Type 0) (history : List Entry) → history ≡ [] → status ≡ 14 → IsTooLong Asked history wrote now_written c d
-    opening_long Asked history empty fourteen =
+    grant_of_opening : (w : Weights) (before : Option Image) (at add : ℕ) (f : RefusedFull stance w before kept (λ (t : Told). ⊥) made at add) → is_grant f.event ≡ true
+    grant_of_opening w before at add f = ⊎_elim (λ it. it) (λ never. absurd never) f.asked
+
+    pub opening_long : (Asked : Event → Type 0) (Idle : Type 0) → Idle → (history : List Entry) → history ≡ [] → status ≡ 14 → IsTooLong Asked Idle history wrote now_written c d
+    opening_long Asked Idle idle history empty fourteen =
         let f = broken_full wrote now_written c d status fault r says is told fourteen in
-        let full = opening_full refuses f.at f.add f.is in
-        let grant : is_grant full.event ≡ true = ⊎_elim (λ it. it) (λ never. absurd never) full.asked in
-        too_long wrote now_written c d status stance kept Asked history f.at f.add full.event (inl grant) full.is (inr (empty, grant)) f.tells
+        let full = opening_full kept.weights facts.full.0 facts.full.1 refuses f.at f.add f.is in
+        let grant = grant_of_opening kept.weights facts.full.0 f.at f.add full in
+        too_long wrote now_written c d status stance kept.weights facts.full.0 kept Asked Idle history f.at f.add full.event (inl grant) full.is (inr (empty, idle, grant)) f.tells
 
     opening_tells : OpenRefuses stance old kept made fault → AreGrants (tooks made) × AreGrants (pending made)
     opening_tells (inl grants) = grants_tell grants.0
@@ -310,19 +368,22 @@ module _ {D T : Type 0} (reads : D → Option (List ℕ)) (may_leave : D → Lis
       risked = inr (empty, (opening_tells refuses).1);
     }
 
-    pub opening_kept : (history : List Entry) → history ≡ [] → Keeps reads may_leave stance old payloads → KeptSo history
-    opening_kept history empty keeps =
-        kept_by made history (opening_splits history empty) (λ disk. broken_disk wrote now_written c d status r (subst (λ (f : TakeFault). SaysTake f r) (opening_fault refuses take.Disk disk) says) is) (facts.grown payloads keeps)
+    pub opening_kept : has_begun old.build.phase ≡ true → IsWhole (setting_in old.build) (image_in stance old.build) → (history : List Entry) → history ≡ [] → Keeps reads may_leave stance old payloads → KeptSo history
+    opening_kept begun first history empty keeps =
+        let g = facts.grown payloads keeps in
+        kept_by made history (sound_so reads may_leave stance old payloads begun keeps first) (opening_splits history empty) (λ disk. broken_disk wrote now_written c d status r (subst (λ (f : TakeFault). SaysTake f r) (opening_fault refuses take.Disk disk) says) is) g
         (inl (subst IsBroken (sym is) (broken_status fault r says)))
         (λ fourteen.
+        let all = payloads ++ g.added in
         let f = broken_full wrote now_written c d status fault r says is told fourteen in
-        let full = opening_full refuses f.at f.add f.is in
-        (f.add, subst (λ (n : ℕ). 2 ^ 30 < n + f.add) full.is.0 full.is.1, subst (λ (n : ℕ). Tells wrote now_written c d (full_text n f.add)) full.is.0 f.tells))
+        let full = opening_full (weights_of all) (last_image all) g.full refuses f.at f.add f.is in
+        full_so all history f.at f.add full.event g.ends full.is (inr (empty, grant_of_opening (weights_of all) (last_image all) f.at f.add full)) f.tells)
 
 -- Nothing was done.
 pub nothing_kept : {D T : Type 0} (reads : D → Option (List ℕ)) (may_leave : D → List ℕ → Type 0) (clock : D → ℕ) (since : D → ℕ → List ℕ → Type 0) → ((d : D) (image : List ℕ) → since d (clock d) image → may_leave d image) → (stance : T → Stance) (kept : Kept D T)
-    (payloads : List (List ℕ)) (history : List Entry) (wrote now_written : Option (List ℕ)) (c d status : ℕ) → Keeps reads may_leave stance kept payloads → history ≡ [] → status ≡ 8 → KeepsRecords may_leave clock since kept.journal.disk payloads history kept.journal.disk wrote now_written c d status
-nothing_kept reads may_leave clock since only_now stance kept payloads history wrote now_written c d status keeps empty eight =
+    (payloads : List (List ℕ)) (history : List Entry) (wrote now_written : Option (List ℕ)) (c d status : ℕ) → has_begun kept.build.phase ≡ true → IsWhole (setting_in kept.build) (image_in stance kept.build) → Keeps reads may_leave stance kept payloads → history ≡ [] → status ≡ 8
+    → KeepsRecords may_leave clock since (setting_in kept.build) kept.journal.disk payloads history kept.journal.disk wrote now_written c d status
+nothing_kept reads may_leave clock since only_now stance kept payloads history wrote now_written c d status begun first keeps empty eight =
     let has : (image : List ℕ) → may_leave kept.journal.disk image → Has (payloads ++ []) image =
     λ image left. subst (λ (ps : List (List ℕ)). Has ps image) (sym (append-nil payloads)) (stores_has reads may_leave kept.journal.disk kept.journal.len payloads image keeps.holds left) in
     record {
@@ -334,6 +395,7 @@ nothing_kept reads may_leave clock since only_now stance kept payloads history w
       sure = λ other. refl;
       at_end = λ image left. inl (has image left);
       moments = starts clock since kept.journal.disk (HasFront payloads []) (λ image left. (0, has image (only_now kept.journal.disk image left)));
+      sound = sound_so reads may_leave stance kept payloads begun keeps first [] [] tt tt;
       shown = inl (inr (inr (inr eight)));
       full = λ fourteen. absurd (omega (arith, eight, fourteen));
     }

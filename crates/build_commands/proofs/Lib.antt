@@ -1,5 +1,5 @@
 mod RefusalLemmas
-mod StoreLemmas
+pub mod StoreLemmas
 mod ShowLemmas
 mod FinishLemmas
 pub mod LivingLemmas

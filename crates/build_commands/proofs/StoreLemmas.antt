@@ -17,6 +17,7 @@ use Rattle.durable_build.specs.declared.faults.StoreFault.TheVariants.{Damaged}
 use Rattle.durable_build.specs.Standing.{Breaks, IsDamagedAt, IsUnsound, IsWhole, Kept, Closing, Opening, StandsBy, StandsForStory, last_place}
 use Rattle.durable_build.proofs.KindLemmas.{breaks_unclosed}
 use Rattle.durable_build.specs.Opening.{OpenFails, Opened}
+use Rattle.build_commands.specs.Reporting.{StartsBy}
 use Rattle.build_commands.specs.Showing.{HasBuild, ShowsBuild}
 
 same_payloads : (ps qs : List (List ℕ)) (file : List ℕ) → Has ps file → Has qs file → ps ≡ qs
@@ -47,39 +48,55 @@ module _ {T : Type 0} (stance : T → Stance) (b : Parts T) (script agents : Lis
       let same : s ≡ setting_in b = same_setting (setting_in b) s script agents p r stands.1 spelled.0 story.starts in
       subst (λ (t : Setting). StandsFor stance b (world_in t (events_of (r ∷ rs)))) (sym same) (of_story (r ∷ rs) spelled (subst (λ (t : Setting). IsStory world_image t (r ∷ rs)) same story))
 
-  not_damaged : (payloads : List (List ℕ)) (at : ℕ) → 0 < length payloads → StandsBy stance b script agents payloads → IsWhole (setting_in b) (image_in stance b) → IsDamagedAt payloads at → ⊥
-  not_damaged [] at some stands whole damaged = nothing some
-  not_damaged (p ∷ ps) at some stands whole (inl first) = first.1 (setting_in b) script agents stands.1
-  not_damaged (p ∷ ps) at some stands whole (inr last) = by last.4
-    where
-      same : last.0 ≡ setting_in b
-      same = let o = last.3 in same_setting (setting_in b) last.0 script agents p o.first stands.1 o.tells (subst (Starts last.0) (sym o.starts) o.mean)
+  -- the records by which a build stands, where there is one, begin with its `Start`
+  pub starts_by : (payloads : List (List ℕ)) → 0 < length payloads → StandsBy stance b script agents payloads → StartsBy (setting_in b) payloads
+  starts_by [] some stands = nothing some
+  starts_by (p ∷ ps) some stands = (script, agents, stands.1)
 
-      by : Breaks (p ∷ ps) at ⊎ ((at ≡ last_place 0 p ps) × IsUnsound last.0 (p ∷ ps)) → ⊥
-      by (inl breaks) = let no : Some (image_in stance b) ≡ None = sym stands.2 ∙ breaks_unclosed (p ∷ ps) at breaks in absurd (cc)
-      by (inr (place, (image, closing, unsound))) =
-          let both : Some (image_in stance b) ≡ Some image = sym stands.2 ∙ closing in
-          let is : image_in stance b ≡ image = cc in
-          unsound (subst (λ (t : Setting). IsWhole t image) (sym same) (subst (IsWhole (setting_in b)) is whole))
+  ends_by : (payloads : List (List ℕ)) → 0 < length payloads → StandsBy stance b script agents payloads → Closing (image_in stance b) payloads
+  ends_by [] some stands = absurd (nothing some)
+  ends_by (p ∷ ps) some stands = stands.2
+
+-- Records of which the first is the `Start` of this setting are not damaged, where the last has an image that is whole.
+not_damaged : (setting : Setting) (image : Image) (payloads : List (List ℕ)) (at : ℕ) → StartsBy setting payloads → Closing image payloads → IsWhole setting image → IsDamagedAt payloads at → ⊥
+not_damaged setting image [] at starts closes whole damaged = starts
+not_damaged setting image (p ∷ ps) at starts closes whole (inl first) = first.1 setting starts.0 starts.1 starts.2
+not_damaged setting image (p ∷ ps) at starts closes whole (inr last) = by last.4
+  where
+    same : last.0 ≡ setting
+    same = let o = last.3 in same_setting setting last.0 starts.0 starts.1 p o.first starts.2 o.tells (subst (Starts last.0) (sym o.starts) o.mean)
+
+    by : Breaks (p ∷ ps) at ⊎ ((at ≡ last_place 0 p ps) × IsUnsound last.0 (p ∷ ps)) → ⊥
+    by (inl breaks) = let no : Some image ≡ None = sym closes ∙ breaks_unclosed (p ∷ ps) at breaks in absurd (cc)
+    by (inr (place, (other, closing, unsound))) =
+        let both : Some image ≡ Some other = sym closes ∙ closing in
+        let is : image ≡ other = cc in
+        unsound (subst (λ (t : Setting). IsWhole t other) (sym same) (subst (IsWhole setting) is whole))
+
+-- so a store of them has a build, which the next opening finds
+pub sound_store : (file : List ℕ) (setting : Setting) (image : Image) (payloads : List (List ℕ)) → Has payloads file → StartsBy setting payloads → Closing image payloads → IsWhole setting image → HasBuild file
+sound_store file setting image payloads has starts closes whole = (none, sound)
+  where
+    none : Has [] file → ⊥
+    none empty = subst (StartsBy setting) (same_payloads payloads [] file has empty) starts
+
+    sound : (at : ℕ) → OpenFails file (Damaged at) → ⊥
+    sound at (ps, inl cut) = let bad : true ≡ false = ap (λ (w : Walked). w.is_whole) (sym has ∙ cut.0) in absurd (cc)
+    sound at (ps, inr damaged) =
+        let same = same_payloads ps payloads file damaged.0 has in
+        not_damaged setting image payloads at starts closes whole (subst (λ (qs : List (List ℕ)). IsDamagedAt qs at) same damaged.1)
 
 module _ {D T : Type 0} (reads : D → Option (List ℕ)) (may_leave : D → List ℕ → Type 0) (stance : T → Stance) (file : List ℕ) (k : Kept D T) (o : Opened reads may_leave stance file k) where
-  has_some : Has [] file → ⊥
-  has_some none = nothing (subst (λ (ps : List (List ℕ)). 0 < length ps) (same_payloads o.payloads [] file o.has none) o.some)
-
-  sound : IsWhole (setting_in k.build) (image_in stance k.build) → (at : ℕ) → OpenFails file (Damaged at) → ⊥
-  sound whole at (ps, inl cut) = let bad : true ≡ false = ap (λ (w : Walked). w.is_whole) (sym o.has ∙ cut.0) in absurd (cc)
-  sound whole at (ps, inr damaged) =
-      let same = same_payloads ps o.payloads file damaged.0 o.has in
-      not_damaged stance k.build k.script k.agents o.payloads at o.some o.keeps.stands whole (subst (λ (qs : List (List ℕ)). IsDamagedAt qs at) same damaged.1)
-
   pub has_build : IsWhole (setting_in k.build) (image_in stance k.build) → HasBuild file
-  has_build whole = (has_some, sound whole)
+  has_build whole =
+      sound_store file (setting_in k.build) (image_in stance k.build) o.payloads o.has (starts_by stance k.build k.script k.agents o.payloads o.some o.keeps.stands)
+      (ends_by stance k.build k.script k.agents o.payloads o.some o.keeps.stands) whole
 
   -- what is the text of each build of the definitions that the opened one stands for, is the text of the store's build
   pub shows_build : (text_of : Build → List ℕ) (text : List ℕ) → IsWhole (setting_in k.build) (image_in stance k.build) → ((w : Build) → StandsFor stance k.build w → text ≡ text_of w) → ShowsBuild text_of file text
   shows_build text_of text whole is = record {
-    some = has_some;
-    sound = sound whole;
+    some = (has_build whole).0;
+    sound = (has_build whole).1;
     is = λ setting records tells story.
         let spelled = subst (Told None records) (same_payloads tells.payloads o.payloads file tells.has o.has) tells.spelled in
         is (world_in setting (events_of records)) (stands_for stance k.build k.script k.agents o.payloads setting records o.some o.keeps.stands o.keeps.story spelled story);

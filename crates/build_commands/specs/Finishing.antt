@@ -11,9 +11,10 @@ use Rattle.run_command.specs.Statuses.{world_status, HasLog}
 use Rattle.run_command.specs.Texts.{read_failed_text}
 use Rattle.script_run.specs.declared.rest.Rest.{Rest}
 use Rattle.script_run.specs.declared.rest.Rest.TheVariants.{AnswersFailed}
-use Rattle.durable_build.specs.Taking.{MayAdd}
+use Rattle.delta_records.specs.declared.weights.Weights.{Weights}
+use Rattle.durable_build.specs.Taking.{DueAdds}
 use Rattle.saved_run.specs.Lives.{image_after, IsNext}
-use Rattle.saved_run.specs.Saved.{Stores, Survives, journal_length}
+use Rattle.saved_run.specs.Saved.{Stores, Survives, journal_length, journal_weights}
 use Rattle.build_commands.specs.declared.refusal.Refusal.{Refusal}
 use Rattle.build_commands.specs.Reporting.{image_status}
 use Rattle.build_commands.specs.Refusals.{SaysTake, refusal_status, refusal_text}
@@ -26,14 +27,15 @@ pub record ComesNext (Comes : List Event → Event → Type 0) (setting : Settin
   pub is_next : IsNext setting events event
   pub caused : Comes events event
 
--- The journal cannot take the record of the event that came next: these are the journal's length, and what the record would add. Where the disk told its bytes at
--- the beginning, the length is that of the journal of now.
+-- The journal cannot take the record that is due for the event that came next: these are the journal's length, and what the record would add. Whether it is due whole
+-- hangs on what the records of the journal weigh. Where the disk told its bytes at the beginning, length and weights are those of the journal of now.
 pub record IsFull (Comes : List Event → Event → Type 0) (setting : Setting) (entry now : Option (List ℕ)) (events : List Event) (len add : ℕ) : Type 0 where
   pub event : Event
   pub next : ComesNext Comes setting events event
   pub too_long : 2 ^ 30 < len + add
-  pub adds : MayAdd (Some (image_after setting events)) event (image_after setting (events ++ event ∷ [])) add
-  pub length_is : IsSome entry → IfSome now (λ file. len ≡ journal_length file)
+  pub weights : Weights
+  pub adds : DueAdds weights (Some (image_after setting events)) event (image_after setting (events ++ event ∷ [])) add
+  pub stored : IsSome entry → IfSome now (λ file. (len ≡ journal_length file) × (weights ≡ journal_weights file))
 
 -- What a life is, is open here: which events it may have taken, why one comes next behind them, behind which nobody goes on, or the answers could not be
 -- read; and what was heard of the answers.

@@ -1,5 +1,5 @@
 -- A life over any store, also one of which the disk tells nothing (this product's own).
-use Rattle.std.specs.Prelude.{◌≡◌, ℕ, ℤ, List, Option}
+use Rattle.std.specs.Prelude.{◌≡◌, ℕ, ℤ, List, [], Option}
 use Rattle.task_host.specs.declared.call.Call.{Call}
 use Rattle.task_host.specs.declared.order.Stream.{Stream}
 use Rattle.model_run.specs.State.{Setting}
@@ -7,9 +7,9 @@ use Rattle.site_state.specs.declared.ask.Entry.{Entry}
 use Rattle.build_commands.specs.Living.{IsRefused, Lived}
 use Rattle.build_commands.specs.Reporting.{IsTooLong}
 
--- It was led by members that are made of these hosts and answers; and where it ended with 14, the record that did not fit is that of a grant, or of an event that one
--- of them asked for.
+-- It was led by members that are made of these hosts and answers; and where it ended with 14, the record that did not fit is the one that was due for a grant, or for an
+-- event that one of them asked for; for a grant of the opening only where none of them had a turn.
 pub record IsLed {H A : Type 0} (honest : H → Type 0) (faults : H → ℕ) (calls : H → Option (List Call)) (launches dirs : H → List ℕ) (output : H → ℕ → Stream → List ℕ) (exited : H → ℕ → Option ℤ)
     (left : A → Option (List ℕ)) (source_faults : A → ℕ) (looks : ℕ) (setting : Setting) (hosts rest : List H) (answers unread : A) (history : List Entry) (written now : Option (List ℕ)) (sink_before sink_after status : ℕ) : Type 0 where
   pub lived : Lived honest faults calls launches dirs output exited left source_faults looks setting hosts rest answers unread history
-  pub too_long : status ≡ 14 → ∥ IsTooLong (IsRefused honest faults calls launches dirs output exited left source_faults looks lived.turns) history written now sink_before sink_after ∥₁
+  pub too_long : status ≡ 14 → ∥ IsTooLong (IsRefused honest faults calls launches dirs output exited left source_faults looks lived.turns) (lived.turns ≡ []) history written now sink_before sink_after ∥₁

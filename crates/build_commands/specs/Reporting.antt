@@ -1,6 +1,6 @@
 -- How a command ends that lets a build go on, by the counts of its devices and what is written: over any disk, also one that tells none of its
 -- bytes (this product's own).
-use Rattle.std.specs.Prelude.{◌≡◌, ◌⊎◌, ◌+◌, ◌<◌, ◌≤◌, ◌^◌, ℕ, true, List, [], ◌∷◌, ◌++◌, length, Option, Some}
+use Rattle.std.specs.Prelude.{◌≡◌, ◌⊎◌, ◌+◌, ◌<◌, ◌≤◌, ◌^◌, ℕ, true, List, [], ◌∷◌, ◌++◌, length, take, Option, Some}
 use Rattle.std.specs.List.{AllByRecursion as AllAre}
 use Rattle.device_faults.specs.Faults.{Rose}
 use Rattle.jp_disk.specs.Moments.{AtEachMoment}
@@ -11,8 +11,10 @@ use Rattle.model_run.specs.declared.event.Event.{Event}
 use Rattle.model_run.specs.State.{Setting}
 use Rattle.store_laws.specs.Store.{Told, events_of, last_image}
 use Rattle.agent_worker.specs.declared.fault.TakeFault.TheVariants.{Full}
-use Rattle.durable_build.specs.Standing.{Closing, Opening}
-use Rattle.durable_build.specs.Taking.{MayAdd}
+use Rattle.delta_records.specs.declared.weights.Weights.{Weights}
+use Rattle.durable_build.specs.Kinds.{weights_of}
+use Rattle.durable_build.specs.Standing.{Closing, IsWhole, Opening}
+use Rattle.durable_build.specs.Taking.{DueAdds}
 use Rattle.site_state.specs.declared.ask.Entry.{Entry}
 use Rattle.site_state.specs.declared.ask.Entry.TheVariants.{Failed}
 use Rattle.site_state.specs.Facts.{HasFront}
@@ -44,10 +46,12 @@ image_status image = status_of image.ended image.result
 abbrev pub length_with : List (List ℕ) → ℕ
 length_with payloads = length (framed payloads) + 1
 
--- A log was written, or its front: that of the image of the last of these records, with the status of the build of that image.
-pub record ShowsEnd (payloads : List (List ℕ)) (written now : Option (List ℕ)) (sink_before sink_after status : ℕ) : Type 0 where
+-- A log was written, or its front: that of the image of the last of these records, with the status of the build of that image. The image is whole, by this setting: the
+-- next opening of the store goes on from it.
+pub record ShowsEnd (setting : Setting) (payloads : List (List ℕ)) (written now : Option (List ℕ)) (sink_before sink_after status : ℕ) : Type 0 where
   pub image : Image
   pub ends : Closing image payloads
+  pub whole : IsWhole setting image
   pub wrote : Writes written now sink_before sink_after image.log (image_status image) status
 
 -- all of these events are grants, which nobody asks for
@@ -69,11 +73,31 @@ pub record TellRisked (before : Option Image) (history : List Entry) (payloads :
   pub events : (events_of records ≡ pending history) ⊎ ((history ≡ []) × AreGrants (events_of records))
   pub spelled : Told before records payloads
 
+-- the history says that the record of this event did not fit, with these two numbers: the length of the journal, and what it would add
+abbrev pub IsNoted : List Entry → ℕ → ℕ → Event → Type 0
+IsNoted history len add event = (before : List Entry) × (behind : List Entry) × (history ≡ before ++ Failed (Full len add) (Some event) ∷ behind)
+
+-- The record that is due for this event behind these records did not fit: the history says so; or no history tells of it, and it is a grant. The text tells how long the
+-- journal of these records is, and what the due record would add, with some image behind the event.
+pub record IsFullBehind (payloads : List (List ℕ)) (history : List Entry) (written now : Option (List ℕ)) (sink_before sink_after : ℕ) : Type 0 where
+  pub event : Event
+  pub image : Image
+  pub add : ℕ
+  pub adds : DueAdds (weights_of payloads) (last_image payloads) event image add
+  pub noted : IsNoted history (length_with payloads) add event ⊎ ((history ≡ []) × (is_grant event ≡ true))
+  pub too_long : 2 ^ 30 < length_with payloads + add
+  pub told : Tells written now sink_before sink_after (full_text (length_with payloads) add)
+
+-- the last of these records has an image, which is whole
+abbrev pub EndsWhole : Setting → List (List ℕ) → Type 0
+EndsWhole setting payloads = (image : Image) × Closing image payloads × IsWhole setting image
+
 -- What becomes of a store that kept these records, whatever they tell, in a life from there on with this history: it has them still, and behind them the records of the
--- life, and no other; and with 5 perhaps that of the event whose take the disk failed. A crash meanwhile leaves them and the first of those behind them. A log, or
--- its front, is that of the image of the last record of all, which has one then, with the status of the build of that image; and 14 tells the length of the journal of
--- all of them, which the record of an event would have made too long. Which image a new record has, nothing says of a build that is no world's.
-pub record KeepsRecords {D : Type 0} (may_leave : D → List ℕ → Type 0) (clock : D → ℕ) (since : D → ℕ → List ℕ → Type 0) (old : D) (payloads : List (List ℕ)) (history : List Entry) (disk : D) (written now : Option (List ℕ)) (sink_before sink_after status : ℕ) : Type 0 where
+-- life, and no other; and with 5 perhaps that of the event whose take the disk failed. A crash meanwhile leaves them and the first of those behind them, and the last of
+-- all that it leaves has a whole image, so that the next opening goes on from it. A log, or
+-- its front, is that of the image of the last record of all, which has one then, with the status of the build of that image; and 14 tells the length of the journal of all of them, which the record that was due for an event would have made too long. Which image a new record has,
+-- nothing says of a build that is no world's.
+pub record KeepsRecords {D : Type 0} (may_leave : D → List ℕ → Type 0) (clock : D → ℕ) (since : D → ℕ → List ℕ → Type 0) (setting : Setting) (old : D) (payloads : List (List ℕ)) (history : List Entry) (disk : D) (written now : Option (List ℕ)) (sink_before sink_after status : ℕ) : Type 0 where
   pub more : List (List ℕ)
   pub taken : TellTaken (last_image payloads) history more
   pub risked : List (List ℕ)
@@ -82,33 +106,37 @@ pub record KeepsRecords {D : Type 0} (may_leave : D → List ℕ → Type 0) (cl
   pub sure : ¬ (status ≡ 5) → risked ≡ []
   pub at_end : (image : List ℕ) → may_leave disk image → Has (payloads ++ more) image ⊎ Has (payloads ++ more ++ risked) image
   pub moments : AtEachMoment clock since old disk (HasFront payloads (more ++ risked))
-  pub shown : IsBroken status ⊎ ShowsEnd (payloads ++ more) written now sink_before sink_after status
-  pub full : status ≡ 14 → (add : ℕ) × (2 ^ 30 < length_with (payloads ++ more) + add) × Tells written now sink_before sink_after (full_text (length_with (payloads ++ more)) add)
+  pub sound : (k : ℕ) → EndsWhole setting (payloads ++ take k (more ++ risked))
+  pub shown : IsBroken status ⊎ ShowsEnd setting (payloads ++ more) written now sink_before sink_after status
+  pub full : status ≡ 14 → IsFullBehind (payloads ++ more) history written now sink_before sink_after
+
+-- the first of these records is that of a `Start` of this setting
+abbrev pub StartsBy : Setting → List (List ℕ) → Type 0
+StartsBy setting [] = ⊥
+StartsBy setting (p ∷ ps) = (script : List ℕ) × (agents : List ℕ) × Opening setting script agents p
 
 -- What becomes of a store whose build is gone on with, whatever its records tell; the setting of the build is that of the first record. Up to a moment a crash
 -- leaves nothing new.
 pub record LeavesStore {D : Type 0} (may_leave : D → List ℕ → Type 0) (clock : D → ℕ) (since : D → ℕ → List ℕ → Type 0) (setting : Setting) (file : List ℕ) (history : List Entry) (old disk : D) (written now : Option (List ℕ)) (sink_before sink_after status : ℕ) : Type 0 where
   pub payloads : List (List ℕ)
   pub has : Has payloads file
-  pub begun : (p : List ℕ) (ps : List (List ℕ)) → payloads ≡ p ∷ ps → (script : List ℕ) × (agents : List ℕ) × Opening setting script agents p
+  pub begun : StartsBy setting payloads
   pub opened : D
   pub up_to : AtEachMoment clock since old opened (may_leave old)
-  pub keeps : ∥ KeepsRecords may_leave clock since opened payloads history disk written now sink_before sink_after status ∥₁
+  pub keeps : ∥ KeepsRecords may_leave clock since setting opened payloads history disk written now sink_before sink_after status ∥₁
 
--- the history says that the record of this event did not fit, with these two numbers: the length of the journal, and what it would add
-abbrev pub IsNoted : List Entry → ℕ → ℕ → Event → Type 0
-IsNoted history len add event = (before : List Entry) × (behind : List Entry) × (history ≡ before ++ Failed (Full len add) (Some event) ∷ behind)
-
--- The record of this event did not fit into the store: the history says so, of an event that was asked for or of a grant behind one; or the opening was refused, and it
--- is a grant. The text tells how long the journal is, and what the record would add, with some image behind the event and some image of the record before.
-pub record IsTooLong (Asked : Event → Type 0) (history : List Entry) (written now : Option (List ℕ)) (sink_before sink_after : ℕ) : Type 0 where
+-- The record that was due for this event did not fit into the store: the history says so, of an event that was asked for or of a grant behind one; or the opening was
+-- refused, so that nobody had a turn, and it is a grant. The text tells how long the journal is, and what the record would add, by some weights of the records of the
+-- journal, with some image behind the event and some image of the record before.
+pub record IsTooLong (Asked : Event → Type 0) (Idle : Type 0) (history : List Entry) (written now : Option (List ℕ)) (sink_before sink_after : ℕ) : Type 0 where
   pub event : Event
   pub asked : (is_grant event ≡ true) ⊎ Asked event
   pub before : Option Image
   pub image : Image
   pub len : ℕ
   pub add : ℕ
-  pub adds : MayAdd before event image add
-  pub noted : IsNoted history len add event ⊎ ((history ≡ []) × (is_grant event ≡ true))
+  pub weights : Weights
+  pub adds : DueAdds weights before event image add
+  pub noted : IsNoted history len add event ⊎ ((history ≡ []) × Idle × (is_grant event ≡ true))
   pub too_long : 2 ^ 30 < len + add
   pub told : Tells written now sink_before sink_after (full_text len add)

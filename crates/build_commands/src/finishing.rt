@@ -6,7 +6,7 @@ ghost use Rattle.build_images.specs.Images.{image_in};
 ghost use Rattle.model_run.specs.declared.event.Event.{Event as AnEvent};
 ghost use Rattle.model_run.specs.declared.site.Executor.{Executor as SiteExecutor};
 ghost use Rattle.model_run.specs.State.{Setting};
-ghost use Rattle.durable_build.specs.Standing.{Keeps};
+ghost use Rattle.durable_build.specs.Standing.{IsWhole, Keeps};
 ghost use Rattle.saved_run.specs.Lives.{Lasts};
 ghost use Rattle.site_crew.specs.Crews.{IsCrew, members_of, others_of};
 ghost use Rattle.build_commands.specs.Reporting.{KeepsRecords, Reports};
@@ -36,7 +36,7 @@ use task_host::Host;
 ///
 /// | status | comes | text |
 /// |---|---|---|
-/// | 14 | only where the record of the next event does not fit into the store | the length of its journal, and what the record would add |
+/// | 14 | only where the record that is due for the next event does not fit into the store | the length of its journal, and what the record would add |
 /// | 5 | only where the disk counted a fault | `controller: disk failed` |
 /// | 6 | only where an input is open and the answers counted a fault | `controller: read failed` |
 /// | 7 | only where the sink counted a fault | a part of the log, from its beginning |
@@ -69,7 +69,7 @@ pub fn finish<
         hosts.items result.hosts.items answers result.answers result.history.items (K.written out.old) (K.written out.new) (K.faults out.old) (K.faults out.new) result.status }
     ensures reports { Reports (D.faults durable.journal.disk) (D.faults result.disk) (A.faults answers) (A.faults result.answers) (K.written out.old) (K.written out.new) (K.faults out.old) (K.faults out.new) result.status }
     ensures last { (payloads : List (List ℕ)) → Keeps D.reads D.may_leave R.stance durable payloads
-        → ∥ KeepsRecords D.may_leave D.clock D.may_have_left_since durable.journal.disk payloads result.history.items result.disk (K.written out.old) (K.written out.new) (K.faults out.old) (K.faults out.new) result.status ∥₁ }
+        → ∥ KeepsRecords D.may_leave D.clock D.may_have_left_since (setting_in durable.build) durable.journal.disk payloads result.history.items result.disk (K.written out.old) (K.written out.new) (K.faults out.old) (K.faults out.new) result.status ∥₁ }
     ensures finishes { (setting : Setting) (entry : Option (List ℕ)) (origin : D) (before : List AnEvent)
         → Lasts D.reads D.may_leave D.clock D.may_have_left_since R.stance setting entry origin before before durable
         → ∥ Finished D.reads D.may_leave D.clock D.may_have_left_since H.honest H.faults H.calls H.launches H.dirs H.output H.exited A.left A.faults (max setting.site.looks 1)
@@ -115,6 +115,7 @@ fn live<
     requires begun { has_begun durable.build.phase ≡ true }
     requires crew { IsCrew crew.members.items }
     requires room { vec_len crew.others + vec_len crew.members ≤ vec_capacity crew.others + 1 }
+    requires whole { IsWhole (setting_in durable.build) (image_in R.stance durable.build) }
     ensures stay { (executors : List SiteExecutor) (hosts : List H) (answers : A) → crew.members.items ≡ members_of executors hosts answers
         → crew.others.items ≡ reverse (others_of executors hosts) → HostsStay H.honest H.faults H.calls hosts result.hosts.items }
     ensures launched { (executors : List SiteExecutor) (hosts : List H) (answers : A) → crew.members.items ≡ members_of executors hosts answers
@@ -125,7 +126,7 @@ fn live<
     ensures reports { (executors : List SiteExecutor) (hosts : List H) (answers : A) → crew.members.items ≡ members_of executors hosts answers
         → Reports (D.faults durable.journal.disk) (D.faults result.disk) (A.faults answers) (A.faults result.answers) (K.written out.old) (K.written out.new) (K.faults out.old) (K.faults out.new) result.status }
     ensures last { (payloads : List (List ℕ)) → Keeps D.reads D.may_leave R.stance durable payloads
-        → ∥ KeepsRecords D.may_leave D.clock D.may_have_left_since durable.journal.disk payloads result.history.items result.disk (K.written out.old) (K.written out.new) (K.faults out.old) (K.faults out.new) result.status ∥₁ }
+        → ∥ KeepsRecords D.may_leave D.clock D.may_have_left_since (setting_in durable.build) durable.journal.disk payloads result.history.items result.disk (K.written out.old) (K.written out.new) (K.faults out.old) (K.faults out.new) result.status ∥₁ }
     ensures finishes { (hosts : List H) (answers : A) (setting : Setting) (entry : Option (List ℕ)) (origin : D) (before : List AnEvent) → crew.members.items ≡ members_of setting.site.executors hosts answers
         → crew.others.items ≡ reverse (others_of setting.site.executors hosts) → Lasts D.reads D.may_leave D.clock D.may_have_left_since R.stance setting entry origin before before durable
         → ∥ Finished D.reads D.may_leave D.clock D.may_have_left_since H.honest H.faults H.calls H.launches H.dirs H.output H.exited A.left A.faults looks

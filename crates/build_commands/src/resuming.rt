@@ -23,7 +23,7 @@ use task_host::Host;
 /// | status | comes | text |
 /// |---|---|---|
 /// | 9 | only where the store has no record, or is damaged | `program.dat: no build`, or the place of the damage |
-/// | 14 | only where the record of the next event does not fit into the store | the length of its journal, and what the record would add |
+/// | 14 | only where the record that is due for the next event does not fit into the store | the length of its journal, and what the record would add |
 /// | 5 | only where the disk counted a fault | `controller: disk failed` |
 /// | 6 | only where an input is open and the answers counted a fault | `controller: read failed` |
 /// | 7 | only where the sink counted a fault | a part of the log, from its beginning |

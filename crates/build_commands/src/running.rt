@@ -27,7 +27,7 @@ use task_host::Host;
 /// | 13 | exactly where the agents file has a fault | its path and kind |
 /// | 4 | exactly where the script has a fault or is too long | the place of its first fault |
 /// | 9 | exactly where the store has a record, or the beginning of one | `program.dat: already has a build` |
-/// | 14 | only where the record of the next event does not fit into the store | the length of its journal, and what the record would add |
+/// | 14 | only where the record that is due for the next event does not fit into the store | the length of its journal, and what the record would add |
 /// | 5 | only where the disk counted a fault | `controller: disk failed` |
 /// | 7 | only where the sink counted a fault | a part of the log, from its beginning |
 /// | 0, 1, 10, 11, 12 | only where the build has ended so | its log |

@@ -1,6 +1,6 @@
 -- What a reader gets of the promises alone, without the code: some sentences of docs/PROOFS.md, derived.
-use Rattle.std.proofs.Common.{◌≡◌, ◌⊎◌, ◌+◌, ◌<◌, ◌^◌, ℕ, max, true, List, [], ◌∷◌, ◌++◌, Some, inl, inr, refl, sym, ap, append-nil, subst, ⊎_elim, arith}
-use Rattle.std.specs.Prelude.{IfSome, is_some, nat_eq}
+use Rattle.std.proofs.Common.{◌≡◌, ◌⊎◌, ◌+◌, ◌<◌, ◌^◌, ℕ, max, true, List, [], ◌∷◌, ◌++◌, Option, None, Some, inl, inr, refl, sym, ap, append-nil, subst, ⊎_elim, arith}
+use Rattle.std.specs.Prelude.{IfSome, is_some, nat_eq, take}
 use Rattle.std.specs.List.{AllByRecursion as AllAre, AllZip, IsDistinct}
 use Rattle.std.proofs.Math.Logic.{∥∥₁_map}
 use Rattle.agent_worker.specs.declared.member.Member.{Member}
@@ -14,7 +14,10 @@ use Rattle.model_run.specs.declared.event.Event.{Event}
 use Rattle.model_run.specs.declared.site.Executor.{Executor as SiteExecutor}
 use Rattle.model_run.specs.State.{Setting}
 use Rattle.model_run.specs.World.{world_in}
-use Rattle.saved_run.specs.Saved.{Stores, journal_length}
+use Rattle.delta_records.specs.declared.weights.Weights.{Weights}
+use Rattle.durable_build.specs.Taking.{DueAdds}
+use Rattle.saved_run.specs.Lives.{IsNext, image_after}
+use Rattle.saved_run.specs.Saved.{Stores, journal_length, journal_weights}
 use Rattle.store_laws.specs.Store.{last_image}
 use Rattle.site_gate.specs.Tales.{claimed_of}
 use Rattle.site_gate.specs.Turning.{tasks_of}
@@ -25,10 +28,14 @@ use Rattle.site_run.specs.Telling.{ClaimedInTime}
 use Rattle.site_crew.specs.Crews.{hosts_in, members_of, others_of}
 use Rattle.run_command.specs.Statuses.{HasRun, world_status}
 use Rattle.build_commands.specs.Living.{HostsStay}
-use Rattle.build_commands.specs.Reporting.{IsBroken, KeepsRecords, ShowsEnd, TellTaken}
+use Rattle.build_commands.specs.Reporting.{IsBroken, KeepsRecords, LeavesStore, ShowsEnd, StartsBy, TellTaken}
+use Rattle.jp_disk.specs.Moments.{AtEachMoment}
+use Rattle.jp_disk.proofs.MomentLemmas.{at_each_weaker}
+use Rattle.site_state.specs.Facts.{HasFront}
 use Rattle.build_commands.specs.Resuming.{IsUntouched}
-use Rattle.build_commands.specs.Showing.{HasNone}
+use Rattle.build_commands.specs.Showing.{HasBuild, HasNone}
 use Rattle.build_commands.specs.Texts.{full_text}
+use Rattle.build_commands.proofs.StoreLemmas.{sound_store}
 use Rattle.controller.specs.Call.{Call, Devices, Finds, Is, IsUnled, LifeIn, Takes, Tells, Unopened, Writes}
 use Rattle.controller.specs.Causes.{Causes, Stops, ended, waits, cut, unheard, disk_failed, full, no_memory, WentOn}
 use Rattle.controller.specs.Launches.{FitLeft, Launches, executor_hosts, tasks_on}
@@ -55,27 +62,46 @@ module _ {D H A : Type 0} (v : Devices D H A) (c : Call D H A) where
       → ((c.status ≡ 9) ⊎ (c.status ≡ 8) ⊎ (c.status ≡ 5)) × IsUntouched v.reads v.may_leave v.clock v.since c.disk c.now × IsUnled c
   resume_refuses causes is file told none = (causes.command Resume is).finds_none file told none
 
-  -- 14 of a consistent store: two numbers were told, the first is the length of the store's journal, and together they are too many.
-  pub record IsTrulyFull : Type 0 where
+  -- 14 of a consistent store: two numbers were told, the first is the length of the store's journal, and the second what the record would add to it that is due, by the
+  -- records of the store, for an event that comes next behind the taken ones; and together they are too many.
+  pub record IsTrulyFull (setting : Setting) (taken : List Event) : Type 0 where
+    pub event : Event
+    pub next : IsNext setting taken event
     pub len : ℕ
     pub add : ℕ
     pub told : Tells (full_text len add) c
     pub too_long : 2 ^ 30 < len + add
-    pub stored : IfSome (v.reads c.now) (λ file. len ≡ journal_length file)
+    pub stored : IfSome (v.reads c.now)
+        (λ file. (len ≡ journal_length file) × DueAdds (journal_weights file) (Some (image_after setting taken)) event (image_after setting (taken ++ event ∷ [])) add)
 
-  stops_full : (setting : Setting) (events : List Event) (life : LifeIn v setting c) (n : ℕ) → is_some (v.reads c.disk) ≡ true → Stops v setting events c life n → n ≡ 14 → IsTrulyFull
+  due_by : (o : Option (List ℕ)) (setting : Setting) (taken : List Event) (event : Event) (len add : ℕ) (w : Weights) → DueAdds w (Some (image_after setting taken)) event (image_after setting (taken ++ event ∷ [])) add
+      → IfSome o (λ file. (len ≡ journal_length file) × (w ≡ journal_weights file))
+      → IfSome o (λ file. (len ≡ journal_length file) × DueAdds (journal_weights file) (Some (image_after setting taken)) event (image_after setting (taken ++ event ∷ [])) add)
+  due_by None setting taken event len add w adds stored = tt
+  due_by (Some file) setting taken event len add w adds stored =
+      (stored.0, subst (λ (x : Weights). DueAdds x (Some (image_after setting taken)) event (image_after setting (taken ++ event ∷ [])) add) stored.1 adds)
+
+  stops_full : (setting : Setting) (events : List Event) (life : LifeIn v setting c) (n : ℕ) → is_some (v.reads c.disk) ≡ true → Stops v setting events c life n → n ≡ 14 → IsTrulyFull setting events
   stops_full setting events life n known (ended done heard) e = absurd (unrun 14 (world_status (world_in setting events)) e refl (inl (world_log (world_in setting events))))
   stops_full setting events life n known (waits idle heard) e = absurd (omega (arith, e))
   stops_full setting events life n known (cut done heard rose) e = absurd (omega (arith, e))
   stops_full setting events life n known (unheard unread heard failed) e = absurd (omega (arith, e))
   stops_full setting events life n known (disk_failed going rose) e = absurd (omega (arith, e))
-  stops_full setting events life n known (full len add going is tells) e = record { len = len; add = add; told = tells; too_long = is.too_long; stored = is.length_is known }
+  stops_full setting events life n known (full len add going is tells) e = record {
+    event = is.event;
+    next = is.next.is_next;
+    len = len;
+    add = add;
+    told = tells;
+    too_long = is.too_long;
+    stored = due_by (v.reads c.now) setting events is.event len add is.weights is.adds (is.stored known);
+  }
   stops_full setting events life n known no_memory e = absurd (omega (arith, e))
 
-  went_full : (setting : Setting) (found : List Event) → Finds v setting found c → c.status ≡ 14 → WentOn v setting found c → IsTrulyFull
-  went_full setting found finds status went = stops_full setting (found ++ went.more) went.takes.life c.status (ap is_some finds.told) went.stops status
+  went_full : (setting : Setting) (found : List Event) → Finds v setting found c → c.status ≡ 14 → WentOn v setting found c → (more : List Event) × IsTrulyFull setting (found ++ more)
+  went_full setting found finds status went = (went.more, stops_full setting (found ++ went.more) went.takes.life c.status (ap is_some finds.told) went.stops status)
 
-  pub resume_full : Causes v c → Is Resume c → (setting : Setting) (found : List Event) → Finds v setting found c → c.status ≡ 14 → ∥ IsTrulyFull ∥₁
+  pub resume_full : Causes v c → Is Resume c → (setting : Setting) (found : List Event) → Finds v setting found c → c.status ≡ 14 → ∥ ((more : List Event) × IsTrulyFull setting (found ++ more)) ∥₁
   resume_full causes is setting found finds status =
       ⊎_elim (λ unopened. absurd (⊎_elim (λ nine. omega (arith, status, nine)) (⊎_elim (λ five. omega (arith, status, five)) (λ eight. omega (arith, status, eight))) unopened.why))
       (λ went. ∥∥₁_map went (went_full setting found finds status)) ((causes.command Resume is).went_on setting found finds)
@@ -123,14 +149,17 @@ module _ {D H A : Type 0} (v : Devices D H A) (c : Call D H A) where
   went_launches setting before went = takes_launches setting before (before ++ went.more) went.takes
 
   -- A `resume` that shows a log, over whichever store that the disk tells and that was opened: it has its records still, and behind them those of the events of the
-  -- history and of grants before them, and no other, and so has each image that a crash leaves; the last of all has an image, and log and status are those of it.
+  -- history and of grants before them, and no other, and so has each image that a crash leaves; the last of all has an image, and log and status are those of it. The next opening
+  -- finds no damage in it.
   pub record ShowsLastImage (file : List ℕ) : Type 0 where
+    pub setting : Setting
     pub payloads : List (List ℕ)
     pub more : List (List ℕ)
     pub has : Has payloads file
     pub kept : (image : List ℕ) → v.may_leave c.now image → Has (payloads ++ more) image
+    pub sound : (image : List ℕ) → v.may_leave c.now image → HasBuild image
     pub taken : TellTaken (last_image payloads) c.history more
-    pub shown : ShowsEnd (payloads ++ more) c.old c.new c.sink_before c.sink_after c.status
+    pub shown : ShowsEnd setting (payloads ++ more) c.old c.new c.sink_before c.sink_after c.status
 
   broken_shows_none : (n : ℕ) → IsBroken n → HasRun n → ⊥
   broken_shows_none n (inl six) run = unrun 6 n six refl run
@@ -141,23 +170,55 @@ module _ {D H A : Type 0} (v : Devices D H A) (c : Call D H A) where
   unopened_shows_none : Unopened v c → HasRun c.status → ⊥
   unopened_shows_none u run = ⊎_elim (λ nine. unrun 9 c.status nine refl run) (⊎_elim (λ five. unrun 5 c.status five refl run) (λ eight. unrun 8 c.status eight refl run)) u.why
 
-  keeps_last : (file : List ℕ) (payloads : List (List ℕ)) (opened : D) → Has payloads file → HasRun c.status → KeepsRecords v.may_leave v.clock v.since opened payloads c.history c.now c.old c.new c.sink_before c.sink_after c.status → ShowsLastImage file
-  keeps_last file payloads opened has run k =
+  starts_so : (setting : Setting) (payloads more : List (List ℕ)) → StartsBy setting payloads → StartsBy setting (payloads ++ more)
+  starts_so setting [] more starts = absurd starts
+  starts_so setting (p ∷ ps) more starts = starts
+
+  -- Over whichever store that the disk tells and that was opened, at each moment of a `resume` and with whatever status it ends: a crash leaves what it might have left
+  -- at the beginning, or a store in which the next opening finds a build and no damage.
+  pub record LeavesBuild : Type 0 where
+    pub opened : D
+    pub up_to : AtEachMoment v.clock v.since c.disk opened (v.may_leave c.disk)
+    pub from_then : AtEachMoment v.clock v.since opened c.now HasBuild
+
+  leaves_build : (setting : Setting) (file : List ℕ) → (l : LeavesStore v.may_leave v.clock v.since setting file c.history c.disk c.now c.old c.new c.sink_before c.sink_after c.status)
+      → KeepsRecords v.may_leave v.clock v.since setting l.opened l.payloads c.history c.now c.old c.new c.sink_before c.sink_after c.status → LeavesBuild
+  leaves_build setting file l k = record {
+    opened = l.opened;
+    up_to = l.up_to;
+    from_then = at_each_weaker v.clock v.since l.opened c.now (HasFront l.payloads (k.more ++ k.risked)) HasBuild
+        (λ image front.
+        let ends = k.sound front.0 in
+        sound_store image setting ends.0 (l.payloads ++ take front.0 (k.more ++ k.risked)) front.1 (starts_so setting l.payloads (take front.0 (k.more ++ k.risked)) l.begun) ends.1 ends.2)
+        k.moments;
+  }
+
+  pub resume_leaves_build : Output v c → Is Resume c → (file : List ℕ) → v.reads c.disk ≡ Some file → Unopened v c ⊎ ∥ LeavesBuild ∥₁
+  resume_leaves_build output is file told =
+      ⊎_elim (λ unopened. inl unopened) (λ goes. let leaves = goes.leaves file told in inr (∥∥₁_map leaves.keeps (leaves_build goes.setting file leaves))) ((output.command Resume is).1)
+
+  keeps_last : (file : List ℕ) (setting : Setting) (payloads : List (List ℕ)) (opened : D) → Has payloads file → StartsBy setting payloads → HasRun c.status
+      → KeepsRecords v.may_leave v.clock v.since setting opened payloads c.history c.now c.old c.new c.sink_before c.sink_after c.status → ShowsLastImage file
+  keeps_last file setting payloads opened has starts run k =
       let none = k.sure (λ five. broken_shows_none c.status (inr (inl five)) run) in
+      let shows : ShowsEnd setting (payloads ++ k.more) c.old c.new c.sink_before c.sink_after c.status = ⊎_elim (λ broken. absurd (broken_shows_none c.status broken run)) (λ shown. shown) k.shown in
+      let all_have : (image : List ℕ) → v.may_leave c.now image → Has (payloads ++ k.more) image = λ image left. ⊎_elim (λ all. all)
+      (λ all. subst (λ (ps : List (List ℕ)). Has ps image) (append-nil (payloads ++ k.more)) (subst (λ (r : List (List ℕ)). Has (payloads ++ k.more ++ r) image) none all)) (k.at_end image left) in
       record {
+        setting = setting;
         payloads = payloads;
         more = k.more;
         has = has;
-        kept = λ image left. ⊎_elim (λ all. all)
-            (λ all. subst (λ (ps : List (List ℕ)). Has ps image) (append-nil (payloads ++ k.more)) (subst (λ (r : List (List ℕ)). Has (payloads ++ k.more ++ r) image) none all)) (k.at_end image left);
+        kept = all_have;
+        sound = λ image left. sound_store image setting shows.image (payloads ++ k.more) (all_have image left) (starts_so setting payloads k.more starts) shows.ends shows.whole;
         taken = k.taken;
-        shown = ⊎_elim (λ broken. absurd (broken_shows_none c.status broken run)) (λ shown. shown) k.shown;
+        shown = shows;
       }
 
   pub resume_shows_last : Output v c → Is Resume c → HasRun c.status → (file : List ℕ) → v.reads c.disk ≡ Some file → ∥ ShowsLastImage file ∥₁
   resume_shows_last output is run file told =
       ⊎_elim (λ unopened. absurd (unopened_shows_none unopened run))
-      (λ goes. let leaves = goes.leaves file told in ∥∥₁_map leaves.keeps (keeps_last file leaves.payloads leaves.opened leaves.has run)) ((output.command Resume is).1)
+      (λ goes. let leaves = goes.leaves file told in ∥∥₁_map leaves.keeps (keeps_last file goes.setting leaves.payloads leaves.opened leaves.has leaves.begun run)) ((output.command Resume is).1)
 
 module _ {D H A : Type 0} (v : Devices D H A) where
   -- the disk told its bytes at the beginning of the call, and they were a consistent store

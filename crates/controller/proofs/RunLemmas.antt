@@ -24,6 +24,7 @@ use Rattle.saved_run.specs.declared.life.BeginFault.{BeginFault}
 use Rattle.saved_run.specs.declared.life.BeginFault.TheVariants as fault
 use Rattle.record_form.specs.declared.record.EventRecord.{EventRecord}
 use Rattle.store_laws.specs.Store.{Mean, Told, events_of}
+use Rattle.durable_build.specs.Kinds.{weights_of}
 use Rattle.durable_build.proofs.Sizes.{start_adds}
 use Rattle.saved_run.specs.Lives.{BeginRefuses, StartFails, MayRisk, image_after, TellsStart}
 use Rattle.saved_run.specs.Saved.{Stores, Survives}
@@ -476,7 +477,7 @@ module _ {D H A T : Type 0} (v : Devices D H A) (stance : T → Stance) (told_im
     full_at_once : (len add : ℕ) → TellsStart (script_setting tree site) (StartEvent s a) (fault.Take (take.Full len add)) → Tells (full_text len add) c → IsFullAtOnce v s a c
     full_at_once len add sizes tells =
         let start : Event = StartEvent s a in
-        let adds = start_adds start (image_after (script_setting tree site) (start ∷ [])) add sizes.2 in
+        let adds = start_adds (weights_of []) start (image_after (script_setting tree site) (start ∷ [])) add sizes.2 in
         let all : (2 ^ 30 < 1 + add) × Tells (full_text 1 add) c = subst (λ (l : ℕ). (2 ^ 30 < l + add) × Tells (full_text l add) c) sizes.0 (sizes.1, tells) in
         record {
           setting = script_setting tree site;

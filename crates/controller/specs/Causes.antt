@@ -47,7 +47,7 @@ module _ {D H A : Type 0} (v : Devices D H A) where
     cut : ((world_in setting events).ended ≡ true) ⊎ IsIdle v setting events c → HeardIn v c → SinkFailed c → Stops setting events c life 7
     unheard : IsUnheard setting events → HeardIn v c → HasFailed (answered v c) → Stops setting events c life 6
     disk_failed : (world_in setting events).ended ≡ false → DiskFailed c → Stops setting events c life 5
-    -- the text tells the length of the store's journal, and what the record of the next event would add
+    -- the text tells the length of the store's journal, and what the record that is due for the next event would add
     full : (len add : ℕ) → (world_in setting events).ended ≡ false → IsFull (ComesIn v setting c life) setting (v.reads c.disk) (v.reads c.now) events len add → Tells (full_text len add) c → Stops setting events c life 14
     no_memory : Stops setting events c life 8
 

@@ -67,13 +67,13 @@ module _ {D H A : Type 0} (v : Devices D H A) where
   -- A `resume` that went on with a build, over any store, also one of which the disk tells nothing: in a life of members that are made of the hosts and the answers
   -- of the call, whatever they were replied. Of a store whose bytes the disk told, the build has the setting of the first record; up to a moment a crash leaves what it
   -- might have left at the beginning, and from then on the records of the store, whatever they tell, and the first of those of the life behind them, and at the end all
-  -- of these, or with 5 perhaps one more; the last of all has an image where a log is written, and log and status are those of it. 14 comes where the record of an event
-  -- did not fit, which is a grant or was asked for.
+  -- of these, or with 5 perhaps one more; the last of all has an image where a log is written, which is whole, and log and status are those of it. 14 comes where the
+  -- record that was due for an event did not fit, which is a grant or was asked for.
   pub record GoesOn (c : Call D H A) : Type 0 where
     pub setting : Setting
     pub life : LifeIn v setting c
     pub leaves : (file : List ℕ) → v.reads c.disk ≡ Some file → LeavesStore v.may_leave v.clock v.since setting file c.history c.disk c.now c.old c.new c.sink_before c.sink_after c.status
-    pub too_long : c.status ≡ 14 → ∥ IsTooLong (AsksIn v setting c life) c.history c.old c.new c.sink_before c.sink_after ∥₁
+    pub too_long : c.status ≡ 14 → ∥ IsTooLong (AsksIn v setting c life) (life.turns ≡ []) c.history c.old c.new c.sink_before c.sink_after ∥₁
 
   -- What a command is for: a build that has ended or waits, whose events begin with those of the store; the log or the graph of the store's build; `ok`.
   abbrev pub OutputOf : Command → Call D H A → Type 0

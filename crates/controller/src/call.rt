@@ -32,7 +32,7 @@ use task_host::Host;
 /// | 4 | of `run` and `check`, exactly where the script has a fault or is too long | the place of its first fault |
 /// | 9 | of `run`, exactly where it finds a record, or the beginning of one | `program.dat: already has a build` |
 /// | 9 | of `resume`, `log` and `graph`, exactly where they find no record, or a damaged one | `program.dat: no build`, or the place of the damage |
-/// | 14 | only where the record of the next event does not fit into the store | the length of its journal, and what the record would add |
+/// | 14 | only where the record that is due for the next event does not fit into the store | the length of its journal, and what the record would add |
 /// | 5 | only where the disk counted a fault | `controller: disk failed` |
 /// | 7 | only where the sink counted a fault | a part of the text, from its beginning |
 /// | 0, 1, 10, 11, 12 | 0 alone for `log`, `graph` and `check`; else only where the build has ended so | the log, or the command's text |

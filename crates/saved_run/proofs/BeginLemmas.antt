@@ -36,9 +36,10 @@ use Rattle.script_run.specs.Standing.{AreNumbered, IsProper}
 use Rattle.store_laws.specs.Store.{AllDue, IsStory, Mean, Starts, Told, events_of, record_at}
 use Rattle.store_laws.proofs.Tellings.{one_record, one_setting}
 use Rattle.durable_build.specs.Standing.{Kept, Keeps, Opening, image_before}
+use Rattle.durable_build.specs.Kinds.{weights_of}
 use Rattle.durable_build.specs.Opening.{Opened}
 use Rattle.durable_build.proofs.Begun.{starts_first}
-use Rattle.durable_build.proofs.Sizes.{may_add}
+use Rattle.durable_build.proofs.Sizes.{due_adds}
 use Rattle.durable_build.proofs.OpenLemmas.{begun_all, is_start}
 use Rattle.durable_build.specs.Taking.{IsSized, Puts, TakeAnswers, TakeLeaves, TakeKeeps, TakeSources}
 use Rattle.saved_run.specs.declared.life.Life.{Life}
@@ -175,15 +176,15 @@ is_begun stance setting script agents fresh new mean same stands answer is here 
     by_answer Finished at left kept = absurd (cc)
 
 -- the fault of a `Start`, in a journal without a record
-pub start_faults : {D T : Type 0} (stance : T → Stance) (setting : Setting) (old new : Kept D T) (e : Event) (f : TakeFault) → setting_in old.build ≡ setting → StandsFor stance old.build unbegun → old.stopped ≡ false → old.journal.len ≡ 1
+pub start_faults : {D T : Type 0} (stance : T → Stance) (setting : Setting) (old new : Kept D T) (e : Event) (f : TakeFault) → setting_in old.build ≡ setting → StandsFor stance old.build unbegun → old.stopped ≡ false → old.journal.len ≡ 1 → old.weights ≡ weights_of []
     → TakeAnswers stance old new e (Err f) → IsSized stance old new e (Err f) → StartFaults setting e f
-start_faults stance setting old new e Memory same stands running len answers size = tt
-start_faults stance setting old new e Disk same stands running len answers size = tt
-start_faults stance setting old new e (Full at add) same stands running len answers size =
+start_faults stance setting old new e Memory same stands running len weighs answers size = tt
+start_faults stance setting old new e Disk same stands running len weighs answers size = tt
+start_faults stance setting old new e (Full at add) same stands running len weighs answers size =
     let image : image_in stance new.build ≡ image_after setting (e ∷ []) =
     subst (λ (s : Setting). image_in stance new.build ≡ world_image s (after_one s unbegun e)) same (size.0 unbegun stands) in
-    (answers.2 ∙ len, answers.3, may_add (image_before stance old.build) None (image_in stance new.build) (image_after setting (e ∷ [])) e add (size.1 unbegun stands) image (answers.4.0, answers.4.1.tells, answers.4.2))
-start_faults stance setting old new e Stopped same stands running len answers size = let bad : false ≡ true = sym running ∙ answers in absurd (cc)
+    (answers.2 ∙ len, answers.3, due_adds old.weights (weights_of []) (image_before stance old.build) None (image_in stance new.build) (image_after setting (e ∷ [])) e add weighs (size.1 unbegun stands) image answers.4)
+start_faults stance setting old new e Stopped same stands running len weighs answers size = let bad : false ≡ true = sym running ∙ answers in absurd (cc)
 
 -- the take of a `Start` failed
 pub start_refused : {D : Type 0} (reads : D → Option (List ℕ)) (may_leave : D → List ℕ → Type 0) (clock : D → ℕ) (since : D → ℕ → List ℕ → Type 0) {T : Type 0} (stance : T → Stance) (setting : Setting) (start : Event) (file : List ℕ) (disk now : D) (f : TakeFault)

@@ -23,20 +23,22 @@ use Rattle.script_run.proofs.Begun.{stays_begun}
 use Rattle.store_laws.specs.Store.{events_of, grant_of}
 use Rattle.durable_build.specs.Standing.{Kept, Keeps, image_before, world_before}
 use Rattle.store_laws.proofs.Stories.{world-more}
-use Rattle.durable_build.specs.Taking.{IsAfter, IsBehind, IsSized, Puts, TakeAnswers, TakeLeaves, TakeKeeps}
-use Rattle.durable_build.proofs.Sizes.{may_add}
-use Rattle.saved_run.specs.Saved.{IsTold, Saves, Stores, Survives, journal_length}
-use Rattle.saved_run.specs.Lives.{image_after, Goes, IsFull, IsOf, MayRisk, Lasts, FailsBy, TellsFault, TellsLength}
+use Rattle.delta_records.specs.declared.weights.Weights.{Weights}
+use Rattle.durable_build.specs.Kinds.{weights_of}
+use Rattle.durable_build.specs.Taking.{DueAdds, IsAfter, IsBehind, IsSized, Puts, TakeAnswers, TakeLeaves, TakeKeeps}
+use Rattle.durable_build.proofs.Sizes.{due_adds}
+use Rattle.saved_run.specs.Saved.{IsTold, Saves, Stores, Survives, journal_length, journal_weights}
+use Rattle.saved_run.specs.Lives.{image_after, Goes, IsFull, IsOf, MayRisk, Lasts, FailsBy, TellsFault, TellsStore}
 use Rattle.saved_run.proofs.SavedLemmas.{same_standing, told_more, survives_all, survives_risked, survives_more, survives_risk}
 
 if_some : (o : Option Event) (P Q : Event → Type 0) → ((e : Event) → P e → Q e) → IfSome o P → IfSome o Q
 if_some None P Q goes is = tt
 if_some (Some e) P Q goes is = goes e is
 
--- a fault that is not `Full` tells no length
-pub unsized : (o : Option (List ℕ)) (f : TakeFault) → ((file : List ℕ) → TellsLength f file) → IfSome o (TellsLength f)
-unsized None f all = tt
-unsized (Some file) f all = all file
+-- a fault that is not `Full` tells nothing of a store
+pub unsized : (w : Weights) (o : Option (List ℕ)) (f : TakeFault) → ((file : List ℕ) → TellsStore w f file) → IfSome o (TellsStore w f)
+unsized w None f all = tt
+unsized w (Some file) f all = all file
 
 module _ {D T : Type 0} (stance : T → Stance) (old new : Kept D T) (e : Event) where
   -- a take that is answered leaves a build that no fault stopped
@@ -50,7 +52,8 @@ module _ {D T : Type 0} (stance : T → Stance) (old new : Kept D T) (e : Event)
   pub tells_fault : (fault : TakeFault) → TakeAnswers stance old new e (Err fault) → TakeLeaves stance old new e (Err fault) → old.stopped ≡ false → TellsFault stance new fault
   tells_fault Memory answers leaves running = tt
   tells_fault Disk answers leaves running = tt
-  tells_fault (Full len add) answers leaves running = (e, image_before stance old.build, (answers.2 ∙ ap (λ (j : State D). j.len) (sym leaves.1), answers.3, (answers.4.0, answers.4.1.tells, answers.4.2)))
+  tells_fault (Full len add) answers leaves running =
+      (e, image_before stance old.build, (answers.2 ∙ ap (λ (j : State D). j.len) (sym leaves.1), answers.3, subst (λ (w : Weights). DueAdds w (image_before stance old.build) e (image_in stance new.build) add) (sym leaves.2.0) answers.4))
   tells_fault Stopped answers leaves running = let bad : false ≡ true = sym running ∙ answers in absurd (cc)
 
 -- it is told of a build that was stopped then, too
@@ -79,27 +82,29 @@ module _ {D T : Type 0} (reads : D → Option (List ℕ)) (may_leave : D → Lis
     told = subst (λ (x : Setting). IsTold x events saves.payloads) same saves.told;
   }
 
-  -- the journal's length is that of the file that the disk tells
-  saved_length : (events : List Event) (kept : Kept D T) → Saves reads may_leave stance kept events → IfSome (reads kept.journal.disk) (λ file. kept.journal.len ≡ journal_length file)
-  saved_length events kept saves =
+  -- the journal's length is that of the file that the disk tells, and its records weigh what the file's do
+  saved_store : (events : List Event) (kept : Kept D T) → Saves reads may_leave stance kept events → IfSome (reads kept.journal.disk) (λ file. (kept.journal.len ≡ journal_length file) × (kept.weights ≡ journal_weights file))
+  saved_store events kept saves =
       let h = saves.keeps.holds in
-      subst (λ (o : Option (List ℕ)). IfSome o (λ file. kept.journal.len ≡ journal_length file)) (sym h.told)
-      (h.ends ∙ ap (λ (w : Walked). length (framed w.payloads) + 1) (sym (has_framed saves.payloads h.gate h.rest h.closed h.fit)))
+      let has = sym (has_framed saves.payloads h.gate h.rest h.closed h.fit) in
+      subst (λ (o : Option (List ℕ)). IfSome o (λ file. (kept.journal.len ≡ journal_length file) × (kept.weights ≡ journal_weights file))) (sym h.told)
+      (h.ends ∙ ap (λ (w : Walked). length (framed w.payloads) + 1) has, saves.keeps.weighs ∙ ap (λ (w : Walked). weights_of w.payloads) has)
 
   -- a take that failed by one of these events failed by one of those
   pub fails_by : (setting : Setting) (entry : Option (List ℕ)) (origin : D) (before events : List Event) (Cause Other : Event → Type 0) (fault : TakeFault) (kept : Kept D T) → ((e : Event) → Cause e → Other e)
       → FailsBy reads may_leave clock since stance setting entry origin before events Cause fault kept → FailsBy reads may_leave clock since stance setting entry origin before events Other fault kept
   fails_by setting entry origin before events Cause Other fault kept goes f = (f.0, if_some f.0.refused Cause Other goes f.1)
 
-  -- what is said of a take that failed hangs on its journal alone
-  pub fails_same : (setting : Setting) (entry : Option (List ℕ)) (origin : D) (before events : List Event) (Cause : Event → Type 0) (fault : TakeFault) (kept new : Kept D T) → new.journal ≡ kept.journal
+  -- what is said of a take that failed hangs on its journal and its weights alone
+  pub fails_same : (setting : Setting) (entry : Option (List ℕ)) (origin : D) (before events : List Event) (Cause : Event → Type 0) (fault : TakeFault) (kept new : Kept D T) → new.journal ≡ kept.journal → new.weights ≡ kept.weights
       → FailsBy reads may_leave clock since stance setting entry origin before events Cause fault kept → FailsBy reads may_leave clock since stance setting entry origin before events Cause fault new
-  fails_same setting entry origin before events Cause fault kept new same f = (
+  fails_same setting entry origin before events Cause fault kept new same weighs f = (
     record {
       refused = f.0.refused;
       is_next = f.0.is_next;
-      full = subst (λ (j : State D). IfSome f.0.refused (λ (e : Event). IsFull (Some (image_after setting events)) e (image_after setting (events ++ e ∷ [])) j.len fault)) (sym same) f.0.full;
-      sized = λ known. subst (λ (j : State D). IfSome (reads j.disk) (TellsLength fault)) (sym same) (f.0.sized known);
+      full = subst (λ (w : Weights). IfSome f.0.refused (λ (e : Event). IsFull w (Some (image_after setting events)) e (image_after setting (events ++ e ∷ [])) new.journal.len fault)) (sym weighs)
+          (subst (λ (j : State D). IfSome f.0.refused (λ (e : Event). IsFull kept.weights (Some (image_after setting events)) e (image_after setting (events ++ e ∷ [])) j.len fault)) (sym same) f.0.full);
+      sized = λ known. subst (λ (w : Weights). IfSome (reads new.journal.disk) (TellsStore w fault)) (sym weighs) (subst (λ (j : State D). IfSome (reads j.disk) (TellsStore kept.weights fault)) (sym same) (f.0.sized known));
       risked = f.0.risked;
       may_risk = f.0.may_risk;
       moments = λ known. subst (λ (j : State D). AtEachMoment clock since origin j.disk (Survives setting before events f.0.risked)) (sym same) (f.0.moments known);
@@ -204,14 +209,14 @@ module _ {D T : Type 0} (reads : D → Option (List ℕ)) (may_leave : D → Lis
         behind (world_in setting events) lasts.goes.stands ∙ ap (λ (x : Setting). world_before x (world_in setting events)) lasts.goes.same
         ∙ ap (λ (b : Bool). if b then Some (image_after setting events) else None) lasts.goes.begun
 
-    calm : (fault : TakeFault) → new.journal ≡ old.journal → IsOf setting events fault (Some e) → IsFull (Some (image_after setting events)) e (image_after setting (events ++ e ∷ [])) old.journal.len fault → MayRisk fault (Some e) None
-        → (IsSome entry → IfSome (reads old.journal.disk) (TellsLength fault)) → FailsBy reads may_leave clock since stance setting entry origin before events (λ (x : Event). x ≡ e) fault new
+    calm : (fault : TakeFault) → new.journal ≡ old.journal → IsOf setting events fault (Some e) → IsFull new.weights (Some (image_after setting events)) e (image_after setting (events ++ e ∷ [])) old.journal.len fault → MayRisk fault (Some e) None
+        → (IsSome entry → IfSome (reads old.journal.disk) (TellsStore new.weights fault)) → FailsBy reads may_leave clock since stance setting entry origin before events (λ (x : Event). x ≡ e) fault new
     calm fault same of full may sized = (
       record {
         refused = Some e;
         is_next = of;
-        full = subst (λ (j : State D). IsFull (Some (image_after setting events)) e (image_after setting (events ++ e ∷ [])) j.len fault) (sym same) full;
-        sized = λ known. subst (λ (j : State D). IfSome (reads j.disk) (TellsLength fault)) (sym same) (sized known);
+        full = subst (λ (j : State D). IsFull new.weights (Some (image_after setting events)) e (image_after setting (events ++ e ∷ [])) j.len fault) (sym same) full;
+        sized = λ known. subst (λ (j : State D). IfSome (reads j.disk) (TellsStore new.weights fault)) (sym same) (sized known);
         risked = None;
         may_risk = may;
         moments = λ known. subst (λ (j : State D). AtEachMoment clock since origin j.disk (Survives setting before events None)) (sym same) (lasts.moments known);
@@ -223,17 +228,19 @@ module _ {D T : Type 0} (reads : D → Option (List ℕ)) (may_leave : D → Lis
     -- It was not taken.
     pub fails_taken : ((d : D) (t : ℕ) (image : List ℕ) → t ≤ clock d → may_leave d image → since d t image) → (fault : TakeFault) → TakeAnswers stance old new e (Err fault) → IsSized stance old new e (Err fault) → TakeLeaves stance old new e (Err fault)
         → ((ps : List (List ℕ)) → Keeps reads may_leave stance old ps → TakeKeeps reads may_leave clock since stance old new e ps (Err fault)) → FailsBy reads may_leave clock since stance setting entry origin before events (λ (x : Event). x ≡ e) fault new
-    fails_taken counts_now Memory answers size leaves keeps = calm Memory leaves.1 tt tt refl (λ known. unsized (reads old.journal.disk) Memory (λ file. tt))
+    fails_taken counts_now Memory answers size leaves keeps = calm Memory leaves.1 tt tt refl (λ known. unsized new.weights (reads old.journal.disk) Memory (λ file. tt))
     fails_taken counts_now (Full len add) answers size leaves keeps =
-        calm (Full len add) leaves.1 (record { accepted = accepted; due = due }) (answers.2, answers.3, may_add (image_before stance old.build) (Some (image_after setting events)) (image_in stance new.build) (image_after setting (events ++ e ∷ [])) e add (image_before_is size.1) (image_is size.0) (answers.4.0, answers.4.1.tells, answers.4.2)) refl
-        (λ known. subst (λ (n : ℕ). IfSome (reads old.journal.disk) (λ file. n ≡ journal_length file)) (sym answers.2) (saved_length events old (lasts.saves known)))
+        calm (Full len add) leaves.1 (record { accepted = accepted; due = due })
+        (answers.2, answers.3, due_adds old.weights new.weights (image_before stance old.build) (Some (image_after setting events)) (image_in stance new.build) (image_after setting (events ++ e ∷ [])) e add (sym leaves.2.0) (image_before_is size.1) (image_is size.0) answers.4) refl
+        (λ known. subst (λ (n : ℕ). IfSome (reads old.journal.disk) (λ file. (n ≡ journal_length file) × (new.weights ≡ journal_weights file))) (sym answers.2)
+        (subst (λ (w : Weights). IfSome (reads old.journal.disk) (λ file. (old.journal.len ≡ journal_length file) × (w ≡ journal_weights file))) (sym leaves.2.0) (saved_store events old (lasts.saves known))))
     fails_taken counts_now Stopped answers size leaves keeps = let bad : false ≡ true = sym lasts.goes.running ∙ answers in absurd (cc)
     fails_taken counts_now Disk answers size leaves keeps = (
       record {
         refused = Some e;
         is_next = record { accepted = accepted; due = due };
         full = tt;
-        sized = λ known. unsized (reads new.journal.disk) Disk (λ file. tt);
+        sized = λ known. unsized new.weights (reads new.journal.disk) Disk (λ file. tt);
         risked = Some e;
         may_risk = refl;
         moments = λ known.

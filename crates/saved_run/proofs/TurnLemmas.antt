@@ -42,7 +42,7 @@ module _ {D T : Type 0} (reads : D → Option (List ℕ)) (may_leave : D → Lis
       refused = None;
       is_next = tt;
       full = tt;
-      sized = λ known. unsized (reads kept.journal.disk) Memory (λ file. tt);
+      sized = λ known. unsized kept.weights (reads kept.journal.disk) Memory (λ file. tt);
       risked = None;
       may_risk = refl;
       moments = lasts.moments;
@@ -72,11 +72,11 @@ module _ {D T : Type 0} (reads : D → Option (List ℕ)) (may_leave : D → Lis
       fails_by reads may_leave clock since stance setting entry origin before events (λ (x : Event). x ≡ GrantedEvent request executor) (IsCaused setting events left []) fault new
       (λ x is. subst (IsCaused setting events left []) (sym is) (by_grant request executor due)) fails
 
-  -- a life that broke off is stopped: its journal stays
-  pub broken_stopped : (old left : Option (List ℕ)) (fault : TakeFault) (life new : Life D T) → new.durable.journal ≡ life.durable.journal
+  -- a life that broke off is stopped: its journal stays, and what its records weigh
+  pub broken_stopped : (old left : Option (List ℕ)) (fault : TakeFault) (life new : Life D T) → new.durable.journal ≡ life.durable.journal → new.durable.weights ≡ life.durable.weights
       → Broken reads may_leave clock since stance setting entry origin before old left fault life → Broken reads may_leave clock since stance setting entry origin before old left fault new
-  broken_stopped old left fault life new same b =
-      let f = fails_same reads may_leave clock since stance setting entry origin before b.events (IsCaused setting b.events left b.part) fault life.durable new.durable same (b.fails, b.caused) in
+  broken_stopped old left fault life new same weighs b =
+      let f = fails_same reads may_leave clock since stance setting entry origin before b.events (IsCaused setting b.events left b.part) fault life.durable new.durable same weighs (b.fails, b.caused) in
       record {
         events = b.events;
         has_answers = b.has_answers;

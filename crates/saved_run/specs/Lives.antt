@@ -18,7 +18,9 @@ use Rattle.model_run.specs.World.{answer_to, next_grant, world_in}
 use Rattle.image_form.specs.declared.image.Image.{Image}
 use Rattle.build_images.specs.Images.{image_in, world_image}
 use Rattle.store_laws.specs.Store.{grant_of}
-use Rattle.durable_build.specs.Taking.{MayAdd}
+use Rattle.delta_records.specs.declared.weights.Weights.{Weights}
+use Rattle.durable_build.specs.Kinds.{weights_of}
+use Rattle.durable_build.specs.Taking.{DueAdds}
 use Rattle.settle_laws.specs.Stances.{Stance}
 use Rattle.build_core.specs.Builds.{StandsFor, setting_in}
 use Rattle.durable_build.specs.Standing.{Kept}
@@ -30,28 +32,28 @@ use Rattle.saved_run.specs.declared.life.BeginFault.{BeginFault}
 use Rattle.saved_run.specs.declared.life.BeginFault.TheVariants.{HasBuild, Take}
 use Rattle.saved_run.specs.declared.life.Life.{Life}
 use Rattle.saved_run.specs.Going.{GoesOn}
-use Rattle.saved_run.specs.Saved.{Saves, Stores, Survives, journal_length}
+use Rattle.saved_run.specs.Saved.{Saves, Stores, Survives, journal_length, journal_weights}
 
 -- an event behind the first
 abbrev pub IsLater : Event → Type 0
 IsLater (event.Start script agents) = ⊥
 IsLater e = Unit {0}
 
--- What a fault of the take of an event tells, at a journal of this length, with this image before the event and this one behind it: of `Full`
--- the journal's length, and what the record of the event would have added, which together are more than 1,073,741,824 bytes.
-abbrev pub IsFull : Option Image → Event → Image → ℕ → TakeFault → Type 0
-IsFull before e image len (Full at add) = (at ≡ len) × (2 ^ 30 < at + add) × MayAdd before e image add
-IsFull before e image len Memory = Unit {0}
-IsFull before e image len Disk = Unit {0}
-IsFull before e image len Stopped = ⊥
+-- What a fault of the take of an event tells, at a journal of this length, whose records weigh this, with this image before the event and this one behind it: of `Full`
+-- the journal's length, and what the record that is due for the event would have added, which together are more than 1,073,741,824 bytes.
+abbrev pub IsFull : Weights → Option Image → Event → Image → ℕ → TakeFault → Type 0
+IsFull w before e image len (Full at add) = (at ≡ len) × (2 ^ 30 < at + add) × DueAdds w before e image add
+IsFull w before e image len Memory = Unit {0}
+IsFull w before e image len Disk = Unit {0}
+IsFull w before e image len Stopped = ⊥
 
 -- the image of the build of these events
 abbrev pub image_after : Setting → List Event → Image
 image_after setting events = world_image setting (world_in setting events)
 
--- What a fault of the take of a `Start` tells: the journal has one byte.
+-- What a fault of the take of a `Start` tells: the journal has one byte, and no record.
 abbrev pub StartFaults : Setting → Event → TakeFault → Type 0
-StartFaults setting start fault = IsFull None start (image_after setting (start ∷ [])) 1 fault
+StartFaults setting start fault = IsFull (weights_of []) None start (image_after setting (start ∷ [])) 1 fault
 
 -- What the refusal of a build tells, on each disk: the fault of a `Start` that was not taken.
 abbrev pub TellsStart : Setting → Event → BeginFault → Type 0
@@ -72,13 +74,12 @@ pub record IsBegun {D T : Type 0} (stance : T → Stance) (setting : Setting) (s
   pub has_script : kept.script ≡ script
   pub has_agents : kept.agents ≡ agents
 
--- What the fault of a life tells, on each disk: `Full` is that of the record of some event, with the image that the build has behind it, and
--- the image of the record before.
--- `Stopped` is none.
+-- What the fault of a life tells, on each disk: `Full` is that of the record that is due for some event, by what the kept records weigh, with the image that the build
+-- has behind it, and the image of the record before. `Stopped` is none.
 abbrev pub TellsFault : {D T : Type 0} → (T → Stance) → Kept D T → TakeFault → Type 0
 TellsFault stance kept Memory = Unit {0}
 TellsFault stance kept Disk = Unit {0}
-TellsFault stance kept (Full at add) = (e : Event) × (before : Option Image) × IsFull before e (image_in stance kept.build) kept.journal.len (Full at add)
+TellsFault stance kept (Full at add) = (e : Event) × (before : Option Image) × IsFull kept.weights before e (image_in stance kept.build) kept.journal.len (Full at add)
 TellsFault stance kept Stopped = ⊥
 
 -- A life that no fault stopped goes on so, or tells its fault, on each disk.
@@ -102,10 +103,10 @@ abbrev pub IsOf : Setting → List Event → TakeFault → Option Event → Type
 IsOf setting events Memory refused = Unit {0}
 IsOf setting events fault refused = IsSomeAnd refused (IsNext setting events)
 
--- The first number of `Full` is the length of the journal in this file.
-abbrev pub TellsLength : TakeFault → List ℕ → Type 0
-TellsLength (Full at add) file = at ≡ journal_length file
-TellsLength fault file = Unit {0}
+-- The first number of `Full` is the length of the journal in this file, and the weights by which a record is due are those of its records.
+abbrev pub TellsStore : Weights → TakeFault → List ℕ → Type 0
+TellsStore w (Full at add) file = (at ≡ journal_length file) × (w ≡ journal_weights file)
+TellsStore w fault file = Unit {0}
 
 -- Only a fault of the disk leaves it open whether the refused event is on it.
 abbrev pub MayRisk : TakeFault → Option Event → Option Event → Type 0
@@ -131,8 +132,8 @@ module _ {D T : Type 0} (reads : D → Option (List ℕ)) (may_leave : D → Lis
   pub record Fails (setting : Setting) (entry : Option (List ℕ)) (origin : D) (before events : List Event) (fault : TakeFault) (kept : Kept D T) : Type 0 where
     pub refused : Option Event
     pub is_next : IsOf setting events fault refused
-    pub full : IfSome refused (λ e. IsFull (Some (image_after setting events)) e (image_after setting (events ++ e ∷ [])) kept.journal.len fault)
-    pub sized : IsSome entry → IfSome (reads kept.journal.disk) (TellsLength fault)
+    pub full : IfSome refused (λ e. IsFull kept.weights (Some (image_after setting events)) e (image_after setting (events ++ e ∷ [])) kept.journal.len fault)
+    pub sized : IsSome entry → IfSome (reads kept.journal.disk) (TellsStore kept.weights fault)
     pub risked : Option Event
     pub may_risk : MayRisk fault refused risked
     pub moments : IsSome entry → AtEachMoment clock since origin kept.journal.disk (Survives setting before events risked)

@@ -9,6 +9,8 @@ use Rattle.build_core.specs.Builds.{setting_in}
 use Rattle.build_images.specs.Images.{world_image}
 use Rattle.store_laws.specs.Store.{AllDue, IsStory, Told, events_of}
 use Rattle.journal_core.specs.Records.{Has, framed, records}
+use Rattle.delta_records.specs.declared.weights.Weights.{Weights}
+use Rattle.durable_build.specs.Kinds.{weights_of}
 use Rattle.durable_build.specs.Standing.{Kept, Keeps}
 
 -- These payloads are the records of one build, with just these events: each was accepted, has the image of the build behind it, and makes a
@@ -29,6 +31,10 @@ pub record Stores (setting : Setting) (events : List Event) (file : List ℕ) : 
 -- The length of the journal in a file: its records in their frames, and the gate behind the last of them.
 abbrev pub journal_length : List ℕ → ℕ
 journal_length file = length (framed (records file).payloads) + 1
+
+-- How many bytes the last record of a whole image has in a file, and those behind it.
+abbrev pub journal_weights : List ℕ → Weights
+journal_weights file = weights_of (records file).payloads
 
 -- These events begin with those from before, and are a front of the taken ones, or all of them and the one whose take the disk failed.
 pub record IsFront (before taken : List Event) (risked : Option Event) (kept : List Event) : Type 0 where

@@ -12,6 +12,7 @@ use Rattle.task_host.specs.declared.order.Stream.{Stream}
 use Rattle.agent_worker.specs.declared.fault.TakeFault.{TakeFault}
 use Rattle.agent_worker.specs.declared.fault.TakeFault.TheVariants as take
 use Rattle.agent_worker.specs.declared.member.Member.{Member}
+use Rattle.image_form.specs.declared.image.Image.{Image}
 use Rattle.durable_build.specs.Standing.{Kept}
 use Rattle.script_run.specs.declared.rest.Rest.{Rest}
 use Rattle.script_run.specs.declared.rest.Rest.TheVariants.{Ended, Waits, AnswersFailed}
@@ -112,17 +113,17 @@ pub failed_so : {H A : Type 0} (members : List (Member H A)) (how : Result Progr
 failed_so members how f ended is failed = ended_failed members how f (sym is ∙ failed)
 
 -- a fault that is kept tells what it is
-kept_tells : {D T : Type 0} (stance : T → Stance) (now : Kept D T) (h : List Entry) (fault : TakeFault) → IsFullAt stance now h → kept_fault h ≡ Some fault → TellsFault stance now fault
-kept_tells stance now [] fault full is = absurd (cc)
-kept_tells stance now (Took e ∷ h) fault full is = kept_tells stance now h fault full is
-kept_tells stance now (Claimed executor task keep_out kept_log kept_out ∷ h) fault full is = kept_tells stance now h fault full is
-kept_tells stance now (Line line ∷ h) fault full is = kept_tells stance now h fault full is
-kept_tells {D} {T} stance now (Failed noted event ∷ h) fault full is = subst (TellsFault stance now) (same_kept noted fault is) (tells noted event full)
+kept_tells : {D T : Type 0} (stance : T → Stance) (before : Option Image) (now : Kept D T) (h : List Entry) (fault : TakeFault) → IsFullAt stance now.weights before now h → kept_fault h ≡ Some fault → TellsFault stance now fault
+kept_tells stance before now [] fault full is = absurd (cc)
+kept_tells stance before now (Took e ∷ h) fault full is = kept_tells stance before now h fault full is
+kept_tells stance before now (Claimed executor task keep_out kept_log kept_out ∷ h) fault full is = kept_tells stance before now h fault full is
+kept_tells stance before now (Line line ∷ h) fault full is = kept_tells stance before now h fault full is
+kept_tells {D} {T} stance before now (Failed noted event ∷ h) fault full is = subst (TellsFault stance now) (same_kept noted fault is) (tells noted event full)
   where
-    tells : (f : TakeFault) (event : Option Event) → IsFull stance now f event → TellsFault stance now f
+    tells : (f : TakeFault) (event : Option Event) → IsFull stance now.weights before now f event → TellsFault stance now f
     tells take.Memory event full = tt
     tells take.Disk event full = tt
-    tells (take.Full len add) (Some e) full = (e, full.2.0, (full.0, full.1, full.2.1))
+    tells (take.Full len add) (Some e) full = (e, before, full)
     tells (take.Full len add) None full = absurd full
     tells take.Stopped event full = absurd full
 
@@ -130,11 +131,11 @@ err_same : (f g : TakeFault) → failed f ≡ failed g → f ≡ g
 err_same f g e = cc
 
 -- and so does the fault that ended a life
-pub fault_tells : {D T H A : Type 0} (stance : T → Stance) (now : Kept D T) (h : List Entry) (members : List (Member H A)) (how : Result Progress Memory) (fault : TakeFault) → IsFullAt stance now h → ended_as (kept_fault h) how members ≡ failed fault → TellsFault stance now fault
+pub fault_tells : {D T H A : Type 0} (stance : T → Stance) (now : Kept D T) (h : List Entry) (members : List (Member H A)) (how : Result Progress Memory) (fault : TakeFault) → (full : (before : Option Image) × IsFullAt stance now.weights before now h) → ended_as (kept_fault h) how members ≡ failed fault → TellsFault stance now fault
 fault_tells {H = H} {A = A} stance now h members how fault full is = by (kept_fault h) refl how is
   where
     by : (f : Option TakeFault) → kept_fault h ≡ f → (r : Result Progress Memory) → ended_as f r members ≡ failed fault → TellsFault stance now fault
-    by (Some f) kept r ended = kept_tells stance now h fault full (kept ∙ ap Some (err_same f fault ended))
+    by (Some f) kept r ended = kept_tells stance full.0 now h fault full.1 (kept ∙ ap Some (err_same f fault ended))
     by None kept (Ok come) ended = absurd (never (rest_of come members) ended)
       where
         never : (q : Rest) → rested q ≡ failed fault → ⊥
@@ -163,7 +164,7 @@ module _ {D T : Type 0} (reads : D → Option (List ℕ)) (may_leave : D → Lis
 
   -- and so does that of an opening
   pub opening_tells : (durable now : Kept D T) (made : List Entry) (fault : TakeFault) → OpenRefuses stance durable now made fault → Facts reads may_leave clock since faults stance durable now made → TellsFault stance now fault
-  opening_tells durable now made fault (inl refuses) facts = kept_tells stance now made fault facts.full refuses.1
+  opening_tells durable now made fault (inl refuses) facts = kept_tells stance facts.full.0 now made fault facts.full.1 refuses.1
   opening_tells durable now made fault (inr wants) facts = subst (TellsFault stance now) (sym wants.2) tt
 
   -- the count over an opening that was refused

@@ -1,5 +1,5 @@
 -- What is known of a store over an opening and the history behind it, as of one history.
-use Rattle.std.proofs.Common.{◌≡◌, ◌⊎◌, ◌∙◌, ◌≤◌, ◌+◌, inl, inr, ℕ, zero, suc, true, List, [], ◌∷◌, ◌++◌, length, take, Option, Some, None, Result, Ok, Err, refl, sym, ap, subst, append_assoc, append-nil, arith}
+use Rattle.std.proofs.Common.{◌≡◌, ◌⊎◌, ◌∙◌, ◌≤◌, ◌+◌, inl, inr, ℕ, zero, suc, true, List, [], ◌∷◌, ◌++◌, length, take, Option, Some, None, Result, Ok, Err, refl, sym, ap, subst, append_assoc, append-nil, arith, length-append}
 use Rattle.std.specs.Prelude.{IfOk, fold}
 use Rattle.std.proofs.lemmas.List.Sums.{fold-append}
 use Rattle.std.proofs.Math.Logic.{∥∥₁_map}
@@ -21,7 +21,10 @@ use Rattle.build_core.specs.Builds.{Parts, StandsFor, setting_in}
 use Rattle.build_images.specs.Images.{world_image}
 use Rattle.store_laws.specs.Store.{AllDue, Follows, Told, events_of, last_image}
 use Rattle.store_laws.proofs.Payloads.{image_behind_more, told_append}
-use Rattle.durable_build.specs.Standing.{Kept, Keeps}
+use Rattle.delta_records.specs.declared.weights.Weights.{Weights}
+use Rattle.durable_build.specs.Kinds.{weights_of}
+use Rattle.std.specs.List.{AllByRecursion as AllAre}
+use Rattle.durable_build.specs.Standing.{IsWhole, Kept, Keeps}
 use Rattle.durable_build.proofs.OpenLemmas.{begun_all}
 use Rattle.script_run.specs.declared.rest.Rest.{Rest}
 use Rattle.site_state.specs.declared.ask.Entry.{Entry}
@@ -30,7 +33,7 @@ use Rattle.site_state.specs.declared.ask.Progress.{Progress}
 use Rattle.site_state.specs.Facts.{Facts, GoOn, Grown, HasFront, IsFullAt, IsMeant, IsSite, IsSizedAt}
 use Rattle.site_state.specs.Histories.{tooks, kept_fault}
 use Rattle.site_state.specs.Showing.{IsShown}
-use Rattle.site_state.proofs.FactLaws.{on_so_far}
+use Rattle.site_state.proofs.FactLaws.{all_append, on_so_far, whole_so_far}
 use Rattle.site_state.proofs.HistoryLaws.{kept_fault-append, no_fault, none_pending, pending-append, tooks-append}
 use Rattle.site_run.specs.Ending.{ended_as}
 use Rattle.site_run.specs.Lives.{KeepsOn}
@@ -63,20 +66,20 @@ none_behind : (es fs : List Event) → es ++ fs ≡ [] → fs ≡ []
 none_behind [] fs is = is
 none_behind (e ∷ es) fs is = absurd (cc)
 
-module _ {D T : Type 0} (stance : T → Stance) (now : Kept D T) where
-  full_then : (made h : List Entry) → kept_fault made ≡ None → IsFullAt stance now h → IsFullAt stance now (made ++ h)
+module _ {D T : Type 0} (stance : T → Stance) (w : Weights) (before : Option Image) (now : Kept D T) where
+  full_then : (made h : List Entry) → kept_fault made ≡ None → IsFullAt stance w before now h → IsFullAt stance w before now (made ++ h)
   full_then [] h none full = full
   full_then (Took e ∷ made) h none full = full_then made h none full
   full_then (Claimed executor task keep_out kept_log kept_out ∷ made) h none full = full_then made h none full
   full_then (Line line ∷ made) h none full = full_then made h none full
   full_then (Failed fault event ∷ made) h none full = absurd (no_fault fault none)
 
-sized_then : (s : Setting) (w : W.Build) (made h : List Entry) → kept_fault made ≡ None → IsSizedAt s (fold (W.after_one s) w (tooks made)) h → IsSizedAt s w (made ++ h)
-sized_then s w [] h none sized = sized
-sized_then s w (Took e ∷ made) h none sized = sized_then s (W.after_one s w e) made h none sized
-sized_then s w (Claimed executor task keep_out kept_log kept_out ∷ made) h none sized = sized_then s w made h none sized
-sized_then s w (Line line ∷ made) h none sized = sized_then s w made h none sized
-sized_then s w (Failed fault event ∷ made) h none sized = absurd (no_fault fault none)
+sized_then : (x : Weights) (s : Setting) (w : W.Build) (made h : List Entry) → kept_fault made ≡ None → IsSizedAt x s (fold (W.after_one s) w (tooks made)) h → IsSizedAt x s w (made ++ h)
+sized_then x s w [] h none sized = sized
+sized_then x s w (Took e ∷ made) h none sized = sized_then x s (W.after_one s w e) made h none sized
+sized_then x s w (Claimed executor task keep_out kept_log kept_out ∷ made) h none sized = sized_then x s w made h none sized
+sized_then x s w (Line line ∷ made) h none sized = sized_then x s w made h none sized
+sized_then x s w (Failed fault event ∷ made) h none sized = absurd (no_fault fault none)
 
 module _ {T : Type 0} (stance : T → Stance) (first mid : Parts T) (es : List Event) (shown : IsShown stance first es mid) where
   abbrev s : Setting
@@ -154,7 +157,12 @@ module _ {D T : Type 0} (reads : D → Option (List ℕ)) (may_leave : D → Lis
       last_spelled = subst (λ (xs : List (List ℕ)). Told (last_image xs) k.last_records k.last) order k.last_spelled;
       go_on = subst (GoOn stance first.build) (sym (append_assoc g.records k.records k.last_records))
           (go_on_then stance first.build mid.build (tooks made) (one.shown none) g.records (k.records ++ k.last_records) g.events (on_so_far reads may_leave clock since stance first mid made none payloads g) k.go_on);
+      whole = subst (AllAre (λ (r : EventRecord). IsWhole (setting_in first.build) r.image)) (sym (append_assoc g.records k.records k.last_records))
+          (all_append (λ (r : EventRecord). IsWhole (setting_in first.build) r.image) g.records (k.records ++ k.last_records) (whole_so_far reads may_leave clock since stance first mid made none payloads g)
+          (subst (λ (s : Setting). AllAre (λ (r : EventRecord). IsWhole s r.image) (k.records ++ k.last_records)) (one.shown none).setting k.whole));
       ends = k.ends ∙ ap (λ (ps : List (List ℕ)). length (framed ps) + 1) order;
+      weighs = k.weighs ∙ ap weights_of order;
+      full = full_then stance (weights_of (payloads ++ both)) (last_image (payloads ++ both)) last made h none (subst (λ (ps : List (List ℕ)). IsFullAt stance (weights_of ps) (last_image ps) last h) order k.full);
       keeps = λ calm. subst (Keeps reads may_leave stance last) order (k.keeps (sym kept_both ∙ calm));
       moments = runs_on clock since first.journal.disk mid.journal.disk last.journal.disk (HasFront payloads (both ++ k.last)) moments_first moments_then;
       images = λ image left. images_then image (k.images image left);
@@ -167,9 +175,14 @@ module _ {D T : Type 0} (reads : D → Option (List ℕ)) (may_leave : D → Lis
     rose = λ is. subst (λ (n : ℕ). Rose n (faults last.journal.disk)) calm_first (two.rose (sym kept_both ∙ is));
     calm = λ other. two.calm (λ is. other (kept_both ∙ is)) ∙ calm_first;
     longer = let a : first.journal.len ≤ mid.journal.len = one.longer in let b : mid.journal.len ≤ last.journal.len = two.longer in omega (arith, a, b);
-    full = full_then stance last made h none two.full;
-    size = λ w at. sized_then (setting_in first.build) w made h none
-        (subst (λ (s : Setting). IsSizedAt s (fold (W.after_one (setting_in first.build)) w (tooks made)) h) (one.shown none).setting (two.size (fold (W.after_one (setting_in first.build)) w (tooks made)) ((one.shown none).stands w at)));
+    counted =
+        let a : mid.records ≡ first.records + length (tooks made) = one.counted in
+        let b : last.records ≡ mid.records + length (tooks h) = two.counted in
+        let c : length (tooks (made ++ h)) ≡ length (tooks made) + length (tooks h) = ap (λ (es : List Event). length es) (tooks-append made h) ∙ length-append (tooks made) (tooks h) in
+        omega (arith, a, b, c);
+    full = (two.full.0, full_then stance last.weights two.full.0 last made h none two.full.1);
+    size = λ w at. sized_then last.weights (setting_in first.build) w made h none
+        (subst (λ (s : Setting). IsSizedAt last.weights s (fold (W.after_one (setting_in first.build)) w (tooks made)) h) (one.shown none).setting (two.size (fold (W.after_one (setting_in first.build)) w (tooks made)) ((one.shown none).stands w at)));
     running = λ calm. two.running (sym kept_both ∙ calm);
     shown = λ calm. subst (λ (es : List Event). IsShown stance first.build es last.build) (sym (tooks-append made h)) (shown_then stance first.build mid.build (tooks made) (one.shown none) last.build (tooks h) (two.shown (sym kept_both ∙ calm)));
     grown = λ payloads keeps. let g = one.grown payloads keeps in grown_then payloads g (two.grown (payloads ++ g.added) (g.keeps none));

@@ -1,5 +1,6 @@
 -- What the state of a life replied, by the events alone, and when its tasks were claimed.
 use Rattle.std.proofs.Common.{◌≡◌, ◌∙◌, ℕ, Bool, false, List, [], ◌∷◌, ◌++◌, Option, Some, None, Result, Ok, Err, refl, sym, ap, subst, append_assoc, append-nil}
+use Rattle.std.specs.Prelude.{true, if◌then◌else◌}
 use Rattle.std.proofs.Math.Logic.{∥∥₁_elim, ∥∥₁_map, ∥∥₁_prop}
 use Rattle.agent_worker.specs.declared.fault.TakeFault.{TakeFault}
 use Rattle.agent_worker.specs.declared.fault.TakeFault.TheVariants.{Memory, Disk, Full, Stopped}
@@ -20,7 +21,14 @@ use Rattle.model_run.specs.State.{Setting}
 use Rattle.model_run.specs.World as W
 use Rattle.program_lock.specs.Legal.{IsRun, IsLegal}
 use Rattle.script_run.specs.Standing.{IsProper}
+use Rattle.build_images.specs.Images.{world_image}
+use Rattle.delta_records.specs.declared.weights.Weights.{Weights}
+use Rattle.durable_build.specs.Standing.{world_before}
+use Rattle.durable_build.specs.Taking.{DueAdds}
+use Rattle.durable_build.proofs.Sizes.{due_adds}
+use Rattle.saved_run.specs.Lives.{image_after}
 use Rattle.settle_laws.specs.Stances.{Stance}
+use Rattle.store_laws.proofs.Stories.{world-more}
 use Rattle.site_state.specs.declared.ask.Ask.{Ask}
 use Rattle.site_state.specs.declared.ask.Ask.TheVariants as ask
 use Rattle.site_state.specs.declared.ask.Entry.{Entry}
@@ -29,7 +37,7 @@ use Rattle.site_state.specs.declared.ask.Progress.{Progress}
 use Rattle.site_state.specs.declared.ask.Reply.{Reply}
 use Rattle.site_state.specs.declared.ask.Reply.TheVariants as reply
 use Rattle.site_state.specs.Claims.{ClaimSays, busy_of, within_u32}
-use Rattle.site_state.specs.Grants.{Grants, MayFail, TakeSays, none_due, granted, refused, not_found}
+use Rattle.site_state.specs.Grants.{Grants, MayFail, RecordAdds, TakeSays, none_due, granted, refused, not_found}
 use Rattle.site_state.specs.Hearing.{AnswerSays}
 use Rattle.site_state.specs.Histories.{kept_fault, tooks}
 use Rattle.site_state.specs.Says.{Answers, SaysAt, Says}
@@ -40,6 +48,17 @@ use Rattle.site_run.specs.Telling.{ClaimedInTime}
 use Rattle.site_run.proofs.WalkLemmas.{ShowsAll, accepted_is, answer_is, due_is, found_task, line_decides, line_passed, requests_are, settled_none, shows_next, shows_shown}
 
 module _ {T : Type 0} (stance : T → Stance) (setting : Setting) (proper : IsProper setting) where
+  -- what the record of an event adds, by the images of the builds of the events before it and with it
+  adds_so : (b : Parts T) (events : List Event) → ShowsAll stance setting proper b events → (e : Event) (add : ℕ) → RecordAdds stance b e add
+      → (w : Weights) × DueAdds w (Some (image_after setting events)) e (image_after setting (events ++ e ∷ [])) add
+  adds_so b events all e add r =
+      let w : W.Build = W.world_in setting events in
+      let front : r.before ≡ Some (image_after setting events) =
+      r.is_before w all.stands ∙ ap (λ (s : Setting). world_before s w) all.same ∙ ap (λ (begun : Bool). if begun then Some (image_after setting events) else None) all.begun in
+      let behind : r.image ≡ image_after setting (events ++ e ∷ []) =
+      r.is_after w all.stands ∙ ap (λ (s : Setting). world_image s (W.after_one s w e)) all.same ∙ ap (world_image setting) (sym (world-more setting W.unbegun events e)) in
+      (r.weights, due_adds r.weights r.weights r.before (Some (image_after setting events)) r.image (image_after setting (events ++ e ∷ [])) e add refl front behind r.adds)
+
   -- the grants behind an event
   grants_so : {b : Parts T} {entries : List Entry} → Grants stance b entries → (events : List Event) → ShowsAll stance setting proper b events → its.GrantsBehind setting events entries
   grants_so {b} (none_due settled) events all = its.none_due (settled_none stance setting proper b events all settled)
@@ -51,15 +70,15 @@ module _ {T : Type 0} (stance : T → Stance) (setting : Setting) (proper : IsPr
   grants_so {b} (refused request executor Disk is may) events all =
       its.failed request executor Disk (due_is stance setting proper b events all ∙ is) (accepted_is stance setting proper b events all (Granted request executor) may)
   grants_so {b} (refused request executor (Full len add) is may) events all =
-      its.failed request executor (Full len add) (due_is stance setting proper b events all ∙ is) (accepted_is stance setting proper b events all (Granted request executor) may.0, may.1)
+      its.failed request executor (Full len add) (due_is stance setting proper b events all ∙ is) (accepted_is stance setting proper b events all (Granted request executor) may.0, may.1, adds_so b events all (Granted request executor) add may.2)
   grants_so (refused request executor Stopped is may) events all = absurd may
   grants_so not_found events all = its.not_found
 
   module _ (b : Parts T) (events : List Event) (all : ShowsAll stance setting proper b events) where
-    may_so : (e : Event) (fault : TakeFault) → MayFail b e fault → its.MayFail setting events e fault
+    may_so : (e : Event) (fault : TakeFault) → MayFail stance b e fault → its.MayFail setting events e fault
     may_so e Memory may = tt
     may_so e Disk may = accepted_is stance setting proper b events all e may
-    may_so e (Full len add) may = (accepted_is stance setting proper b events all e may.0, may.1)
+    may_so e (Full len add) may = (accepted_is stance setting proper b events all e may.0, may.1, adds_so b events all e add may.2)
     may_so e Stopped may = absurd may
 
     takes_so : (e : Event) (r : Result Taken TakeFault) (new : List Entry) → TakeSays stance b e r new → its.Takes setting events e r new

@@ -24,11 +24,13 @@ use Rattle.store_laws.specs.Store.{AllDue, FirstStarts, Follows, Starts, Told, e
 use Rattle.store_laws.proofs.Payloads.{image_behind_more, told_append}
 use Rattle.store_laws.proofs.Stories.{world-more}
 use Rattle.durable_build.specs.Standing.{Kept, world_before}
-use Rattle.durable_build.specs.Taking.{MayAdd}
+use Rattle.delta_records.specs.declared.weights.Weights.{Weights}
+use Rattle.durable_build.specs.Kinds.{weights_of}
+use Rattle.durable_build.specs.Taking.{DueAdds}
 use Rattle.durable_build.proofs.OpenLemmas.{begun_all}
-use Rattle.durable_build.proofs.Sizes.{may_add}
-use Rattle.saved_run.specs.Saved.{IsTold, IsFront, Saves, Stores, Survives, journal_length}
-use Rattle.saved_run.specs.Lives.{IsFull as IsFullOf, IsOf, Lasts, Fails, MayRisk, TellsLength, image_after}
+use Rattle.durable_build.proofs.Sizes.{due_adds}
+use Rattle.saved_run.specs.Saved.{IsTold, IsFront, Saves, Stores, Survives}
+use Rattle.saved_run.specs.Lives.{IsFull as IsFullOf, IsOf, Lasts, Fails, MayRisk, TellsStore, image_after}
 use Rattle.site_state.specs.declared.ask.Entry.{Entry}
 use Rattle.site_state.specs.declared.ask.Entry.TheVariants.{Took, Claimed, Line, Failed}
 use Rattle.site_state.specs.Facts.{Facts, Grown, HasFront, IsFull, IsFullAt, IsMeant, IsSized, IsSizedAt}
@@ -43,7 +45,7 @@ events-append rs qs = map-append (λ (r : EventRecord). r.event) rs qs
 events-take : (k : ℕ) (rs : List EventRecord) → events_of (take k rs) ≡ take k (events_of rs)
 events-take k rs = sym (take-map (λ (r : EventRecord). r.event) k rs)
 
-told_take : (k : ℕ) (before : Option Image) (rs : List EventRecord) (ps : List (List ℕ)) → Told before rs ps → Told before (take k rs) (take k ps)
+pub told_take : (k : ℕ) (before : Option Image) (rs : List EventRecord) (ps : List (List ℕ)) → Told before rs ps → Told before (take k rs) (take k ps)
 told_take zero before rs ps all = tt
 told_take (suc k) before [] [] all = tt
 told_take (suc k) before [] (p ∷ ps) all = absurd all
@@ -134,25 +136,25 @@ risk_is Memory event = refl
 risk_is (Full len add) event = refl
 risk_is Stopped event = refl
 
-module _ {D T : Type 0} (stance : T → Stance) (now : Kept D T) where
-  full_of : (front : List Entry) (f : TakeFault) (event : Option Event) → kept_fault front ≡ None → IsFullAt stance now (front ++ Failed f event ∷ []) → IsFull stance now f event
+module _ {D T : Type 0} (stance : T → Stance) (w : Weights) (before : Option Image) (now : Kept D T) where
+  full_of : (front : List Entry) (f : TakeFault) (event : Option Event) → kept_fault front ≡ None → IsFullAt stance w before now (front ++ Failed f event ∷ []) → IsFull stance w before now f event
   full_of [] f event none is = is
   full_of (Took e ∷ h) f event none is = full_of h f event none is
   full_of (Claimed executor task keep_out kept_log kept_out ∷ h) f event none is = full_of h f event none is
   full_of (Line line ∷ h) f event none is = full_of h f event none is
   full_of (Failed fault given ∷ h) f event none is = absurd (no_fault fault none)
 
-module _ (s : Setting) where
-  sized_of : (w : W.Build) (front : List Entry) (f : TakeFault) (event : Option Event) → kept_fault front ≡ None → IsSizedAt s w (front ++ Failed f event ∷ []) → IsSized s (fold (W.after_one s) w (tooks front)) f event
+module _ (x : Weights) (s : Setting) where
+  sized_of : (w : W.Build) (front : List Entry) (f : TakeFault) (event : Option Event) → kept_fault front ≡ None → IsSizedAt x s w (front ++ Failed f event ∷ []) → IsSized x s (fold (W.after_one s) w (tooks front)) f event
   sized_of w [] f event none is = is
   sized_of w (Took e ∷ h) f event none is = sized_of (W.after_one s w e) h f event none is
   sized_of w (Claimed executor task keep_out kept_log kept_out ∷ h) f event none is = sized_of w h f event none is
   sized_of w (Line line ∷ h) f event none is = sized_of w h f event none is
   sized_of w (Failed fault given ∷ h) f event none is = absurd (no_fault fault none)
 
-told_nothing : (o : Option (List ℕ)) → IfSome o (TellsLength Memory)
-told_nothing None = tt
-told_nothing (Some file) = tt
+told_nothing : (w : Weights) (o : Option (List ℕ)) → IfSome o (TellsStore w Memory)
+told_nothing w None = tt
+told_nothing w (Some file) = tt
 
 -- Where memory was wanted nothing more was written.
 module _ {D T : Type 0} (reads : D → Option (List ℕ)) (may_leave : D → List ℕ → Type 0) (clock : D → ℕ) (since : D → ℕ → List ℕ → Type 0) (stance : T → Stance)
@@ -162,7 +164,7 @@ module _ {D T : Type 0} (reads : D → Option (List ℕ)) (may_leave : D → Lis
     refused = None;
     is_next = tt;
     full = tt;
-    sized = λ known. told_nothing (reads kept.journal.disk);
+    sized = λ known. told_nothing kept.weights (reads kept.journal.disk);
     risked = None;
     may_risk = refl;
     moments = lasts.moments;
@@ -353,55 +355,59 @@ module _ {D T : Type 0} (reads : D → Option (List ℕ)) (may_leave : D → Lis
     is_of (Full len add) (Some e) of = of.0
     is_of Stopped ev of = absurd of
 
-    sizes : (f : TakeFault) (ev : Option Event) → IsFaultOf setting now f ev → IsFull stance k1 f ev → ((w : W.Build) → StandsFor stance k0.build w → IsSized (setting_in k0.build) (fold (W.after_one (setting_in k0.build)) w (tooks front)) f ev)
-        → IfSome ev (λ e. IsFullOf (Some (image_after setting now)) e (image_after setting (now ++ e ∷ [])) k1.journal.len f)
-    sizes f None of full size = tt
-    sizes Memory (Some e) of full size = tt
-    sizes Disk (Some e) of full size = tt
-    sizes (Full len add) (Some e) of full size =
+    sizes : (f : TakeFault) (ev : Option Event) → IsFaultOf setting now f ev → (before_image : Option Image) → IsFull stance k1.weights before_image k1 f ev
+        → ((w : W.Build) → StandsFor stance k0.build w → IsSized k1.weights (setting_in k0.build) (fold (W.after_one (setting_in k0.build)) w (tooks front)) f ev)
+        → IfSome ev (λ e. IsFullOf k1.weights (Some (image_after setting now)) e (image_after setting (now ++ e ∷ [])) k1.journal.len f)
+    sizes f None of behind_image full size = tt
+    sizes Memory (Some e) of behind_image full size = tt
+    sizes Disk (Some e) of behind_image full size = tt
+    sizes (Full len add) (Some e) of behind_image full size =
         let behind : W.Build = fold (W.after_one setting) (W.world_in setting es) (tooks front) in
-        let at : MayAdd (world_before setting behind) e (world_image setting (W.after_one setting behind e)) add =
-        subst (λ (s : Setting). StandsFor stance k0.build (W.world_in s es) → let w : W.Build = fold (W.after_one s) (W.world_in s es) (tooks front) in MayAdd (world_before s w) e (world_image s (W.after_one s w e)) add) lasts.goes.same
+        let at : DueAdds k1.weights (world_before setting behind) e (world_image setting (W.after_one setting behind e)) add =
+        subst (λ (s : Setting). StandsFor stance k0.build (W.world_in s es) → let w : W.Build = fold (W.after_one s) (W.world_in s es) (tooks front) in DueAdds k1.weights (world_before s w) e (world_image s (W.after_one s w e)) add) lasts.goes.same
         (λ at. size (W.world_in (setting_in k0.build) es) at) lasts.goes.stands in
         let here : fold (W.after_one setting) (W.world_in setting es) (tooks front) ≡ W.world_in setting now = sym (fold-append (W.after_one setting) W.unbegun es (tooks front)) ∙ ap (λ (xs : List Event). W.world_in setting (es ++ xs)) (sym same_tooks) in
         let world : W.Build = W.world_in setting now in
-        let at_now : MayAdd (world_before setting world) e (world_image setting (W.after_one setting world e)) add = subst (λ (w : W.Build). MayAdd (world_before setting w) e (world_image setting (W.after_one setting w e)) add) here at in
+        let at_now : DueAdds k1.weights (world_before setting world) e (world_image setting (W.after_one setting world e)) add = subst (λ (w : W.Build). DueAdds k1.weights (world_before setting w) e (world_image setting (W.after_one setting w e)) add) here at in
         let before_is : world_before setting world ≡ Some (image_after setting now) = ap (λ (b : Bool). if b then Some (image_after setting now) else None) (begun_all setting es (tooks h) lasts.goes.begun) in
         let after_is : world_image setting (W.after_one setting world e) ≡ image_after setting (now ++ e ∷ []) = ap (world_image setting) (sym (world-more setting W.unbegun now e)) in
-        (full.0, full.1, may_add (world_before setting world) (Some (image_after setting now)) (world_image setting (W.after_one setting world e)) (image_after setting (now ++ e ∷ [])) e add before_is after_is at_now)
-    sizes Stopped (Some e) of full size = absurd of
+        (full.0, full.1, due_adds k1.weights k1.weights (world_before setting world) (Some (image_after setting now)) (world_image setting (W.after_one setting world e)) (image_after setting (now ++ e ∷ [])) e add refl before_is after_is at_now)
+    sizes Stopped (Some e) of behind_image full size = absurd of
 
-    -- the journal ends behind the records of the events that were taken
-    length_told : (known : IsSome entry) (f : TakeFault) (ev : Option Event) → one_or_none (pending h) (risked_of f ev) → IsFull stance k1 f ev → (file : List ℕ) → may_leave k1.journal.disk file → TellsLength f file
-    length_told known Memory ev one full file left = tt
-    length_told known Disk ev one full file left = tt
-    length_told known Stopped ev one full file left = tt
-    length_told known (Full len add) None one full file left = absurd full
-    length_told known (Full len add) (Some e) one full file left = full.0 ∙ (grown known).ends ∙ by ((grown known).images file left)
+    -- the journal ends behind the records of the events that were taken, and they are what is weighed
+    length_told : (known : IsSome entry) (f : TakeFault) (ev : Option Event) → one_or_none (pending h) (risked_of f ev) → (before_image : Option Image) → IsFull stance k1.weights before_image k1 f ev → (file : List ℕ) → may_leave k1.journal.disk file
+        → TellsStore k1.weights f file
+    length_told known Memory ev one behind_image full file left = tt
+    length_told known Disk ev one behind_image full file left = tt
+    length_told known Stopped ev one behind_image full file left = tt
+    length_told known (Full len add) None one behind_image full file left = absurd full
+    length_told known (Full len add) (Some e) one behind_image full file left =
+        let has = only ((grown known).images file left) in (
+          full.0 ∙ (grown known).ends ∙ ap (λ (r : Walked). length (framed r.payloads) + 1) (sym has),
+          (grown known).weighs ∙ ap (λ (r : Walked). weights_of r.payloads) (sym has),
+        )
       where
         no_last : (grown known).last ≡ []
         no_last = no_payloads (last_image (payloads known ++ (grown known).added)) (grown known).last_records (grown known).last (no_records (grown known).last_records ((grown known).last_events ∙ one)) (grown known).last_spelled
 
-        here : (ps : List (List ℕ)) → Has ps file → length (framed ps) + 1 ≡ journal_length file
-        here ps has = ap (λ (r : Walked). length (framed r.payloads) + 1) (sym has)
+        only : Has (payloads known ++ (grown known).added) file ⊎ Has (payloads known ++ (grown known).added ++ (grown known).last) file → Has (payloads known ++ (grown known).added) file
+        only (inl has) = has
+        only (inr has) = subst (λ (ps : List (List ℕ)). Has ps file) (ap (λ (ps : List (List ℕ)). payloads known ++ (grown known).added ++ ps) no_last ∙ append-nil (payloads known ++ (grown known).added)) has
 
-        by : Has (payloads known ++ (grown known).added) file ⊎ Has (payloads known ++ (grown known).added ++ (grown known).last) file → length (framed (payloads known ++ (grown known).added)) + 1 ≡ journal_length file
-        by (inl has) = here (payloads known ++ (grown known).added) has
-        by (inr has) = here (payloads known ++ (grown known).added) (subst (λ (ps : List (List ℕ)). Has ps file) (ap (λ (ps : List (List ℕ)). payloads known ++ (grown known).added ++ ps) no_last ∙ append-nil (payloads known ++ (grown known).added)) has)
-
-    told_length : (o : Option (List ℕ)) (f : TakeFault) → IfSome o (may_leave k1.journal.disk) → ((file : List ℕ) → may_leave k1.journal.disk file → TellsLength f file) → IfSome o (TellsLength f)
+    told_length : (o : Option (List ℕ)) (f : TakeFault) → IfSome o (may_leave k1.journal.disk) → ((file : List ℕ) → may_leave k1.journal.disk file → TellsStore k1.weights f file) → IfSome o (TellsStore k1.weights f)
     told_length None f left all = tt
     told_length (Some file) f left all = all file left
 
     -- Where a fault stopped it, it broke off behind the events that were taken.
     fails_so : IfSome (reads k1.journal.disk) (may_leave k1.journal.disk) → IsFaultOf setting now fault event → Fails reads may_leave clock since stance setting entry origin before now fault k1
     fails_so told_image of =
-        let full : IsFull stance k1 fault event = full_of stance k1 front fault event none (subst (IsFullAt stance k1) is facts.full) in
+        let behind_image : Option Image = facts.full.0 in
+        let full : IsFull stance k1.weights behind_image k1 fault event = full_of stance k1.weights behind_image k1 front fault event none (subst (IsFullAt stance k1.weights behind_image k1) is facts.full.1) in
         record {
           refused = event;
           is_next = is_of fault event of;
-          full = sizes fault event of full (λ w at. sized_of (setting_in k0.build) w front fault event none (subst (IsSizedAt (setting_in k0.build) w) is (facts.size w at)));
-          sized = λ known. told_length (reads k1.journal.disk) fault told_image (length_told known fault event risks full);
+          full = sizes fault event of behind_image full (λ w at. sized_of k1.weights (setting_in k0.build) w front fault event none (subst (IsSizedAt k1.weights (setting_in k0.build) w) is (facts.size w at)));
+          sized = λ known. told_length (reads k1.journal.disk) fault told_image (length_told known fault event risks behind_image full);
           risked = risked_of fault event;
           may_risk = may_risk fault event;
           moments = λ known. moments_of known (risked_of fault event) risks;

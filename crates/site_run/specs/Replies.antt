@@ -14,7 +14,10 @@ use Rattle.model_run.specs.declared.taken.Taken.{Taken}
 use Rattle.model_run.specs.declared.taken.Taken.TheVariants.{Accepted, NotOpen, WrongPlace, Finished}
 use Rattle.model_run.specs.State.{Setting}
 use Rattle.model_run.specs.World.{Build, answer_to, next_grant, world_in}
+use Rattle.delta_records.specs.declared.weights.Weights.{Weights}
+use Rattle.durable_build.specs.Taking.{DueAdds}
 use Rattle.program_lock.specs.Legal.{Answers}
+use Rattle.saved_run.specs.Lives.{image_after}
 use Rattle.site_state.specs.declared.ask.Ask.{Ask}
 use Rattle.site_state.specs.declared.ask.Ask.TheVariants as ask
 use Rattle.site_state.specs.declared.ask.Entry.{Entry}
@@ -29,11 +32,13 @@ use Rattle.site_state.specs.Says.{stopped_reply}
 use Rattle.site_run.specs.Going.{Decides, IsPassedOver}
 
 module _ (setting : Setting) where
-  -- An event that was not taken with this fault: it is accepted, but for want of memory; `Full` says what was too much.
+  -- An event that was not taken with this fault: it is accepted, but for want of memory; `Full` says what was too much: the length of a journal, and what the record
+  -- that is due for the event adds to it, by some weights of the records.
   abbrev pub MayFail : List Event → Event → TakeFault → Type 0
   MayFail events e Memory = Unit {0}
   MayFail events e Disk = answer_to setting (world_in setting events) e ≡ Accepted
-  MayFail events e (Full len add) = (answer_to setting (world_in setting events) e ≡ Accepted) × (2 ^ 30 < len + add)
+  MayFail events e (Full len add) =
+      (answer_to setting (world_in setting events) e ≡ Accepted) × (2 ^ 30 < len + add) × ((w : Weights) × DueAdds w (Some (image_after setting events)) e (image_after setting (events ++ e ∷ [])) add)
   MayFail events e Stopped = ⊥
 
   -- The entries of the grants that are due behind these events, one after the other, until none is or one fails. Memory may be wanted where it

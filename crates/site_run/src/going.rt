@@ -59,8 +59,8 @@ pub struct Lived<D: Disk, R: SavedThread + Drop> {
 /// # Errors
 ///
 /// A fault that stops the life is told beside the state, as [`DurableBuild::take`] answers it: `Disk` only where the disk's count
-/// of faults rose, which it does at no other fault; `Full` with the journal's length in bytes and what the record of an event
-/// would have added to it, together more than 1,073,741,824: over a store of one build, of the event that came next; `Memory`
+/// of faults rose, which it does at no other fault; `Full` with the journal's length in bytes and what the record that is due for
+/// an event would have added to it, together more than 1,073,741,824: over a store of one build, of the event that came next; `Memory`
 /// where memory was refused. `Stopped` does not come. Where one of the grants that a stop left out is refused so, the disk alone
 /// is handed back, and the members are as they were.
 pub fn go_on<

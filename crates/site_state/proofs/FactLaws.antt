@@ -1,5 +1,5 @@
 -- What is known of the store goes on through one take.
-use Rattle.std.proofs.Common.{◌≡◌, ◌⊎◌, ◌≤◌, ◌∙◌, ℕ, ◌+◌, zero, suc, inl, inr, true, false, List, [], ◌∷◌, ◌++◌, length, take, Option, Some, None, Result, Ok, Err, refl, sym, ap, subst, append_assoc, append-nil, arith}
+use Rattle.std.proofs.Common.{◌≡◌, ◌⊎◌, ◌≤◌, ◌∙◌, ℕ, ◌+◌, zero, suc, inl, inr, true, false, List, [], ◌∷◌, ◌++◌, length, take, Option, Some, None, Result, Ok, Err, refl, sym, ap, subst, append_assoc, append-nil, arith, length-append}
 use Rattle.std.specs.Prelude.{IsErrOf, OnOk, fold}
 use Rattle.device_faults.specs.Faults.{Rose}
 use Rattle.jp_disk.specs.Moments.{AtEachMoment}
@@ -23,9 +23,13 @@ use Rattle.store_laws.proofs.Payloads.{image_behind_more}
 use Rattle.store_laws.proofs.Stories.{tell_more, events-more, world-more, due_more, follows_more}
 use Rattle.agent_worker.specs.declared.fault.TakeFault.{TakeFault}
 use Rattle.agent_worker.specs.declared.fault.TakeFault.TheVariants.{Memory, Disk, Full, Stopped}
-use Rattle.durable_build.specs.Standing.{Kept, Keeps, image_before, world_before}
-use Rattle.durable_build.specs.Taking.{Adds, Risks, IsSized as TellsSize, TakeAnswers, TakeKeeps, TakeLeaves}
-use Rattle.durable_build.proofs.Sizes.{may_add}
+use Rattle.std.specs.List.{AllByRecursion as AllAre}
+use Rattle.durable_build.specs.Standing.{IsWhole, Kept, Keeps, image_before, world_before}
+use Rattle.delta_records.specs.declared.weights.Weights.{Weights}
+use Rattle.durable_build.specs.Kinds.{weights_of}
+use Rattle.durable_build.specs.Taking.{Adds, DueAdds, LeavesWhole, Risks, IsSized as TellsSize, TakeAnswers, TakeKeeps, TakeLeaves}
+use Rattle.durable_build.proofs.Sizes.{due_adds}
+use Rattle.durable_build.proofs.TakeLemmas.{stands_last}
 use Rattle.site_state.specs.declared.ask.Entry.{Entry}
 use Rattle.site_state.specs.declared.ask.Entry.TheVariants.{Took, Failed}
 use Rattle.site_state.specs.Histories.{tooks, kept_fault, at_risk, Quiet}
@@ -51,6 +55,11 @@ no_payloads : (before : Option Image) (rs : List EventRecord) (ps : List (List �
 no_payloads before [] [] none all = refl
 no_payloads before [] (p ∷ ps) none all = absurd all
 no_payloads before (r ∷ rs) ps none all = absurd (cc)
+
+-- more that are so
+pub all_append : {A : Type 0} (P : A → Type 0) (xs ys : List A) → AllAre P xs → AllAre P ys → AllAre P (xs ++ ys)
+all_append P [] ys one two = two
+all_append P (x ∷ xs) ys one two = (one.0, all_append P xs ys one.1 two)
 
 -- fronts of a list
 front_within : (xs ys : List (List ℕ)) (k : ℕ) → (n : ℕ) × (take k xs ≡ take n (xs ++ ys))
@@ -126,6 +135,12 @@ module _ {D T : Type 0} (reads : D → Option (List ℕ)) (may_leave : D → Lis
   pub on_so_far : GoOn stance opening.build g.records
   on_so_far = subst (GoOn stance opening.build) only_records g.go_on
 
+  pub whole_so_far : AllAre (λ (r : EventRecord). IsWhole (setting_in opening.build) r.image) g.records
+  whole_so_far = subst (AllAre (λ (r : EventRecord). IsWhole (setting_in opening.build) r.image)) only_records g.whole
+
+  whole_more : (r : EventRecord) → IsWhole (setting_in opening.build) r.image → AllAre (λ (r : EventRecord). IsWhole (setting_in opening.build) r.image) (g.records ++ r ∷ [])
+  whole_more r whole = all_append (λ (r : EventRecord). IsWhole (setting_in opening.build) r.image) g.records (r ∷ []) whole_so_far (whole, tt)
+
   front_so_far : AtEachMoment clock since opening.journal.disk old.journal.disk (HasFront ps g.added)
   front_so_far = subst (λ (xs : List (List ℕ)). AtEachMoment clock since opening.journal.disk old.journal.disk (HasFront ps xs)) only_added g.moments
 
@@ -138,8 +153,8 @@ module _ {D T : Type 0} (reads : D → Option (List ℕ)) (may_leave : D → Lis
 
     -- a record more
     pub grown_more : (e : Event) → Adds reads may_leave clock since stance old new e (ps ++ g.added) → GoOn stance opening.build (g.records ++ record_of e (image_in stance new.build) ∷ [])
-        → Grown reads may_leave clock since stance opening new (h ++ Took e ∷ []) ps
-    grown_more e a on =
+        → IsWhole (setting_in opening.build) (image_in stance new.build) → Grown reads may_leave clock since stance opening new (h ++ Took e ∷ []) ps
+    grown_more e a on whole =
         let p = a.puts.payload in
         let all = g.added ++ p ∷ [] in
         let r = record_of e (image_in stance new.build) in
@@ -154,15 +169,19 @@ module _ {D T : Type 0} (reads : D → Option (List ℕ)) (may_leave : D → Lis
           last = [];
           last_spelled = tt;
           go_on = subst (GoOn stance opening.build) (sym (append-nil (g.records ++ r ∷ []))) on;
+          whole = subst (AllAre (λ (r : EventRecord). IsWhole (setting_in opening.build) r.image)) (sym (append-nil (g.records ++ r ∷ []))) (whole_more r whole);
           ends = here.holds.ends;
+          weighs = here.weighs;
+          full = none_full stance (weights_of (ps ++ all)) (last_image (ps ++ all)) new (h ++ Took e ∷ []) (kept_fault-append h (Took e ∷ []) none);
           keeps = λ _. here;
           moments = subst (λ (xs : List (List ℕ)). AtEachMoment clock since opening.journal.disk new.journal.disk (HasFront ps xs)) (sym (append-nil all)) (moments_more p a.puts.moments);
           images = λ image left. inl (stores_has reads may_leave new.journal.disk new.journal.len (ps ++ all) image here.holds left);
         }
 
     -- a take that failed, and left the disk
-    pub grown_still : (f : TakeFault) (event : Option Event) → at_risk f event ≡ [] → new.journal ≡ old.journal → Grown reads may_leave clock since stance opening new (h ++ Failed f event ∷ []) ps
-    grown_still f event safe same = record {
+    pub grown_still : (f : TakeFault) (event : Option Event) → at_risk f event ≡ [] → new.journal ≡ old.journal → new.weights ≡ old.weights → IsFull stance (weights_of (ps ++ g.added)) (last_image (ps ++ g.added)) new f event
+        → Grown reads may_leave clock since stance opening new (h ++ Failed f event ∷ []) ps
+    grown_still f event safe same weighs full = record {
       records = g.records;
       events = g.events ∙ sym (append-nil (tooks h)) ∙ sym (tooks-append h (Failed f event ∷ []));
       added = g.added;
@@ -172,16 +191,20 @@ module _ {D T : Type 0} (reads : D → Option (List ℕ)) (may_leave : D → Lis
       last = g.last;
       last_spelled = g.last_spelled;
       go_on = g.go_on;
+      whole = g.whole;
       ends = ap (λ j. j.len) same ∙ g.ends;
+      weighs = weighs ∙ g.weighs;
+      full = full-append stance (weights_of (ps ++ g.added)) (last_image (ps ++ g.added)) new h f event none full;
       keeps = λ is. absurd (fault_not_none h f event none is);
       moments = subst (λ j. AtEachMoment clock since opening.journal.disk j.disk (HasFront ps (g.added ++ g.last))) (sym same) g.moments;
       images = subst (λ j. (image : List ℕ) → may_leave j.disk image → Has (ps ++ g.added) image ⊎ Has (ps ++ g.added ++ g.last) image) (sym same) g.images;
     }
 
     -- a take that the disk failed
-    pub grown_torn : ((d : D) (t : ℕ) (image : List ℕ) → t ≤ clock d → may_leave d image → since d t image) → (e : Event) → new.journal.len ≡ old.journal.len → Risks clock since stance old new e (ps ++ g.added)
-        → GoOn stance opening.build (g.records ++ record_of e (image_in stance new.build) ∷ []) → Grown reads may_leave clock since stance opening new (h ++ Failed Disk (Some e) ∷ []) ps
-    grown_torn counts_now e len a on =
+    pub grown_torn : ((d : D) (t : ℕ) (image : List ℕ) → t ≤ clock d → may_leave d image → since d t image) → (e : Event) → new.journal.len ≡ old.journal.len → new.weights ≡ old.weights → Risks clock since stance old new e (ps ++ g.added)
+        → GoOn stance opening.build (g.records ++ record_of e (image_in stance new.build) ∷ []) → IsWhole (setting_in opening.build) (image_in stance new.build)
+        → Grown reads may_leave clock since stance opening new (h ++ Failed Disk (Some e) ∷ []) ps
+    grown_torn counts_now e len weighs a on whole =
         let p = a.puts.payload in
         record {
           records = g.records;
@@ -193,7 +216,10 @@ module _ {D T : Type 0} (reads : D → Option (List ℕ)) (may_leave : D → Lis
           last = p ∷ [];
           last_spelled = (a.puts.tells, tt);
           go_on = on;
+          whole = whole_more (record_of e (image_in stance new.build)) whole;
           ends = len ∙ g.ends;
+          weighs = weighs ∙ g.weighs;
+          full = full-append stance (weights_of (ps ++ g.added)) (last_image (ps ++ g.added)) new h Disk (Some e) none tt;
           keeps = λ is. absurd (fault_not_none h Disk (Some e) none is);
           moments = moments_more p a.puts.moments;
           images = λ image left. a.puts.moments.each image (counts_now new.journal.disk (clock old.journal.disk) image a.puts.moments.later left);
@@ -211,7 +237,10 @@ module _ {D T : Type 0} (reads : D → Option (List ℕ)) (may_leave : D → Lis
     last = g.last;
     last_spelled = g.last_spelled;
     go_on = g.go_on;
+    whole = g.whole;
     ends = g.ends;
+    weighs = g.weighs;
+    full = none_full stance (weights_of (ps ++ g.added)) (last_image (ps ++ g.added)) old (h ++ es) (kept_fault-append h es none ∙ quiet.1);
     keeps = λ _. g.keeps none;
     moments = g.moments;
     images = g.images;
@@ -243,7 +272,8 @@ module _ {D T : Type 0} (reads : D → Option (List ℕ)) (may_leave : D → Lis
     rose = λ bad. absurd (none_disk bad);
     calm = λ _. refl;
     longer = omega arith;
-    full = tt;
+    counted = let none : length (tooks []) ≡ 0 = refl in omega (arith, none);
+    full = (None, tt);
     size = λ w at. tt;
     running = λ _. running;
     shown = λ _. record { begun = begun; setting = refl; unchanged = λ _. refl; stands = λ w at. at };
@@ -259,7 +289,10 @@ module _ {D T : Type 0} (reads : D → Option (List ℕ)) (may_leave : D → Lis
           last = [];
           last_spelled = tt;
           go_on = λ before meant started at. (tt, tt);
+          whole = tt;
           ends = subst (λ (xs : List (List ℕ)). k.journal.len ≡ length (framed xs) + 1) (sym (append-nil ps)) held.holds.ends;
+          weighs = subst (λ (xs : List (List ℕ)). k.weights ≡ weights_of xs) (sym (append-nil ps)) held.weighs;
+          full = tt;
           keeps = λ _. subst (Keeps reads may_leave stance k) (sym (append-nil ps)) held;
           moments = starts clock since k.journal.disk (HasFront ps []) (λ image left. (0, has image (only_now k.journal.disk image left)));
           images = λ image left. inl (has image left);
@@ -274,8 +307,9 @@ module _ {D T : Type 0} (reads : D → Option (List ℕ)) (may_leave : D → Lis
       rose = λ bad. absurd (none_disk (sym (kept_fault-append h es none ∙ quiet.1) ∙ bad));
       calm = λ _. k.calm (λ bad. none_disk (sym none ∙ bad));
       longer = k.longer;
-      full = none_full stance old (h ++ es) (kept_fault-append h es none ∙ quiet.1);
-      size = λ w at. none_sized (setting_in opening.build) w (h ++ es) (kept_fault-append h es none ∙ quiet.1);
+      counted = k.counted ∙ ap (λ (xs : List Event). opening.records + length xs) (sym (append-nil (tooks h)) ∙ sym (ap (λ (xs : List Event). tooks h ++ xs) quiet.0) ∙ sym (tooks-append h es));
+      full = (None, none_full stance old.weights None old (h ++ es) (kept_fault-append h es none ∙ quiet.1));
+      size = λ w at. none_sized old.weights (setting_in opening.build) w (h ++ es) (kept_fault-append h es none ∙ quiet.1);
       running = λ _. k.running none;
       shown = λ _. subst (λ (xs : List Event). IsShown stance opening.build xs old.build) (sym (append-nil (tooks h)) ∙ sym (ap (λ (xs : List Event). tooks h ++ xs) quiet.0) ∙ sym (tooks-append h es)) (k.shown none);
       grown = λ ps held. grown_quiet reads may_leave clock since stance opening old h none ps (k.grown ps held) es quiet;
@@ -286,80 +320,100 @@ module _ {D T : Type 0} (reads : D → Option (List ℕ)) (may_leave : D → Lis
       still : faults new.journal.disk ≡ faults old.journal.disk → faults new.journal.disk ≡ faults opening.journal.disk
       still same = same ∙ k.calm (λ bad. none_disk (sym none ∙ bad))
 
+      -- the setting is that of the opening
+      whole_here : IsWhole (setting_in old.build) (image_in stance new.build) → IsWhole (setting_in opening.build) (image_in stance new.build)
+      whole_here whole = subst (λ (s : Setting). IsWhole s (image_in stance new.build)) (k.shown none).setting whole
+
       facts_fault : (f : TakeFault) (event : Option Event) → (f ≡ Disk → Rose (faults old.journal.disk) (faults new.journal.disk)) → ((f ≡ Disk → ⊥) → faults new.journal.disk ≡ faults old.journal.disk)
-          → old.journal.len ≤ new.journal.len → IsFull stance new f event → ((w : W.Build) → StandsFor stance old.build w → IsSized (setting_in old.build) w f event)
+          → old.journal.len ≤ new.journal.len → new.records ≡ old.records → (before : Option Image) × IsFull stance new.weights before new f event
+          → ((w : W.Build) → StandsFor stance old.build w → IsSized new.weights (setting_in old.build) w f event)
           → ((ps : List (List ℕ)) → Keeps reads may_leave stance opening ps → Grown reads may_leave clock since stance opening new (h ++ Failed f event ∷ []) ps)
           → Known opening new (h ++ Failed f event ∷ [])
-      facts_fault f event rose calm longer full size grown = record {
+      facts_fault f event rose calm longer counted full size grown = record {
         count = omega (arith, k.count, count);
         calm = λ other. still (calm (λ is. other (kept_fault-append h (Failed f event ∷ []) none ∙ ap Some is)));
         longer = omega (arith, k.longer, longer);
+        counted = counted ∙ k.counted ∙ ap (λ (xs : List Event). opening.records + length xs) (sym (append-nil (tooks h)) ∙ sym (tooks-append h (Failed f event ∷ [])));
         size = λ w at.
             let shown = k.shown none in
             let here : W.Build = fold (W.after_one (setting_in opening.build)) w (tooks h) in
-            sized-append (setting_in opening.build) w h f event none (subst (λ (s : Setting). IsSized s here f event) shown.setting (size here (shown.stands w at)));
+            sized-append new.weights (setting_in opening.build) w h f event none (subst (λ (s : Setting). IsSized new.weights s here f event) shown.setting (size here (shown.stands w at)));
         rose = λ is. rose_later (faults opening.journal.disk) (faults old.journal.disk) (faults new.journal.disk) k.count (rose (same_fault f Disk (sym (kept_fault-append h (Failed f event ∷ []) none) ∙ is)));
-        full = full-append stance new h f event none full;
+        full = (full.0, full-append stance new.weights full.0 new h f event none full.1);
         running = λ is. absurd (fault_not_none h f event none is);
         shown = λ is. absurd (fault_not_none h f event none is);
         grown = grown;
       }
 
-      facts_more : (e : Event) → faults new.journal.disk ≡ faults old.journal.disk → old.journal.len ≤ new.journal.len → new.stopped ≡ false → has_begun new.build.phase ≡ true → IsInOrder old.build e → IsNext stance old.build e new.build
+      facts_more : (e : Event) → faults new.journal.disk ≡ faults old.journal.disk → old.journal.len ≤ new.journal.len → new.records ≡ old.records + 1 → new.stopped ≡ false → has_begun new.build.phase ≡ true → IsInOrder old.build e → IsNext stance old.build e new.build
           → ((payloads : List (List ℕ)) → Keeps reads may_leave stance old payloads → Adds reads may_leave clock since stance old new e payloads)
-          → Known opening new (h ++ Took e ∷ [])
-      facts_more e calm longer running begun order next adds = record {
+          → IsWhole (setting_in old.build) (image_in stance new.build) → Known opening new (h ++ Took e ∷ [])
+      facts_more e calm longer one running begun order next adds whole = record {
         count = omega (arith, k.count, count);
         calm = λ _. still calm;
         longer = omega (arith, k.longer, longer);
-        size = λ w at. none_sized (setting_in opening.build) w (h ++ Took e ∷ []) (kept_fault-append h (Took e ∷ []) none);
+        counted =
+            let more : length (tooks (h ++ Took e ∷ [])) ≡ length (tooks h) + 1 = ap (λ (xs : List Event). length xs) (tooks-append h (Took e ∷ [])) ∙ length-append (tooks h) (e ∷ []) in
+            let before : old.records ≡ opening.records + length (tooks h) = k.counted in
+            omega (arith, one, more, before);
+        size = λ w at. none_sized new.weights (setting_in opening.build) w (h ++ Took e ∷ []) (kept_fault-append h (Took e ∷ []) none);
         rose = λ bad. absurd (none_disk (sym (kept_fault-append h (Took e ∷ []) none) ∙ bad));
-        full = none_full stance new (h ++ Took e ∷ []) (kept_fault-append h (Took e ∷ []) none);
+        full = (None, none_full stance new.weights None new (h ++ Took e ∷ []) (kept_fault-append h (Took e ∷ []) none));
         running = λ _. running;
         shown = λ _. subst (λ (xs : List Event). IsShown stance opening.build xs new.build) (sym (tooks-append h (Took e ∷ []))) (shown_more stance opening.build old.build new.build (tooks h) e begun (k.shown none) next);
         grown = λ ps held.
             let g = k.grown ps held in
             let a = adds (ps ++ g.added) (g.keeps none) in
             grown_more reads may_leave clock since stance opening old h none ps g new e a
-            (go_on_more stance opening.build old.build g.records (tooks h) (record_of e (image_in stance new.build)) (on_so_far reads may_leave clock since stance opening old h none ps g) g.events (k.shown none) next.accepted order a.image);
+            (go_on_more stance opening.build old.build g.records (tooks h) (record_of e (image_in stance new.build)) (on_so_far reads may_leave clock since stance opening old h none ps g) g.events (k.shown none) next.accepted order a.image)
+            (whole_here whole);
       }
 
-      facts_torn : ((d : D) (t : ℕ) (image : List ℕ) → t ≤ clock d → may_leave d image → since d t image) → (e : Event) → new.journal.len ≡ old.journal.len → Rose (faults old.journal.disk) (faults new.journal.disk) → IsInOrder old.build e → answer_of old.build e ≡ Accepted
-          → ((payloads : List (List ℕ)) → Keeps reads may_leave stance old payloads → Risks clock since stance old new e payloads) → Known opening new (h ++ Failed Disk (Some e) ∷ [])
-      facts_torn counts_now e len rose order accepted risks =
-          facts_fault Disk (Some e) (λ _. rose) (λ other. absurd (other refl)) (omega (arith, len)) tt (λ w at. tt)
+      facts_torn : ((d : D) (t : ℕ) (image : List ℕ) → t ≤ clock d → may_leave d image → since d t image) → (e : Event) → new.journal.len ≡ old.journal.len → (new.weights ≡ old.weights) × (new.records ≡ old.records) → Rose (faults old.journal.disk) (faults new.journal.disk) → IsInOrder old.build e → answer_of old.build e ≡ Accepted
+          → ((payloads : List (List ℕ)) → Keeps reads may_leave stance old payloads → Risks clock since stance old new e payloads) → IsWhole (setting_in old.build) (image_in stance new.build)
+          → Known opening new (h ++ Failed Disk (Some e) ∷ [])
+      facts_torn counts_now e len same rose order accepted risks whole =
+          facts_fault Disk (Some e) (λ _. rose) (λ other. absurd (other refl)) (omega (arith, len)) same.1 (None, tt) (λ w at. tt)
           (λ ps held.
           let g = k.grown ps held in
           let a = risks (ps ++ g.added) (g.keeps none) in
-          grown_torn reads may_leave clock since stance opening old h none ps g new counts_now e len a
-          (go_on_more stance opening.build old.build g.records (tooks h) (record_of e (image_in stance new.build)) (on_so_far reads may_leave clock since stance opening old h none ps g) g.events (k.shown none) accepted order a.image))
+          grown_torn reads may_leave clock since stance opening old h none ps g new counts_now e len same.0 a
+          (go_on_more stance opening.build old.build g.records (tooks h) (record_of e (image_in stance new.build)) (on_so_far reads may_leave clock since stance opening old h none ps g) g.events (k.shown none) accepted order a.image) (whole_here whole))
 
-      facts_still : (f : TakeFault) (event : Option Event) → at_risk f event ≡ [] → (f ≡ Disk → ⊥) → IsFull stance new f event → ((w : W.Build) → StandsFor stance old.build w → IsSized (setting_in old.build) w f event)
-          → new.journal ≡ old.journal → Known opening new (h ++ Failed f event ∷ [])
-      facts_still f event safe calm full size same =
-          facts_fault f event (λ bad. absurd (calm bad)) (λ _. ap (λ j. faults j.disk) same) (omega (arith, ap (λ j. j.len) same)) full size (λ ps held. grown_still reads may_leave clock since stance opening old h none ps (k.grown ps held) new f event safe same)
+      facts_still : (f : TakeFault) (event : Option Event) → at_risk f event ≡ [] → (f ≡ Disk → ⊥) → (before : Option Image) × IsFull stance new.weights before new f event
+          → ((w : W.Build) → StandsFor stance old.build w → IsSized new.weights (setting_in old.build) w f event)
+          → ((ps : List (List ℕ)) → Keeps reads may_leave stance old ps → IsFull stance (weights_of ps) (last_image ps) new f event)
+          → new.journal ≡ old.journal → (new.weights ≡ old.weights) × (new.records ≡ old.records) → Known opening new (h ++ Failed f event ∷ [])
+      facts_still f event safe calm full size behind same counts =
+          facts_fault f event (λ bad. absurd (calm bad)) (λ _. ap (λ j. faults j.disk) same) (omega (arith, ap (λ j. j.len) same)) counts.1 full size
+          (λ ps held. let g = k.grown ps held in grown_still reads may_leave clock since stance opening old h none ps g new f event safe same counts.0 (behind (ps ++ g.added) (g.keeps none)))
 
       facts_same : new ≡ old → Known opening new (h ++ [])
       facts_same same = subst (λ (es : List Entry). Known opening new es) (sym (append-nil h)) (subst (λ (n : Kept D T). Known opening n h) (sym same) k)
 
       pub facts_one : ((d : D) (t : ℕ) (image : List ℕ) → t ≤ clock d → may_leave d image → since d t image) → (e : Event) (r : Result Taken TakeFault) → old.stopped ≡ false → IsInOrder old.build e
-          → TakeAnswers stance old new e r → TakeLeaves stance old new e r → TellsSize stance old new e r → OnOk r (setting_in new.build ≡ setting_in old.build)
+          → TakeAnswers stance old new e r → TakeLeaves stance old new e r → TellsSize stance old new e r → LeavesWhole stance (setting_in old.build) new.build r → OnOk r (setting_in new.build ≡ setting_in old.build)
           → OnOk r ((w : W.Build) → StandsFor stance old.build w → StandsFor stance new.build (W.after_one (setting_in old.build) w e))
           → ((payloads : List (List ℕ)) → Keeps reads may_leave stance old payloads → TakeKeeps reads may_leave clock since stance old new e payloads r)
           → (IsErrOf r Disk → Rose (faults old.journal.disk) (faults new.journal.disk)) → (¬ (IsErrOf r Disk) → faults new.journal.disk ≡ faults old.journal.disk)
           → Known opening new (h ++ noted e r)
-      facts_one counts_now e (Ok Accepted) run order answers leaves size setting stands keeps cause calm =
-          facts_more e (calm (λ is. cc)) (omega (arith, leaves.2.2)) leaves.0 leaves.1 order (record { accepted = sym answers.1; setting = setting; stands = stands }) keeps
-      facts_one counts_now e (Ok NotOpen) run order answers leaves size setting stands keeps cause calm = facts_same leaves
-      facts_one counts_now e (Ok (WrongPlace kept)) run order answers leaves size setting stands keeps cause calm = facts_same leaves
-      facts_one counts_now e (Ok Finished) run order answers leaves size setting stands keeps cause calm = facts_same leaves
-      facts_one counts_now e (Err Memory) run order answers leaves size setting stands keeps cause calm = facts_still Memory None refl memory_disk tt (λ w at. tt) leaves.1
-      facts_one counts_now e (Err Disk) run order answers leaves size setting stands keeps cause calm = facts_torn counts_now e leaves.1 (cause refl) order answers.1 keeps
-      facts_one counts_now e (Err (Full len add)) run order answers leaves size setting stands keeps cause calm =
-          facts_still (Full len add) (Some e) refl (full_disk len add) (answers.2 ∙ ap (λ j. j.len) (sym leaves.1), answers.3, (image_before stance old.build, (answers.4.0, answers.4.1.tells, answers.4.2)))
-          (λ w at. may_add (image_before stance old.build) (world_before (setting_in old.build) w) (image_in stance new.build) (world_image (setting_in old.build) (W.after_one (setting_in old.build) w e)) e add (size.1 w at) (size.0 w at) (answers.4.0, answers.4.1.tells, answers.4.2)) leaves.1
-      facts_one counts_now e (Err Stopped) run order answers leaves size setting stands keeps cause calm = absurd (true_false (sym answers ∙ run))
+      facts_one counts_now e (Ok Accepted) run order answers leaves size whole setting stands keeps cause calm =
+          facts_more e (calm (λ is. cc)) (omega (arith, leaves.2.len)) leaves.2.records leaves.0 leaves.1 order (record { accepted = sym answers.1; setting = setting; stands = stands }) keeps whole
+      facts_one counts_now e (Ok NotOpen) run order answers leaves size whole setting stands keeps cause calm = facts_same leaves
+      facts_one counts_now e (Ok (WrongPlace kept)) run order answers leaves size whole setting stands keeps cause calm = facts_same leaves
+      facts_one counts_now e (Ok Finished) run order answers leaves size whole setting stands keeps cause calm = facts_same leaves
+      facts_one counts_now e (Err Memory) run order answers leaves size whole setting stands keeps cause calm = facts_still Memory None refl memory_disk (None, tt) (λ w at. tt) (λ ps keeps. tt) leaves.1 leaves.2
+      facts_one counts_now e (Err Disk) run order answers leaves size whole setting stands keeps cause calm = facts_torn counts_now e leaves.1 leaves.2 (cause refl) order answers.1 keeps whole
+      facts_one counts_now e (Err (Full len add)) run order answers leaves size whole setting stands keeps cause calm =
+          let len_is : len ≡ new.journal.len = answers.2 ∙ ap (λ j. j.len) (sym leaves.1) in
+          let here = image_in stance new.build in
+          facts_still (Full len add) (Some e) refl (full_disk len add)
+          (image_before stance old.build, (len_is, answers.3, subst (λ (w : Weights). DueAdds w (image_before stance old.build) e here add) (sym leaves.2.0) answers.4))
+          (λ w at. due_adds old.weights new.weights (image_before stance old.build) (world_before (setting_in old.build) w) here (world_image (setting_in old.build) (W.after_one (setting_in old.build) w e)) e add (sym leaves.2.0) (size.1 w at) (size.0 w at) answers.4)
+          (λ ps kept. (len_is, answers.3, due_adds old.weights (weights_of ps) (image_before stance old.build) (last_image ps) here here e add kept.weighs (stands_last stance old.build old.script old.agents ps kept.stands) refl answers.4))
+          leaves.1 leaves.2
+      facts_one counts_now e (Err Stopped) run order answers leaves size whole setting stands keeps cause calm = absurd (true_false (sym answers ∙ run))
 
     -- want of memory is noted
     pub facts_wanting : Known opening old (h ++ Failed Memory None ∷ [])
-    facts_wanting = facts_still old (omega arith) Memory None refl memory_disk tt (λ w at. tt) refl
+    facts_wanting = facts_still old (omega arith) Memory None refl memory_disk (None, tt) (λ w at. tt) (λ ps keeps. tt) refl (refl, refl)

@@ -11,8 +11,9 @@ use Rattle.build_core.specs.Builds.{Parts, StandsFor, setting_in}
 use Rattle.agent_worker.specs.declared.fault.TakeFault.{TakeFault}
 use Rattle.agent_worker.specs.declared.fault.TakeFault.TheVariants.{Memory, Disk, Full, Stopped}
 use Rattle.delta_records.specs.Payloads.{payload_form}
-use Rattle.durable_build.specs.Standing.{Kept}
-use Rattle.durable_build.specs.Taking.{TakeAnswers, TakeLeaves}
+use Rattle.build_images.specs.Images.{image_in}
+use Rattle.durable_build.specs.Standing.{Kept, image_before}
+use Rattle.durable_build.specs.Taking.{IsSized, TakeAnswers, TakeLeaves}
 use Rattle.site_state.specs.declared.ask.Entry.{Entry}
 use Rattle.site_state.specs.declared.ask.Entry.TheVariants.{Took}
 use Rattle.site_state.specs.Histories.{kept_fault}
@@ -55,7 +56,7 @@ module _ {D T : Type 0} (stance : T → Stance) (old new : Kept D T) where
     grant_not (WrongPlace kept) other says here = (not_taken request executor (WrongPlace kept) is says.0 (wrong kept), says.1, here ∙ append-nil h)
     grant_not Finished other says here = (not_taken request executor Finished is says.0 finished, says.1, here ∙ append-nil h)
 
-    pub grant_failed : (f : TakeFault) → MayFail old.build (Granted request executor) f → after ≡ h ++ noted (Granted request executor) (Err f) → GrantSays stance old new h after (Err f)
+    pub grant_failed : (f : TakeFault) → MayFail stance old.build (Granted request executor) f → after ≡ h ++ noted (Granted request executor) (Err f) → GrantSays stance old new h after (Err f)
     grant_failed Memory may here = (noted (Granted request executor) (Err Memory), refused request executor Memory is may, here, refl)
     grant_failed Disk may here = (noted (Granted request executor) (Err Disk), refused request executor Disk is may, here, refl)
     grant_failed (Full len add) may here = (noted (Granted request executor) (Err (Full len add)), refused request executor (Full len add) is may, here, refl)
@@ -78,26 +79,27 @@ module _ {T : Type 0} (stance : T → Stance) (start now : Parts T) (h0 h es : L
 pub kept_behind : (h after es : List Entry) (f : TakeFault) → kept_fault h ≡ None → after ≡ h ++ es → kept_fault es ≡ Some f → kept_fault after ≡ None → ⊥
 kept_behind h after es f none here is kept = no_fault f (sym (ap kept_fault here ∙ kept_fault-append h es none ∙ is) ∙ kept)
 
-pub failed_is : {T : Type 0} (b : Parts T) (e : Event) (f : TakeFault) → MayFail b e f → kept_fault (noted e (Err f)) ≡ Some f
-failed_is b e Memory may = refl
-failed_is b e Disk may = refl
-failed_is b e (Full len add) may = refl
-failed_is b e Stopped may = absurd may
+pub failed_is : {T : Type 0} (stance : T → Stance) (b : Parts T) (e : Event) (f : TakeFault) → MayFail stance b e f → kept_fault (noted e (Err f)) ≡ Some f
+failed_is stance b e Memory may = refl
+failed_is stance b e Disk may = refl
+failed_is stance b e (Full len add) may = refl
+failed_is stance b e Stopped may = absurd may
 
 -- a record makes the journal longer
 longer_by : (old new size : ℕ) → new ≡ old + min (5 + size) (2 ^ 64 - 1) → old < new
 longer_by old new size is = omega (arith, is)
 
 -- each answer of one take, by what `take` of the build says
-pub one_says : {D T : Type 0} (stance : T → Stance) (old new : Kept D T) (e : Event) (r : Result Taken TakeFault) → old.stopped ≡ false → TakeAnswers stance old new e r → TakeLeaves stance old new e r
+pub one_says : {D T : Type 0} (stance : T → Stance) (old new : Kept D T) (e : Event) (r : Result Taken TakeFault) → old.stopped ≡ false → TakeAnswers stance old new e r → TakeLeaves stance old new e r → IsSized stance old new e r
     → OnOk r (setting_in new.build ≡ setting_in old.build) → OnOk r ((w : W.Build) → StandsFor stance old.build w → StandsFor stance new.build (W.after_one (setting_in old.build) w e))
     → OneSays stance old new e r
-one_says stance old new e (Ok Accepted) run answers leaves setting stands =
-    record { next = record { accepted = sym answers.1; setting = setting; stands = stands }; running = leaves.0; begun = leaves.1; longer = longer_by old.journal.len new.journal.len (length (payload_form.spelling leaves.2.0)) leaves.2.2; within = leaves.3 }
-one_says stance old new e (Ok NotOpen) run answers leaves setting stands = (sym answers.1, leaves)
-one_says stance old new e (Ok (WrongPlace kept)) run answers leaves setting stands = (sym answers.1, leaves)
-one_says stance old new e (Ok Finished) run answers leaves setting stands = (sym answers.1, leaves)
-one_says stance old new e (Err Memory) run answers leaves setting stands = tt
-one_says stance old new e (Err Disk) run answers leaves setting stands = answers.1
-one_says stance old new e (Err (Full len add)) run answers leaves setting stands = (answers.1, answers.3)
-one_says stance old new e (Err Stopped) run answers leaves setting stands = absurd (true_false (sym answers ∙ run))
+one_says stance old new e (Ok Accepted) run answers leaves size setting stands =
+    record { next = record { accepted = sym answers.1; setting = setting; stands = stands }; running = leaves.0; begun = leaves.1; longer = longer_by old.journal.len new.journal.len (length (payload_form.spelling leaves.2.payload)) leaves.2.len; within = leaves.3 }
+one_says stance old new e (Ok NotOpen) run answers leaves size setting stands = (sym answers.1, leaves)
+one_says stance old new e (Ok (WrongPlace kept)) run answers leaves size setting stands = (sym answers.1, leaves)
+one_says stance old new e (Ok Finished) run answers leaves size setting stands = (sym answers.1, leaves)
+one_says stance old new e (Err Memory) run answers leaves size setting stands = tt
+one_says stance old new e (Err Disk) run answers leaves size setting stands = answers.1
+one_says stance old new e (Err (Full len add)) run answers leaves size setting stands =
+    (answers.1, answers.3, record { weights = old.weights; before = image_before stance old.build; image = image_in stance new.build; adds = answers.4; is_before = size.1; is_after = size.0 })
+one_says stance old new e (Err Stopped) run answers leaves size setting stands = absurd (true_false (sym answers ∙ run))

@@ -13,7 +13,7 @@ use Rattle.agent_worker.specs.declared.fault.TakeFault.TheVariants.{Memory, Disk
 use Rattle.agent_worker.specs.declared.gate.Heard.{Heard}
 use Rattle.agent_worker.specs.declared.gate.Heard.TheVariants.{Decided, Skipped}
 use Rattle.durable_build.specs.Standing.{Kept, Keeps}
-use Rattle.durable_build.specs.Taking.{IsSized, TakeAnswers, TakeKeeps, TakeLeaves}
+use Rattle.durable_build.specs.Taking.{IsSized, LeavesWhole, TakeAnswers, TakeKeeps, TakeLeaves}
 use Rattle.site_state.specs.declared.ask.Entry.{Entry}
 use Rattle.site_state.specs.declared.ask.Entry.TheVariants.{Line, Failed}
 use Rattle.site_state.specs.Histories.{kept_fault}
@@ -30,17 +30,17 @@ module _ {D T : Type 0} (reads : D → Option (List ℕ)) (may_leave : D → Lis
     (k : Facts reads may_leave clock since faults stance opening old h) (line : List ℕ) where
   -- what is known goes on through a line and its decision
   pub heard_one : (new : Kept D T) → faults old.journal.disk ≤ faults new.journal.disk → ((d : D) (t : ℕ) (image : List ℕ) → t ≤ clock d → may_leave d image → since d t image) → (e : Event) (r : Result Taken TakeFault) → old.stopped ≡ false → IsInOrder old.build e
-      → TakeAnswers stance old new e r → TakeLeaves stance old new e r → IsSized stance old new e r → OnOk r (setting_in new.build ≡ setting_in old.build)
+      → TakeAnswers stance old new e r → TakeLeaves stance old new e r → IsSized stance old new e r → LeavesWhole stance (setting_in old.build) new.build r → OnOk r (setting_in new.build ≡ setting_in old.build)
       → OnOk r ((w : W.Build) → StandsFor stance old.build w → StandsFor stance new.build (W.after_one (setting_in old.build) w e))
       → ((payloads : List (List ℕ)) → Keeps reads may_leave stance old payloads → TakeKeeps reads may_leave clock since stance old new e payloads r)
       → (IsErrOf r Disk → Rose (faults old.journal.disk) (faults new.journal.disk)) → (¬ (IsErrOf r Disk) → faults new.journal.disk ≡ faults old.journal.disk)
       → Facts reads may_leave clock since faults stance opening new (h ++ noted_line line e r)
-  heard_one new count counts_now e (Ok t) run order answers leaves size setting stands keeps cause calm =
+  heard_one new count counts_now e (Ok t) run order answers leaves size whole setting stands keeps cause calm =
       let quiet = facts_quiet reads may_leave clock since faults stance opening old h none k (Line line ∷ []) (refl, refl) in
       subst (λ (es : List Entry). Facts reads may_leave clock since faults stance opening new es) (append_assoc h (Line line ∷ []) (noted e (Ok t)))
-      (facts_one reads may_leave clock since faults stance opening old (h ++ Line line ∷ []) (kept_fault-append h (Line line ∷ []) none) quiet new count counts_now e (Ok t) run order answers leaves size setting stands keeps cause calm)
-  heard_one new count counts_now e (Err f) run order answers leaves size setting stands keeps cause calm =
-      facts_one reads may_leave clock since faults stance opening old h none k new count counts_now e (Err f) run order answers leaves size setting stands keeps cause calm
+      (facts_one reads may_leave clock since faults stance opening old (h ++ Line line ∷ []) (kept_fault-append h (Line line ∷ []) none) quiet new count counts_now e (Ok t) run order answers leaves size whole setting stands keeps cause calm)
+  heard_one new count counts_now e (Err f) run order answers leaves size whole setting stands keeps cause calm =
+      facts_one reads may_leave clock since faults stance opening old h none k new count counts_now e (Err f) run order answers leaves size whole setting stands keeps cause calm
 
   pub skipped_facts : (r : Result Heard TakeFault) (after : List Entry) → SkipSays line r h after → Facts reads may_leave clock since faults stance opening old after
   skipped_facts (Ok Skipped) after is = subst (λ (es : List Entry). Facts reads may_leave clock since faults stance opening old es) (sym is) (facts_quiet reads may_leave clock since faults stance opening old h none k (Line line ∷ []) (refl, refl))
@@ -60,7 +60,7 @@ module _ {T : Type 0} (stance : T → Stance) (b : Parts T) (line : List ℕ) wh
   skipped_says (Err Stopped) h after skipped is = absurd is
 
   module _ (request : ℕ) (e : Event) (decides : Decides b line request e) where
-    pub failed_says : (f : TakeFault) → MayFail b e f → AnswerSays stance b line (Err f) (noted e (Err f))
+    pub failed_says : (f : TakeFault) → MayFail stance b e f → AnswerSays stance b line (Err f) (noted e (Err f))
     failed_says Memory may = refl
     failed_says Disk may = (request, e, decides, (may, refl))
     failed_says (Full len add) may = (request, e, decides, (may, refl))

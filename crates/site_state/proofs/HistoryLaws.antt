@@ -4,6 +4,8 @@ use Rattle.std.proofs.Common.{◌≡◌, ◌∙◌, List, [], ◌∷◌, ◌++�
 use Rattle.model_run.specs.declared.event.Event.{Event}
 use Rattle.model_run.specs.State.{Setting}
 use Rattle.model_run.specs.World as W
+use Rattle.image_form.specs.declared.image.Image.{Image}
+use Rattle.delta_records.specs.declared.weights.Weights.{Weights}
 use Rattle.settle_laws.specs.Stances.{Stance}
 use Rattle.agent_worker.specs.declared.fault.TakeFault.{TakeFault}
 use Rattle.durable_build.specs.Standing.{Kept}
@@ -47,30 +49,30 @@ none_pending (Claimed executor task keep_out kept_log kept_out ∷ h) none = non
 none_pending (Line line ∷ h) none = none_pending h none
 none_pending (Failed fault event ∷ h) none = absurd (no_fault fault none)
 
-module _ {D T : Type 0} (stance : T → Stance) (now : Kept D T) where
-  pub none_full : (h : List Entry) → kept_fault h ≡ None → IsFullAt stance now h
+module _ {D T : Type 0} (stance : T → Stance) (w : Weights) (before : Option Image) (now : Kept D T) where
+  pub none_full : (h : List Entry) → kept_fault h ≡ None → IsFullAt stance w before now h
   none_full [] none = tt
   none_full (Took e ∷ h) none = none_full h none
   none_full (Claimed executor task keep_out kept_log kept_out ∷ h) none = none_full h none
   none_full (Line line ∷ h) none = none_full h none
   none_full (Failed fault event ∷ h) none = absurd (no_fault fault none)
 
-  pub full-append : (h : List Entry) (f : TakeFault) (event : Option Event) → kept_fault h ≡ None → IsFull stance now f event → IsFullAt stance now (h ++ Failed f event ∷ [])
+  pub full-append : (h : List Entry) (f : TakeFault) (event : Option Event) → kept_fault h ≡ None → IsFull stance w before now f event → IsFullAt stance w before now (h ++ Failed f event ∷ [])
   full-append [] f event none is = is
   full-append (Took e ∷ h) f event none is = full-append h f event none is
   full-append (Claimed executor task keep_out kept_log kept_out ∷ h) f event none is = full-append h f event none is
   full-append (Line line ∷ h) f event none is = full-append h f event none is
   full-append (Failed fault given ∷ h) f event none is = absurd (no_fault fault none)
 
-module _ (s : Setting) where
-  pub none_sized : (w : W.Build) (h : List Entry) → kept_fault h ≡ None → IsSizedAt s w h
+module _ (x : Weights) (s : Setting) where
+  pub none_sized : (w : W.Build) (h : List Entry) → kept_fault h ≡ None → IsSizedAt x s w h
   none_sized w [] none = tt
   none_sized w (Took e ∷ h) none = none_sized (W.after_one s w e) h none
   none_sized w (Claimed executor task keep_out kept_log kept_out ∷ h) none = none_sized w h none
   none_sized w (Line line ∷ h) none = none_sized w h none
   none_sized w (Failed fault event ∷ h) none = absurd (no_fault fault none)
 
-  pub sized-append : (w : W.Build) (h : List Entry) (f : TakeFault) (event : Option Event) → kept_fault h ≡ None → IsSized s (fold (W.after_one s) w (tooks h)) f event → IsSizedAt s w (h ++ Failed f event ∷ [])
+  pub sized-append : (w : W.Build) (h : List Entry) (f : TakeFault) (event : Option Event) → kept_fault h ≡ None → IsSized x s (fold (W.after_one s) w (tooks h)) f event → IsSizedAt x s w (h ++ Failed f event ∷ [])
   sized-append w [] f event none is = is
   sized-append w (Took e ∷ h) f event none is = sized-append (W.after_one s w e) h f event none is
   sized-append w (Claimed executor task keep_out kept_log kept_out ∷ h) f event none is = sized-append w h f event none is

@@ -5,3 +5,4 @@ pub mod FactLaws
 pub mod GrantLaws
 pub mod HearLaws
 pub mod SiteLaws
+mod ClaimExamples

@@ -1,5 +1,6 @@
 -- What is known of a store behind the lock, by the build at the opening and the history since (this product's own).
 use Rattle.std.specs.Prelude.{◌≡◌, ◌≤◌, ◌<◌, ◌+◌, ◌^◌, ◌⊎◌, ℕ, true, false, List, [], ◌∷◌, ◌++◌, length, take, Option, Some, None}
+use Rattle.std.specs.List.{AllByRecursion as AllAre}
 use Rattle.device_faults.specs.Faults.{Rose}
 use Rattle.jp_disk.specs.Moments.{AtEachMoment}
 use Rattle.journal_core.specs.Records.{Has, framed}
@@ -14,8 +15,10 @@ use Rattle.build_images.specs.Images.{world_image, image_in}
 use Rattle.store_laws.specs.Store.{AllDue, Follows, Mean, Told, events_of, last_image}
 use Rattle.agent_worker.specs.declared.fault.TakeFault.{TakeFault}
 use Rattle.agent_worker.specs.declared.fault.TakeFault.TheVariants.{Memory, Disk, Full, Stopped}
-use Rattle.durable_build.specs.Standing.{Kept, Keeps, world_before}
-use Rattle.durable_build.specs.Taking.{MayAdd}
+use Rattle.durable_build.specs.Standing.{IsWhole, Kept, Keeps, world_before}
+use Rattle.delta_records.specs.declared.weights.Weights.{Weights}
+use Rattle.durable_build.specs.Kinds.{weights_of}
+use Rattle.durable_build.specs.Taking.{DueAdds}
 use Rattle.site_state.specs.declared.ask.Entry.{Entry}
 use Rattle.site_state.specs.declared.ask.Entry.TheVariants.{Took, Claimed, Line, Failed}
 use Rattle.site_state.specs.Histories.{tooks, kept_fault, pending}
@@ -36,6 +39,23 @@ GoOn stance b records =
 abbrev pub HasFront : List (List ℕ) → List (List ℕ) → List ℕ → Type 0
 HasFront payloads others file = (k : ℕ) × Has (payloads ++ take k others) file
 
+-- `Full` tells the length of the journal, and what the record that is due for its event adds, by these weights and behind this image,
+-- which is too much
+abbrev pub IsFull : {D T : Type 0} → (T → Stance) → Weights → Option Image → Kept D T → TakeFault → Option Event → Type 0
+IsFull stance w before now (Full len add) (Some e) = (len ≡ now.journal.len) × (2 ^ 30 < len + add) × DueAdds w before e (image_in stance now.build) add
+IsFull stance w before now (Full len add) None = ⊥
+IsFull stance w before now Memory event = Unit {0}
+IsFull stance w before now Disk event = Unit {0}
+IsFull stance w before now Stopped event = ⊥
+
+-- where the kept fault is `Full` it tells that
+abbrev pub IsFullAt : {D T : Type 0} → (T → Stance) → Weights → Option Image → Kept D T → List Entry → Type 0
+IsFullAt stance w before now [] = Unit {0}
+IsFullAt stance w before now (Took e ∷ es) = IsFullAt stance w before now es
+IsFullAt stance w before now (Claimed executor task keep_out kept_log kept_out ∷ es) = IsFullAt stance w before now es
+IsFullAt stance w before now (Line line ∷ es) = IsFullAt stance w before now es
+IsFullAt stance w before now (Failed fault event ∷ es) = IsFull stance w before now fault event
+
 -- The store, where the opening kept these records: it has one more for each event that was taken, and behind them at most that of the
 -- event that the disk failed.
 pub record Grown {D T : Type 0} (reads : D → Option (List ℕ)) (may_leave : D → List ℕ → Type 0) (clock : D → ℕ) (since : D → ℕ → List ℕ → Type 0) (stance : T → Stance) (opening now : Kept D T) (history : List Entry) (payloads : List (List ℕ)) : Type 0 where
@@ -50,45 +70,34 @@ pub record Grown {D T : Type 0} (reads : D → Option (List ℕ)) (may_leave : D
   pub last : List (List ℕ)
   pub last_spelled : Told (last_image (payloads ++ added)) last_records last
   pub go_on : GoOn stance opening.build (records ++ last_records)
+  -- each of them has a whole image: an opening goes on from it
+  pub whole : AllAre (λ r. IsWhole (setting_in opening.build) r.image) (records ++ last_records)
   -- the journal ends behind those of the events that were taken
   pub ends : now.journal.len ≡ length (framed (payloads ++ added)) + 1
+  -- and so do the weights by which the next record is due; where `Full` is kept it is of the one that is due behind them
+  pub weighs : now.weights ≡ weights_of (payloads ++ added)
+  pub full : IsFullAt stance (weights_of (payloads ++ added)) (last_image (payloads ++ added)) now history
   -- where no fault is kept the build stands by all of them
   pub keeps : kept_fault history ≡ None → Keeps reads may_leave stance now (payloads ++ added)
   -- each image that a crash may have left since the opening has a front of them, and each that it may leave now all that were taken
   pub moments : AtEachMoment clock since opening.journal.disk now.journal.disk (HasFront payloads (added ++ last))
   pub images : (image : List ℕ) → may_leave now.journal.disk image → Has (payloads ++ added) image ⊎ Has (payloads ++ added ++ last) image
 
--- `Full` tells the length of the journal, and what the record of its event adds behind some image, which is too much
-abbrev pub IsFull : {D T : Type 0} → (T → Stance) → Kept D T → TakeFault → Option Event → Type 0
-IsFull stance now (Full len add) (Some e) = (len ≡ now.journal.len) × (2 ^ 30 < len + add) × ((before : Option Image) × MayAdd before e (image_in stance now.build) add)
-IsFull stance now (Full len add) None = ⊥
-IsFull stance now Memory event = Unit {0}
-IsFull stance now Disk event = Unit {0}
-IsFull stance now Stopped event = ⊥
+-- of a kept `Full`, in a history of which this build of the definitions stood before: what it says the record that is due for its event
+-- adds, by these weights, is so by the images of the builds before it and after it
+abbrev pub IsSized : Weights → Setting → W.Build → TakeFault → Option Event → Type 0
+IsSized x s w (Full len add) (Some e) = DueAdds x (world_before s w) e (world_image s (W.after_one s w e)) add
+IsSized x s w (Full len add) None = Unit {0}
+IsSized x s w Memory event = Unit {0}
+IsSized x s w Disk event = Unit {0}
+IsSized x s w Stopped event = Unit {0}
 
--- where the kept fault is `Full` it tells that
-abbrev pub IsFullAt : {D T : Type 0} → (T → Stance) → Kept D T → List Entry → Type 0
-IsFullAt stance now [] = Unit {0}
-IsFullAt stance now (Took e ∷ es) = IsFullAt stance now es
-IsFullAt stance now (Claimed executor task keep_out kept_log kept_out ∷ es) = IsFullAt stance now es
-IsFullAt stance now (Line line ∷ es) = IsFullAt stance now es
-IsFullAt stance now (Failed fault event ∷ es) = IsFull stance now fault event
-
--- of a kept `Full`, in a history of which this build of the definitions stood before: what it says the record of its event adds is so by
--- the images of the builds before it and after it
-abbrev pub IsSized : Setting → W.Build → TakeFault → Option Event → Type 0
-IsSized s w (Full len add) (Some e) = MayAdd (world_before s w) e (world_image s (W.after_one s w e)) add
-IsSized s w (Full len add) None = Unit {0}
-IsSized s w Memory event = Unit {0}
-IsSized s w Disk event = Unit {0}
-IsSized s w Stopped event = Unit {0}
-
-abbrev pub IsSizedAt : Setting → W.Build → List Entry → Type 0
-IsSizedAt s w [] = Unit {0}
-IsSizedAt s w (Took e ∷ es) = IsSizedAt s (W.after_one s w e) es
-IsSizedAt s w (Claimed executor task keep_out kept_log kept_out ∷ es) = IsSizedAt s w es
-IsSizedAt s w (Line line ∷ es) = IsSizedAt s w es
-IsSizedAt s w (Failed fault event ∷ es) = IsSized s w fault event
+abbrev pub IsSizedAt : Weights → Setting → W.Build → List Entry → Type 0
+IsSizedAt x s w [] = Unit {0}
+IsSizedAt x s w (Took e ∷ es) = IsSizedAt x s (W.after_one s w e) es
+IsSizedAt x s w (Claimed executor task keep_out kept_log kept_out ∷ es) = IsSizedAt x s w es
+IsSizedAt x s w (Line line ∷ es) = IsSizedAt x s w es
+IsSizedAt x s w (Failed fault event ∷ es) = IsSized x s w fault event
 
 -- What is known by the opening and the history.
 pub record Facts {D T : Type 0} (reads : D → Option (List ℕ)) (may_leave : D → List ℕ → Type 0) (clock : D → ℕ) (since : D → ℕ → List ℕ → Type 0) (faults : D → ℕ) (stance : T → Stance) (opening now : Kept D T) (history : List Entry) : Type 0 where
@@ -98,9 +107,12 @@ pub record Facts {D T : Type 0} (reads : D → Option (List ℕ)) (may_leave : D
   pub calm : ¬ (kept_fault history ≡ Some Disk) → faults now.journal.disk ≡ faults opening.journal.disk
   -- the journal is never shorter
   pub longer : opening.journal.len ≤ now.journal.len
-  -- the two numbers of `Full`, by the journal and the build now, and by each build of the definitions that the opening stands for
-  pub full : IsFullAt stance now history
-  pub size : (w : W.Build) → StandsFor stance opening.build w → IsSizedAt (setting_in opening.build) w history
+  -- there is one record more for each event that was taken
+  pub counted : now.records ≡ opening.records + length (tooks history)
+  -- the two numbers of `Full`, by the journal, its weights and the build now, and by each build of the definitions that the opening
+  -- stands for
+  pub full : (before : Option Image) × IsFullAt stance now.weights before now history
+  pub size : (w : W.Build) → StandsFor stance opening.build w → IsSizedAt now.weights (setting_in opening.build) w history
   pub running : kept_fault history ≡ None → now.stopped ≡ false
   -- the build is that of the opening after the events that were taken
   pub shown : kept_fault history ≡ None → IsShown stance opening.build (tooks history) now.build

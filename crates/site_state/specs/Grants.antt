@@ -1,16 +1,21 @@
 -- A take and the grants behind it (this product's own): after each event all grants that are due are made, one by one.
-use Rattle.std.specs.Prelude.{◌≡◌, ◌⊎◌, ◌<◌, ◌+◌, ◌^◌, ℕ, List, [], ◌∷◌, Some, None, Result, Ok, Err}
+use Rattle.std.specs.Prelude.{◌≡◌, ◌⊎◌, ◌<◌, ◌+◌, ◌^◌, ℕ, List, [], ◌∷◌, Option, Some, None, Result, Ok, Err}
 use Rattle.model_run.specs.declared.event.Event.{Event}
 use Rattle.model_run.specs.declared.event.Event.TheVariants.{Granted}
 use Rattle.model_run.specs.declared.taken.Taken.{Taken}
 use Rattle.model_run.specs.declared.taken.Taken.TheVariants.{Accepted, NotOpen, WrongPlace, Finished}
+use Rattle.model_run.specs.World as W
+use Rattle.image_form.specs.declared.image.Image.{Image}
+use Rattle.delta_records.specs.declared.weights.Weights.{Weights}
 use Rattle.settle_laws.specs.Stances.{Stance}
-use Rattle.build_core.specs.Builds.{Parts}
+use Rattle.build_core.specs.Builds.{Parts, StandsFor, setting_in}
+use Rattle.build_images.specs.Images.{world_image}
 use Rattle.agent_worker.specs.declared.fault.TakeFault.{TakeFault}
 use Rattle.agent_worker.specs.declared.fault.TakeFault.TheVariants.{Memory, Disk, Full, Stopped}
 use Rattle.site_state.specs.declared.ask.Entry.{Entry}
 use Rattle.site_state.specs.declared.ask.Entry.TheVariants.{Took, Failed}
-use Rattle.durable_build.specs.Standing.{Kept}
+use Rattle.durable_build.specs.Standing.{Kept, world_before}
+use Rattle.durable_build.specs.Taking.{DueAdds}
 use Rattle.site_state.specs.Histories.{kept_fault}
 use Rattle.site_state.specs.Showing.{answer_of, due, IsNext, IsSettled}
 
@@ -25,12 +30,23 @@ noted e (Err Disk) = Failed Disk (Some e) ∷ []
 noted e (Err (Full len add)) = Failed (Full len add) (Some e) ∷ []
 noted e (Err Stopped) = []
 
--- An event that was not taken with this fault: it is accepted, but for want of memory; `Full` says what was too much.
-abbrev pub MayFail : {T : Type 0} → Parts T → Event → TakeFault → Type 0
-MayFail b e Memory = Unit {0}
-MayFail b e Disk = answer_of b e ≡ Accepted
-MayFail b e (Full len add) = (answer_of b e ≡ Accepted) × (2 ^ 30 < len + add)
-MayFail b e Stopped = ⊥
+-- What the record that is due for this event adds, by some weights of the records of a journal: by the images, before the event and
+-- after it, of each build of the definitions that this one stands for.
+pub record RecordAdds {T : Type 0} (stance : T → Stance) (b : Parts T) (e : Event) (add : ℕ) : Type 0 where
+  pub weights : Weights
+  pub before : Option Image
+  pub image : Image
+  pub adds : DueAdds weights before e image add
+  pub is_before : (w : W.Build) → StandsFor stance b w → before ≡ world_before (setting_in b) w
+  pub is_after : (w : W.Build) → StandsFor stance b w → image ≡ world_image (setting_in b) (W.after_one (setting_in b) w e)
+
+-- An event that was not taken with this fault: it is accepted, but for want of memory; `Full` says what was too much: the length of a
+-- journal, and what the record of the event adds.
+abbrev pub MayFail : {T : Type 0} → (T → Stance) → Parts T → Event → TakeFault → Type 0
+MayFail stance b e Memory = Unit {0}
+MayFail stance b e Disk = answer_of b e ≡ Accepted
+MayFail stance b e (Full len add) = (answer_of b e ≡ Accepted) × (2 ^ 30 < len + add) × RecordAdds stance b e add
+MayFail stance b e Stopped = ⊥
 
 -- The entries of the grants that are due, one after the other, until none is or one is refused with a fault. Memory may be wanted
 -- where it is looked for one.
@@ -38,7 +54,7 @@ pub data Grants {T : Type 0} (stance : T → Stance) : Parts T → List Entry �
   none_due : {b : Parts T} → IsSettled b → Grants stance b []
   granted : {b after : Parts T} {entries : List Entry} (request executor : ℕ) → due b ≡ Some (request, executor) → IsNext stance b (Granted request executor) after
       → Grants stance after entries → Grants stance b (Took (Granted request executor) ∷ entries)
-  refused : {b : Parts T} (request executor : ℕ) (fault : TakeFault) → due b ≡ Some (request, executor) → MayFail b (Granted request executor) fault
+  refused : {b : Parts T} (request executor : ℕ) (fault : TakeFault) → due b ≡ Some (request, executor) → MayFail stance b (Granted request executor) fault
       → Grants stance b (noted (Granted request executor) (Err fault))
   not_found : {b : Parts T} → Grants stance b (Failed Memory None ∷ [])
 
@@ -48,7 +64,7 @@ TakeSays {T} stance b e (Ok Accepted) new = (after : Parts T) × (entries : List
 TakeSays stance b e (Ok NotOpen) new = (answer_of b e ≡ NotOpen) × (new ≡ [])
 TakeSays stance b e (Ok (WrongPlace kept)) new = (answer_of b e ≡ WrongPlace kept) × (new ≡ [])
 TakeSays stance b e (Ok Finished) new = (answer_of b e ≡ Finished) × (new ≡ [])
-TakeSays stance b e (Err fault) new = MayFail b e fault × (new ≡ noted e (Err fault))
+TakeSays stance b e (Err fault) new = MayFail stance b e fault × (new ≡ noted e (Err fault))
 
 -- A life that was not opened: one of the grants that a stop had left out was refused with this fault; or memory was wanted before
 -- any of them, and nothing was done.

@@ -28,7 +28,7 @@ OneSays stance old new e (Ok Accepted) = Goes stance old new e
 OneSays stance old new e (Ok NotOpen) = (answer_of old.build e ≡ NotOpen) × (new ≡ old)
 OneSays stance old new e (Ok (WrongPlace kept)) = (answer_of old.build e ≡ WrongPlace kept) × (new ≡ old)
 OneSays stance old new e (Ok Finished) = (answer_of old.build e ≡ Finished) × (new ≡ old)
-OneSays stance old new e (Err fault) = MayFail old.build e fault
+OneSays stance old new e (Err fault) = MayFail stance old.build e fault
 
 -- One grant: it was taken; or none is due that the build accepts, and nothing was done; or it failed, and the fault is noted.
 abbrev pub GrantSays : {D T : Type 0} → (T → Stance) → Kept D T → Kept D T → List Entry → List Entry → Result Bool TakeFault → Type 0

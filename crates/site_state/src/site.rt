@@ -1,7 +1,9 @@
 //! The state of one life of a saved build.
 ghost use Rattle.std.specs.Prelude.{◌≡◌, ◌++◌, [], ◌∷◌, List, ℕ, length, vec_capacity, true, false, is_some, None, Some, IfOk, IfErr};
+ghost use Rattle.build_core.specs.Builds.{setting_in};
 ghost use Rattle.build_core.specs.Phases.{has_begun};
-ghost use Rattle.durable_build.specs.Standing.{Kept};
+ghost use Rattle.build_images.specs.Images.{image_in};
+ghost use Rattle.durable_build.specs.Standing.{IsWhole, Kept};
 ghost use Rattle.site_state.specs.Facts.{Facts, IsSite};
 ghost use Rattle.site_state.specs.Grants.{Grants, OpenRefuses};
 ghost use Rattle.site_state.specs.Histories.{kept_fault};
@@ -39,7 +41,7 @@ impl<D: Disk, R: SavedThread + Drop> SiteState<D, R> {
     /// # Errors
     ///
     /// Each hands the disk back. `Disk` and `Full` come exactly as `DurableBuild::take` answers them for one of these grants,
-    /// `Full` with the numbers of that grant's record, and the disk's count of faults rises at `Disk` alone. `Memory` where the
+    /// `Full` with the numbers of the record that is due for that grant, and the disk's count of faults rises at `Disk` alone. `Memory` where the
     /// memory was refused: before anything was written, or for one of these grants, of which nothing was written then. `Stopped`
     /// never comes.
     pub fn open(
@@ -76,12 +78,22 @@ impl<D: Disk, R: SavedThread + Drop> SiteState<D, R> {
         })
     }
 
-    /// The build. Where a fault is kept it is open what it gives.
+    /// The build. While no fault is kept its image is whole: [`DurableBuild::open`] goes on from it. Where one is kept it is open
+    /// what it gives.
     pub fn build(&self) -> &Build<R>
         ensures build { result.now ≡ self.now.durable.build }
+        ensures whole { self.now.durable.stopped ≡ false → has_begun self.now.durable.build.phase ≡ true
+            → IsWhole (setting_in self.now.durable.build) (image_in R.stance self.now.durable.build) }
         ensures known { ∥ IsSite D.reads D.may_leave D.clock D.may_have_left_since D.faults R.stance self.now.base.value self.now.durable self.now.history.items (vec_capacity self.now.history) ∥₁ }
     {
         self.durable.build()
+    }
+
+    /// How many records the journal has, one for each event that the build has accepted. It needs no memory.
+    pub fn records(&self) -> u64
+        ensures { result ≡ self.now.durable.records }
+    {
+        self.durable.records()
     }
 
     /// What happened since the opening.

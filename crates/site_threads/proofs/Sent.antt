@@ -253,7 +253,7 @@ module _ (D R : RattleType) (gd : Disk.Ghosts D.Denot) (gs : ScriptThread.Ghosts
 
   pub durable_send : IsSend (Journal.the_row D gd) → IsSend (Build.the_row R gs gr) → IsSend Last.the_row → IsSend (DurableBuild.the_row D R gd gs gr)
   durable_send j b l = view_send _ _ _ _ _ (declared_send (DurableInside.the_type D R gd gs gr)
-      (j, (b, (search (sendable, crosses) depth 30, (search (sendable, crosses) depth 30, (l, (search (sendable, crosses) depth 20, tt)))))))
+      (j, (b, (search (sendable, crosses) depth 30, (search (sendable, crosses) depth 30, (l, (search (sendable, crosses) depth 20, (search (sendable, crosses) depth 20, tt))))))))
 
   pub state_send : IsSend Entry.the_row → IsSend (DurableBuild.the_row D R gd gs gr) → IsSend (SiteState.the_row D R gd gs gr)
   state_send e d = declared_send (SiteState.the_type D R gd gs gr) (search (sendable, crosses) depth 20, (d, (search (sendable, crosses) depth 30, (search (sendable, crosses) depth 30, tt))))

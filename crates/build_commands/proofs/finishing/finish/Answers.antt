@@ -52,9 +52,9 @@ pub returns-in-Err-clause-last : goal.returns-in-Err-clause-last
 returns-in-Err-clause-last g c = λ payloads keeps.
     let D = g.D.Disk in
     let K = g.K.Sink in
-    ∣ subst (λ (d : g.row.D.Denot). KeepsRecords D.may_leave D.clock D.may_have_left_since c.args.durable.journal.disk payloads c.new.result.items d (K.written c.args.out.now) (K.written c.tell-status.new.out) (K.faults c.args.out.now) (K.faults c.tell-status.new.out) c.tell-status.result) (sym c.close.ensures)
+    ∣ subst (λ (d : g.row.D.Denot). KeepsRecords D.may_leave D.clock D.may_have_left_since (setting_in c.args.durable.build) c.args.durable.journal.disk payloads c.new.result.items d (K.written c.args.out.now) (K.written c.tell-status.new.out) (K.faults c.args.out.now) (K.faults c.tell-status.new.out) c.tell-status.result) (sym c.close.ensures)
     (nothing_kept D.reads D.may_leave D.clock D.may_have_left_since (g.met.D.Disk g.world.𝓛 g.world.𝓜 g.world.𝓡 ((λ s x. x), (λ x. x), (λ x. x), λ x. x)).only_now g.R.ScriptThread.stance c.args.durable payloads c.new.result.items
-    (K.written c.args.out.now) (K.written c.tell-status.new.out) (K.faults c.args.out.now) (K.faults c.tell-status.new.out) c.tell-status.result keeps c.new.ensures.items c.tell-status.ensures.status) ∣₁
+    (K.written c.args.out.now) (K.written c.tell-status.new.out) (K.faults c.args.out.now) (K.faults c.tell-status.new.out) c.tell-status.result c.requires.begun (c.build.ensures.whole c.requires.running c.requires.begun) keeps c.new.ensures.items c.tell-status.ensures.status) ∣₁
 
 pub returns-in-Err-clause-launched : goal.returns-in-Err-clause-launched
 returns-in-Err-clause-launched g c =
@@ -102,14 +102,17 @@ gathered {H} {A} setting site other executors members others hosts answers looks
 again : {H A : Type 0} (setting later : Setting) (members : List (Member H A)) (others hosts : List H) (answers : A) (looks : ℕ) → setting ≡ later → Gathered setting members others hosts answers looks → Gathered later members others hosts answers looks
 again setting later members others hosts answers looks same g = subst (λ (s : Setting). Gathered s members others hosts answers looks) same g
 
+pub live-requires-clause-whole : goal.live-requires-clause-whole
+live-requires-clause-whole g c κs within = c.build.ensures.whole c.requires.running c.requires.begun
+
 pub returns-in-Ok-clause-led : goal.returns-in-Ok-clause-led
 returns-in-Ok-clause-led g c =
     let A = g.A.Source in
     let H = g.H.Host in
     let K = g.K.Sink in
     let setting = setting_in c.args.durable.build in
-    let site = c.site.ensures ∙ ap (λ (b : Parts g.row.R.Denot). (setting_in b).site) c.build.ensures in
-    let other = c.site-2.ensures ∙ ap (λ (b : Parts g.row.R.Denot). (setting_in b).site) c.build-2.ensures in
+    let site = c.site.ensures ∙ ap (λ (b : Parts g.row.R.Denot). (setting_in b).site) c.build.ensures.is in
+    let other = c.site-2.ensures ∙ ap (λ (b : Parts g.row.R.Denot). (setting_in b).site) c.build-2.ensures.is in
     let crew = gathered setting c.site.result.now c.site-2.result.now c.as_slice-executors.result.now c.in-Ok.crew.members.items c.in-Ok.crew.others.items c.args.hosts.items c.args.answers c.max-looks.result
     site other c.as_slice-executors.ensures c.max-looks.ensures c.in-Ok.ensures.members c.in-Ok.ensures.others in
     subst (λ (n : ℕ). IsLed H.honest H.faults H.calls H.launches H.dirs H.output H.exited A.left A.faults n setting c.args.hosts.items c.live.result.hosts.items c.args.answers c.live.result.answers c.live.result.history.items
@@ -123,8 +126,8 @@ returns-in-Ok-clause-finishes g c = λ setting entry origin before lasts.
     let D = g.D.Disk in
     let K = g.K.Sink in
     let here = setting_in c.args.durable.build in
-    let site = c.site.ensures ∙ ap (λ (b : Parts g.row.R.Denot). (setting_in b).site) c.build.ensures in
-    let other = c.site-2.ensures ∙ ap (λ (b : Parts g.row.R.Denot). (setting_in b).site) c.build-2.ensures in
+    let site = c.site.ensures ∙ ap (λ (b : Parts g.row.R.Denot). (setting_in b).site) c.build.ensures.is in
+    let other = c.site-2.ensures ∙ ap (λ (b : Parts g.row.R.Denot). (setting_in b).site) c.build-2.ensures.is in
     let crew = again here setting c.in-Ok.crew.members.items c.in-Ok.crew.others.items c.args.hosts.items c.args.answers c.max-looks.result lasts.goes.same
     (gathered here c.site.result.now c.site-2.result.now c.as_slice-executors.result.now c.in-Ok.crew.members.items c.in-Ok.crew.others.items c.args.hosts.items c.args.answers c.max-looks.result
     site other c.as_slice-executors.ensures c.max-looks.ensures c.in-Ok.ensures.members c.in-Ok.ensures.others) in

@@ -5,7 +5,7 @@ use Rattle.std.proofs.Math.Logic.{∥∥₁_map}
 use Rattle.device_faults.specs.Faults.{Rose}
 use Rattle.agent_worker.specs.declared.member.Member.{Member}
 use Rattle.agent_worker.specs.Gate.{Told}
-use Rattle.build_core.specs.Builds.{Parts, StandsFor}
+use Rattle.build_core.specs.Builds.{Parts, StandsFor, setting_in}
 use Rattle.build_images.specs.Images.{image_in}
 use Rattle.site_state.specs.declared.ask.Entry.{Entry}
 use Rattle.site_state.specs.Histories.{lines}
@@ -163,21 +163,21 @@ returns-in-Ok-clause-last g c = λ payloads keeps.
     let lives = c.in-Ok.ensures.lives in
     let told = subst (λ (b : Parts g.row.R.Denot). TellsEnd (StandsFor stance b) (image_in stance b) (K.written c.args.out.now) (K.written c.tell_end-status.new.out) (K.faults c.args.out.now) (K.faults c.tell_end-status.new.out) c.in-Ok.field-0.ended c.tell_end-status.result)
     c.build.ensures.build c.tell_end-status.ensures in
-    let Kept = λ (d : g.row.D.Denot) (es : List Entry). ∥ KeepsRecords D.may_leave D.clock D.may_have_left_since c.args.durable.journal.disk payloads es d (K.written c.args.out.now) (K.written c.tell_end-status.new.out) (K.faults c.args.out.now) (K.faults c.tell_end-status.new.out) c.tell_end-status.result ∥₁ in
+    let Kept = λ (d : g.row.D.Denot) (es : List Entry). ∥ KeepsRecords D.may_leave D.clock D.may_have_left_since (setting_in c.args.durable.build) c.args.durable.journal.disk payloads es d (K.written c.args.out.now) (K.written c.tell_end-status.new.out) (K.faults c.args.out.now) (K.faults c.tell_end-status.new.out) c.tell_end-status.result ∥₁ in
     subst (λ (d : g.row.D.Denot). Kept d c.close-disk.result.1.items) (sym c.close-disk.ensures.disk)
     (subst (λ (es : List Entry). Kept site.durable.journal.disk es) (sym c.close-disk.ensures.history)
     (∥∥₁_map lives.whole (λ facts.
     life_kept D.reads D.may_leave D.clock D.may_have_left_since D.faults stance c.args.durable site.durable payloads (K.written c.args.out.now) (K.written c.tell_end-status.new.out) (K.faults c.args.out.now) (K.faults c.tell_end-status.new.out) c.tell_end-status.result
-    lives.opened.0 site.history.items lives.opened.1 lives.opened.2 facts lives.how c.go_on.new.members.items c.in-Ok.field-0.ended lives.told told c.requires.begun keeps)))
+    lives.opened.0 site.history.items lives.opened.1 lives.opened.2 facts lives.how c.go_on.new.members.items c.in-Ok.field-0.ended lives.told told c.requires.begun c.requires.whole c.build.ensures.whole keeps)))
 
 pub returns-in-Err-clause-last : goal.returns-in-Err-clause-last
 returns-in-Err-clause-last g c = λ payloads keeps.
     let D = g.D.Disk in
     let K = g.K.Sink in
     let refused = c.in-Err.ensures.refused in
-    ∣ subst (λ (d : g.row.D.Denot). KeepsRecords D.may_leave D.clock D.may_have_left_since c.args.durable.journal.disk payloads c.new.result.items d (K.written c.args.out.now) (K.written c.tell-status.new.out) (K.faults c.args.out.now) (K.faults c.tell-status.new.out) c.tell-status.result) (sym refused.4)
+    ∣ subst (λ (d : g.row.D.Denot). KeepsRecords D.may_leave D.clock D.may_have_left_since (setting_in c.args.durable.build) c.args.durable.journal.disk payloads c.new.result.items d (K.written c.args.out.now) (K.written c.tell-status.new.out) (K.faults c.args.out.now) (K.faults c.tell-status.new.out) c.tell-status.result) (sym refused.4)
     (opening_kept D.reads D.may_leave D.clock D.may_have_left_since D.faults g.R.ScriptThread.stance c.args.durable refused.1 payloads (K.written c.args.out.now) (K.written c.tell-status.new.out) (K.faults c.args.out.now) (K.faults c.tell-status.new.out) c.tell-status.result
-    refused.0 refused.3 c.in-Err.fault refused.2 c.of_take.result c.of_take.ensures c.tell-status.ensures.status c.tell-status.ensures.text c.new.result.items c.new.ensures.items keeps) ∣₁
+    refused.0 refused.3 c.in-Err.fault refused.2 c.of_take.result c.of_take.ensures c.tell-status.ensures.status c.tell-status.ensures.text c.requires.begun c.requires.whole c.new.result.items c.new.ensures.items keeps) ∣₁
 
 pub returns-in-Ok-clause-launched : goal.returns-in-Ok-clause-launched
 returns-in-Ok-clause-launched g c = λ executors hosts answers made others.
@@ -238,7 +238,7 @@ returns-in-Ok-clause-led g c = λ setting hosts answers made others.
       too_long = λ fourteen. ∥∥₁_map lives.whole (λ facts.
           life_long D.reads D.may_leave D.clock D.may_have_left_since D.faults stance c.args.durable site.durable [] (K.written c.args.out.now) (K.written c.tell_end-status.new.out) (K.faults c.args.out.now) (K.faults c.tell_end-status.new.out) c.tell_end-status.result
           lives.opened.0 site.history.items lives.opened.1 lives.opened.2 facts lives.how new c.in-Ok.field-0.ended lives.told told
-          (λ (t : Told). HoldsOfOne (Explains H.honest H.faults H.calls H.launches H.dirs H.output H.exited A.left A.faults c.args.looks t.accepted t.event) turns) lives.life.told fourteen);
+          (λ (t : Told). HoldsOfOne (Explains H.honest H.faults H.calls H.launches H.dirs H.output H.exited A.left A.faults c.args.looks t.accepted t.event) turns) _ lives.life.told fourteen);
     })
 
 pub returns-in-Err-clause-led : goal.returns-in-Err-clause-led
@@ -268,5 +268,5 @@ returns-in-Err-clause-led g c = λ setting hosts answers made others.
         answers_are = are;
       };
       too_long = λ fourteen. ∣ opening_long D.reads D.may_leave D.clock D.may_have_left_since D.faults g.R.ScriptThread.stance c.args.durable refused.1 [] (K.written c.args.out.now) (K.written c.tell-status.new.out) (K.faults c.args.out.now) (K.faults c.tell-status.new.out) c.tell-status.result
-          refused.0 refused.3 c.in-Err.fault refused.2 c.of_take.result c.of_take.ensures c.tell-status.ensures.status c.tell-status.ensures.text (IsRefused H.honest H.faults H.calls H.launches H.dirs H.output H.exited A.left A.faults c.args.looks []) c.new.result.items c.new.ensures.items fourteen ∣₁;
+          refused.0 refused.3 c.in-Err.fault refused.2 c.of_take.result c.of_take.ensures c.tell-status.ensures.status c.tell-status.ensures.text (IsRefused H.honest H.faults H.calls H.launches H.dirs H.output H.exited A.left A.faults c.args.looks []) _ refl c.new.result.items c.new.ensures.items fourteen ∣₁;
     }

@@ -2,7 +2,7 @@ use Rattle.std.proofs.Common.{◌∙◌, ℕ, List, refl, sym, ap, subst}
 use Rattle.build_core.specs.Builds.{setting_in}
 use Rattle.jp_disk.specs.Moments.{AtEachMoment}
 use Rattle.durable_build.specs.Opening.{OpenFails}
-use Rattle.durable_build.specs.Standing.{Keeps, Kept, StandsBy}
+use Rattle.durable_build.specs.Standing.{Keeps, Kept}
 use Rattle.saved_run.specs.Lives.{Stands}
 use Rattle.saved_run.proofs.LifeLemmas.{lasts_here}
 use Rattle.build_commands.specs.Reporting.{Reports}
@@ -11,7 +11,7 @@ use Rattle.build_commands.specs.Showing.{HasBuild}
 use Rattle.build_commands.proofs.ResumeLemmas.{is_consistent, not_opened}
 use Rattle.build_commands.proofs.ShowLemmas as show
 use Rattle.build_commands.proofs.ShowLemmas.{if_told}
-use Rattle.build_commands.proofs.StoreLemmas.{has_build}
+use Rattle.build_commands.proofs.StoreLemmas.{has_build, starts_by}
 use Rattle.build_commands.proofs.resuming.resume.Goals as goal
 
 pub returns-in-Ok-clause-reopens : goal.returns-in-Ok-clause-reopens
@@ -30,7 +30,7 @@ returns-in-Ok-clause-reopens g c =
     record {
       payloads = o.payloads;
       has = o.has;
-      begun = λ p ps is. (kept.script, kept.agents, (subst (λ (qs : List (List ℕ)). StandsBy stance kept.build kept.script kept.agents qs) is keeps.stands).1);
+      begun = starts_by stance kept.build kept.script kept.agents o.payloads o.some keeps.stands;
       opened = kept.journal.disk;
       up_to = subst (λ (k : Kept g.row.D.Denot g.row.R.Denot). AtEachMoment D.clock D.may_have_left_since c.args.disk k.journal.disk (D.may_leave c.args.disk)) (sym c.into_durable.ensures) c.in-Ok.ensures.any_moment;
       keeps = c.finish.ensures.last o.payloads keeps;

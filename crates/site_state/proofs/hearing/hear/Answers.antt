@@ -14,7 +14,7 @@ returns-in-Ok-None-clause-says g c =
     let b = c.build.result.now in
     let line = c.as_slice.result.now in
     let found : IsSkipped b line = subst (λ (o : Option (ℕ × Event)). MatchOption o (IsSkipped b line) (λ decision. Decides b line decision.0 decision.1)) c.in-Ok-None.field-0-is c.in-Ok-None.ensures in
-    let skipped = subst (λ xs. IsSkipped c.args.durable.now.build xs) c.as_slice.ensures (subst (λ build. IsSkipped build line) c.build.ensures found) in
+    let skipped = subst (λ xs. IsSkipped c.args.durable.now.build xs) c.as_slice.ensures (subst (λ build. IsSkipped build line) c.build.ensures.is found) in
     skipped_says g.R.ScriptThread.stance c.args.durable.now.build c.args.line c.skip.result c.args.history.now.items c.skip.new.history.items skipped c.skip.ensures.says
 
 pub returns-in-Ok-None-clause-room : goal.returns-in-Ok-None-clause-room

@@ -23,9 +23,9 @@ returns-in-Ok-Accepted-clause-says g c =
 pub returns-in-Err-clause-room : goal.returns-in-Err-clause-room
 returns-in-Err-clause-room g c kept =
     let t = c.in-Err.ensures in
-    absurd (kept_behind c.args.history.now.items c.take_one.new.history.items (noted c.args.event (Err c.in-Err.fault)) c.in-Err.fault c.requires.none t.noted (failed_is c.args.durable.now.build c.args.event c.in-Err.fault t.says) kept)
+    absurd (kept_behind c.args.history.now.items c.take_one.new.history.items (noted c.args.event (Err c.in-Err.fault)) c.in-Err.fault c.requires.none t.noted (failed_is g.R.ScriptThread.stance c.args.durable.now.build c.args.event c.in-Err.fault t.says) kept)
 
 pub returns-in-Err-clause-settled : goal.returns-in-Err-clause-settled
 returns-in-Err-clause-settled g c kept =
     let t = c.in-Err.ensures in
-    absurd (kept_behind c.args.history.now.items c.take_one.new.history.items (noted c.args.event (Err c.in-Err.fault)) c.in-Err.fault c.requires.none t.noted (failed_is c.args.durable.now.build c.args.event c.in-Err.fault t.says) kept)
+    absurd (kept_behind c.args.history.now.items c.take_one.new.history.items (noted c.args.event (Err c.in-Err.fault)) c.in-Err.fault c.requires.none t.noted (failed_is g.R.ScriptThread.stance c.args.durable.now.build c.args.event c.in-Err.fault t.says) kept)

@@ -48,7 +48,7 @@ returns-clause-begun g c = λ file told.
     let stands = subst (λ (b : Parts g.row.R.Denot). StandsFor g.R.ScriptThread.stance b unbegun) (sym is.0) c.in-Ok.ensures.stands in
     let first = StartEvent c.args.script c.args.agents in
     start_refused D.reads D.may_leave D.clock D.may_have_left_since g.R.ScriptThread.stance setting first file c.args.disk _ c.in-Err.fault
-    (start_faults g.R.ScriptThread.stance setting fresh c.take.new.self first c.in-Err.fault same stands is.1 is.2 c.in-Err.ensures.answers c.in-Err.ensures.size)
+    (start_faults g.R.ScriptThread.stance setting fresh c.take.new.self first c.in-Err.fault same stands is.1 is.2 c.in-Ok-create.ensures.counts.0 c.in-Err.ensures.answers c.in-Err.ensures.size)
     (subst (λ (d : g.row.D.Denot). StartFails D.reads D.may_leave D.clock D.may_have_left_since g.R.ScriptThread.stance setting first file c.args.disk d c.in-Err.fault) (sym c.close.ensures)
     (start_fails D.reads D.may_leave D.clock D.may_have_left_since g.R.ScriptThread.stance setting c.args.script c.args.agents file c.args.disk fresh c.take.new.self c.requires.mean same stands made.0 made.1 made.2 (c.in-Ok-create.ensures.any_moment file told)
     c.in-Err.fault is.1 c.in-Err.ensures.answers c.in-Err.ensures.leaves (c.in-Err.ensures.keeps [] made.2)))
@@ -70,4 +70,4 @@ returns-clause-faults g c =
     let is = c.in-Ok-create.ensures.fresh in
     let same : setting_in fresh.build ≡ script_setting c.args.tree c.args.site = ap (λ (b : Parts g.row.R.Denot). setting_in b) is.0 ∙ c.in-Ok.ensures.setting in
     let stands = subst (λ (b : Parts g.row.R.Denot). StandsFor stance b unbegun) (sym is.0) c.in-Ok.ensures.stands in
-    start_faults stance (script_setting c.args.tree c.args.site) fresh c.take.new.self (StartEvent c.args.script c.args.agents) c.in-Err.fault same stands is.1 is.2 c.in-Err.ensures.answers c.in-Err.ensures.size
+    start_faults stance (script_setting c.args.tree c.args.site) fresh c.take.new.self (StartEvent c.args.script c.args.agents) c.in-Err.fault same stands is.1 is.2 c.in-Ok-create.ensures.counts.0 c.in-Err.ensures.answers c.in-Err.ensures.size

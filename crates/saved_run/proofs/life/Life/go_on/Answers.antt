@@ -19,7 +19,7 @@ pub returns-in-Err-clause-rested : goal.returns-in-Err-clause-rested
 returns-in-Err-clause-rested g c = λ setting entry origin before first events so.
     let D = g.D.Disk in
     broken_stopped D.reads D.may_leave D.clock D.may_have_left_since g.R.ScriptThread.stance setting entry origin before first (g.A.Source.left c.run.new.answers) c.in-Err.fault c.run.new.self _
-    (ap (λ (k : Kept g.row.D.Denot g.row.R.Denot). k.journal) c.stop.ensures) (c.in-Err.ensures.rested setting entry origin before first events so)
+    (ap (λ (k : Kept g.row.D.Denot g.row.R.Denot). k.journal) c.stop.ensures) (ap (λ (k : Kept g.row.D.Denot g.row.R.Denot). k.weights) c.stop.ensures) (c.in-Err.ensures.rested setting entry origin before first events so)
 
 pub returns-in-Err-clause-faults : goal.returns-in-Err-clause-faults
 returns-in-Err-clause-faults g c = λ running. tells_stopped g.R.ScriptThread.stance c.run.new.self.durable c.stop.new.self c.in-Err.fault c.stop.ensures c.in-Err.ensures.runs

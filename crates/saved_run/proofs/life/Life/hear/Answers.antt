@@ -21,7 +21,7 @@ pub returns-in_default-input_of-clause-hears : goal.returns-in_default-input_of-
 returns-in_default-input_of-clause-hears g c = λ setting entry origin before events lasts listens going.
     let D = g.D.Disk in
     let w = world_in setting events in
-    let at = subst (λ (b : Parts g.row.R.Denot). StandsFor g.R.ScriptThread.stance b w) (sym c.build.ensures) lasts.goes.stands in
+    let at = subst (λ (b : Parts g.row.R.Denot). StandsFor g.R.ScriptThread.stance b w) (sym c.build.ensures.is) lasts.goes.stands in
     let answer = c.in-Some-answer_of.answer in
     hears_passed D.reads D.may_leave D.clock D.may_have_left_since g.R.ScriptThread.stance setting entry origin before events c.args.line.now c.args.self.now.durable lasts
     (nothing_open c.in-Some.said.now c.in-Some.ensures answer.proceed answer.id.now answer.name.now c.in-Some-answer_of.ensures.reads (sym (c.in_default-input_of.ensures.world w at)))
@@ -35,7 +35,7 @@ pub returns-clause-hears : goal.returns-clause-hears
 returns-clause-hears g c = λ setting entry origin before events lasts listens going.
     let D = g.D.Disk in
     let w = world_in setting events in
-    let at = subst (λ (b : Parts g.row.R.Denot). StandsFor g.R.ScriptThread.stance b w) (sym c.build.ensures) lasts.goes.stands in
+    let at = subst (λ (b : Parts g.row.R.Denot). StandsFor g.R.ScriptThread.stance b w) (sym c.build.ensures.is) lasts.goes.stands in
     let answer = c.in-Some-answer_of.answer in
     let request = c.in-Some-input_of.request in
     let open_now = sym (c.in-Some-input_of.ensures.world w at) in

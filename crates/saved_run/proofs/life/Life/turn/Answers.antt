@@ -13,7 +13,7 @@ pub returns-in_default-clause-turned : goal.returns-in_default-clause-turned
 returns-in_default-clause-turned g c = λ setting entry origin before first events so.
     let D = g.D.Disk in
     let w = world_in setting events in
-    let at = subst (λ (b : Parts g.row.R.Denot). StandsFor g.R.ScriptThread.stance b w) (sym c.build-build.ensures) so.lasts.goes.stands in
+    let at = subst (λ (b : Parts g.row.R.Denot). StandsFor g.R.ScriptThread.stance b w) (sym c.build-build.ensures.is) so.lasts.goes.stands in
     let going : w.ended ≡ false = sym (c.has_ended.ensures.world w at) ∙ c.if-has_ended.false in
     breaks D.reads D.may_leave D.clock D.may_have_left_since g.R.ScriptThread.stance setting entry origin before first (g.A.Source.left c.args.answers.now) events c.args.self.now Memory c.args.self.now so going (wanting D.reads D.may_leave D.clock D.may_have_left_since g.R.ScriptThread.stance setting entry origin before (IsCaused setting events (g.A.Source.left c.args.answers.now) []) events c.args.self.now.durable so.lasts)
 
@@ -21,9 +21,9 @@ pub returns-in_default-due-clause-turned : goal.returns-in_default-due-clause-tu
 returns-in_default-due-clause-turned g c = λ setting entry origin before first events so.
     let D = g.D.Disk in
     let w = world_in setting events in
-    let at = subst (λ (b : Parts g.row.R.Denot). StandsFor g.R.ScriptThread.stance b w) (sym c.build-build.ensures) so.lasts.goes.stands in
+    let at = subst (λ (b : Parts g.row.R.Denot). StandsFor g.R.ScriptThread.stance b w) (sym c.build-build.ensures.is) so.lasts.goes.stands in
     let going : w.ended ≡ false = sym (c.has_ended.ensures.world w at) ∙ c.if-has_ended.false in
-    let same : setting_in c.build-build.result.now ≡ setting = ap (λ (b : Parts g.row.R.Denot). setting_in b) c.build-build.ensures ∙ so.lasts.goes.same in
+    let same : setting_in c.build-build.result.now ≡ setting = ap (λ (b : Parts g.row.R.Denot). setting_in b) c.build-build.ensures.is ∙ so.lasts.goes.same in
     let none : next_grant setting w ≡ None = subst (λ (s : Setting). next_grant s w ≡ None) same (sym (c.in-Ok.ensures.world w at) ∙ c.in_default-due.is) in
     let waits : 0 < waiting_inputs w.shared.requests = subst (λ (n : ℕ). 0 < n) (c.waiting_inputs.ensures.world w at) (positive c.waiting_inputs.result c.if-waiting_inputs-eq0.false) in
     c.listen.ensures.turned setting entry origin before first events so (record { granted = none; waits = waits }) going
@@ -32,9 +32,9 @@ pub returns-in-Ok-take-clause-turned : goal.returns-in-Ok-take-clause-turned
 returns-in-Ok-take-clause-turned g c = λ setting entry origin before first events so.
     let D = g.D.Disk in
     let w = world_in setting events in
-    let at = subst (λ (b : Parts g.row.R.Denot). StandsFor g.R.ScriptThread.stance b w) (sym c.build-build.ensures) so.lasts.goes.stands in
+    let at = subst (λ (b : Parts g.row.R.Denot). StandsFor g.R.ScriptThread.stance b w) (sym c.build-build.ensures.is) so.lasts.goes.stands in
     let going : w.ended ≡ false = sym (c.has_ended.ensures.world w at) ∙ c.if-has_ended.false in
-    let same : setting_in c.build-build.result.now ≡ setting = ap (λ (b : Parts g.row.R.Denot). setting_in b) c.build-build.ensures ∙ so.lasts.goes.same in
+    let same : setting_in c.build-build.result.now ≡ setting = ap (λ (b : Parts g.row.R.Denot). setting_in b) c.build-build.ensures.is ∙ so.lasts.goes.same in
     let due : next_grant setting w ≡ Some (c.in-Some.request, c.in-Some.executor) = subst (λ (s : Setting). next_grant s w ≡ Some (c.in-Some.request, c.in-Some.executor)) same (sym (c.in-Ok.ensures.world w at) ∙ c.in-Some.is) in
     let accepted = grant_accepted setting so.lasts.goes.proper events so.lasts.goes.begun going c.in-Some.request c.in-Some.executor due in
     turns_granted D.reads D.may_leave D.clock D.may_have_left_since g.R.ScriptThread.stance setting entry origin before first (g.A.Source.left c.args.answers.now) events c.args.self.now c.in-Some.request c.in-Some.executor c.take.new.self so going due c.in-Ok-take.ensures.has_answers
@@ -44,9 +44,9 @@ pub returns-clause-turned : goal.returns-clause-turned
 returns-clause-turned g c = λ setting entry origin before first events so.
     let D = g.D.Disk in
     let w = world_in setting events in
-    let at = subst (λ (b : Parts g.row.R.Denot). StandsFor g.R.ScriptThread.stance b w) (sym c.build-build.ensures) so.lasts.goes.stands in
+    let at = subst (λ (b : Parts g.row.R.Denot). StandsFor g.R.ScriptThread.stance b w) (sym c.build-build.ensures.is) so.lasts.goes.stands in
     let going : w.ended ≡ false = sym (c.has_ended.ensures.world w at) ∙ c.if-has_ended.false in
-    let same : setting_in c.build-build.result.now ≡ setting = ap (λ (b : Parts g.row.R.Denot). setting_in b) c.build-build.ensures ∙ so.lasts.goes.same in
+    let same : setting_in c.build-build.result.now ≡ setting = ap (λ (b : Parts g.row.R.Denot). setting_in b) c.build-build.ensures.is ∙ so.lasts.goes.same in
     let due : next_grant setting w ≡ Some (c.in-Some.request, c.in-Some.executor) = subst (λ (s : Setting). next_grant s w ≡ Some (c.in-Some.request, c.in-Some.executor)) same (sym (c.in-Ok.ensures.world w at) ∙ c.in-Some.is) in
     let accepted = grant_accepted setting so.lasts.goes.proper events so.lasts.goes.begun going c.in-Some.request c.in-Some.executor due in
     breaks D.reads D.may_leave D.clock D.may_have_left_since g.R.ScriptThread.stance setting entry origin before first (g.A.Source.left c.args.answers.now) events c.args.self.now c.in-Err.fault c.take.new.self so going
