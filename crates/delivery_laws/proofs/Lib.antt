@@ -1,0 +1,4 @@
+pub mod Serves
+pub mod Telling
+pub mod Delivering
+pub mod Stored
