@@ -36,6 +36,3 @@ pub use member::{Member, work};
 pub use operator::{LineEnd, answer_in, read_line};
 pub use task::{Served, serve};
 pub use worked::Worked;
-
-#[cfg(test)]
-mod tests;

@@ -28,8 +28,3 @@ pub use faults::{AppendFault, CreateFault, OpenFault, ReadFault};
 pub use journal::Journal;
 pub use jp_disk::Bytes;
 pub use record::Record;
-
-#[cfg(test)]
-mod sparse;
-#[cfg(test)]
-mod tests;

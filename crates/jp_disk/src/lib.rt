@@ -29,8 +29,3 @@ pub use model_text::Bytes;
 
 /// Numbers of calls.
 pub type Numbers = model_text::Sequence<u64>;
-
-#[cfg(test)]
-mod tests;
-#[cfg(test)]
-mod untold;

@@ -107,39 +107,3 @@ fn write_some<W: Write>(writer: &mut W, bytes: &[u8]) -> io::Result<usize>
     }
     Err(io::Error::from(ErrorKind::Interrupted))
 }
-
-#[cfg(test)]
-mod tests {
-    use super::*;
-    use crate::{LazyFile, ReadFault, read_up_to, write_all};
-    use std::alloc::Global;
-    use std::fs;
-    use std::io::Cursor;
-    use std::test::Fail;
-
-    #[test]
-    fn a_file_is_read_and_a_missing_one_fails_each_time(rt: HostRuntime) -> Result<(), Fail> {
-        let alloc = rt.alloc();
-        fs::write(&rt, "script", "echo")?;
-        let there = LazyFile::new(&rt, String::from_str(alloc, "script")?);
-        let bytes = read_up_to(alloc, &mut StdSource::new(there), 10)?;
-        assert_eq!(rt; bytes.as_slice(), b"echo".as_slice());
-        let missing = LazyFile::new(&rt, String::from_str(alloc, "no such file")?);
-        let mut source = StdSource::new(missing);
-        for time in [1, 2] {
-            let answer = read_up_to(alloc, &mut source, 10).err();
-            assert_eq!(rt; answer, Some(ReadFault::Failed), "time {time}");
-        }
-        Ok(())
-    }
-
-    #[test]
-    fn a_writer_that_takes_no_byte_is_a_fault(rt: HostRuntime) -> Result<(), Fail> {
-        let mut room = [0; 4];
-        let mut sink = StdSink::new(Cursor::new(&mut room[..]));
-        assert_eq!(rt; write_all(&mut sink, b"four"), Ok(()));
-        assert_eq!(rt; sink.write(b""), Ok(0));
-        assert_eq!(rt; sink.write(b"five"), Err(Failed));
-        Ok(())
-    }
-}

@@ -13,6 +13,3 @@
 mod crew;
 
 pub use crew::Crew;
-
-#[cfg(test)]
-mod tests;

@@ -34,6 +34,3 @@ pub use outcome::{TaskOutcome, TaskOutcomes};
 
 /// Numbers of calls.
 pub type Numbers = model_text::Sequence<u64>;
-
-#[cfg(test)]
-mod tests;

@@ -1,6 +1,6 @@
-use crate::untold::UntoldDisk;
-use crate::{Bytes, Call, Disk, MemoryDisk, Numbers};
+use crate::sparse::SparseDisk;
 use device_faults::Failed;
+use jp_disk::{Bytes, Disk, MemoryDisk, Numbers};
 use std::alloc::Global;
 use std::process::Abort;
 use std::test::Fail;
@@ -81,7 +81,10 @@ fn write_and_read<D: Disk>(disk: &mut D) -> Result<usize, Failed> {
 
 #[test]
 fn a_disk_that_tells_nothing_meets_the_trait(rt: HostRuntime) -> Result<(), Fail> {
-    let mut untold = UntoldDisk { end: 7 };
+    let mut untold = SparseDisk {
+        first: [0; 5],
+        end: 7,
+    };
     assert!(rt; write_and_read(&mut untold) == Ok(2));
     let mut told = disk(rt.alloc(), b"", &[], None)?;
     assert!(rt; write_and_read(&mut told) == Ok(2));

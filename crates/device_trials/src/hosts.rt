@@ -1,8 +1,11 @@
 //! A host in memory: its happy paths, its failing calls, and the list of its calls.
 
-use super::*;
 use std::alloc::{AllocError, Global};
 use std::test::Fail;
+use task_host::{
+    Bytes, Call, Failed, Host, Look, Made, MemoryHost, Numbers, Order, Pairs, Started, Stream,
+    TaskOutcome, TaskOutcomes,
+};
 
 fn order(alloc: Global, task: u32) -> Result<Order, AllocError> {
     Ok(Order {

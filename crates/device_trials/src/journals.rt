@@ -1,5 +1,5 @@
 use crate::sparse::SparseDisk;
-use crate::{AppendFault, CreateFault, Journal, OpenFault, ReadFault, Record};
+use journal_core::{AppendFault, CreateFault, Journal, OpenFault, ReadFault, Record};
 use jp_disk::{Bytes, Disk, MemoryDisk, Numbers};
 use std::alloc::Global;
 use std::process::Abort;

@@ -1,4 +1,4 @@
-use super::*;
+use command_words::{Command, command_in};
 use std::alloc::{AllocError, Global};
 use std::test::Fail;
 

@@ -1,7 +1,7 @@
 use Rattle.std.proofs.Common.{◌<◌, ◌+◌}
 use Rattle.std.specs.List.{All}
 use Rattle.journal_core.specs.declared.record.Record.{Record}
-use Rattle.journal_core.proofs.tests.check_records.Given as goal
+use Rattle.device_trials.proofs.journals.check_records.Given as goal
 
 abbrev pub invariant-loop-k : goal.invariant-loop-k
 invariant-loop-k g l = All (λ (entry : Record). entry.at + 5 + entry.len < l.journal.len) l.entries.items

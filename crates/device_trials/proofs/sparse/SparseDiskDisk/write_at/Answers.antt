@@ -1,6 +1,6 @@
 use Rattle.std.proofs.Common.{length, [], ◌∷◌}
 use Rattle.jp_disk.specs.ImageLaws.{same_image}
-use Rattle.jp_disk.proofs.untold.UntoldDiskDisk.write_at.Goals as goal
+use Rattle.device_trials.proofs.sparse.SparseDiskDisk.write_at.Goals as goal
 
 -- each image is one of before, torn nowhere
 pub returns-clause-images : goal.returns-clause-images

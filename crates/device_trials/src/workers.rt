@@ -1,6 +1,6 @@
 //! Tests over hosts, gates and sources in memory.
 
-use crate::{
+use agent_worker::{
     Claim, ClaimSaid, Gate, Heard, Inputs, Member, Said, Served, TakeFault, Worked, answer_of,
     serve, work,
 };
