@@ -3,8 +3,9 @@
 //! `controller run DIR` reads the script in `DIR/Jenkinsfile` and what executors it has in `DIR/agents.json`, runs it and
 //! writes the console log; each event of the build is kept in `DIR/program.dat` before the next one comes, so that
 //! `controller resume DIR` can go on with it after a stop at any moment. `controller log DIR` and `controller graph DIR` write
-//! what the build has come to, and `controller check DIR` looks for faults of the two files. Answer lines for the steps `input` are read from
-//! standard input. All that it promises stands at [`controller::controller`], the one call that `main` makes.
+//! what the build has come to, and `controller check DIR` looks for faults of the two files. Answer lines for the steps `input`
+//! are read from standard input. All that it promises stands at [`controller::controller`], which `main` calls once, by
+//! [`call_controller`].
 //!
 //! One controller at a time works on a folder: `run` and `resume` hold a lock on `DIR/program.lock`.
 #![tactic(auto)]
@@ -13,17 +14,21 @@ ghost use Rattle.std.specs.Prelude.{◌≡◌, IfOk, length};
 
 use build_commands::{Refusal, tell};
 use command_words::{Command, command_in};
-use controller::controller;
+use controller::{Ended, controller};
 use cps_machine::MachineThread;
-use jp_io::{LazyFile, StdSink, StdSource};
+use jp_disk::Disk;
+use jp_io::{LazyFile, Sink, Source, StdSink, StdSource};
 use real_edge::{FileDisk, FolderHost, Life, LockedDisk};
 use std::alloc::{AllocError, Global};
 use std::fs::File;
 use std::io::ErrorKind;
 use std::process::{ExitCode, Processes};
 use std::rt::{Env, Files};
+use std::sync::Wait;
+use std::thread::Threads;
 use std::time::Clock;
 use std::{env, io};
+use task_host::Host;
 
 fn main(rt: HostRuntime) -> ExitCode {
     let alloc = rt.alloc();
@@ -45,19 +50,51 @@ fn main(rt: HostRuntime) -> ExitCode {
     let mut script = StdSource::new(LazyFile::new(&rt, script));
     let mut agents = StdSource::new(LazyFile::new(&rt, agents));
     let disk = disk_at(&rt, store, lock);
-    let ended = controller::<MachineThread, _, _, _, _, _, _>(
+    let ended = call_controller(
         &rt,
-        alloc,
         words,
         &mut script,
         &mut agents,
         disk,
         hosts,
-        WORKERS,
         StdSource::new(rt.stdin()),
         &mut out,
     );
     ExitCode::from(ended.status)
+}
+
+/// The call of the controller with threads of the machine's kind, in which all members work at once.
+fn call_controller<
+    W: Threads + Wait + Sync + Clock + AllocGlobal,
+    D: Disk + Send,
+    S: Source,
+    H: Host + Drop + Send,
+    A: Source + Drop + Send,
+    K: Sink,
+>(
+    rt: &W,
+    words: Vec<String>,
+    script: &mut S,
+    agents: &mut S,
+    disk: D,
+    hosts: Vec<H>,
+    answers: A,
+    out: &mut K,
+) -> Ended<D, H, A>
+    requires hosts { length hosts.items ≡ 64 }
+{
+    controller::<MachineThread, _, _, _, _, _, _>(
+        rt,
+        rt.alloc(),
+        words,
+        script,
+        agents,
+        disk,
+        hosts,
+        WORKERS,
+        answers,
+        out,
+    )
 }
 
 /// How many hosts there are: one for each executor that a site may have.

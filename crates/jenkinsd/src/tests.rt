@@ -3,11 +3,11 @@ ghost use Rattle.std.specs.Prelude.{◌≡◌, IfOk, length};
 use super::*;
 use jp_disk::{Bytes, MemoryDisk, Numbers};
 use jp_io::{MemorySink, MemorySource};
-use saved_thread::SavedThread;
-use std::sync::Wait;
 use std::test::Fail;
-use std::thread::Threads;
-use task_host::{Host, MemoryHost};
+use task_host::MemoryHost;
+
+mod folders;
+mod threads;
 
 const AGENTS: &str = r#"{"job":"demo","agents":[{"name":"m","root":"/w","executors":1}]}"#;
 
@@ -60,12 +60,21 @@ fn echoing_hosts(alloc: Global) -> Result<Vec<MemoryHost>, AllocError>
     Ok(hosts)
 }
 
-/// The status of a call over an empty store, and what it writes.
-fn call<
-    R: SavedThread + Drop + Send,
-    W: Threads + Wait + Sync + Clock + AllocGlobal,
-    H: Host + Drop + Send,
->(rt: &W, words: Vec<String>, streams: Streams, hosts: Vec<H>) -> (u8, MemorySink)
+/// What a call came to.
+#[derive(Drop)]
+struct Called<H> {
+    status: u8,
+    hosts: Vec<H>,
+    out: MemorySink,
+}
+
+/// A call over an empty store, as the program makes it.
+fn call<W: Threads + Wait + Sync + Clock + AllocGlobal, H: Host + Drop + Send>(
+    rt: &W,
+    words: Vec<String>,
+    streams: Streams,
+    hosts: Vec<H>,
+) -> Called<H>
     requires { length hosts.items ≡ 64 }
 {
     let Streams {
@@ -76,23 +85,25 @@ fn call<
     } = streams;
     let alloc = rt.alloc();
     let disk = MemoryDisk::new(Bytes::new(alloc), Numbers::new(alloc), None);
-    let ended = controller::<R, _, _, _, _, _, _>(
+    let ended = call_controller(
         rt,
-        alloc,
         words,
         &mut script,
         &mut agents,
         disk,
         hosts,
-        1,
         answers,
         &mut out,
     );
-    (ended.status, out)
+    Called {
+        status: ended.status,
+        hosts: ended.hosts,
+        out,
+    }
 }
 
 /// Whether a `run` over these files ends with this status and writes this text, where these calls fail.
-fn ends_with<R: SavedThread + Drop + Send, W: Threads + Wait + Sync + Clock + AllocGlobal>(
+fn ends_with<W: Threads + Wait + Sync + Clock + AllocGlobal>(
     rt: &W,
     files: [&str; 3],
     fails: [u64; 4],
@@ -101,8 +112,8 @@ fn ends_with<R: SavedThread + Drop + Send, W: Threads + Wait + Sync + Clock + Al
 ) -> Result<bool, AllocError> {
     let streams = open_streams(rt.alloc(), files, fails)?;
     let hosts = echoing_hosts(rt.alloc())?;
-    let (ended, out) = call::<R, W, _>(rt, words(rt.alloc())?, streams, hosts);
-    Ok(ended == status && out.bytes() == text.as_bytes())
+    let called = call(rt, words(rt.alloc())?, streams, hosts);
+    Ok(called.status == status && called.out.bytes() == text.as_bytes())
 }
 
 const NONE: [u64; 4] = [0, 0, 0, 0];
@@ -210,7 +221,7 @@ fn builds_end_with_their_log_and_status(rt: HostRuntime) -> Result<(), Fail> {
         let log = format!(in rt.alloc(); "[Pipeline] Start of Pipeline\n{lines}")?;
         let files = [script, AGENTS, answers];
         assert!(rt;
-            ends_with::<MachineThread, _>(&rt, files, NONE, status, log.as_str())?,
+            ends_with(&rt, files, NONE, status, log.as_str())?,
             "{script}"
         );
     }
@@ -221,10 +232,7 @@ fn builds_end_with_their_log_and_status(rt: HostRuntime) -> Result<(), Fail> {
 fn files_with_a_fault_are_refused(rt: HostRuntime) -> Result<(), Fail> {
     for (script, agents, status, line) in FAULTS {
         let files = [script, agents, ""];
-        assert!(rt;
-            ends_with::<MachineThread, _>(&rt, files, NONE, status, line)?,
-            "{script}"
-        );
+        assert!(rt; ends_with(&rt, files, NONE, status, line)?, "{script}");
     }
     Ok(())
 }
@@ -233,10 +241,7 @@ fn files_with_a_fault_are_refused(rt: HostRuntime) -> Result<(), Fail> {
 fn failing_reads_give_6_and_a_failing_write_gives_7(rt: HostRuntime) -> Result<(), Fail> {
     for (script, fails, status, text) in FAILURES {
         let files = [script, AGENTS, ""];
-        assert!(rt;
-            ends_with::<MachineThread, _>(&rt, files, fails, status, text)?,
-            "{script}"
-        );
+        assert!(rt; ends_with(&rt, files, fails, status, text)?, "{script}");
     }
     Ok(())
 }
