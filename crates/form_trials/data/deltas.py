@@ -83,8 +83,17 @@ UNRISEN = {
                 + thread(1, 3, 1, 0) + u32(0)),
 }
 
+# One thread, cut off behind what is wrong: a wait of kind 2, a list of held requests that ends early, and a frame with a
+# value of kind 9. The last byte tells the first and the third, and the second one is told behind all of it.
+THREAD = FRONT + rows() + rows() + rows() + text(b"") + rows() * 4 + u32(1) + u32(0) + NONE + u32(3)
+WRONG = {
+    "WAIT": THREAD + u8(2),
+    "CONTEXT": THREAD + u8(0) + u32(1) + u32(1),
+    "FRAME": THREAD + u8(0) + u32(1) + context([], [], []) + u32(0, 1) + u8(0) + u32(0, 0) + rows() + u32(1) + u8(9),
+}
+
 if __name__ == "__main__":
-    ROWS = {"NOTHING": NOTHING, "DECIDED": DECIDED, "GROWN": GROWN, "OVER": OVER, **MISFITS, **UNRISEN}
+    ROWS = {"NOTHING": NOTHING, "DECIDED": DECIDED, "GROWN": GROWN, "OVER": OVER, **MISFITS, **UNRISEN, **WRONG}
     for word, row in ROWS.items():
         print(f'const {word}: &[u8] = b"\\')
         for start in range(0, len(row), 25):
@@ -92,3 +101,5 @@ if __name__ == "__main__":
         print('";\n')
     for word, row in UNRISEN.items():
         print(f"({word}, {len(row) - (5 if word == 'NAMES' else 4)}),")
+    for word, row in WRONG.items():
+        print(f"({word}, {len(row) - (0 if word == 'CONTEXT' else 1)}),")

@@ -128,6 +128,25 @@ const THREADS: &[u8] = b"\
     \x00\x00\x00\x00\x00\x00\x00\x00\x00\
 ";
 
+const WAIT: &[u8] = b"\
+    \x00\x00\x00\x02\x00\x00\x00\x01\x00\x00\x00\x00\x00\x00\x00\x00\x00\x00\x00\x00\x00\x00\x00\x00\x00\
+    \x00\x00\x00\x00\x00\x00\x00\x00\x00\x00\x00\x00\x00\x00\x00\x00\x00\x00\x00\x00\x01\x00\x00\x00\x00\
+    \x00\x00\x00\x00\x03\x02\
+";
+
+const CONTEXT: &[u8] = b"\
+    \x00\x00\x00\x02\x00\x00\x00\x01\x00\x00\x00\x00\x00\x00\x00\x00\x00\x00\x00\x00\x00\x00\x00\x00\x00\
+    \x00\x00\x00\x00\x00\x00\x00\x00\x00\x00\x00\x00\x00\x00\x00\x00\x00\x00\x00\x00\x01\x00\x00\x00\x00\
+    \x00\x00\x00\x00\x03\x00\x00\x00\x00\x01\x00\x00\x00\x01\
+";
+
+const FRAME: &[u8] = b"\
+    \x00\x00\x00\x02\x00\x00\x00\x01\x00\x00\x00\x00\x00\x00\x00\x00\x00\x00\x00\x00\x00\x00\x00\x00\x00\
+    \x00\x00\x00\x00\x00\x00\x00\x00\x00\x00\x00\x00\x00\x00\x00\x00\x00\x00\x00\x00\x01\x00\x00\x00\x00\
+    \x00\x00\x00\x00\x03\x00\x00\x00\x00\x01\x00\x00\x00\x00\x00\x00\x00\x00\x00\x00\x00\x00\x00\x00\x00\
+    \x00\x00\x00\x00\x01\x00\x00\x00\x00\x00\x00\x00\x00\x00\x00\x00\x00\x00\x00\x00\x00\x01\x09\
+";
+
 fn written_again(alloc: Global, bytes: &[u8]) -> Option<Bytes> {
     match read_delta(alloc, bytes) {
         Ok(delta) => write_delta(alloc, &delta).ok(),
@@ -163,7 +182,21 @@ fn fault(bytes: &[u8], rt: HostRuntime) -> Option<u64> {
 #[test]
 fn a_delta_breaks_at_its_first_place(rt: HostRuntime) -> Result<(), Fail> {
     // The fields of the delta of no change begin at 0, 4, 8, 9, 10, 14, 18, 22, 26, 30, 34, 38 and 42.
-    for (len, place) in [(0, 0), (4, 4), (8, 8), (9, 9), (13, 10), (25, 22), (45, 42)] {
+    for (len, place) in [
+        (0, 0),
+        (4, 4),
+        (8, 8),
+        (9, 9),
+        (13, 10),
+        (17, 14),
+        (21, 18),
+        (25, 22),
+        (29, 26),
+        (33, 30),
+        (37, 34),
+        (41, 38),
+        (45, 42),
+    ] {
         assert_eq!(rt; fault(&NOTHING[..len], rt), Some(place));
     }
     for (bytes, place) in [
@@ -174,6 +207,9 @@ fn a_delta_breaks_at_its_first_place(rt: HostRuntime) -> Result<(), Fail> {
         (HELD, 50),
         (ENDED, 46),
         (THREADS, 80),
+        (WAIT, 55),
+        (CONTEXT, 64),
+        (FRAME, 97),
     ] {
         assert_eq!(rt; fault(bytes, rt), Some(place));
     }

@@ -130,6 +130,29 @@ fn echo_through_the_shell(rt: HostRuntime) -> Result<(), Fail> {
 }
 
 #[test]
+fn scripts_with_their_logs_and_codes(rt: HostRuntime) -> Result<(), Fail> {
+    // bytes that are no UTF-8, a child that outlives its task, no standard input, a workspace that is cleared
+    let scripts: [(&str, &str, &[u8], i32); 4] = [
+        ("bytes", "#!/bin/sh\nprintf 'a\\377b\\n'\n", b"a\xffb\n", 0),
+        ("child", "#!/bin/sh\nsleep 20 & echo on\n", b"on\n", 0),
+        ("input", "#!/bin/sh\ncat; echo end; exit 4\n", b"end\n", 4),
+        (
+            "cleared",
+            "#!/bin/sh\n: > file; rm -rf -- *; echo cleared *\n",
+            b"cleared *\n",
+            0,
+        ),
+    ];
+    for (workspace, script, log, code) in scripts {
+        let order = order(&rt, workspace, script)?;
+        expect(&rt, end_of(&rt, &order), Look::Exited(code));
+        let found = written(&rt, &order, Stream::Log, 0)?;
+        expect(&rt, found.as_slice(), log);
+    }
+    Ok(())
+}
+
+#[test]
 fn a_folder_is_made_with_the_script_and_removed_once(rt: HostRuntime) -> Result<(), Fail> {
     let order = order(&rt, "removed", "echo hi")?;
     let mut host = FolderHost::new(&rt, Life::First);
