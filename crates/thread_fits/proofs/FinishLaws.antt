@@ -7,7 +7,6 @@ use Rattle.model_run.specs.declared.ending.Asked.TheVariants.{ForRequest, ForBra
 use Rattle.model_run.specs.declared.ending.Ending.{Ending}
 use Rattle.model_run.specs.declared.ending.Entry.TheVariants.{Body, Turn}
 use Rattle.model_run.specs.declared.frame.Frame.{Frame}
-use Rattle.model_run.specs.Around.{Shape}
 use Rattle.model_run.specs.Below.{IsFinished, Small, full}
 use Rattle.model_run.specs.Meaning.{around, continue, unwind}
 use Rattle.model_run.specs.Nesting.{MeetsRow, anything, shape_at}

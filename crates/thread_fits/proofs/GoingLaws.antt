@@ -1,6 +1,6 @@
 -- A thread that stands soundly goes on, by the definitions of evaluation: where it stops again, its own bodies are those that it had and
 -- has not ended, the executors of the others are given back and no others, and what its steps and walks have called are closures.
-use Rattle.std.proofs.Common.{arith, ◌≡◌, ◌∙◌, ◌<◌, ℕ, inl, inr, true, false, List, [], ◌∷◌, ◌++◌, length, Option, Some, None, refl, ap, subst, sym}
+use Rattle.std.proofs.Common.{arith, ◌≡◌, ◌∙◌, ◌<◌, ℕ, inl, inr, List, [], ◌++◌, length, Option, Some, None, refl, ap, subst, sym}
 use Rattle.std.specs.List.{AllByRecursion as AllAre}
 use Rattle.std.proofs.lemmas.Bool.{cases_lt}
 use Rattle.std.proofs.lemmas.List.{append-nil, get_or_past, nil_from_length}
@@ -19,9 +19,9 @@ use Rattle.model_run.specs.declared.wait.Answer.TheVariants.{Begin, Decided, Don
 use Rattle.model_run.specs.Below.{Below, IsFinished, Small}
 use Rattle.model_run.specs.Fitting.{EnvFits, outermost}
 use Rattle.model_run.specs.Meaning.{ev, unwind}
-use Rattle.model_run.specs.Nesting.{Any_body, Any_branch, Begun, Body_of, CallsClosures, For_branches, For_executor, For_person, For_task, FrameFits, MeetsRow, Spot, WaitsFor, anything, innermost, shape_at}
+use Rattle.model_run.specs.Nesting.{Any_branch, Begun, CallsClosures, For_branches, For_executor, For_person, For_task, FrameFits, MeetsRow, Spot, WaitsFor, anything, innermost, shape_at}
 use Rattle.model_run.specs.Scoping.{names_around, names_at}
-use Rattle.model_run.specs.State.{Common, Ended, Env, Limited, Result, State, Unfinished, Waits, World}
+use Rattle.model_run.specs.State.{Common, Ended, Env, Limited, Result, Unfinished, Waits}
 use Rattle.model_run.specs.Terms.{Numbered, Term, empty_block, nodes_of, number_of, term_at}
 use Rattle.model_run.specs.Threads.{Closure, Runs, Script}
 use Rattle.model_run.proofs.Found.{term_found}

@@ -1,15 +1,14 @@
 -- Threads in their seats with the contexts around them, as the laws of held executors see them, through each change of the threads.
 use Rattle.std.proofs.Common.{◌≡◌, ◌∙◌, ◌<◌, ℕ, zero, suc, inl, inr, Bool, true, false, List, [], ◌∷◌, ◌++◌, map, Option, Some, None, refl, ap, subst, sym}
-use Rattle.std.specs.Prelude.{drop, find, if◌then◌else◌, length, nat_eq, not, slice_get}
+use Rattle.std.specs.Prelude.{drop, if◌then◌else◌, length, nat_eq, not, slice_get}
 use Rattle.std.specs.List.{AllByRecursion as AllAre}
-use Rattle.std.proofs.lemmas.Bool.{eqb-true, eqb-false}
+use Rattle.std.proofs.lemmas.Bool.{eqb-true}
 use Rattle.model_values.proofs.LaterLaws.{all_weaker}
 use Rattle.model_run.specs.declared.context.Context.{Context}
-use Rattle.model_run.specs.declared.held.Held.{Held}
 use Rattle.model_run.specs.declared.wait.Wait.{Wait}
 use Rattle.model_run.specs.Fitting.{Above, Distinct, ParentFits, Seat as Image_seat, Some_of, concat_map, context_above, context_in, own_held_of}
 use Rattle.world_laws.proofs.Places.{others}
-use Rattle.seat_laws.specs.Seats.{AroundIs, Holding, IsHeld, Room, mine, stands_for}
+use Rattle.seat_laws.specs.Seats.{AroundIs, Holding, IsHeld, Room, stands_for}
 use Rattle.seat_laws.proofs.Lists.{all_mapped}
 use Rattle.seat_laws.proofs.Rooms.{IsBelow, IsSplit, changing, drop_behind, rewaiting}
 use Rattle.green_threads.specs.declared.runner.Seated.{Seated}
@@ -18,7 +17,7 @@ use Rattle.settle_laws.specs.Stances.{Stance}
 use Rattle.cps_frames.specs.Places.{HasOpened}
 use Rattle.cps_frames.specs.Standing.{Standing, common_of}
 use Rattle.cps_frames.specs.declared.shared.Shared.{Shared}
-use Rattle.thread_fits.specs.Seats.{Family, Fits, HoldsOwn, SeatStands, as_seat}
+use Rattle.thread_fits.specs.Seats.{Fits, HoldsOwn, SeatStands, as_seat}
 use Rattle.thread_fits.proofs.SeatRows.{KeepsNumber, found, found_more, found_with, found_without, numbers}
 
 -- what a thread has opened under a context stands behind that context's

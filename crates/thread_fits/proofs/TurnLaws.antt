@@ -1,6 +1,6 @@
 -- A turn keeps the contexts of threads and the executors that they hold, where what it leaves open is what it began with and has not
 -- ended.
-use Rattle.std.proofs.Common.{◌≡◌, ◌∙◌, ◌<◌, ℕ, suc, inl, inr, List, [], ◌∷◌, ◌++◌, append_assoc, length, map, Option, Some, None, refl, ap, subst, sym}
+use Rattle.std.proofs.Common.{◌≡◌, ◌∙◌, ℕ, inl, inr, List, [], ◌∷◌, ◌++◌, append_assoc, length, map, Option, Some, None, refl, ap, subst, sym}
 use Rattle.std.specs.Prelude.{slice_get}
 use Rattle.std.specs.List.{AllByRecursion as AllAre}
 use Rattle.std.proofs.lemmas.List.{append-nil}
@@ -23,7 +23,7 @@ use Rattle.model_run.specs.State.{Result}
 use Rattle.model_run.specs.World.{all_ended, ends_before, join_end, join_wait, joined_wait}
 use Rattle.model_run.proofs.RequestLaws.{some_all, some_weaker}
 use Rattle.run_laws.specs.Evaluation.{granted_of, opened_at, turn_open}
-use Rattle.run_laws.specs.Soundness.{Open, Pausing}
+use Rattle.run_laws.specs.Soundness.{Pausing}
 use Rattle.world_laws.proofs.Places.{others}
 use Rattle.seat_laws.specs.Seats.{Holding, IsHeld, Room, mine, stands_for}
 use Rattle.seat_laws.proofs.Lists.{In, all_mapped, in_back, in_front}
@@ -39,7 +39,7 @@ use Rattle.cps_frames.specs.declared.shared.Shared.{Shared}
 use Rattle.thread_fits.specs.Seats.{Fits, SeatStands, as_seat, first_of, standing_as, waiting_move}
 use Rattle.thread_fits.proofs.GoingLaws.{LeavesOpen, turn_fuel, turn_leaves}
 use Rattle.thread_fits.proofs.RoomLaws.{above, above_more, above_with, above_without, belows, holding, no_branch, opened_own, parent_there, room_found, room_in, rooms, rooms_changed, rooms_more, rooms_same, rooms_waiting, rooms_without, some_at, splits}
-use Rattle.thread_fits.proofs.SeatRows.{all_at, all_both, found, found_more, found_now, found_with, ready_above, same_seat_as, with_all, without_all}
+use Rattle.thread_fits.proofs.SeatRows.{all_at, all_both, found, found_now, found_with, ready_above, same_seat_as, with_all, without_all}
 
 -- what an answer opens is what it grants, or nothing
 granted_same : (xs : List Held) (x : Answer) → granted_of xs x ≡ granted_request xs (Ready x)
