@@ -2,6 +2,7 @@ pub mod EntryLemmas
 pub mod FollowsLemmas
 pub mod KeptLemmas
 pub mod MarkLemmas
+pub mod PlaceLemmas
 pub mod RefusalLemmas
 pub mod RisingLemmas
 pub mod SizeLemmas

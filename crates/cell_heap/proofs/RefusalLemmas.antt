@@ -1,10 +1,7 @@
 -- Where no limit is passed.
-use Rattle.std.proofs.Common.{◌≡◌, ℕ, ◌+◌, ◌≤◌, ◌<◌, ltb, cond, Bool, true, false, List, [], ◌∷◌, length, Option, Some, None, refl, ap, ◌∙◌, arith}
+use Rattle.std.proofs.Common.{◌≡◌, ℕ, ◌+◌, ◌≤◌, ltb, false, None, arith}
 use Rattle.std.proofs.lemmas.Bool.Decides.{nat_tests}
-use Rattle.model_values.specs.Cells.{cell_bytes, heap_bytes}
-use Rattle.cell_heap.specs.Contents.{entry_count}
-use Rattle.cell_heap.specs.Refusals.{new_cell_limit, one_more_limit}
-use Rattle.cell_heap.specs.ValueTypes.{Cell}
+use Rattle.cell_heap.specs.Refusals.{one_more_limit}
 
 not_lt : (m n : ℕ) → n ≤ m → ltb m n ≡ false
 not_lt m n h = grind (arith, nat_tests)

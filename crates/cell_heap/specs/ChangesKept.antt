@@ -1,5 +1,5 @@
 -- What the list of changed cells keeps of its fields.
-use Rattle.std.specs.Prelude.{ℕ, ◌+◌, ◌<◌, ◌≤◌, ◌^◌, length, vec_len, vec_capacity}
+use Rattle.std.specs.Prelude.{◌+◌, ◌<◌, ◌≤◌, ◌^◌, vec_len, vec_capacity}
 use Rattle.std.specs.List.Sorted.{IsPermutation}
 use Rattle.cell_heap.specs.declared.changes.Changes.TheInside.{Inside}
 use Rattle.cell_heap.specs.Marks.{places}

@@ -1,6 +1,11 @@
 -- What a cell holds.
 use Rattle.std.specs.Prelude.{ℕ, List, [], length, Option, Some}
-use Rattle.cell_heap.specs.ValueTypes.{Value, Key, Cell, ListCell, MapCell}
+use Rattle.cell_heap.specs.ValueTypes.{Value, Key, Cell, TextCell, ListCell, MapCell}
+
+-- the bytes of a text; none of another cell
+abbrev pub text_in : Option Cell → List ℕ
+text_in (Some (TextCell s)) = s
+text_in _ = []
 
 -- the entries of a list, and of a map; none of another cell
 abbrev pub values_in : Option Cell → List Value

@@ -3,6 +3,7 @@ pub mod Contents
 pub mod Follows
 pub mod HeapKept
 pub mod Marks
+pub mod Places
 pub mod Refusals
 pub mod Region
 pub mod Soundness

@@ -5,11 +5,23 @@ ghost use Rattle.std.specs.Map.{lookup, remove_entry};
 ghost use Rattle.indexmap.specs.IndexMap.{insert_entry};
 ghost use Rattle.model_values.specs.Keys.{same_key};
 ghost use Rattle.model_values.specs.declared.cell.Cell.TheVariants.{List as ListCell, Map as MapCell};
-ghost use Rattle.model_values.specs.Fitting.{HasList, HasMap};
-ghost use Rattle.cell_heap.specs.Contents.{values_in, pairs_in};
+ghost use Rattle.model_values.specs.Fitting.{HasText, HasList, HasMap};
+ghost use Rattle.cell_heap.specs.Contents.{text_in, values_in, pairs_in};
 
+use model_text::Text;
 use model_values::{Cell, Entries, Key, Value, Values};
 use std::alloc::AllocError;
+
+/// The text in a cell.
+pub(crate) fn text_of(cell: &Cell) -> &Text
+    requires { HasText (Some cell.now) }
+    ensures { result.now ≡ text_in (Some cell.now) }
+{
+    match cell {
+        Cell::Text(text) => text,
+        _ => unreachable!(),
+    }
+}
 
 /// The entries of a list.
 pub(crate) fn values_of(cell: &Cell) -> &Values

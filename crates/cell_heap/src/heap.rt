@@ -2,16 +2,20 @@
 
 ghost use Rattle.std.specs.Prelude.{◌≡◌, ◌≢◌, ◌↔◌, IsTrue, ◌+◌, ◌-◌, ◌<◌, ◌≤◌, ◌^◌, true, false, None, Some, [], ◌∷◌, ◌++◌, length, max, replicate, slice_get, slice_set, vec_len, IfOk, IfErr, OnOk, OnErr, MatchResult, IsErrOf};
 ghost use Rattle.model_values.specs.Cells.{cell_bytes, heap_bytes};
-ghost use Rattle.model_values.specs.Fitting.{HasVariable};
+ghost use Rattle.model_values.specs.Fitting.{HasText, HasVariable};
 ghost use Rattle.model_values.specs.declared.cell.Cell.TheVariants.{Variable};
 ghost use Rattle.cell_heap.specs.Follows.{Follows};
-ghost use Rattle.cell_heap.specs.Contents.{entry_count};
+ghost use Rattle.cell_heap.specs.Contents.{entry_count, text_in};
 ghost use Rattle.cell_heap.specs.Marks.{places};
+ghost use Rattle.cell_heap.specs.Places.{place_of_character};
 ghost use Rattle.cell_heap.specs.Refusals.{limit_of, new_cell_limit};
 ghost use Rattle.cell_heap.specs.Soundness.{AreSound, IsSoundIn, CellBelow, ValueBelow};
 
 use crate::CellRefusal;
 use crate::changes::Changes;
+use crate::characters::place_of_character;
+use crate::contents::text_of;
+use crate::places::{NEAR, PLACES, TextPlace, place_before};
 use crate::refusal::{MAX_BYTES, MAX_CELLS, MAX_ENTRIES};
 use crate::sizes::bytes_of;
 use model_text::Ids;
@@ -31,6 +35,7 @@ pub struct Heap {
     cells: Vec<Cell>,
     changes: Changes,
     total: u64,
+    places: [Option<TextPlace>; PLACES],
 }
 
 impl Model for Heap {
@@ -56,6 +61,7 @@ impl Heap {
             cells: Vec::new(alloc),
             changes: Changes::new(alloc),
             total: 0,
+            places: [None; PLACES],
         }
     }
 
@@ -76,6 +82,7 @@ impl Heap {
             cells,
             changes,
             total,
+            places: [None; PLACES],
         })
     }
 
@@ -108,6 +115,28 @@ impl Heap {
         ensures sound { IsSoundIn (length self.now.cells) result.now }
     {
         &self.cells[id as usize]
+    }
+
+    /// The byte at which this character of the text in this cell begins, counted from 0, and behind the last character
+    /// the length. No cell changes, and it takes no memory. It goes once over the bytes between: from the character
+    /// that was asked for before in this text, where that is not behind this one, else from the text's front. The heap
+    /// keeps eight such places. A text takes the one of another, whose number leaves the same remainder by 8, when it
+    /// is asked for a character behind its first 64 bytes.
+    pub fn character_at(&mut self, id: u32, at: usize) -> usize
+        requires within { id < length self.old.cells }
+        requires text { HasText (slice_get self.old.cells id) }
+        ensures byte { result ≡ place_of_character (text_in (slice_get self.old.cells id)) at }
+        ensures unchanged { self.new ≡ self.old }
+    {
+        let text = text_of(&self.cells[id as usize]).as_slice();
+        let slot = id as usize % PLACES;
+        let before = place_before(self.places[slot], id, at);
+        let behind = &text[before.byte..];
+        let byte = before.byte + place_of_character(behind, at - before.at);
+        if byte >= NEAR {
+            self.places[slot] = Some(TextPlace { cell: id, at, byte });
+        }
+        byte
     }
 
     /// A new cell behind all others, which is changed; its number is how many there were. What it holds names cells
@@ -185,7 +214,8 @@ impl Heap {
     /// The rising numbers of the cells that are new or were written since the last `mark`, or since the heap was
     /// made. It takes the time of a sort of these. `AllocError` where the memory was refused.
     pub fn changed_since(&self) -> Result<Ids, AllocError>
-        ensures { IfOk result (λ ids. ids ≡ places self.now.changed) }
+        ensures listed { IfOk result (λ ids. ids ≡ places self.now.changed) }
+        ensures marked { length self.now.changed ≡ length self.now.cells }
     {
         self.changes.numbers()
     }

@@ -18,10 +18,13 @@
 #![tactic(auto)]
 
 mod changes;
+mod characters;
 mod contents;
 mod heap;
+mod places;
 mod refusal;
 mod sizes;
 
+pub use characters::{is_char_start, place_of_character};
 pub use heap::Heap;
 pub use refusal::CellRefusal;

@@ -1,5 +1,5 @@
 -- `for (x in value)`: its turns.
-use Rattle.std.proofs.Common.{◌≡◌, ◌∙◌, ◌<◌, ◌≤◌, ◌^◌, ℕ, suc, true, List, [], ◌∷◌, ℤ, pos, negsuc, Some, nat_abs, of_z, to_z, w32, refl, sym, ap, subst, arith}
+use Rattle.std.proofs.Common.{◌≡◌, ◌∙◌, ◌<◌, ◌≤◌, ◌^◌, ℕ, suc, true, false, List, [], ◌∷◌, ℤ, pos, negsuc, Some, nat_abs, of_z, to_z, w32, refl, sym, ap, subst, arith}
 use Rattle.std.specs.Prelude.{Result as Outcome, Ok, Err, slice_get}
 use Rattle.std.proofs.lemmas.Int.{to_z_pos}
 use Rattle.std.proofs.lemmas.Option.{get_or_from_slice_get}
@@ -16,7 +16,7 @@ use Rattle.model_run.specs.Forms.{after}
 use Rattle.model_run.specs.FrameTable.{Any, Up_to, No_more, Row}
 use Rattle.model_run.specs.Names.{bind}
 use Rattle.model_run.specs.Nesting.{ValuesFit}
-use Rattle.model_run.specs.State.{Common, Env, State, Result, put_cells, tick}
+use Rattle.model_run.specs.State.{Common, Ended, Env, State, Result, put_cells, tick}
 use Rattle.model_run.specs.Statements.{each_body, each_element, each_from, each_next, each_turn, on_turn}
 use Rattle.model_run.specs.declared.ending.Entry.TheVariants.{First}
 use Rattle.model_run.specs.declared.frame.FrameKind.TheVariants as kind
@@ -35,7 +35,10 @@ use Rattle.cps_variables.proofs.NodeLaws.{row_is}
 use Rattle.cps_frames.specs.Standing.{Beside, Standing, room_of, state}
 use Rattle.cps_frames.specs.declared.halt.Halt.{Halt}
 use Rattle.cps_frames.specs.declared.thread.Move.{Move}
-use Rattle.cps_frames.proofs.MoveLaws.{to_after, to_as}
+use Rattle.cps_frames.specs.declared.thread.Move.TheVariants.{Ends}
+use Rattle.cps_frames.proofs.MoveLaws.{comes_ends, to_after, to_as}
+use Rattle.cell_heap.proofs.FollowsLemmas.{Follows-refl}
+use Rattle.model_run.specs.declared.ending.Ending.TheVariants.{Normal}
 use Rattle.cps_variables.proofs.VariableLaws.{to_new, to_not_new}
 
 -- there is a turn, or none
@@ -48,6 +51,16 @@ pub to_turn : (k r i : ℕ) (on : Value) (env : Env) (kept : List Value) (u : St
 to_turn k r i on env kept u result v h is =
     to_as k r (λ sh a. each_from a env on i) (λ sh a. tick (a.again i kept env)) u result v
     (λ a rs. next_turns a env on i (loop_turn (limits u.world) (cells u.world) on i) (state u.world rs) h ∙ ap (λ vs. tick (a.again i vs env) (state u.world rs)) (sym is))
+
+no_turn_next : (a : Around) (env : Env) (on : Value) (i : ℕ) (t : Element) (s : State) → has_turn t ≡ false → each_next a env on i t s ≡ Ended (Normal Null) s
+no_turn_next a env on i Past s h = refl
+no_turn_next a env on i (Turns cs args element) s h = absurd (cc h)
+no_turn_next a env on i (Stops k) s h = absurd (cc h)
+
+pub to_no_turn : (k r i : ℕ) (on : Value) (env : Env) (u : Standing) → has_turn (loop_turn (limits u.world) (cells u.world) on i) ≡ false → 0 < r → ComesTo k r (λ sh a. each_from a env on i) u (Ok (Ends (Normal Null))) u
+to_no_turn k r i on env u h lt =
+    comes_ends k r (λ sh a. each_from a env on i) u u (Normal Null) refl (record { parent = refl; heap = Follows-refl u.heap }) refl (omega arith) lt
+    (λ a rs. no_turn_next a env on i (loop_turn (limits u.world) (cells u.world) on i) (state u.world rs) h)
 
 -- its block, with a new variable
 abbrev block : ℕ → List ℕ → Env → Value → ℕ → ℕ → Shape → Around → State → Result

@@ -3,6 +3,7 @@
 ghost use Rattle.std.specs.Prelude.{◌≡◌, ◌<◌, ◌≤◌, ◌+◌, ◌^◌, ℕ};
 ghost use Rattle.model_syntax.specs.declared.node.NodeForm.TheVariants as form;
 ghost use Rattle.model_values.specs.Fitting.{There};
+ghost use Rattle.model_values.specs.Kinds.{kind as kind_of};
 ghost use Rattle.model_run.specs.Forms.{after};
 ghost use Rattle.model_run.specs.Statements.{each_body, each_from, each_turn};
 ghost use Rattle.model_run.specs.declared.frame.FrameKind.TheVariants as kind;
@@ -15,6 +16,7 @@ ghost use Rattle.cps_frames.specs.declared.thread.ThreadState.{ThreadState as Th
 ghost use Rattle.cps_variables.specs.Nodes.{HasForm};
 ghost use Rattle.model_run.specs.Around.{position, value_at};
 ghost use Rattle.cps_statements.specs.Turns.{IsPosition};
+ghost use Rattle.value_walks.specs.Places.{IsLoopPlace};
 ghost use Rattle.model_run.specs.declared.ending.Entry.TheVariants.{Turn};
 
 use cps_frames::{Halt, Move, Shared, ThreadState, turn, turn_of, under, value_of};
@@ -25,12 +27,22 @@ use model_text::Text;
 use model_values::{Binding, Env, Value, Values};
 use value_walks::{LoopPlace, has_loop_turn, loop_turn};
 
+/// The place of turn `at` of a loop over a value. Nothing changes.
+fn loop_place(shared: &mut Shared, on: &Value, at: u32) -> LoopPlace
+    requires { There shared.old.heap.cells on.now }
+    ensures at { result.at ≡ at }
+    ensures place { IsLoopPlace (kind_of shared.old.heap.cells on.now) at result.byte }
+    ensures unchanged { shared.new ≡ shared.old }
+{
+    LoopPlace::of(&mut shared.heap, on, at)
+}
+
 /// Turn `at` of a loop over a value, counted from 0, which is counted as a node; else the loop has ended.
 fn each_from(shared: &mut Shared, node: u32, at: u32, on: Value, env: Env) -> Result<Move, Halt>
     requires { There shared.old.heap.cells on }
     ensures { (t : Thread) (r : ℕ) → 0 < r → ComesTo node r (λ sh a. each_from a env on at) (standing shared.old t) result (standing shared.new t) }
 {
-    let place = LoopPlace::of(&shared.heap, &on, at);
+    let place = loop_place(shared, &on, at);
     if !has_loop_turn(&shared.heap, &on, place) {
         return Ok(Move::Ends(Ending::Normal(Value::Null)));
     }
@@ -101,7 +113,7 @@ pub(crate) fn each_turn(
     ensures { ComesTo node (2 ^ 66) (λ sh a. each_turn a node name env at kept) (standing shared.old state.old) result (standing shared.new state.new) }
 {
     let on = value_at(&kept, 0);
-    let place = LoopPlace::of(&shared.heap, &on, at);
+    let place = loop_place(shared, &on, at);
     match loop_turn(shared.alloc(), &mut shared.heap, &on, place)? {
         None => Ok(Move::Ends(Ending::Normal(Value::Null))),
         Some(begun) => {

@@ -4,7 +4,7 @@ use Rattle.std.proofs.Math.Dec.{eqb-suc-zero}
 use Rattle.std.proofs.lemmas.List.{append_assoc, append-nil, drop_more, length-append, length-take-le, drop-drop, drop-take, take-append-drop, take-take}
 use Rattle.model_values.specs.Characters.{byte_before, characters, part_of}
 use Rattle.std.specs.Fmt.{is_char_start}
-use Rattle.value_view.specs.Places.{place_of_character}
+use Rattle.cell_heap.specs.Places.{place_of_character}
 use Rattle.value_view.proofs.CharacterLemmas.{cuts, length-characters-behind, part_of-one}
 use Rattle.model_values.specs.Searching.{is_among, onto_first, pieces, without_last_empty}
 use Rattle.text_methods.specs.Parts.{cut, kept, kept_piece}

@@ -2,6 +2,7 @@ ghost use Rattle.std.specs.Prelude.{All, IfOk};
 ghost use Rattle.cell_heap.specs.Soundness.{ValueBelow};
 
 use cell_heap::{CellRefusal, Heap};
+use model_text::Text;
 use model_values::{Cell, Entries, Key, Value, Values};
 use std::alloc::{AllocError, Global};
 use std::test::Fail;
@@ -74,5 +75,52 @@ fn a_restored_heap_has_its_cells_unchanged(rt: HostRuntime) -> Result<(), Fail> 
     let heap = Heap::restore(rt.alloc(), cells)?;
     assert_eq!(rt; heap.len(), 1);
     assert_eq!(rt; heap.changed_since()?.len(), 0);
+    Ok(())
+}
+
+/// The byte at which a character of the text in a cell begins.
+fn byte_in(heap: &mut Heap, id: u32, at: usize) -> Result<usize, Fail> {
+    if id >= heap.len() {
+        return Err(Fail::new("no such cell"));
+    }
+    match heap.get(id) {
+        Cell::Text(_) => Ok(heap.character_at(id, at)),
+        _ => Err(Fail::new("no text")),
+    }
+}
+
+#[test]
+fn characters_begin_where_they_do_in_whatever_order_they_are_asked_for(
+    rt: HostRuntime,
+) -> Result<(), Fail> {
+    let mut heap = Heap::new(rt.alloc());
+    for id in 0..9 {
+        let text = match id {
+            0 => "aé€😀baé€😀baé€😀baé€😀baé€😀baé€😀baé€😀baé€😀b",
+            8 => "€€€€€€€€€€€€€€€€€€€€€€€€€€€€€€",
+            _ => "",
+        };
+        heap.new_cell(Cell::Text(Text::from_str(rt.alloc(), text)?))?;
+    }
+    for (id, at, byte) in [
+        (0, 0, 0),
+        (0, 3, 6),
+        (0, 30, 66),
+        (0, 31, 67),
+        (0, 32, 69),
+        (0, 34, 76),
+        (8, 25, 75),
+        (0, 35, 77),
+        (8, 26, 78),
+        (8, 24, 72),
+        (0, 40, 88),
+        (0, 99, 88),
+        (0, 39, 87),
+        (8, 30, 90),
+        (0, 4, 10),
+        (1, 1, 0),
+    ] {
+        assert_eq!(rt; byte_in(&mut heap, id, at)?, byte);
+    }
     Ok(())
 }

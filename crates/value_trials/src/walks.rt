@@ -73,7 +73,7 @@ fn a_loop_over_a_text_has_a_turn_a_character(rt: HostRuntime) -> Result<(), Fail
     let mut heap = Heap::new(alloc);
     heap.new_cell(Cell::Text(Text::from_str(alloc, "é1")?))?;
     let text = there(&heap, Value::Cell(0))?;
-    let second = LoopPlace::of(&heap, &text, 1);
+    let second = LoopPlace::of(&mut heap, &text, 1);
     assert_eq!(rt; second, LoopPlace { at: 1, byte: 2 });
     assert!(rt; !has_loop_turn(&heap, &text, second.next(&heap, &text)));
     let turn = loop_turn(alloc, &mut heap, &text, second)?;

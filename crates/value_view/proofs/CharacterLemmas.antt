@@ -1,16 +1,13 @@
 -- The characters of a text by the bytes that begin them.
-use Rattle.std.proofs.Common.{◌≡◌, ℕ, zero, suc, ◌+◌, ◌-◌, ◌<◌, ◌≤◌, ◌⊎◌, Bool, true, false, cond, eqb, List, [], ◌∷◌, length, get_or, take, drop, refl, sym, ap, ◌∙◌, subst, inl, inr, arith}
+use Rattle.std.proofs.Common.{◌≡◌, ℕ, zero, suc, ◌+◌, ◌-◌, ◌<◌, ◌≤◌, Bool, true, false, cond, eqb, List, [], ◌∷◌, length, get_or, take, drop, refl, sym, ap, ◌∙◌, subst, inl, inr, arith}
 use Rattle.std.proofs.lemmas.Bool.Decides.{nat_tests}
-use Rattle.std.proofs.lemmas.List.{append-nil, drop_more}
+use Rattle.std.proofs.lemmas.List.{append-nil}
 use Rattle.std.proofs.lemmas.List.Sums.{sum_by-cons}
 use Rattle.std.specs.Fmt.{is_char_start}
 use Rattle.std.specs.List.{count_by}
 use Rattle.model_values.specs.Characters.{byte_before, characters, concatenated, part_of}
-use Rattle.value_view.specs.Places.{place_behind, place_of_character}
-
-true_or_false : (b : Bool) → (b ≡ true) ⊎ (b ≡ false)
-true_or_false true = inl refl
-true_or_false false = inr refl
+use Rattle.cell_heap.specs.Places.{place_behind, place_of_character}
+use Rattle.cell_heap.proofs.PlaceLemmas.{true_or_false}
 
 -- the first character begins with this byte
 record Begins (d : ℕ) (cs : List (List ℕ)) : Type 0 where
@@ -151,32 +148,3 @@ pub part_of-one : (s : List ℕ) (j : ℕ) → j < length (characters s) → par
 part_of-one s j h =
     let one : (j + 1) - j ≡ 1 = omega arith in
     ap (λ n. concatenated (take n (drop j (characters s)))) one ∙ one_character (characters s) j h
-
-by_start : (n b : ℕ) (bs : List ℕ) → is_char_start b ≡ true → place_behind (suc n) (b ∷ bs) ≡ 1 + place_behind n bs
-by_start n b bs s = ap (λ t. cond t (1 + place_behind n bs) (1 + place_behind (suc n) bs)) s
-
-first_start : (b : ℕ) (bs : List ℕ) → is_char_start b ≡ true → place_behind 0 (b ∷ bs) ≡ 0
-first_start b bs s = ap (λ t. cond t 0 (1 + place_behind 0 bs)) s
-
-by_inside : (n b : ℕ) (bs : List ℕ) → is_char_start b ≡ false → place_behind n (b ∷ bs) ≡ 1 + place_behind n bs
-by_inside zero b bs s = ap (λ t. cond t 0 (1 + place_behind zero bs)) s
-by_inside (suc n) b bs s = ap (λ t. cond t (1 + place_behind n bs) (1 + place_behind (suc n) bs)) s
-
--- one byte further: it begins the character that is looked for, an earlier one, or none
-pub place_behind-found : (bs : List ℕ) (i d : ℕ) → i < length bs → is_char_start (get_or bs i d) ≡ true → place_behind 0 (drop i bs) ≡ 0
-place_behind-found bs i d lt s = ap (place_behind 0) (drop_more bs i d lt) ∙ first_start (get_or bs i d) (drop (i + 1) bs) s
-
-pub place_behind-start : (n : ℕ) (bs : List ℕ) (i d : ℕ) → 0 < n → i < length bs → is_char_start (get_or bs i d) ≡ true → place_behind n (drop i bs) ≡ 1 + place_behind (n - 1) (drop (i + 1) bs)
-place_behind-start zero bs i d pos lt s = let no : ⊥ = omega (arith, pos) in absurd no
-place_behind-start (suc n) bs i d pos lt s =
-    let one : suc n - 1 ≡ n = omega arith in
-    ap (place_behind (suc n)) (drop_more bs i d lt) ∙ by_start n (get_or bs i d) (drop (i + 1) bs) s ∙ ap (λ m. 1 + place_behind m (drop (i + 1) bs)) (sym one)
-
-pub place_behind-inside : (n : ℕ) (bs : List ℕ) (i d : ℕ) → i < length bs → is_char_start (get_or bs i d) ≡ false → place_behind n (drop i bs) ≡ 1 + place_behind n (drop (i + 1) bs)
-place_behind-inside n bs i d lt s = ap (place_behind n) (drop_more bs i d lt) ∙ by_inside n (get_or bs i d) (drop (i + 1) bs) s
-
-pub place_of_character-behind : (s : List ℕ) (n : ℕ) → 0 < length s → 0 < n → place_of_character s n ≡ 1 + place_behind (n - 1) (drop 1 s)
-place_of_character-behind [] n h k = let no : ⊥ = omega (arith, h) in absurd no
-place_of_character-behind (b ∷ bs) zero h k = let no : ⊥ = omega (arith, k) in absurd no
-place_of_character-behind (b ∷ bs) (suc n) h k =
-    let one : suc n - 1 ≡ n = omega arith in ap (λ m. 1 + place_behind m bs) (sym one)

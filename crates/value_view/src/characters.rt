@@ -3,7 +3,8 @@
 ghost use Rattle.std.specs.Prelude.{◌≡◌, ◌≤◌, count_by, length};
 ghost use Rattle.std.specs.Fmt.{is_char_start};
 ghost use Rattle.model_values.specs.Characters.{characters, part_of};
-ghost use Rattle.value_view.specs.Places.{place_of_character};
+
+use cell_heap::{is_char_start, place_of_character};
 
 /// How many characters a text has. It goes once over its bytes.
 pub fn character_count(text: &[u8]) -> usize
@@ -25,37 +26,10 @@ pub fn character_range(text: &[u8], from: usize, to: usize) -> &[u8]
     &behind[..place_of_character(behind, to.saturating_sub(from))]
 }
 
-/// The byte at which this character begins, and behind the last character the length.
-fn place_of_character(text: &[u8], at: usize) -> usize
-    ensures place { result ≡ place_of_character text.now at }
-    ensures within { result ≤ length text.now }
-{
-    if at == 0 || text.is_empty() {
-        return 0;
-    }
-    let mut left = at - 1;
-    for (place, byte) in text[1..].iter().enumerate() {
-        if is_char_start(*byte) {
-            if left == 0 {
-                return place + 1;
-            }
-            left -= 1;
-        }
-    }
-    text.len()
-}
-
 /// How many bytes are the first of a character in UTF-8. It goes once over them.
 pub fn start_count(bytes: &[u8]) -> usize
     ensures count { result ≡ count_by is_char_start bytes.now }
     ensures bound { result ≤ length bytes.now }
 {
     bytes.iter().filter(|byte| is_char_start(**byte)).count()
-}
-
-/// Whether a byte is the first of a character in UTF-8.
-fn is_char_start(byte: u8) -> bool
-    ensures { result ≡ is_char_start byte }
-{
-    byte < 0x80 || byte >= 0xC0
 }

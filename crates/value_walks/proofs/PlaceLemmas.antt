@@ -1,10 +1,11 @@
 -- The characters of a text, one after another, by the bytes at which they begin.
-use Rattle.std.proofs.Common.{◌≡◌, ℕ, zero, suc, ◌+◌, ◌-◌, ◌<◌, ◌≤◌, List, [], ◌∷◌, length, take, drop, true, false, cond, eqb, Some, None, slice_get, refl, sym, ap, subst, ◌∙◌, arith}
+use Rattle.std.proofs.Common.{◌≡◌, ℕ, zero, suc, ◌+◌, ◌-◌, ◌<◌, ◌≤◌, List, [], ◌∷◌, length, take, drop, false, eqb, Option, Some, None, slice_get, refl, sym, ap, ◌∙◌, arith}
 use Rattle.std.proofs.lemmas.List.{append-nil, drop-drop, drop_all, length-drop, length-take-le}
 use Rattle.model_values.specs.Characters.{characters, concatenated, part_of}
-use Rattle.std.specs.Fmt.{is_char_start}
-use Rattle.std.specs.Str.{IsAscii}
-use Rattle.value_view.specs.Places.{place_behind, place_of_character}
+use Rattle.model_values.specs.Kinds.{cell_kind}
+use Rattle.cell_heap.specs.Contents.{text_in}
+use Rattle.cell_heap.specs.ValueTypes.{Cell, TextCell}
+use Rattle.cell_heap.specs.Places.{place_of_character}
 use Rattle.value_view.proofs.CharacterLemmas.{cuts, length-characters-behind}
 use Rattle.std.proofs.lemmas.Bool.Decides.{nat_tests}
 use Rattle.value_view.specs.Seen.{seen}
@@ -12,42 +13,29 @@ use Rattle.value_view.specs.declared.kind.Kind.{Kind}
 use Rattle.value_view.specs.declared.kind.Kind.TheVariants.{Null, Flag, Number, Text, List as Items, Map as Pairs, Closure, Thrown}
 use Rattle.value_walks.specs.Places.{BeginsAt, IsLoopPlace}
 
+-- where the definitions find a character it begins
+begins_at : (s : List ℕ) (n k : ℕ) → k ≡ place_of_character s n → BeginsAt s n k
+begins_at s n k is =
+    let c = cuts s n in
+    record { within = omega (arith, is, c.within); begins = ap (λ (k : ℕ). characters (drop k s)) is ∙ c.back }
+
 -- the characters in front of a place end there
 pub begins_behind : (s : List ℕ) (n : ℕ) (r : List ℕ) → r ≡ part_of s 0 n → BeginsAt s n (length r)
 begins_behind s n r is =
     let c = cuts s n in
     let all : n - 0 ≡ n = omega arith in
     let front : r ≡ take (place_of_character s n) s = is ∙ ap (λ (m : ℕ). concatenated (take m (characters s))) all ∙ sym c.front in
-    let place : length r ≡ place_of_character s n = ap length front ∙ length-take-le (place_of_character s n) s c.within in
-    record { within = omega (arith, place, c.within); begins = ap (λ (k : ℕ). characters (drop k s)) place ∙ c.back }
+    begins_at s n (length r) (ap length front ∙ length-take-le (place_of_character s n) s c.within)
 
--- a byte below 128 begins a character, also the byte behind it, so each is one
-ascii_start : (b : ℕ) → b < 128 → is_char_start b ≡ true
-ascii_start b lt = grind (arith, nat_tests)
+-- a cell, by the place that is told of its text
+pub cell_place : (c : ℕ) (o : Option Cell) (n k : ℕ) → k ≡ place_of_character (text_in o) n → IsLoopPlace (cell_kind c o) n k
+cell_place c (Some (TextCell s)) n k is = begins_at s n k is
+cell_place c o n k is = tt
 
-ascii_behind : (bs : List ℕ) (n : ℕ) → n < length bs → IsAscii (take (suc n) bs) → place_behind n bs ≡ n
-ascii_behind [] n lt all = let no : ⊥ = omega (arith, lt) in absurd no
-ascii_behind (b ∷ bs) zero lt all = ap (λ t. cond t 0 (1 + place_behind zero bs)) (ascii_start b (all 0))
-ascii_behind (b ∷ bs) (suc n) lt all =
-    let more = ascii_behind bs n (omega (arith, lt)) (λ i. all (suc i)) in
-    ap (λ t. cond t (1 + place_behind n bs) (1 + place_behind (suc n) bs)) (ascii_start b (all 0)) ∙ omega (arith, more)
-
-ascii_place : (s : List ℕ) (n : ℕ) → n < length s → IsAscii (take (suc n) s) → place_of_character s n ≡ n
-ascii_place [] n lt all = let no : ⊥ = omega (arith, lt) in absurd no
-ascii_place (b ∷ bs) zero lt all = refl
-ascii_place (b ∷ bs) (suc n) lt all =
-    let more = ascii_behind bs n (omega (arith, lt)) (λ i. all (suc i)) in
-    omega (arith, more)
-
--- where a text is ASCII so far, its characters begin at the bytes of their numbers
-pub begins_ascii : (s : List ℕ) (n : ℕ) → n < length s → IsAscii (take (n + 1) s) → BeginsAt s n n
-begins_ascii s n lt all =
-    let count : n + 1 ≡ suc n = omega arith in
-    let place = ascii_place s n lt (subst (λ (k : ℕ). IsAscii (take k s)) count all) in
-    record {
-      within = omega (arith, lt);
-      begins = ap (λ (k : ℕ). characters (drop k s)) (sym place) ∙ (cuts s n).back;
-    }
+-- and one that is no text
+pub no_text_cell : (c : ℕ) (x : Cell) (n k : ℕ) → ((s : List ℕ) → x ≡ TextCell s → ⊥) → IsLoopPlace (cell_kind c (Some x)) n k
+no_text_cell c (TextCell s) n k none = absurd (none s refl)
+no_text_cell c x n k none = tt
 
 -- a place is that of its character in the bytes from there on
 first_here : (s : List ℕ) (n k : ℕ) → BeginsAt s n k → (m : ℕ) → drop m (characters (drop k s)) ≡ drop (n + m) (characters s)

@@ -1,9 +1,9 @@
 //! The `for` over a value.
 
-ghost use Rattle.std.specs.Prelude.{◌≡◌, ◌+◌, ◌<◌, ◌≤◌, ◌^◌, ◌∷◌, [], false, ℕ, IfOk, IsTrue, drop, if◌then◌else◌, length, nat_eq, slice_get};
+ghost use Rattle.std.specs.Prelude.{◌≡◌, ◌+◌, ◌<◌, ◌≤◌, ◌^◌, ◌∷◌, [], false, ℕ, IfOk, drop, if◌then◌else◌, length, nat_eq, slice_get};
 ghost use Rattle.cell_heap.specs.Soundness.{ValueBelow};
 ghost use Rattle.model_values.specs.Characters.{characters, part_of};
-ghost use Rattle.model_values.specs.Kinds.{kind};
+ghost use Rattle.model_values.specs.Kinds.{cell_kind, kind};
 ghost use Rattle.model_values.specs.Limits.{product_limits};
 ghost use Rattle.model_values.specs.Walks.{Past, Turns, character_turn, loop_turn};
 ghost use Rattle.value_walks.specs.Places.{BeginsAt, IsLoopPlace};
@@ -13,7 +13,7 @@ use crate::place::{Place, entry_at, value_at};
 use crate::turns::{Turn, begin};
 use cell_heap::Heap;
 use model_text::Text;
-use model_values::Value;
+use model_values::{Cell, Value};
 use std::alloc::{AllocError, Global};
 use value_view::{Kind, OpRefusal, character_range, kind_of};
 
@@ -26,15 +26,16 @@ pub struct LoopPlace {
 }
 
 impl LoopPlace {
-    /// The place of turn `at`. Over a text it goes once over the bytes in front of it, eight at a time while they are
-    /// ASCII.
-    pub fn of(heap: &Heap, on: &Value, at: u32) -> LoopPlace
-        requires { ValueBelow (length heap.now.cells) on.now }
+    /// The place of turn `at`. Over a text it goes once over the bytes between: from the place that was asked for before,
+    /// which the heap keeps, else from the front ([`Heap::character_at`]).
+    pub fn of(heap: &mut Heap, on: &Value, at: u32) -> LoopPlace
+        requires { ValueBelow (length heap.old.cells) on.now }
         ensures at { result.at ≡ at }
-        ensures place { IsLoopPlace (kind heap.now.cells on.now) at result.byte }
+        ensures place { IsLoopPlace (kind heap.old.cells on.now) at result.byte }
+        ensures unchanged { heap.new ≡ heap.old }
     {
-        let byte = match kind_of(heap, on) {
-            Kind::Text(text) => byte_of(text.as_slice(), at as usize),
+        let byte = match on {
+            Value::Cell(cell) => byte_in(heap, *cell, at as usize),
             _ => 0,
         };
         LoopPlace { at, byte }
@@ -128,22 +129,17 @@ fn character_in(alloc: Global, text: &[u8], byte: usize) -> Result<Place, AllocE
     Ok(Place::Character(character))
 }
 
-/// The byte at which a character of a text begins, and behind the last one the length.
-fn byte_of(text: &[u8], at: usize) -> usize
-    ensures { BeginsAt text.now at result }
+/// The byte at which a character of the text in a cell begins, and behind the last one the length; 0 where the cell is
+/// no text.
+fn byte_in(heap: &mut Heap, cell: u32, at: usize) -> usize
+    requires { cell < length heap.old.cells }
+    ensures place { IsLoopPlace (cell_kind cell (slice_get heap.old.cells cell)) at result }
+    ensures unchanged { heap.new ≡ heap.old }
 {
-    if is_ascii_to(text, at) {
-        at
-    } else {
-        character_range(text, 0, at).len()
+    match heap.get(cell) {
+        Cell::Text(_) => heap.character_at(cell, at),
+        _ => 0,
     }
-}
-
-/// Whether a text has a byte at this place, and is ASCII up to it.
-fn is_ascii_to(text: &[u8], at: usize) -> bool
-    ensures { IsTrue result → BeginsAt text.now at at }
-{
-    at < text.len() && text[..=at].is_ascii()
 }
 
 /// The bytes of the character that begins at a byte; none at the end of the text.

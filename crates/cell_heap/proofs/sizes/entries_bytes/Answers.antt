@@ -1,5 +1,4 @@
-use Rattle.std.proofs.Common.{◌≡◌, ◌≤◌, length, Option, Some, None, slice_get, sym, arith}
-use Rattle.cell_heap.specs.ValueTypes.{Key, Value}
+use Rattle.std.proofs.Common.{sym, arith}
 use Rattle.cell_heap.proofs.SizeLemmas.{entry_bytes-take_more, slice_get-none}
 use Rattle.cell_heap.proofs.sizes.entries_bytes.Goals as goal
 use Rattle.cell_heap.proofs.sizes.entries_bytes.Goals.{in-Some, in_default}

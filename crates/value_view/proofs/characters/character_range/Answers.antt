@@ -1,6 +1,6 @@
 use Rattle.std.proofs.Common.{◌≡◌, ◌-◌, ℕ, List, length, drop, take, ap, ap₂, ◌∙◌}
 use Rattle.std.proofs.lemmas.List.{take_rest}
-use Rattle.value_view.specs.Places.{place_of_character}
+use Rattle.cell_heap.specs.Places.{place_of_character}
 use Rattle.value_view.proofs.CharacterLemmas.{part_of-by_places}
 use Rattle.value_view.proofs.characters.character_range.Goals as goal
 

@@ -1,5 +1,5 @@
-use Rattle.std.proofs.Common.{◌≡◌, ◌<◌, ◌≤◌, ◌+◌, length, ap, arith}
-use Rattle.cell_heap.specs.Marks.{Marks, places}
+use Rattle.std.proofs.Common.{length, ap, arith}
+use Rattle.cell_heap.specs.Marks.{Marks}
 use Rattle.cell_heap.proofs.MarkLemmas.{length-listed, listed-push}
 use Rattle.cell_heap.proofs.changes.Changes.push.Goals as goal
 

@@ -1,4 +1,4 @@
-use Rattle.std.proofs.Common.{◌≡◌, ◌≤◌, length, arith}
+use Rattle.std.proofs.Common.{arith}
 use Rattle.cell_heap.proofs.MarkLemmas.{length-listed}
 use Rattle.cell_heap.proofs.changes.Changes.reserve.Goals as goal
 

@@ -1,4 +1,4 @@
-use Rattle.std.proofs.Common.{◌≡◌, ◌<◌, Bool, true, false, length, get_or, sym, ap, ◌∙◌, arith}
+use Rattle.std.proofs.Common.{◌<◌, length, sym, ap, ◌∙◌, arith}
 use Rattle.cell_heap.specs.Marks.{Marks}
 use Rattle.cell_heap.proofs.MarkLemmas.{length-places-lt, listed-set}
 use Rattle.cell_heap.proofs.changes.Changes.set.Goals as goal

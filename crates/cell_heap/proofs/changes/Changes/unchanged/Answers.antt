@@ -1,4 +1,4 @@
-use Rattle.std.proofs.Common.{◌≡◌, ◌<◌, ◌+◌, ◌≤◌, Bool, false, List, ℕ, [], length, replicate, sym, subst, rules, arith}
+use Rattle.std.proofs.Common.{◌≡◌, Bool, false, List, ℕ, [], replicate, sym, subst, rules, arith}
 use Rattle.std.specs.List.Sorted.{IsPermutation}
 use Rattle.cell_heap.specs.Marks.{places}
 use Rattle.cell_heap.proofs.MarkLemmas.{listed-none}

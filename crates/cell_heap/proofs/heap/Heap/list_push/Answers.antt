@@ -1,4 +1,4 @@
-use Rattle.std.proofs.Common.{◌≡◌, ℕ, ◌+◌, ◌<◌, ◌≤◌, ◌++◌, ◌∷◌, [], List, Option, Some, None, length, set, slice_get, ap, sym, ◌∙◌, subst, arith}
+use Rattle.std.proofs.Common.{◌≡◌, ◌+◌, ◌<◌, ◌++◌, ◌∷◌, [], Option, Some, length, slice_get, ap, sym, ◌∙◌, subst, arith}
 use Rattle.model_values.specs.Cells.{cell_bytes, heap_bytes}
 use Rattle.model_values.specs.Fitting.{HasList}
 use Rattle.cell_heap.specs.Contents.{values_in}
@@ -6,6 +6,7 @@ use Rattle.cell_heap.specs.Soundness.{AreSound, IsSoundIn}
 use Rattle.cell_heap.specs.ValueTypes.{Cell, ListCell}
 use Rattle.cell_heap.proofs.KeptLemmas.{IsKept-set, same_cells, seen_at, written, written-follows}
 use Rattle.cell_heap.proofs.RefusalLemmas.{one_more_limit-none}
+use Rattle.cell_heap.proofs.PlaceLemmas.{no_text}
 use Rattle.cell_heap.proofs.SoundLemmas.{bytes-list_push, known_at, sound-list_push, sound_seen}
 use Rattle.cell_heap.proofs.heap.Heap.list_push.Goals as goal
 
@@ -24,7 +25,7 @@ invariant_of-self-2 c =
     let few : length (values_in (Some was)) < 65536 = omega (arith, same, c.len.ensures, ap length c.values_of.ensures, c.if-len-ge-MAX_ENTRIES.false) in
     let sound = sound-list_push (length r.cells) was c.args.value list (sound_seen r.cells c.args.id was all got) c.requires.below few in
     let bytes : cell_bytes c.push.new.cell ≡ cell_bytes was + 16 = ap cell_bytes c.in_ok-push.ensures.pushed ∙ bytes-list_push was c.args.value list in
-    IsKept-set h r view c.args.id was c.push.new.cell c.set.new.self (h.total + 16) kept c.requires.within c.index_mut.ensures.value
+    IsKept-set h r view c.args.id was c.push.new.cell c.set.new.self (h.total + 16) kept c.requires.within (no_text HasList (λ s is. is) _ c.requires.list) c.index_mut.ensures.value
     (subst (λ (d : Cell). IsSoundIn (length r.cells) d) (sym c.in_ok-push.ensures.pushed) sound) c.set.ensures (omega (arith, bytes)) (omega (arith, c.if-self-gt-MAX_BYTES.false))
 
 pub returns-clause-pushed : goal.returns-clause-pushed

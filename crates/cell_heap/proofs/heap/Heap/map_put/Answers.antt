@@ -1,14 +1,15 @@
-use Rattle.std.proofs.Common.{◌≡◌, ℕ, ◌+◌, ◌-◌, ◌<◌, ◌≤◌, ◌++◌, ◌∷◌, [], List, Option, Some, None, length, set, slice_get, ap, ap₂, sym, ◌∙◌, subst, arith}
-use Rattle.std.specs.Map.{lookup, remove_entry}
+use Rattle.std.proofs.Common.{◌≡◌, ℕ, ◌+◌, List, Option, Some, None, length, slice_get, ap, ap₂, sym, ◌∙◌, subst, arith}
+use Rattle.std.specs.Map.{lookup}
 use Rattle.indexmap.specs.IndexMap.{insert_entry}
-use Rattle.model_values.specs.Cells.{cell_bytes, heap_bytes, key_bytes}
+use Rattle.model_values.specs.Cells.{cell_bytes, heap_bytes}
 use Rattle.model_values.specs.Keys.{same_key}
 use Rattle.model_values.specs.Fitting.{HasMap}
 use Rattle.cell_heap.specs.Contents.{pairs_in}
 use Rattle.cell_heap.specs.Refusals.{added_bytes, put_limit}
 use Rattle.cell_heap.specs.Soundness.{AreSound, IsSoundIn}
 use Rattle.cell_heap.specs.ValueTypes.{Cell, Key, Value, MapCell, LimitKind}
-use Rattle.cell_heap.proofs.KeptLemmas.{IsKept-set, same_cells, same_length, seen_at, written, written-follows}
+use Rattle.cell_heap.proofs.KeptLemmas.{IsKept-set, same_cells, seen_at, written, written-follows}
+use Rattle.cell_heap.proofs.PlaceLemmas.{no_text}
 use Rattle.cell_heap.proofs.SoundLemmas.{bytes-put, known_at, sound-put, sound_seen}
 use Rattle.cell_heap.proofs.heap.Heap.map_put.Goals as goal
 
@@ -29,7 +30,7 @@ invariant_of-self-2 c =
     let added : c.in_ok-added.added ≡ added_bytes k (lookup (same_key k) (pairs_in (Some was))) = c.in_ok-added.ensures.added ∙ ap (λ (es : List (Key × Value)). added_bytes k (lookup (same_key k) es)) pairs in
     let sound = sound-put (length r.cells) was k c.args.value h.total map (sound_seen r.cells c.args.id was all got) c.requires.below none in
     let bytes : cell_bytes c.put.new.cell ≡ cell_bytes was + added_bytes k (lookup (same_key k) (pairs_in (Some was))) = ap cell_bytes c.in_ok-old.ensures.put ∙ bytes-put was k c.args.value map in
-    IsKept-set h r view c.args.id was c.put.new.cell c.set.new.self (h.total + c.in_ok-added.added) kept c.requires.within c.index_mut.ensures.value
+    IsKept-set h r view c.args.id was c.put.new.cell c.set.new.self (h.total + c.in_ok-added.added) kept c.requires.within (no_text HasMap (λ s is. is) _ c.requires.map) c.index_mut.ensures.value
     (subst (λ (d : Cell). IsSoundIn (length r.cells) d) (sym c.in_ok-old.ensures.put) sound) c.set.ensures (omega (arith, bytes, added)) c.in_ok-added.ensures.bounded
 
 pub returns-clause-old : goal.returns-clause-old

@@ -1,15 +1,14 @@
-use Rattle.std.proofs.Common.{◌≡◌, ℕ, ◌+◌, ◌-◌, ◌<◌, ◌≤◌, ◌++◌, ◌∷◌, [], List, Option, Some, None, length, get_or, set, slice_get, ap, ap₂, sym, ◌∙◌, subst, arith}
+use Rattle.std.proofs.Common.{◌≡◌, ◌-◌, ◌<◌, List, Option, Some, length, get_or, slice_get, ap, sym, ◌∙◌, subst, arith}
 use Rattle.std.specs.Map.{lookup, remove_entry}
-use Rattle.indexmap.specs.IndexMap.{insert_entry}
-use Rattle.model_values.specs.Cells.{cell_bytes, heap_bytes, key_bytes}
+use Rattle.model_values.specs.Cells.{cell_bytes}
 use Rattle.model_values.specs.Keys.{same_key}
 use Rattle.model_values.specs.Fitting.{HasMap}
 use Rattle.cell_heap.specs.Contents.{pairs_in}
-use Rattle.cell_heap.specs.Refusals.{added_bytes, put_limit}
 use Rattle.cell_heap.specs.Soundness.{AreSound, IsSoundIn}
 use Rattle.cell_heap.specs.ValueTypes.{Cell, Key, Value, MapCell}
 use Rattle.cell_heap.proofs.KeptLemmas.{IsKept-set, same_cells, same_length, seen_at, written, written-follows}
 use Rattle.cell_heap.proofs.SizeLemmas.{cell_bytes-le}
+use Rattle.cell_heap.proofs.PlaceLemmas.{no_text}
 use Rattle.cell_heap.proofs.SoundLemmas.{bytes-remove_pair, known_at, sound-remove, sound_seen}
 use Rattle.cell_heap.proofs.heap.Heap.map_remove.Goals as goal
 
@@ -52,7 +51,7 @@ invariant_of-self c =
     let all : AreSound r.cells = subst AreSound (same_cells h r view) kept.sound in
     let sound = sound-remove (length r.cells) was k map (sound_seen r.cells c.args.id was all got) in
     let new : cell_bytes c.remove.new.cell ≡ cell_bytes (MapCell (remove_entry (same_key k) (pairs_in (Some was)))) = ap cell_bytes c.remove.ensures in
-    IsKept-set h r view c.args.id was c.remove.new.cell c.set.new.self (h.total - c.pair_bytes.result) kept c.requires.within c.index_mut.ensures.value
+    IsKept-set h r view c.args.id was c.remove.new.cell c.set.new.self (h.total - c.pair_bytes.result) kept c.requires.within (no_text HasMap (λ s is. is) _ c.requires.map) c.index_mut.ensures.value
     (subst (λ (d : Cell). IsSoundIn (length r.cells) d) (sym c.remove.ensures) sound) c.set.ensures
     (omega (arith, less, at, most, new, kept.counted, kept.bounded, c.pair_bytes.ensures)) (omega (arith, kept.bounded))
 

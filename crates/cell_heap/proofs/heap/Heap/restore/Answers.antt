@@ -1,4 +1,4 @@
-use Rattle.std.proofs.Common.{◌≡◌, ◌+◌, ◌<◌, ◌≤◌, length, get_or, take, ap, arith}
+use Rattle.std.proofs.Common.{◌≡◌, ◌+◌, get_or, ap, arith}
 use Rattle.model_values.specs.Cells.{cell_bytes, heap_bytes}
 use Rattle.cell_heap.proofs.SizeLemmas.{heap_bytes-take-le, heap_bytes-take_more}
 use Rattle.cell_heap.proofs.heap.Heap.restore.Goals as goal

@@ -1,4 +1,4 @@
-use Rattle.std.proofs.Common.{◌≡◌, ◌∙◌, ◌++◌, length, drop, sym, ap}
+use Rattle.std.proofs.Common.{◌≡◌, ◌∙◌, ◌++◌, length, drop, ap}
 use Rattle.value_walks.proofs.TailLemmas.{drained}
 use Rattle.value_walks.proofs.tail.Tail.into_values.Goals as goal
 
