@@ -2,7 +2,7 @@
 use Rattle.std.proofs.Common.{◌≡◌, ◌≤◌, ◌<◌, ◌+◌, ◌-◌, ◌%◌, ℕ, zero, suc, Bool, true, false, List, [], ◌∷◌, ◌++◌, length, get_or, drop, Option, None, refl, sym, ◌∙◌, ap, subst, arith, length-append}
 use Rattle.std.specs.Prelude.{unwrap_or}
 use Rattle.std.proofs.lemmas.List.{drop_all, append-nil}
-use Rattle.jp_disk.specs.Images.{IsOutside, after_write}
+use Rattle.jp_disk.specs.Images.{IsImage, IsOutside, after_write}
 use Rattle.jp_disk.specs.Medium.{Medium, MayLeave, at_rest, after, after_all, ranges_of, IsQuiet}
 use Rattle.jp_disk.specs.ImageLaws.{same_image}
 use Rattle.jp_disk.specs.MediumLaws.{reads_image}
@@ -46,13 +46,13 @@ in_step_quiet first last bytes calls calls' settled call quiet is step =
     (medium_push first first bytes bytes calls calls' call refl is ∙ after-quiet call (medium_of first bytes calls) quiet)
     step.reads step.synced (step.pending ∙ recent) (omega (arith, ap length is, length-append calls (call ∷ []), step.within))
 
--- a sync that was done
-pub in_step_synced : (first last : Option (List ℕ)) (bytes : List ℕ) (calls calls' : List Call) (settled n : ℕ) (done : Bool) → done ≡ true → calls' ≡ calls ++ Sync done ∷ [] → n ≡ length calls' → IsInStep first last bytes calls settled → IsInStep first None bytes calls' n
-in_step_synced first last bytes calls calls' settled n done is_done is size step =
+-- a sync that was done, where the copy of the last sync is that of the bytes now
+pub in_step_synced : (first last last' : Option (List ℕ)) (bytes : List ℕ) (calls calls' : List Call) (settled n : ℕ) (done : Bool) → done ≡ true → unwrap_or last' bytes ≡ bytes → calls' ≡ calls ++ Sync done ∷ [] → n ≡ length calls' → IsInStep first last bytes calls settled → IsInStep first last' bytes calls' n
+in_step_synced first last last' bytes calls calls' settled n done is_done same is size step =
     let m = medium_of first bytes calls in
-    in_step_at first None bytes calls' n (at_rest m.reads)
+    in_step_at first last' bytes calls' n (at_rest m.reads)
     (medium_push first first bytes bytes calls calls' (Sync done) refl is ∙ ap (λ (d : Bool). after (Sync d) m) is_done)
-    step.reads step.reads (ap ranges_of (sym (drop_all n calls' (omega (arith, size))))) (omega (arith, size))
+    step.reads (step.reads ∙ sym same) (ap ranges_of (sym (drop_all n calls' (omega (arith, size))))) (omega (arith, size))
 
 -- a write, done or not
 pub in_step_written : (first first' last last' : Option (List ℕ)) (bytes bytes' : List ℕ) (calls calls' : List Call) (settled at : ℕ) (new : List ℕ) (done : Bool)
@@ -69,6 +69,10 @@ in_step_written first first' last last' bytes bytes' calls calls' settled at new
 module _ (first last : Option (List ℕ)) (bytes : List ℕ) (calls : List Call) (settled : ℕ) (step : IsInStep first last bytes calls settled) where
   pub bytes_are_image : MayLeave (medium_of first bytes calls) bytes
   bytes_are_image = subst (λ (x : List ℕ). MayLeave (medium_of first bytes calls) x) step.reads (reads_image calls (at_rest (unwrap_or first bytes)) (same_image (unwrap_or first bytes) []))
+
+  -- the bytes are an image of those of the last sync, under what was written since
+  pub bytes_follow : IsImage (unwrap_or last bytes) (ranges_of (drop settled calls)) bytes
+  bytes_follow = subst (λ (x : List (ℕ × ℕ)). IsImage (unwrap_or last bytes) x bytes) step.pending (subst (λ (x : List ℕ). IsImage x (medium_of first bytes calls).pending bytes) step.synced bytes_are_image)
 
   pub last_no_longer : length (unwrap_or last bytes) ≤ length bytes
   last_no_longer = omega (arith, bytes_are_image.no_shorter, ap length step.synced)

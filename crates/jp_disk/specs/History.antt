@@ -58,7 +58,7 @@ pub record IsOneCall (call : Bool → Call) (old new : History) (done : Bool) : 
   pub faults : new.faults ≡ (if done then old.faults else counted old.faults)
 
 -- What a disk in memory holds of its medium: the bytes now; those at the beginning and at the last sync that was done,
--- where a write came since; and how many calls there were up to that sync.
+-- where a write came before; and how many calls there were up to that sync.
 pub record IsInStep (first last : Option (List ℕ)) (bytes : List ℕ) (calls : List Call) (settled : ℕ) : Type 0 where
   pub reads : (after_all calls (at_rest (unwrap_or first bytes))).reads ≡ bytes
   pub synced : (after_all calls (at_rest (unwrap_or first bytes))).synced ≡ unwrap_or last bytes

@@ -20,7 +20,7 @@ pub struct MemoryDisk {
     alloc: Global,
     // The bytes at the beginning; None until the first write.
     first: Option<Bytes>,
-    // The bytes at the last sync that was done; None until the next write.
+    // The bytes at the last sync that was done; None until the first write.
     synced: Option<Bytes>,
     bytes: Bytes,
     calls: Vec<Call>,

@@ -1,7 +1,7 @@
 // The steps of a call of a disk in memory: it is counted, kept, and answered.
-ghost use Rattle.std.specs.Prelude.{◌≡◌, ◌⊎◌, ◌≤◌, ◌↔◌, [], ◌∷◌, ◌++◌, List, ℕ, length, IfOk, OnOk, OnErr, IsOk, MatchResult, true, false, IsTrue, unwrap_or, is_ok};
-ghost use Rattle.jp_disk.specs.Images.{after_write};
-ghost use Rattle.jp_disk.specs.Medium.{IsQuiet};
+ghost use Rattle.std.specs.Prelude.{◌≡◌, ◌⊎◌, ◌≤◌, ◌<◌, ◌↔◌, [], ◌∷◌, ◌++◌, List, ℕ, length, slice_index, IfOk, OnOk, OnErr, IsOk, MatchResult, true, false, IsTrue, unwrap_or, is_ok};
+ghost use Rattle.jp_disk.specs.Images.{after_write, IsImage, IsOutside};
+ghost use Rattle.jp_disk.specs.Medium.{IsQuiet, ranges_of};
 ghost use Rattle.device_faults.specs.Faults.{counted};
 ghost use Rattle.jp_disk.specs.History.{medium, IsListed, IsOneCall};
 
@@ -9,6 +9,7 @@ use crate::memory::MemoryDisk;
 use crate::{Bytes, Call};
 use device_faults::Failed;
 use std::alloc::{AllocError, Global};
+use std::mem;
 
 impl MemoryDisk {
     // Counts a call, and says whether it is to fail.
@@ -33,11 +34,27 @@ impl MemoryDisk {
         ensures ok { OnOk result (self.new ≡ record self.old { calls = self.old.calls ++ Call.Sync done ∷ [] }) }
         ensures err { OnErr result (self.new ≡ self.old) }
     {
-        self.calls.push(Call::Sync { done })?;
         if done {
-            self.synced = None;
-            self.settled = self.calls.len();
+            self.settle()
+        } else {
+            self.keep_quiet(Call::Sync { done })
         }
+    }
+
+    // Keeps a sync that was done: nothing is pending then.
+    fn settle(&mut self) -> Result<(), AllocError>
+        ensures ok { OnOk result (self.new ≡ record self.old { calls = self.old.calls ++ Call.Sync true ∷ [] }) }
+        ensures err { OnErr result (self.new ≡ self.old) }
+    {
+        self.calls.reserve(1)?;
+        bring_up(
+            self.alloc,
+            &mut self.synced,
+            self.bytes.as_slice(),
+            &self.calls[self.settled..],
+        )?;
+        self.calls.push_reserved(Call::Sync { done: true });
+        self.settled = self.calls.len();
         Ok(())
     }
 
@@ -49,10 +66,14 @@ impl MemoryDisk {
     {
         keep_copy(self.alloc, &mut self.first, &self.bytes)?;
         keep_copy(self.alloc, &mut self.synced, &self.bytes)?;
-        let next = overlay(self.alloc, self.bytes.as_slice(), at as usize, bytes)?;
-        let bytes = Bytes::from_slice(self.alloc, bytes)?;
-        self.calls.push(Call::Write { at, bytes, done })?;
-        self.bytes = Bytes::from_vec(next);
+        let kept = Bytes::from_slice(self.alloc, bytes)?;
+        self.calls.reserve(1)?;
+        overlay(self.alloc, &mut self.bytes, at as usize, bytes)?;
+        self.calls.push_reserved(Call::Write {
+            at,
+            bytes: kept,
+            done,
+        });
         Ok(())
     }
 
@@ -121,17 +142,28 @@ fn is_listed(fail_at: &[u64], stop_at: Option<u64>, number: u64) -> bool
     fail_at.contains(&number)
 }
 
-// The bytes with others at a place.
-fn overlay(alloc: Global, old: &[u8], at: usize, bytes: &[u8]) -> Result<Vec<u8>, AllocError>
-    requires { at ≤ length old.now }
-    ensures { IfOk result (λ next. next.items ≡ after_write old.now at bytes.now) }
+// Puts bytes over those at a place, and behind them.
+fn overlay(alloc: Global, file: &mut Bytes, at: usize, bytes: &[u8]) -> Result<(), AllocError>
+    requires { at ≤ length file.old }
+    ensures ok { OnOk result (file.new ≡ after_write file.old at bytes.now) }
+    ensures err { OnErr result (file.new ≡ file.old) }
 {
-    let mut next = old[..at].to_vec(alloc)?;
-    next.extend_from_slice(bytes)?;
-    if bytes.len() < old.len() - at {
-        next.extend_from_slice(&old[at + bytes.len()..])?;
-    }
-    Ok(next)
+    let mut next = mem::replace(file, Bytes::new(alloc)).into_vec();
+    let written = write_over(&mut next, at, bytes);
+    *file = Bytes::from_vec(next);
+    written
+}
+
+// The same, in a vector.
+fn write_over(file: &mut Vec<u8>, at: usize, bytes: &[u8]) -> Result<(), AllocError>
+    requires { at ≤ length file.old.items }
+    ensures ok { OnOk result (file.new.items ≡ after_write file.old.items at bytes.now) }
+    ensures err { OnErr result (file.new.items ≡ file.old.items) }
+{
+    let within = bytes.len().min(file.len() - at);
+    file.extend_from_slice(&bytes[within..])?;
+    file[at..at + within].copy_from_slice(&bytes[..within]);
+    Ok(())
 }
 
 // Keeps a copy of the bytes, where none is kept.
@@ -143,4 +175,58 @@ fn keep_copy(alloc: Global, copy: &mut Option<Bytes>, bytes: &Bytes) -> Result<(
         *copy = Some(Bytes::from_slice(alloc, bytes.as_slice())?);
     }
     Ok(())
+}
+
+// Brings a copy of the bytes from before these calls up to the bytes now.
+fn bring_up(
+    alloc: Global,
+    copy: &mut Option<Bytes>,
+    bytes: &[u8],
+    calls: &[Call],
+) -> Result<(), AllocError>
+    requires { IsImage (unwrap_or copy.old bytes.now) (ranges_of calls.now) bytes.now }
+    ensures ok { OnOk result (unwrap_or copy.new bytes.now ≡ bytes.now) }
+    ensures err { OnErr result (copy.new ≡ copy.old) }
+{
+    let Some(kept) = copy else {
+        return Ok(());
+    };
+    let mut last = mem::replace(kept, Bytes::new(alloc)).into_vec();
+    let brought = copy_written(&mut last, bytes, calls);
+    *kept = Bytes::from_vec(last);
+    brought
+}
+
+// Copies what these calls have written.
+fn copy_written(copy: &mut Vec<u8>, bytes: &[u8], calls: &[Call]) -> Result<(), AllocError>
+    requires { IsImage copy.old.items (ranges_of calls.now) bytes.now }
+    ensures ok { OnOk result (copy.new.items ≡ bytes.now) }
+    ensures err { OnErr result (copy.new.items ≡ copy.old.items) }
+{
+    copy.extend_from_slice(&bytes[copy.len()..])?;
+    for call in calls {
+        copy_range(copy, bytes, call);
+    }
+    Ok(())
+}
+
+// Copies the range of a write.
+fn copy_range(copy: &mut Vec<u8>, bytes: &[u8], call: &Call)
+    requires { length copy.old.items ≡ length bytes.now }
+    ensures length { length copy.new.items ≡ length copy.old.items }
+    ensures right { (place : ℕ) → place < length bytes.now → (IsOutside (ranges_of (call.now ∷ [])) place → slice_index copy.old.items place ≡ slice_index bytes.now place) → slice_index copy.new.items place ≡ slice_index bytes.now place }
+{
+    let Call::Write {
+        at,
+        bytes: written,
+        ..
+    } = call
+    else {
+        return;
+    };
+    let start = *at as usize;
+    let end = start.saturating_add(written.len()).min(bytes.len());
+    for place in start..end {
+        copy[place] = bytes[place];
+    }
 }
