@@ -6,3 +6,4 @@ pub mod Going
 pub mod Answering
 pub mod Granting
 pub mod Stepping
+pub mod Marks

@@ -7,6 +7,7 @@ ghost use Rattle.model_run.specs.GraphText.{graph_text};
 ghost use Rattle.model_run.specs.Taking.{taken};
 ghost use Rattle.model_run.specs.World as W;
 ghost use Rattle.cps_code.specs.Script.{script_of};
+ghost use Rattle.script_thread.specs.Marks.{GoesOnFrom, marked};
 ghost use Rattle.build_requests.specs.Waiting.{waiting_inputs, open_tasks, input_of};
 ghost use Rattle.build_core.specs.declared.phase.Phase.TheVariants.{Running, Ended, Stopped};
 ghost use Rattle.build_core.specs.Phases.{SoundIn, has_begun, has_ended};
@@ -85,7 +86,8 @@ impl<R: ScriptThread + Drop> Build<R> {
     /// The answer is that of the definitions: `Finished` where the build has ended, `NotOpen` where the event names what is
     /// not open or begins the build a second time, `WrongPlace` where output does not go on where the stream was left, and
     /// else `Accepted`. Only `Accepted` changes anything: the thread that the event answers is ready, and threads go on until
-    /// each waits or the build is over.
+    /// each waits or the build is over. What is unmarked behind it is as it was: of the cells each that is new or was written
+    /// is marked, and flow nodes are added alone.
     ///
     /// # Errors
     ///
@@ -97,6 +99,7 @@ impl<R: ScriptThread + Drop> Build<R> {
         ensures unchanged { IfOk result (λ answer. (answer ≡ Accepted → ⊥) → self.new ≡ self.old) }
         ensures stands { OnOk result ((w : W.Build) → StandsFor R.stance self.old w → StandsFor R.stance self.new (W.after_one (setting_in self.old) w event.now)) }
         ensures steps { OnOk result (self.old.phase ≡ Running → taken (standing_of self.old) event.now ≡ Accepted → StepsOn R.stance R.seated R.head R.turns R.room event.now self.old.group self.old.shared self.new.phase self.new.group self.new.shared) }
+        ensures marks { OnOk result (GoesOnFrom self.old.shared self.new.shared) }
         ensures setting { OnOk result (setting_in self.new ≡ setting_in self.old) }
         ensures ended { self.old.phase ≡ Ended → result ≡ Ok Finished }
         ensures memory { OnErr result (MayWant self.old.phase (standing_of self.old) event.now) }
@@ -119,6 +122,14 @@ impl<R: ScriptThread + Drop> Build<R> {
             _ => accept(&mut self.shared, &mut self.group, event)?,
         };
         Ok(answer)
+    }
+
+    /// From now on no cell is marked, so that the marked cells are those that are new or were written since. Nothing else
+    /// changes. It takes no memory, and the time of the number of the marked cells.
+    pub fn mark(&mut self)
+        ensures { self.new ≡ record self.old { shared = marked self.old.shared } }
+    {
+        self.shared.heap.mark();
     }
 
     /// The flow nodes, in order of their numbers. It takes no memory.

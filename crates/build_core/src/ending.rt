@@ -8,6 +8,7 @@ ghost use Rattle.model_run.specs.Fitting.{most_nodes};
 ghost use Rattle.model_run.specs.Results.{ended_log, uncaught_lines, worse};
 ghost use Rattle.model_run.specs.LogText.{lines};
 ghost use Rattle.model_run.specs.World as W;
+ghost use Rattle.script_thread.specs.Marks.{GoesOnFrom};
 ghost use Rattle.cps_frames.specs.Standing.{setting_of, common_of};
 ghost use Rattle.settle_laws.specs.Standing.{causes, end_result, heads, first_head};
 ghost use Rattle.build_core.specs.Endings.{IsOver, lines_of};
@@ -31,6 +32,7 @@ pub(crate) fn end_script<R: ScriptThread + Drop>(
 ) -> Result<Phase, AllocError>
     requires few { length shared.old.graph ≤ most_nodes false }
     ensures over { IfOk result (λ phase. IsOver phase group.old shared.old (W.finished (first_head R.stance group.old.seats ∷ []) (causes outcome shared.old.heap.cells) (end_result outcome shared.old.result shared.old.heap.cells) (common_of shared.old)) group.new shared.new) }
+    ensures marks { OnOk result (GoesOnFrom shared.old shared.new) }
 {
     let alloc = shared.alloc();
     let heads = first_head(alloc, group.threads())?;
@@ -49,6 +51,7 @@ pub(crate) fn end_by_limit<R: ScriptThread + Drop>(
 ) -> Result<Phase, AllocError>
     requires few { length shared.old.graph ≤ most_nodes false }
     ensures over { IfOk result (λ phase. IsOver phase group.old shared.old (W.finished (heads R.stance group.old.seats) (limit_line kind ∷ []) (worse shared.old.result Failure) (common_of shared.old)) group.new shared.new) }
+    ensures marks { OnOk result (GoesOnFrom shared.old shared.new) }
 {
     let alloc = shared.alloc();
     let heads = heads_of(alloc, group.threads())?;
@@ -70,6 +73,7 @@ fn finish(
     requires few { length shared.old.graph ≤ most_nodes false }
     ensures finished { OnOk result (common_of shared.new ≡ W.finished heads (lines_of cause) final_result (common_of shared.old)) }
     ensures setting { OnOk result (setting_of shared.new ≡ setting_of shared.old) }
+    ensures marks { OnOk result (GoesOnFrom shared.old shared.new) }
 {
     let alloc = shared.alloc();
     shared.graph.end(heads)?;

@@ -4,6 +4,7 @@ ghost use Rattle.script_thread.specs.Names.{Accepted, GrantedEvent, OutputEvent,
 ghost use Rattle.model_run.specs.Taking.{taken, answered};
 ghost use Rattle.model_run.specs.World as W;
 ghost use Rattle.green_threads.specs.Threads.{with_seat, waits_as, waits_for_request};
+ghost use Rattle.script_thread.specs.Marks.{GoesOnFrom};
 ghost use Rattle.cps_frames.specs.Standing.{setting_of};
 ghost use Rattle.build_requests.specs.Memory.{NeedsMemory};
 ghost use Rattle.build_requests.specs.Standings.{standing_of};
@@ -55,6 +56,7 @@ pub(crate) fn accept<R: ScriptThread + Drop>(
     requires accepted { answered (standing_of shared.old.site shared.old.requests shared.old.held) event.now ≡ Accepted }
     ensures stands { IfOk result (λ phase. GoesOn R.stance event.now group.old shared.old phase group.new shared.new) }
     ensures steps { IfOk result (λ phase. StepsOn R.stance R.seated R.head R.turns R.room event.now group.old shared.old phase group.new shared.new) }
+    ensures marks { OnOk result (GoesOnFrom shared.old shared.new) }
     ensures setting { OnOk result (setting_of shared.new ≡ setting_of shared.old) }
     ensures sound { IfOk result (λ phase. SoundIn R.number R.parent R.branch R.fits phase group.new shared.new) }
 {
@@ -101,6 +103,7 @@ fn grant<R: ScriptThread + Drop>(
     requires accepted { answered (standing_of shared.old.site shared.old.requests shared.old.held) (GrantedEvent request executor) ≡ Accepted }
     ensures stands { IfOk result (λ phase. GoesOn R.stance (GrantedEvent request executor) group.old shared.old phase group.new shared.new) }
     ensures steps { IfOk result (λ phase. StepsOn R.stance R.seated R.head R.turns R.room (GrantedEvent request executor) group.old shared.old phase group.new shared.new) }
+    ensures marks { OnOk result (GoesOnFrom shared.old shared.new) }
     ensures setting { OnOk result (setting_of shared.new ≡ setting_of shared.old) }
     ensures sound { IfOk result (λ phase. SoundIn R.number R.parent R.branch R.fits phase group.new shared.new) }
 {
@@ -122,6 +125,7 @@ fn end_task<R: ScriptThread + Drop>(
     requires accepted { answered (standing_of shared.old.site shared.old.requests shared.old.held) (ExitedEvent task code) ≡ Accepted }
     ensures stands { IfOk result (λ phase. GoesOn R.stance (ExitedEvent task code) group.old shared.old phase group.new shared.new) }
     ensures steps { IfOk result (λ phase. StepsOn R.stance R.seated R.head R.turns R.room (ExitedEvent task code) group.old shared.old phase group.new shared.new) }
+    ensures marks { OnOk result (GoesOnFrom shared.old shared.new) }
     ensures setting { OnOk result (setting_of shared.new ≡ setting_of shared.old) }
     ensures sound { IfOk result (λ phase. SoundIn R.number R.parent R.branch R.fits phase group.new shared.new) }
 {
@@ -145,6 +149,7 @@ fn decide<R: ScriptThread + Drop>(
     requires accepted { answered (standing_of shared.old.site shared.old.requests shared.old.held) (DecidedEvent request proceed name) ≡ Accepted }
     ensures stands { IfOk result (λ phase. GoesOn R.stance (DecidedEvent request proceed name) group.old shared.old phase group.new shared.new) }
     ensures steps { IfOk result (λ phase. StepsOn R.stance R.seated R.head R.turns R.room (DecidedEvent request proceed name) group.old shared.old phase group.new shared.new) }
+    ensures marks { OnOk result (GoesOnFrom shared.old shared.new) }
     ensures setting { OnOk result (setting_of shared.new ≡ setting_of shared.old) }
     ensures sound { IfOk result (λ phase. SoundIn R.number R.parent R.branch R.fits phase group.new shared.new) }
 {
@@ -169,6 +174,7 @@ fn answer<R: ScriptThread + Drop>(
     requires may { MayAnswer R.number R.parent R.branch R.fits thread answer group.old shared.old }
     ensures stands { IfOk result (λ phase. (w : W.Build) → StandsIn R.stance Running (answered_group thread answer group.old) shared.old w → StandsIn R.stance phase group.new shared.new (W.settle (W.turn_bound W.run_limits) (setting_of shared.old) w)) }
     ensures steps { IfOk result (λ phase. GoesOnBy R.stance R.seated R.head R.turns R.room (answered_group thread answer group.old) shared.old phase group.new shared.new) }
+    ensures marks { OnOk result (GoesOnFrom shared.old shared.new) }
     ensures setting { OnOk result (setting_of shared.new ≡ setting_of shared.old) }
     ensures sound { IfOk result (λ phase. SoundIn R.number R.parent R.branch R.fits phase group.new shared.new) }
 {
@@ -190,6 +196,7 @@ fn log_output<R: ScriptThread + Drop>(
     requires accepted { (from : ℕ) × (answered (standing_of shared.old.site shared.old.requests shared.old.held) (OutputEvent task LogStream from bytes.now) ≡ Accepted) }
     ensures stands { IfOk result (λ phase. (from : ℕ) → GoesOn R.stance (OutputEvent task LogStream from bytes.now) group.old shared.old phase group.new shared.new) }
     ensures steps { IfOk result (λ phase. (from : ℕ) → StepsOn R.stance R.seated R.head R.turns R.room (OutputEvent task LogStream from bytes.now) group.old shared.old phase group.new shared.new) }
+    ensures marks { OnOk result (GoesOnFrom shared.old shared.new) }
     ensures setting { OnOk result (setting_of shared.new ≡ setting_of shared.old) }
     ensures sound { IfOk result (λ phase. SoundIn R.number R.parent R.branch R.fits phase group.new shared.new) }
 {
@@ -216,6 +223,7 @@ fn keep_out<R: ScriptThread + Drop>(
     requires accepted { (from : ℕ) × (answered (standing_of shared.old.site shared.old.requests shared.old.held) (OutputEvent task OutStream from bytes.now) ≡ Accepted) }
     ensures stands { IfOk result (λ phase. (from : ℕ) → GoesOn R.stance (OutputEvent task OutStream from bytes.now) group.old shared.old phase group.new shared.new) }
     ensures steps { IfOk result (λ phase. (from : ℕ) → StepsOn R.stance R.seated R.head R.turns R.room (OutputEvent task OutStream from bytes.now) group.old shared.old phase group.new shared.new) }
+    ensures marks { OnOk result (GoesOnFrom shared.old shared.new) }
     ensures setting { OnOk result (setting_of shared.new ≡ setting_of shared.old) }
     ensures sound { IfOk result (λ phase. SoundIn R.number R.parent R.branch R.fits phase group.new shared.new) }
 {

@@ -4,6 +4,7 @@ ghost use Rattle.model_run.specs.World as W;
 ghost use Rattle.model_run.specs.declared.event.Event.TheVariants.{Start as StartEvent};
 ghost use Rattle.green_threads.specs.WaitTypes.{Answer, Ready};
 ghost use Rattle.green_threads.specs.Threads.{with_seat, waits_as, waits_for_request};
+ghost use Rattle.script_thread.specs.Marks.{GoesOnFrom};
 ghost use Rattle.cps_frames.specs.Standing.{setting_of};
 ghost use Rattle.build_core.specs.declared.phase.Phase.TheVariants.{Unbegun, Running};
 ghost use Rattle.build_core.specs.Phases.{StandsIn, SoundIn, GoOn, IsEmpty};
@@ -24,6 +25,7 @@ pub(crate) fn begin<R: ScriptThread + Drop>(
 ) -> Result<Phase, AllocError>
     requires empty { IsEmpty group.old shared.old }
     ensures stands { IfOk result (λ phase. StandsIn R.stance phase group.new shared.new (W.settle (W.turn_bound W.run_limits) (setting_of shared.old) W.begun)) }
+    ensures marks { OnOk result (GoesOnFrom shared.old shared.new) }
     ensures setting { OnOk result (setting_of shared.new ≡ setting_of shared.old) }
     ensures sound { IfOk result (λ phase. SoundIn R.number R.parent R.branch R.fits phase group.new shared.new) }
 {
@@ -47,6 +49,7 @@ pub(crate) fn go_on<R: ScriptThread + Drop>(
     requires go { GoOn R.number R.parent R.branch R.fits 1 group.old shared.old }
     ensures stands { IfOk result (λ phase. (w : W.Build) → StandsIn R.stance Running group.old shared.old w → StandsIn R.stance phase group.new shared.new (W.settle (W.turn_bound W.run_limits) (setting_of shared.old) w)) }
     ensures steps { IfOk result (λ phase. GoesOnBy R.stance R.seated R.head R.turns R.room group.old shared.old phase group.new shared.new) }
+    ensures marks { OnOk result (GoesOnFrom shared.old shared.new) }
     ensures setting { OnOk result (setting_of shared.new ≡ setting_of shared.old) }
     ensures sound { IfOk result (λ phase. SoundIn R.number R.parent R.branch R.fits phase group.new shared.new) }
 {

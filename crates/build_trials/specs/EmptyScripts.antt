@@ -1,6 +1,7 @@
 -- The build of an empty script, which ends with its first turn: what the definitions see of its thread (for the tests).
-use Rattle.std.specs.Prelude.{◌≡◌, ℕ, zero, suc, Bool, true, false, List, [], ◌∷◌, Option, Some, None, is_some, refl}
-use Rattle.std.proofs.Common.{lit<, lit≤, sym, subst}
+use Rattle.std.specs.Prelude.{◌≡◌, ℕ, zero, suc, Bool, true, false, List, [], ◌∷◌, Option, Some, None, is_some, length, replicate, refl}
+use Rattle.std.proofs.Common.{lit<, lit≤, ap, sym, subst}
+use Rattle.cell_heap.specs.Region.{Region}
 use Rattle.model_run.specs.Fitting.{IsFlowNode, SharedFits}
 use Rattle.model_run.specs.State.{Common}
 use Rattle.model_run.specs.Taking.{request_of}
@@ -14,6 +15,7 @@ use Rattle.cps_frames.specs.Standing.{setting_of, common_of}
 use Rattle.settle_laws.specs.Stances.{Stance, seated_as, script_stance}
 use Rattle.settle_laws.specs.Standing.{HeadsStand}
 use Rattle.script_thread.specs.Events.{IsBegun, first_seat, seats_after, shared_after}
+use Rattle.script_thread.specs.Marks.{marked}
 use Rattle.script_thread.specs.Names.{Event}
 
 abbrev pub runs_of : Bool → Option Runs
@@ -46,6 +48,12 @@ module _ {T : Type 0} where
   pub begins : (make : Bool → T) (n : ℕ) (p : Option ℕ) (h : Bool) (u : Shared) → seated_as 0 None (stance_of n p h) ≡ script_stance → IsBegun u → AsBegun (make false) (first_seat (make h) ∷ []) u
   begins make n p true u e b = absurd (subst (λ (x : Stance). IsNone x.runs) e tt)
   begins make n p false u e b = record { begun = b; threads = refl }
+
+  pub begun_marked : (t : T) (xs : List (Seated T)) (u : Shared) → AsBegun t xs u → AsBegun t xs (marked u)
+  begun_marked t xs u a = record {
+    begun = record { script = a.begun.script; shared = a.begun.shared; heap = ap (λ (h : Region). record h { changed = replicate (length h.cells) false }) a.begun.heap };
+    threads = a.threads;
+  }
 
   pub begun_sound : (t : T) (xs : List (Seated T)) (u : Shared) → AsBegun t xs u → SharedFits (setting_of u) false (common_of u)
   begun_sound t xs u a = subst (λ v. SharedFits (setting_of u) false v) (sym a.begun.shared) (record {

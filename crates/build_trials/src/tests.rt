@@ -87,12 +87,13 @@ fn shown_before<R: ScriptThread + Drop>(
     Ok((show(&build), due, build.input_of(b"1")))
 }
 
-/// What a build shows behind its end, its log and the text of its graph.
+/// What a build shows behind its end and a mark, its log and the text of its graph.
 fn shown_behind<R: ScriptThread + Drop>(
     alloc: Global,
 ) -> Result<(Shown, Bytes, Bytes), AllocError> {
     let mut build: Build<R> = unbegun(alloc)?;
     build.take(&start(alloc))?;
+    build.mark();
     let log = Bytes::from_slice(alloc, build.log())?;
     let graph = build.graph_text()?;
     Ok((show(&build), log, graph))

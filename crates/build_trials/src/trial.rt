@@ -17,7 +17,7 @@ pub struct EmptyScript {
 }
 
 impl Runner for EmptyScript {
-    ghost use Rattle.std.specs.Prelude.{◌-◌, length, None, false};
+    ghost use Rattle.std.specs.Prelude.{◌≡◌, ◌-◌, length, None, false};
     ghost use Rattle.model_run.specs.World.{run_limits};
     ghost use Rattle.cps_frames.specs.Standing.{setting_of, common_of};
     ghost use Rattle.settle_laws.specs.Stances.{Turns};
@@ -39,7 +39,8 @@ impl Runner for EmptyScript {
 
     ghost fits = { AsBegun (record { number = 0; parent = None; has_begun = false }) };
 
-    ghost turns = { Turns (λ t. stance_of t.number t.parent t.has_begun) common_of setting_of };
+    // a turn changes nothing that threads share
+    ghost turns = { λ t u x stopped t' u'. (u' ≡ u) × Turns (λ t. stance_of t.number t.parent t.has_begun) common_of setting_of t u x stopped t' u' };
 
     fn head(&self) -> u32 {
         2
@@ -69,7 +70,8 @@ impl Runner for EmptyScript {
 
 impl ScriptThread for EmptyScript {
     ghost use Rattle.std.specs.Prelude.{None, refl};
-    ghost use Rattle.build_trials.specs.EmptyScripts.{stance_of, begun_sound, heads_begun, none_open, never_rests, begins};
+    ghost use Rattle.build_core.proofs.Marks.{stays};
+    ghost use Rattle.build_trials.specs.EmptyScripts.{stance_of, begun_sound, begun_marked, heads_begun, none_open, never_rests, begins};
 
     ghost stance = { λ t. stance_of t.number t.parent t.has_begun };
 
@@ -85,11 +87,15 @@ impl ScriptThread for EmptyScript {
 
     ghost seated_is = { λ t n p. refl };
 
-    ghost turned = { λ t u x stopped t' u' so. so };
+    ghost turned = { λ t u x stopped t' u' so. so.1 };
+
+    ghost marks = { λ t u x stopped t' u' so. stays u u' so.0 };
 
     ghost room_is = { λ u. refl };
 
     ghost begun_fits = { λ t u e alone begun. begins (λ has_begun. record { number = 0; parent = None; has_begun = has_begun }) t.number t.parent t.has_begun u e begun };
+
+    ghost marked_fits = { λ xs u fit. begun_marked _ xs u fit };
 
     ghost shared_fits = { λ xs u fit. begun_sound _ xs u fit };
 

@@ -148,6 +148,7 @@ impl ScriptThread for MachineThread {
     ghost use Rattle.thread_fits.specs.Seats.{Fits};
     ghost use Rattle.thread_fits.proofs.BeginLaws.{script_fits};
     ghost use Rattle.thread_fits.proofs.EventLaws.{awaited_there, event_fits};
+    ghost use Rattle.thread_fits.proofs.MarkLaws.{marked_fits};
     ghost use Rattle.thread_fits.proofs.SeatLaws.{heads_stand};
     ghost use Rattle.cps_machine.specs.Threads.{seated, stance_of};
 
@@ -168,9 +169,13 @@ impl ScriptThread for MachineThread {
 
     ghost turned = { λ t u x stopped t' u' turns. turns.1 };
 
+    ghost marks = { λ t u x stopped t' u' turns. record { cells = turns.0.runs.onward.beside.heap; nodes = turns.0.runs.leaves.follows.later.nodes } };
+
     ghost room_is = { λ u. refl };
 
     ghost begun_fits = { λ t u e alone begun. script_fits stance_of (seated t 0 None) u e begun };
+
+    ghost marked_fits = { marked_fits stance_of };
 
     ghost shared_fits = { λ xs u fit. fit.shared };
 

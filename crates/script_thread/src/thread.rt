@@ -16,6 +16,7 @@ ghost use Rattle.settle_laws.specs.Stances.{Stance, seated_as, script_stance, Tu
 ghost use Rattle.settle_laws.specs.Standing.{HeadsStand};
 ghost use Rattle.build_requests.specs.Standings.{standing_of};
 ghost use Rattle.script_thread.specs.Events.{EndsNot, seats_after, shared_after, IsBegun, first_seat};
+ghost use Rattle.script_thread.specs.Marks.{GoesOnFrom, marked};
 
 use cps_frames::Shared;
 use green_threads::Runner;
@@ -42,11 +43,17 @@ pub trait ScriptThread: Runner<Shared = Shared> {
     /// Its turns are those of the definitions.
     ghost turned: { (t : Self) (u : Shared) (x : Answer) (stopped : Stop Self) (t' : Self) (u' : Shared) → Self.turns t u x stopped t' u' → Turns stance common_of setting_of t u x stopped t' u' };
 
+    /// What a turn leaves unmarked is as it was.
+    ghost marks: { (t : Self) (u : Shared) (x : Answer) (stopped : Stop Self) (t' : Self) (u' : Shared) → Self.turns t u x stopped t' u' → GoesOnFrom u u' };
+
     /// As many branches may still begin or end as flow nodes may be made.
     ghost room_is: { (u : Shared) → Self.room u ≡ run_limits.flow_nodes - length u.graph };
 
     /// The thread of a script fits the shared state of a build that begins.
     ghost begun_fits: { (t : Self) (u : Shared) → seated_as 0 None (stance t) ≡ script_stance → Self.branch t ≡ false → IsBegun u → Self.fits (first_seat (Self.seated t 0 None) ∷ []) u };
+
+    /// Threads that fit do so whatever is marked.
+    ghost marked_fits: { (xs : List (Seated Self)) (u : Shared) → Self.fits xs u → Self.fits xs (marked u) };
 
     /// Threads that fit have a sound shared state.
     ghost shared_fits: { (xs : List (Seated Self)) (u : Shared) → Self.fits xs u → SharedFits (setting_of u) false (common_of u) };

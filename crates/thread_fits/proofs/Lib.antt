@@ -11,3 +11,4 @@ pub mod GoingLaws
 pub mod TurnLaws
 pub mod BeginLaws
 pub mod EventLaws
+pub mod MarkLaws

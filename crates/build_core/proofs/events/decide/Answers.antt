@@ -5,6 +5,7 @@ use Rattle.script_thread.specs.Events.{shared_after}
 use Rattle.build_core.proofs.Answering.{may_answer, decided, goes_on, map_ok}
 use Rattle.build_core.proofs.Fitting.{input_open, thread_is}
 use Rattle.build_core.proofs.Stepping.{steps_answered}
+use Rattle.build_core.proofs.Marks.{but_for}
 use Rattle.build_core.proofs.events.decide.Goals as goal
 
 pub answer-requires : goal.answer-requires
@@ -35,3 +36,6 @@ returns-clause-steps g c =
     map_ok c.answer.result c.answer.ensures.steps
     (λ p k. steps_answered g.R.ScriptThread.stance g.R.Runner.seated g.R.Runner.head g.R.Runner.turns g.R.Runner.room (DecidedEvent c.args.request c.args.proceed c.args.name) c.args.group.now u c.args.request (DecidedAnswer c.args.proceed c.args.name) refl (λ j passes. passes)
     c.close-closed.result.thread (thread_is c.args.request u.requests c.close-closed.result c.close-closed.ensures.closed) _ refl u2 same p _ _ k)
+
+pub returns-clause-marks : goal.returns-clause-marks
+returns-clause-marks g c = map_ok c.answer.result c.answer.ensures.marks (λ p k. but_for c.args.shared.now (record c.args.shared.now { requests = c.close-closed.new.requests; count = 0 }) _ refl refl k)

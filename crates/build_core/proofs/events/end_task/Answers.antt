@@ -8,6 +8,7 @@ use Rattle.script_thread.specs.Events.{shared_after}
 use Rattle.build_core.proofs.Answering.{may_answer, ended, goes_on, map_ok}
 use Rattle.build_core.proofs.Fitting.{task_open, thread_is, request_is}
 use Rattle.build_core.proofs.Stepping.{steps_answered}
+use Rattle.build_core.proofs.Marks.{but_for}
 use Rattle.build_core.proofs.events.end_task.Goals as goal
 
 -- the answer that the thread gets
@@ -48,3 +49,6 @@ returns-clause-steps g c =
     (λ p k. steps_answered g.R.ScriptThread.stance g.R.Runner.seated g.R.Runner.head g.R.Runner.turns g.R.Runner.room (ExitedEvent c.args.task c.args.code) c.args.group.now u c.args.task (Done c.args.code (W.kept_output (request_of u.requests c.args.task))) refl (λ j passes. passes)
     c.close-closed.result.thread (thread_is c.args.task u.requests c.close-closed.result c.close-closed.ensures.closed)
     (Done (to_z w32 (of_z w32 c.args.code)) c.take_output-out.result) (answer_is c.take_output-out.result c.args.code (to_z w32 (of_z w32 c.args.code)) u.requests c.args.task c.close-closed.result code_is c.close-closed.ensures.closed c.take_output-out.ensures) u2 same p _ _ k)
+
+pub returns-clause-marks : goal.returns-clause-marks
+returns-clause-marks g c = map_ok c.answer.result c.answer.ensures.marks (λ p k. but_for c.args.shared.now (record c.args.shared.now { requests = c.close-closed.new.requests; count = 0 }) _ refl refl k)

@@ -15,6 +15,7 @@ use Rattle.build_core.proofs.Changes.{anew, uncounted_stand, kept_is, text_limit
 use Rattle.build_core.proofs.Answering.{rests_after, rests_on, is_limited, map_ok}
 use Rattle.build_core.proofs.Ended.{counted_fits, over_sound}
 use Rattle.build_core.proofs.Stepping.{steps_rested, steps_limited}
+use Rattle.build_core.proofs.Marks.{but_for, rests}
 use Rattle.build_core.proofs.events.keep_out.Goals as goal
 
 pub returns-then-saturating_add-gt-MAX_TEXT-clause-stands : goal.returns-then-saturating_add-gt-MAX_TEXT-clause-stands
@@ -69,3 +70,9 @@ returns-then-saturating_add-gt-MAX_TEXT-clause-steps g c =
     let many : W.run_limits.values.text < length (W.kept_output (request_of u.requests c.args.task)) + length c.args.bytes.now = omega (arith, c.if-saturating_add-gt-MAX_TEXT.true, c.saturating_add.ensures, c.kept_len-kept.ensures) in
     map_ok c.end_by_limit.result c.end_by_limit.ensures.over
     (λ p o from. steps_limited g.R.ScriptThread.stance g.R.Runner.seated g.R.Runner.head g.R.Runner.turns g.R.Runner.room (OutputEvent c.args.task OutStream from c.args.bytes.now) c.args.group.now u TextLength (λ few. omega (arith, few, many)) (λ j passes. passes.0) u0 refl refl p _ _ o)
+
+pub returns-then-saturating_add-gt-MAX_TEXT-clause-marks : goal.returns-then-saturating_add-gt-MAX_TEXT-clause-marks
+returns-then-saturating_add-gt-MAX_TEXT-clause-marks g c = map_ok c.end_by_limit.result c.end_by_limit.ensures.marks (λ p k. but_for c.args.shared.now (record c.args.shared.now { count = 0 }) _ refl refl k)
+
+pub returns-clause-marks : goal.returns-clause-marks
+returns-clause-marks g c = rests c.args.shared.now (record c.args.shared.now { requests = c.keep_output.new.requests; count = 0 }) refl refl

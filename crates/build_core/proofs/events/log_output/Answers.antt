@@ -18,6 +18,7 @@ use Rattle.build_core.proofs.Fitting.{log_over, log_within, room_to_take}
 use Rattle.build_core.proofs.Answering.{rests_after, rests_on, is_limited, map_ok}
 use Rattle.build_core.proofs.Ended.{counted_fits, over_sound}
 use Rattle.build_core.proofs.Stepping.{steps_rested, steps_limited}
+use Rattle.build_core.proofs.Marks.{but_for, rests}
 use Rattle.build_core.proofs.events.log_output.Goals as goal
 
 pub returns-in-Err-LogLimit-clause-stands : goal.returns-in-Err-LogLimit-clause-stands
@@ -81,3 +82,9 @@ returns-in-Err-LogLimit-clause-steps g c =
     map_ok c.end_by_limit.result c.end_by_limit.ensures.over
     (λ p o from. steps_limited g.R.ScriptThread.stance g.R.Runner.seated g.R.Runner.head g.R.Runner.turns g.R.Runner.room (OutputEvent c.args.task LogStream from c.args.bytes.now) c.args.group.now u LogSize (λ few. omega (arith, few, many)) (λ j passes. passes.0)
     u0 (ap (λ l. record (common_of u) { log = l; count = 0 }) c.in-Err-LogLimit.ensures.unchanged) refl p _ _ o)
+
+pub returns-in-Err-LogLimit-clause-marks : goal.returns-in-Err-LogLimit-clause-marks
+returns-in-Err-LogLimit-clause-marks g c = map_ok c.end_by_limit.result c.end_by_limit.ensures.marks (λ p k. but_for c.args.shared.now (record c.args.shared.now { log = c.raw.new.self; count = 0 }) _ refl refl k)
+
+pub returns-clause-marks : goal.returns-clause-marks
+returns-clause-marks g c = rests c.args.shared.now (record c.args.shared.now { log = c.raw.new.self; requests = c.count_taken.new.requests; count = 0 }) refl refl

@@ -9,6 +9,7 @@ use Rattle.settle_laws.proofs.Heads.{first_stands, heads_are}
 use Rattle.build_core.proofs.Going.{Soundly, soundly, some_after, setting_after, waits, ends, limits}
 use Rattle.build_core.proofs.Ended.{over_sound}
 use Rattle.build_core.proofs.Stepping.{settled_so}
+use Rattle.build_core.proofs.Marks.{settled_from, goes_further}
 use Rattle.build_core.proofs.turns.go_on.Goals as goal
 
 pub settle-requires : goal.settle-requires
@@ -78,3 +79,14 @@ returns-in_ok-end_script-in-Ended-clause-steps g c = settled_so g.R.ScriptThread
 
 pub returns-in_ok-end_by_limit-in-Limit-clause-steps : goal.returns-in_ok-end_by_limit-in-Limit-clause-steps
 returns-in_ok-end_by_limit-in-Limit-clause-steps g c = settled_so g.R.ScriptThread.stance g.R.Runner.seated g.R.Runner.head g.R.Runner.turns g.R.Runner.room _ _ _ _ _ c.in_ok-settle.ensures.order (settled.Limit c.in-Limit.kind) c.in-Limit.is _ _ _ c.in_ok-end_by_limit-in-Limit.ensures.over
+
+pub returns-in-AllWait-clause-marks : goal.returns-in-AllWait-clause-marks
+returns-in-AllWait-clause-marks g c = settled_from g.R.Runner.seated g.R.Runner.head g.R.Runner.turns g.met.R.ScriptThread.marks _ _ _ _ _ _ c.in_ok-settle.ensures.order
+
+pub returns-in_ok-end_script-in-Ended-clause-marks : goal.returns-in_ok-end_script-in-Ended-clause-marks
+returns-in_ok-end_script-in-Ended-clause-marks g c =
+    goes_further _ _ _ (settled_from g.R.Runner.seated g.R.Runner.head g.R.Runner.turns g.met.R.ScriptThread.marks _ _ _ _ _ _ c.in_ok-settle.ensures.order) c.in_ok-end_script-in-Ended.ensures.marks
+
+pub returns-in_ok-end_by_limit-in-Limit-clause-marks : goal.returns-in_ok-end_by_limit-in-Limit-clause-marks
+returns-in_ok-end_by_limit-in-Limit-clause-marks g c =
+    goes_further _ _ _ (settled_from g.R.Runner.seated g.R.Runner.head g.R.Runner.turns g.met.R.ScriptThread.marks _ _ _ _ _ _ c.in_ok-settle.ensures.order) c.in_ok-end_by_limit-in-Limit.ensures.marks

@@ -1,0 +1,62 @@
+-- What an event leaves unmarked is as it was.
+use Rattle.std.proofs.Common.{◌≡◌, ℕ, Bool, false, List, [], ◌∷◌, ◌++◌, length, replicate, Option, ap}
+use Rattle.cell_heap.specs.Region.{Region}
+use Rattle.cell_heap.proofs.FollowsLemmas.{Follows-refl, Follows-same, Follows-trans}
+use Rattle.model_run.specs.declared.flow.FlowNode.{FlowNode}
+use Rattle.model_run.specs.World as W
+use Rattle.model_run.proofs.Front.{front_itself, front_same, front_on}
+use Rattle.green_threads.specs.declared.runner.Seated.{Seated}
+use Rattle.green_threads.specs.declared.runner.Stop.{Stop}
+use Rattle.green_threads.specs.declared.settled.Settled.{Settled}
+use Rattle.green_threads.specs.Order.{Settles, all_wait, next_turn, ends, limit_met, too_many}
+use Rattle.green_threads.specs.Threads as G
+use Rattle.cps_frames.specs.declared.shared.Shared.{Shared}
+use Rattle.script_thread.specs.Marks.{GoesOnFrom, marked}
+use Rattle.script_thread.specs.Names.{Answer}
+use Rattle.build_core.specs.declared.phase.Phase.{Phase}
+use Rattle.build_core.specs.declared.phase.Phase.TheVariants.{Unbegun, Running, Ended, Stopped}
+use Rattle.build_core.specs.Phases.{SoundIn}
+
+-- What holds from each state to itself, further with each step, and of each turn holds of all turns.
+module _ {T S : Type 0} (limit : ℕ) (seated : T → ℕ → Option ℕ → T) (head : T → ℕ) (turns : T → S → Answer → Stop T → T → S → Type 0) (R : S → S → Type 0)
+    (itself : (s : S) → R s s) (further : (a b c : S) → R a b → R b c → R a c) (turn : (t : T) (u : S) (x : Answer) (k : Stop T) (t' : T) (u' : S) → turns t u x k t' u' → R u u') where
+  pub settles_by : (n : ℕ) (g : G.Threads T) (u : S) (out : Settled) (g' : G.Threads T) (u' : S) → Settles limit seated head turns n g u out g' u' → R u u'
+  settles_by _ _ _ _ _ _ (all_wait n g u none) = itself u
+  settles_by _ _ _ _ _ _ (next_turn n g g' u u' u'' v k t out first tu more adm rest) =
+      further u u' u'' (turn v.seat.thread u v.answer k t u' tu) (settles_by n (G.turned seated head g v.seat k t) u' out g' u'' rest)
+  settles_by _ _ _ _ _ _ (ends n g u u' v o t w first tu par) = turn v.seat.thread u v.answer _ t u' tu
+  settles_by _ _ _ _ _ _ (limit_met n g u u' v k t w first tu) = turn v.seat.thread u v.answer _ t u' tu
+  settles_by _ _ _ _ _ _ (too_many n g u u' v bs t w first tu many) = turn v.seat.thread u v.answer _ t u' tu
+
+-- where cells and flow nodes are the same
+pub rests : (u v : Shared) → v.heap ≡ u.heap → v.graph ≡ u.graph → GoesOnFrom u v
+rests u v cells nodes = record { cells = Follows-same u.heap v.heap cells; nodes = front_same u.graph v.graph nodes }
+
+pub stays : (u v : Shared) → v ≡ u → GoesOnFrom u v
+stays u v e = rests u v (ap (λ (s : Shared). s.heap) e) (ap (λ (s : Shared). s.graph) e)
+
+pub goes_further : (u v w : Shared) → GoesOnFrom u v → GoesOnFrom v w → GoesOnFrom u w
+goes_further u v w h k = record { cells = Follows-trans u.heap v.heap w.heap h.cells k.cells; nodes = front_on u.graph v.graph w.graph h.nodes k.nodes }
+
+-- from where cells and flow nodes are the same
+pub but_for : (u v w : Shared) → v.heap ≡ u.heap → v.graph ≡ u.graph → GoesOnFrom v w → GoesOnFrom u w
+but_for u v w cells nodes h = goes_further u v w (rests u v cells nodes) h
+
+-- all turns of an event
+pub settled_from : {T : Type 0} (seated : T → ℕ → Option ℕ → T) (head : T → ℕ) (turns : T → Shared → Answer → Stop T → T → Shared → Type 0) →
+    ((t : T) (u : Shared) (x : Answer) (k : Stop T) (t' : T) (u' : Shared) → turns t u x k t' u' → GoesOnFrom u u') →
+    (n : ℕ) (g : G.Threads T) (u : Shared) (out : Settled) (g' : G.Threads T) (u' : Shared) → Settles W.run_limits.threads seated head turns n g u out g' u' → GoesOnFrom u u'
+settled_from seated head turns turn n g u out g' u' order =
+    settles_by W.run_limits.threads seated head turns GoesOnFrom (λ v. record { cells = Follows-refl v.heap; nodes = front_itself v.graph }) goes_further turn n g u out g' u' order
+
+-- a flow node is put behind
+pub node_from : (u v : Shared) (node : FlowNode) → v.heap ≡ u.heap → v.graph ≡ u.graph ++ node ∷ [] → GoesOnFrom u v
+node_from u v node cells nodes = record { cells = Follows-same u.heap v.heap cells; nodes = (node ∷ [], nodes) }
+
+-- a build keeps what it keeps, whatever is marked
+pub marked_sound : {T : Type 0} (number : T → ℕ) (parent : T → Option ℕ) (branch : T → Bool) (fits : List (Seated T) → Shared → Type 0) → ((xs : List (Seated T)) (u : Shared) → fits xs u → fits xs (marked u)) →
+    (p : Phase) (g : G.Threads T) (u : Shared) → SoundIn number parent branch fits p g u → SoundIn number parent branch fits p g (marked u)
+marked_sound number parent branch fits marked_fits Unbegun g u h = record { threads = h.threads; shared = h.shared; heap = ap (λ (r : Region). record r { changed = replicate (length r.cells) false }) h.heap }
+marked_sound number parent branch fits marked_fits Running g u h = record { grouped = h.grouped; fit = marked_fits g.seats u h.fit; few_threads = h.few_threads; few = h.few }
+marked_sound number parent branch fits marked_fits Ended g u h = record { threads = h.threads; requests = h.requests; held = h.held; sound = h.sound; few_threads = h.few_threads }
+marked_sound number parent branch fits marked_fits Stopped g u h = tt
