@@ -1,8 +1,9 @@
 -- Why a build was not begun, and of what it is begun.
-use Rattle.std.proofs.Common.{◌≡◌, ℕ, List, Option, None, Some, refl}
+use Rattle.std.proofs.Common.{◌≡◌, ℕ, List, [], ◌∷◌, Option, None, Some, refl}
 use Rattle.std.specs.Prelude.{IsSome}
 use Rattle.agent_worker.specs.declared.fault.TakeFault.TheVariants as take
 use Rattle.model_syntax.specs.declared.tree.Tree.{Tree}
+use Rattle.model_run.specs.declared.event.Event.{Event}
 use Rattle.model_run.specs.declared.site.Site.{Site}
 use Rattle.run_command.specs.Files.{Builds}
 use Rattle.saved_run.specs.declared.life.BeginFault.{BeginFault}
@@ -12,6 +13,9 @@ use Rattle.store_laws.specs.Store.{Mean}
 use Rattle.build_commands.specs.declared.refusal.Refusal.{Refusal}
 use Rattle.build_commands.specs.declared.refusal.Refusal.TheVariants.{DiskFailed, HasBuild, OutOfMemory}
 use Rattle.build_commands.specs.Beginning.{BeginSays, has_build, disk_failed, full, no_memory}
+use Rattle.build_commands.specs.declared.end_text.EndText.{EndText}
+use Rattle.build_commands.specs.declared.end_text.EndText.TheVariants.{Log, Numbers}
+use Rattle.build_commands.specs.EndTexts.{Counts}
 use Rattle.build_commands.specs.Refusals.{SaysBegin, refusal_status, refusal_text}
 use Rattle.build_commands.specs.Texts.{full_text}
 use Rattle.build_commands.proofs.RefusalLemmas.{as_said, as_told}
@@ -26,6 +30,11 @@ begin_says (begin.Take (take.Full len add)) r says = as_said (BeginSays (begin.T
 -- what can be built means a setting
 pub meant : (script agents : List ℕ) (tree : Tree) (site : Site) → Builds script agents tree site → Mean script agents (script_setting tree site)
 meant script agents tree site b = record { tree = tree; within = b.fits; faultless = b.faultless; means = b.means; is = refl }
+
+-- of the first event there is one record
+pub counts_first : (kind : EndText) (records : ℕ) (e : Event) → records ≡ 1 → Counts kind records (e ∷ [])
+counts_first Log records e one = tt
+counts_first (Numbers stages) records e one = one
 
 -- the bytes that a disk tells
 pub known_file : (o : Option (List ℕ)) → IsSome o → (file : List ℕ) × (o ≡ Some file)

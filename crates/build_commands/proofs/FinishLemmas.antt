@@ -1,5 +1,5 @@
 -- How a command ends that lets a build go on, put together.
-use Rattle.std.proofs.Common.{◌≡◌, ◌⊎◌, ◌+◌, ◌<◌, ◌^◌, ◌∙◌, ℕ, ℤ, List, [], ◌∷◌, ◌++◌, Option, Some, None, Result, Ok, Err, inl, inr, refl, sym, ap, subst}
+use Rattle.std.proofs.Common.{◌≡◌, ◌⊎◌, ◌+◌, ◌<◌, ◌^◌, ◌∙◌, ℕ, ℤ, List, [], ◌∷◌, ◌++◌, length, Option, Some, None, Result, Ok, Err, inl, inr, refl, sym, ap, subst, length-append, arith}
 use Rattle.std.specs.Prelude.{Bool, true, false, IfErr, IfOk, IfSome, IsSomeAnd, if◌then◌else◌}
 use Rattle.std.proofs.Props.{props}
 use Rattle.std.proofs.Math.Logic.{∥∥₁_elim, ∥∥₁_map}
@@ -11,7 +11,7 @@ use Rattle.agent_worker.specs.declared.fault.TakeFault.{TakeFault}
 use Rattle.agent_worker.specs.declared.fault.TakeFault.TheVariants as take
 use Rattle.agent_worker.specs.declared.member.Member.{Member}
 use Rattle.model_run.specs.declared.event.Event.{Event}
-use Rattle.model_run.specs.State.{Setting}
+use Rattle.model_run.specs.State.{Common, Setting}
 use Rattle.model_run.specs.declared.taken.Taken.TheVariants.{Accepted, Finished as Over}
 use Rattle.model_run.specs.Taking.{answered, answered_first}
 use Rattle.model_run.specs.World.{Build, answer_to, standing, world_in}
@@ -35,9 +35,12 @@ use Rattle.site_run.specs.Serving.{AreServed}
 use Rattle.build_commands.specs.declared.refusal.Refusal.{Refusal}
 use Rattle.build_commands.specs.declared.refusal.Refusal.TheVariants.{DiskFailed, OutOfMemory}
 use Rattle.build_commands.specs.Refusals.{SaysTake, refusal_status, refusal_text}
-use Rattle.build_commands.specs.Finishing.{ComesNext, Made, Breaks, answers_failed, disk_failed, full, no_memory, Finishes, by_rest, by_break, TellsEnd, TellsRest}
+use Rattle.build_commands.specs.Finishing.{ComesNext, Made, Breaks, answers_failed, disk_failed, full, no_memory, Finishes, by_rest, by_break, TellsEnd, TellsRest, TellsText}
 use Rattle.site_crew.specs.Crews.{answers_in, hosts_in, members_of, others_of}
 use Rattle.build_commands.specs.Living.{ComesBy, Finished, HeardOf, IsRefused, TakesBy}
+use Rattle.build_commands.specs.declared.end_text.EndText.{EndText}
+use Rattle.build_commands.specs.declared.end_text.EndText.TheVariants.{Log, Numbers}
+use Rattle.build_commands.specs.EndTexts.{Counts, text_in, world_text}
 use Rattle.build_commands.specs.Reporting.{IsBroken, Reports}
 use Rattle.build_commands.specs.Reporting as report
 use Rattle.build_commands.specs.Texts.{full_text, out_of_memory_text}
@@ -56,6 +59,22 @@ accepted_going setting b e = one b.ended
     one : (ended : Bool) → (if ended then Over else if b.started then answered (standing setting b) e else answered_first e) ≡ Accepted → ended ≡ false
     one true is = absurd (cc)
     one false is = refl
+
+-- where so many events are counted, the text of the state is that of their number
+text_counted : (kind : EndText) (records : ℕ) (events : List Event) (shared : Common) → Counts kind records events → text_in kind records shared ≡ text_in kind (length events) shared
+text_counted Log records events shared counts = refl
+text_counted (Numbers stages) records events shared counts = ap (λ (n : ℕ). text_in (Numbers stages) n shared) counts
+
+-- The count goes on with the events.
+counts_on : (kind : EndText) (first last : ℕ) (before granted taken now : List Event) → Counts kind first before → last ≡ first + (length granted + length taken) → now ≡ (before ++ granted) ++ taken → Counts kind last now
+counts_on Log first last before granted taken now counts more is = tt
+counts_on (Numbers stages) first last before granted taken now counts more is =
+    omega (arith, counts, more, ap length is, length-append (before ++ granted) taken, length-append before granted)
+
+pub counts_then : {A : Type 0} (ended : Result Rest A) (kind : EndText) (first last : ℕ) (before granted taken now : List Event) → Counts kind first before → last ≡ first + (length granted + length taken) → now ≡ (before ++ granted) ++ taken
+    → IfOk ended (λ rest. Counts kind last now)
+counts_then (Ok rest) kind first last before granted taken now counts more is = counts_on kind first last before granted taken now counts more is
+counts_then (Err fault) kind first last before granted taken now counts more is = tt
 
 at_some : (o : Option Event) (e : Event) (P : Event → Type 0) → o ≡ Some e → IfSome o P → P e
 at_some o e P is all = subst (λ (x : Option Event). IfSome x P) is all
@@ -102,9 +121,9 @@ module _ {D T H A : Type 0} (reads : D → Option (List ℕ)) (may_leave : D →
     images = λ known. subst (λ (o : Option Event). (image : List ℕ) → may_leave kept.journal.disk image → Stores setting now image ⊎ IsSomeAnd o (λ e. Stores setting (now ++ e ∷ []) image)) is (b.fails.images known);
   }
 
-  module _ (a b x y : ℕ) (wrote now_written : Option (List ℕ)) (c d : ℕ) where
+  module _ (kind : EndText) (a b x y : ℕ) (wrote now_written : Option (List ℕ)) (c d : ℕ) where
     abbrev EndsSo : ℕ → Type 0
-    EndsSo status = Finishes reads may_leave clock since TakesSo ComesSo IdlesSo UnheardSo HeardSo setting entry origin before kept.journal.disk a b x y wrote now_written c d status
+    EndsSo status = Finishes reads may_leave clock since TakesSo ComesSo IdlesSo UnheardSo HeardSo setting entry origin before kept.journal.disk kind a b x y wrote now_written c d status
 
     abbrev BreaksSo : ℕ → List ℕ → Type 0
     BreaksSo = Breaks reads may_leave clock since TakesSo ComesSo IdlesSo UnheardSo HeardSo setting entry origin before kept.journal.disk a b x y
@@ -134,25 +153,28 @@ module _ {D T H A : Type 0} (reads : D → Option (List ℕ)) (may_leave : D →
         let next = some_next (IsNext setting now) (ComesSo now) k.fails.refused k.fails.is_next k.caused in
         absurd (at_some k.fails.refused next.0 (λ e. IsFullOf kept.weights (Some (image_after setting now)) e (image_after setting (now ++ e ∷ [])) kept.journal.len take.Stopped) next.3 k.fails.full)
 
-    finishes_rested : (now : List Event) (status : ℕ) → HeardSo → MadeSo now None → ((world_in setting now).ended ≡ true) ⊎ IdlesSo now → StandsFor stance kept.build (world_in setting now) → TellsRest (StandsFor stance kept.build) (image_in stance kept.build) wrote now_written c d status → EndsSo status
-    finishes_rested now status heard made rests stands told =
+    finishes_rested : (now : List Event) (status : ℕ) → HeardSo → MadeSo now None → ((world_in setting now).ended ≡ true) ⊎ IdlesSo now → StandsFor stance kept.build (world_in setting now) → Counts kind kept.records now → TellsRest kind kept.records (StandsFor stance kept.build) (image_in stance kept.build) wrote now_written c d status → EndsSo status
+    finishes_rested now status heard made rests stands counts (inl told) =
         let w = world_in setting now in
         let same = told.is w stands in
-        by_rest (record { made = made; rests = rests; heard = heard }) (subst (λ (n : ℕ). Writes wrote now_written c d w.shared.log n status) same.1 (subst (λ (l : List ℕ). Writes wrote now_written c d l told.ended status) same.0 told.wrote))
+        by_rest (record { made = made; rests = rests; heard = heard })
+        (subst (λ (n : ℕ). Writes wrote now_written c d (world_text kind setting now) n status) same.1
+        (subst (λ (l : List ℕ). Writes wrote now_written c d l told.ended status) (same.0 ∙ text_counted kind kept.records now w.shared counts) told.wrote))
+    finishes_rested now status heard made rests stands counts (inr wanting) = subst EndsSo (sym wanting.0) (by_break (no_memory made) wanting.1)
 
-    pub finishes_ended : (now : List Event) (ended : Result Rest TakeFault) (status : ℕ) → IfOk ended (λ rest. HeardSo) → TakesSo now → EndsBehind reads may_leave clock since stance setting entry origin before (IsRefused honest faults calls launches dirs output exited left source_faults looks turns) now new kept ended
-        → TellsEnd (StandsFor stance kept.build) (image_in stance kept.build) wrote now_written c d ended status → (ended ≡ Ok AnswersFailed → Rose x y) → (ended ≡ Err take.Disk → Rose a b) → EndsSo status
-    finishes_ended now (Ok Ended) status heard takes r told answers disk = finishes_rested now status heard (made_lasting now takes r.lasts) (inl r.rests) r.lasts.goes.stands told
-    finishes_ended now (Ok Waits) status heard takes r told answers disk = finishes_rested now status heard (made_lasting now takes r.lasts) (inr r.rests) r.lasts.goes.stands told
-    finishes_ended now (Ok AnswersFailed) status heard takes r told answers disk = subst EndsSo (sym told.0) (by_break (answers_failed (made_lasting now takes r.lasts) r.rests heard (answers refl)) told.1)
-    finishes_ended now (Err f) status heard takes k told answers disk = finishes_broken now f told.0 status takes k told.1 (λ e. disk (ap Err e)) told.2 told.3
+    pub finishes_ended : (now : List Event) (ended : Result Rest TakeFault) (status : ℕ) → IfOk ended (λ rest. HeardSo) → TakesSo now → IfOk ended (λ rest. Counts kind kept.records now) → EndsBehind reads may_leave clock since stance setting entry origin before (IsRefused honest faults calls launches dirs output exited left source_faults looks turns) now new kept ended
+        → TellsEnd kind kept.records (StandsFor stance kept.build) (image_in stance kept.build) wrote now_written c d ended status → (ended ≡ Ok AnswersFailed → Rose x y) → (ended ≡ Err take.Disk → Rose a b) → EndsSo status
+    finishes_ended now (Ok Ended) status heard takes counts r told answers disk = finishes_rested now status heard (made_lasting now takes r.lasts) (inl r.rests) r.lasts.goes.stands counts told
+    finishes_ended now (Ok Waits) status heard takes counts r told answers disk = finishes_rested now status heard (made_lasting now takes r.lasts) (inr r.rests) r.lasts.goes.stands counts told
+    finishes_ended now (Ok AnswersFailed) status heard takes counts r told answers disk = subst EndsSo (sym told.0) (by_break (answers_failed (made_lasting now takes r.lasts) r.rests heard (answers refl)) told.1)
+    finishes_ended now (Err f) status heard takes counts k told answers disk = finishes_broken now f told.0 status takes k told.1 (λ e. disk (ap Err e)) told.2 told.3
 
 module _ {D T H A : Type 0} (reads : D → Option (List ℕ)) (may_leave : D → List ℕ → Type 0) (clock : D → ℕ) (since : D → ℕ → List ℕ → Type 0) (stance : T → Stance) (disk_faults : D → ℕ)
     (honest : H → Type 0) (faults : H → ℕ) (calls : H → Option (List Call)) (launches dirs : H → List ℕ) (output : H → ℕ → Stream → List ℕ) (exited : H → ℕ → Option ℤ)
     (left : A → Option (List ℕ)) (source_faults : A → ℕ) (looks : ℕ)
-    (setting : Setting) (entry : Option (List ℕ)) (origin : D) (before : List Event) (hosts rest : List H) (answers unread : A) (wrote now_written : Option (List ℕ)) (c d status before_faults : ℕ) where
+    (kind : EndText) (setting : Setting) (entry : Option (List ℕ)) (origin : D) (before : List Event) (hosts rest : List H) (answers unread : A) (wrote now_written : Option (List ℕ)) (c d status before_faults : ℕ) where
   abbrev FinishedSo : List Entry → D → Type 0
-  FinishedSo history disk = Finished reads may_leave clock since honest faults calls launches dirs output exited left source_faults looks setting entry origin before hosts rest answers unread history disk before_faults (disk_faults disk) wrote now_written c d status
+  FinishedSo history disk = Finished reads may_leave clock since honest faults calls launches dirs output exited left source_faults looks kind setting entry origin before hosts rest answers unread history disk before_faults (disk_faults disk) wrote now_written c d status
 
   abbrev BegunWith : List (Member H A)
   BegunWith = members_of setting.site.executors hosts answers
@@ -172,13 +194,13 @@ module _ {D T H A : Type 0} (reads : D → Option (List ℕ)) (may_leave : D →
   -- a life of members that ended so
   pub finished_by : (new : List (Member H A)) (turns : List (Turn H A)) (history all : List Entry) (kept : Kept D T) (disk : D) → disk ≡ kept.journal.disk → all ≡ history
       → LifeSo new turns history → ServedSo new → rest ≡ hosts_in new ++ others_of setting.site.executors hosts → answers_in new ≡ unread ∷ []
-      → (now : List Event) (ended : Result Rest TakeFault) → IfOk ended (λ rest. HeardHere history) → TookSo new turns history now
+      → (now : List Event) (ended : Result Rest TakeFault) → IfOk ended (λ rest. HeardHere history) → TookSo new turns history now → IfOk ended (λ rest. Counts kind kept.records now)
       → EndsBehind reads may_leave clock since stance setting entry origin before (IsRefused honest faults calls launches dirs output exited left source_faults looks turns) now new kept ended
-      → TellsEnd (StandsFor stance kept.build) (image_in stance kept.build) wrote now_written c d ended status → (ended ≡ Ok AnswersFailed → Rose (source_faults answers) (source_faults unread)) → (ended ≡ Err take.Disk → Rose before_faults (disk_faults kept.journal.disk)) → FinishedSo all disk
-  finished_by new turns history all kept disk same here life served hosts_are answers_are now ended heard takes ends told failed rose = subst (λ (es : List Entry). FinishedSo es disk) (sym here) (subst (FinishedSo history) (sym same) (record {
+      → TellsEnd kind kept.records (StandsFor stance kept.build) (image_in stance kept.build) wrote now_written c d ended status → (ended ≡ Ok AnswersFailed → Rose (source_faults answers) (source_faults unread)) → (ended ≡ Err take.Disk → Rose before_faults (disk_faults kept.journal.disk)) → FinishedSo all disk
+  finished_by new turns history all kept disk same here life served hosts_are answers_are now ended heard takes counts ends told failed rose = subst (λ (es : List Entry). FinishedSo es disk) (sym here) (subst (FinishedSo history) (sym same) (record {
     lived = record { new = new; turns = turns; life = life; served = served; hosts_are = hosts_are; answers_are = answers_are };
-    finishes = finishes_ended reads may_leave clock since stance honest faults calls launches dirs output exited left source_faults looks setting entry origin before BegunWith new turns history kept (HeardHere history) before_faults (disk_faults kept.journal.disk) (source_faults answers) (source_faults unread)
-        wrote now_written c d now ended status heard takes ends told failed rose;
+    finishes = finishes_ended reads may_leave clock since stance honest faults calls launches dirs output exited left source_faults looks setting entry origin before BegunWith new turns history kept (HeardHere history) kind before_faults (disk_faults kept.journal.disk) (source_faults answers) (source_faults unread)
+        wrote now_written c d now ended status heard takes counts ends told failed rose;
   }))
 
   -- there was no memory for the members, and nothing was done
@@ -186,7 +208,7 @@ module _ {D T H A : Type 0} (reads : D → Option (List ℕ)) (may_leave : D →
       → TookSo BegunWith [] [] before → Lasts reads may_leave clock since stance setting entry origin before before kept → status ≡ 8 → Tells wrote now_written c d out_of_memory_text → FinishedSo all disk
   finished_wanting all kept disk same none life served hosts_are answers_are takes lasts eight told = subst (λ (es : List Entry). FinishedSo es disk) (sym none) (subst (FinishedSo []) (sym same) (record {
     lived = record { new = BegunWith; turns = []; life = life; served = served; hosts_are = hosts_are; answers_are = answers_are };
-    finishes = subst (λ (n : ℕ). EndsSo reads may_leave clock since stance honest faults calls launches dirs output exited left source_faults looks setting entry origin before BegunWith BegunWith [] [] kept (HeardHere []) before_faults (disk_faults kept.journal.disk)
+    finishes = subst (λ (n : ℕ). EndsSo reads may_leave clock since stance honest faults calls launches dirs output exited left source_faults looks setting entry origin before BegunWith BegunWith [] [] kept (HeardHere []) kind before_faults (disk_faults kept.journal.disk)
         (source_faults answers) (source_faults unread) wrote now_written c d n) (sym eight)
         (by_break (no_memory (made_lasting reads may_leave clock since stance honest faults calls launches dirs output exited left source_faults looks setting entry origin before BegunWith BegunWith [] [] kept (HeardHere []) before takes lasts)) told);
   }))
@@ -212,12 +234,16 @@ module _ (a b x y : ℕ) (old new : Option (List ℕ)) (c d : ℕ) where
       let calm = disk.calm (λ e. absurd (cc)) in
       as_said (λ n t. Tells old new c d t → Reports a b x y old new c d n) r 14 (full_text at add) says (report.no_memory calm) (report.full at add (long at add refl) calm)
 
-  pub reports : (Stands : Build → Type 0) (here : Image) (ended : Result Rest TakeFault) (status : ℕ) → TellsEnd Stands here old new c d ended status → (ended ≡ Ok AnswersFailed → Rose x y) → CountsFault a b (ended ≡ Err take.Disk)
+  rested_reports : (kind : EndText) (records : ℕ) (Stands : Build → Type 0) (here : Image) (status : ℕ) → TellsRest kind records Stands here old new c d status → b ≡ a → Reports a b x y old new c d status
+  rested_reports kind records Stands here status (inl told) calm = report.rested calm told.known told.wrote
+  rested_reports kind records Stands here status (inr wanting) calm = subst (Reports a b x y old new c d) (sym wanting.0) (report.no_memory calm wanting.1)
+
+  pub reports : (kind : EndText) (records : ℕ) (Stands : Build → Type 0) (here : Image) (ended : Result Rest TakeFault) (status : ℕ) → TellsEnd kind records Stands here old new c d ended status → (ended ≡ Ok AnswersFailed → Rose x y) → CountsFault a b (ended ≡ Err take.Disk)
       → ((at add : ℕ) → ended ≡ Err (take.Full at add) → 2 ^ 30 < at + add) → Reports a b x y old new c d status
-  reports Stands here (Ok AnswersFailed) status wrote answers disk long = subst (Reports a b x y old new c d) (sym wrote.0) (report.answers_failed (disk.calm (λ e. absurd (cc))) (answers refl) wrote.1)
-  reports Stands here (Ok Ended) status wrote answers disk long = report.rested (disk.calm (λ e. absurd (cc))) wrote.known wrote.wrote
-  reports Stands here (Ok Waits) status wrote answers disk long = report.rested (disk.calm (λ e. absurd (cc))) wrote.known wrote.wrote
-  reports Stands here (Err f) status wrote answers disk long =
+  reports kind records Stands here (Ok AnswersFailed) status wrote answers disk long = subst (Reports a b x y old new c d) (sym wrote.0) (report.answers_failed (disk.calm (λ e. absurd (cc))) (answers refl) wrote.1)
+  reports kind records Stands here (Ok Ended) status wrote answers disk long = rested_reports kind records Stands here status wrote (disk.calm (λ e. absurd (cc)))
+  reports kind records Stands here (Ok Waits) status wrote answers disk long = rested_reports kind records Stands here status wrote (disk.calm (λ e. absurd (cc)))
+  reports kind records Stands here (Err f) status wrote answers disk long =
       let counts : CountsFault a b (f ≡ take.Disk) = record { never_falls = disk.never_falls; calm = λ other. disk.calm (λ e. other (cc)); failed = λ e. disk.failed (ap Err e) } in
       subst (Reports a b x y old new c d) (sym wrote.2) (reports_broken f wrote.0 wrote.1 counts (λ at add is. long at add (ap Err is)) wrote.3)
 

@@ -42,6 +42,8 @@ use Rattle.site_run.specs.Ending.{ended_as}
 use Rattle.site_run.proofs.StoreLemmas.{no_payloads, no_records, told_take}
 use Rattle.site_run.proofs.WalkLemmas.{all_behind}
 use Rattle.build_commands.specs.declared.refusal.Refusal.{Refusal}
+use Rattle.build_commands.specs.declared.end_text.EndText.{EndText}
+use Rattle.build_commands.specs.declared.end_text.EndText.TheVariants as end
 use Rattle.build_commands.specs.Finishing.{TellsEnd, TellsRest}
 use Rattle.build_commands.specs.Refusals.{SaysTake, refusal_status, refusal_text}
 use Rattle.build_commands.specs.Reporting.{AreGrants, EndsWhole, IsBroken, IsFullBehind, IsNoted, IsTooLong, KeepsRecords, ShowsEnd, image_status, length_with}
@@ -195,15 +197,19 @@ module _ (wrote now_written : Option (List ℕ)) (c d status : ℕ) where
   broken_disk : (r : Refusal) → SaysTake take.Disk r → status ≡ refusal_status r → status ≡ 5
   broken_disk r says is = is ∙ ap refusal_status says
 
-  module _ (Stands : Build → Type 0) (image : Image) where
-    end_full : (ended : Result Rest TakeFault) → TellsEnd Stands image wrote now_written c d ended status → status ≡ 14 → (fault : TakeFault) × (ended ≡ Err fault) × ToldFull fault
+  module _ (kind : EndText) (records : ℕ) (Stands : Build → Type 0) (image : Image) where
+    rest_not_full : TellsRest kind records Stands image wrote now_written c d status → status ≡ 14 → ⊥
+    rest_not_full (inl told) fourteen = written_not_full told.wrote told.known fourteen
+    rest_not_full (inr wanting) fourteen = let eight : status ≡ 8 = wanting.0 in omega (arith, eight, fourteen)
+
+    end_full : (ended : Result Rest TakeFault) → TellsEnd kind records Stands image wrote now_written c d ended status → status ≡ 14 → (fault : TakeFault) × (ended ≡ Err fault) × ToldFull fault
     end_full (Ok AnswersFailed) told fourteen = let six : status ≡ 6 = told.0 in absurd (omega (arith, six, fourteen))
-    end_full (Ok Ended) told fourteen = absurd (written_not_full told.wrote told.known fourteen)
-    end_full (Ok Waits) told fourteen = absurd (written_not_full told.wrote told.known fourteen)
+    end_full (Ok Ended) told fourteen = absurd (rest_not_full told fourteen)
+    end_full (Ok Waits) told fourteen = absurd (rest_not_full told fourteen)
     end_full (Err f) told fourteen = (f, refl, broken_full f told.0 told.1 told.2 told.3 fourteen)
 
-    end_disk : (ended : Result Rest TakeFault) → ended ≡ Err take.Disk → TellsEnd Stands image wrote now_written c d ended status → status ≡ 5
-    end_disk ended is told = let t = subst (λ (e : Result Rest TakeFault). TellsEnd Stands image wrote now_written c d e status) is told in broken_disk t.0 t.1 t.2
+    end_disk : (ended : Result Rest TakeFault) → ended ≡ Err take.Disk → TellsEnd kind records Stands image wrote now_written c d ended status → status ≡ 5
+    end_disk ended is told = let t = subst (λ (e : Result Rest TakeFault). TellsEnd kind records Stands image wrote now_written c d e status) is told in broken_disk t.0 t.1 t.2
 
   -- the record did not fit, by the journal and the image of now
   too_long : {D T : Type 0} (stance : T → Stance) (w : Weights) (before : Option Image) (now : Kept D T) (Asked : Event → Type 0) (Idle : Type 0) (history : List Entry) (at add : ℕ) (event : Event) → (is_grant event ≡ true) ⊎ Asked event
@@ -223,7 +229,7 @@ module _ (wrote now_written : Option (List ℕ)) (c d status : ℕ) where
   }
 
 module _ {D T : Type 0} (reads : D → Option (List ℕ)) (may_leave : D → List ℕ → Type 0) (clock : D → ℕ) (since : D → ℕ → List ℕ → Type 0) (disk_faults : D → ℕ) (stance : T → Stance) (old kept : Kept D T) (payloads : List (List ℕ))
-    (wrote now_written : Option (List ℕ)) (c d status : ℕ) where
+    (kind : EndText) (records : ℕ) (wrote now_written : Option (List ℕ)) (c d status : ℕ) where
   abbrev KeptSo : List Entry → Type 0
   KeptSo history = KeepsRecords may_leave clock since (setting_in old.build) old.journal.disk payloads history kept.journal.disk wrote now_written c d status
 
@@ -280,22 +286,23 @@ module _ {D T : Type 0} (reads : D → Option (List ℕ)) (may_leave : D → Lis
   ends_in (p ∷ ps) more begun stands now = now.2
 
   abbrev EndSo : Result Rest TakeFault → Type 0
-  EndSo ended = TellsEnd (StandsFor stance kept.build) (image_in stance kept.build) wrote now_written c d ended status
+  EndSo ended = TellsEnd kind records (StandsFor stance kept.build) (image_in stance kept.build) wrote now_written c d ended status
 
-  rest_shown : TellsRest (StandsFor stance kept.build) (image_in stance kept.build) wrote now_written c d status → (all : List (List ℕ)) → Closing (image_in stance kept.build) all × IsWhole (setting_in old.build) (image_in stance kept.build) → ShownSo all
-  rest_shown told all ends = inr (record {
+  rest_shown : kind ≡ end.Log → TellsRest kind records (StandsFor stance kept.build) (image_in stance kept.build) wrote now_written c d status → (all : List (List ℕ)) → Closing (image_in stance kept.build) all × IsWhole (setting_in old.build) (image_in stance kept.build) → ShownSo all
+  rest_shown log (inr wanting) all ends = inl (inr (inr (inr wanting.0)))
+  rest_shown log (inl told) all ends = inr (record {
     image = image_in stance kept.build;
     ends = ends.0;
     whole = ends.1;
-    wrote = subst (λ (l : List ℕ). Writes wrote now_written c d l (image_status (image_in stance kept.build)) status) told.shown
-        (subst (λ (n : ℕ). Writes wrote now_written c d told.log n status) told.by_image told.wrote);
+    wrote = subst (λ (l : List ℕ). Writes wrote now_written c d l (image_status (image_in stance kept.build)) status) (told.shown log)
+        (subst (λ (n : ℕ). Writes wrote now_written c d told.text n status) told.by_image told.wrote);
   })
 
-  end_shown : (ended : Result Rest TakeFault) (all : List (List ℕ)) → EndSo ended → ((rest : Rest) → ended ≡ Ok rest → Closing (image_in stance kept.build) all × IsWhole (setting_in old.build) (image_in stance kept.build)) → ShownSo all
-  end_shown (Ok AnswersFailed) all told ends = inl (inl told.0)
-  end_shown (Ok Ended) all told ends = rest_shown told all (ends Ended refl)
-  end_shown (Ok Waits) all told ends = rest_shown told all (ends Waits refl)
-  end_shown (Err f) all told ends = inl (subst IsBroken (sym told.2) (broken_status f told.0 told.1))
+  end_shown : kind ≡ end.Log → (ended : Result Rest TakeFault) (all : List (List ℕ)) → EndSo ended → ((rest : Rest) → ended ≡ Ok rest → Closing (image_in stance kept.build) all × IsWhole (setting_in old.build) (image_in stance kept.build)) → ShownSo all
+  end_shown log (Ok AnswersFailed) all told ends = inl (inl told.0)
+  end_shown log (Ok Ended) all told ends = rest_shown log told all (ends Ended refl)
+  end_shown log (Ok Waits) all told ends = rest_shown log told all (ends Waits refl)
+  end_shown log (Err f) all told ends = inl (subst IsBroken (sym told.2) (broken_status f told.0 told.1))
 
   -- a life that was led, behind the grants of its opening
   module _ {H A : Type 0} (made history : List Entry) (grants : Grants stance old.build made) (none : kept_fault made ≡ None) (facts : Facts reads may_leave clock since disk_faults stance old kept (made ++ history))
@@ -303,7 +310,7 @@ module _ {D T : Type 0} (reads : D → Option (List ℕ)) (may_leave : D → Lis
     life_full : (w : Weights) (before : Option Image) → IsFullAt stance w before kept (made ++ history) → (Asked : Told → Type 0) → AllAre Asked (told_of history) → status ≡ 14
         → (at : ℕ) × (add : ℕ) × RefusedFull stance w before kept Asked history at add × Tells wrote now_written c d (full_text at add)
     life_full w before full Asked all fourteen =
-        let f = end_full wrote now_written c d status (StandsFor stance kept.build) (image_in stance kept.build) ended told fourteen in
+        let f = end_full wrote now_written c d status kind records (StandsFor stance kept.build) (image_in stance kept.build) ended told fourteen in
         let fault : kept_fault history ≡ Some (take.Full f.2.at f.2.add) = full_kept (kept_fault history) how members f.2.at f.2.add (sym (f.1 ∙ ap Err f.2.is) ∙ is) in
         (f.2.at, f.2.add, refused_full stance w before kept Asked history f.2.at f.2.add fault (full_behind stance w before kept made history none full) all, f.2.tells)
 
@@ -319,14 +326,14 @@ module _ {D T : Type 0} (reads : D → Option (List ℕ)) (may_leave : D → Lis
     life_splits : Splits (made ++ history) history
     life_splits = record { grants = tooks made; are_grants = (grants_tell grants).0; taken = tooks-append made history; risked = inl (pending-append made history none) }
 
-    pub life_kept : has_begun old.build.phase ≡ true → IsWhole (setting_in old.build) (image_in stance old.build) → (kept.stopped ≡ false → has_begun kept.build.phase ≡ true → IsWhole (setting_in kept.build) (image_in stance kept.build)) → Keeps reads may_leave stance old payloads → KeptSo history
-    life_kept begun first whole keeps =
+    pub life_kept : kind ≡ end.Log → has_begun old.build.phase ≡ true → IsWhole (setting_in old.build) (image_in stance old.build) → (kept.stopped ≡ false → has_begun kept.build.phase ≡ true → IsWhole (setting_in kept.build) (image_in stance kept.build)) → Keeps reads may_leave stance old payloads → KeptSo history
+    life_kept log begun first whole keeps =
         let g = facts.grown payloads keeps in
         let same = kept_fault-append made history none in
         let calm : (rest : Rest) → ended ≡ Ok rest → kept_fault (made ++ history) ≡ None = λ rest rests. same ∙ rest_keeps (kept_fault history) how members rest (sym rests ∙ is) in
         kept_by (made ++ history) history (sound_so reads may_leave stance old payloads begun keeps first) life_splits
-        (λ disk. end_disk wrote now_written c d status (StandsFor stance kept.build) (image_in stance kept.build) ended (is ∙ ap (λ (o : Option TakeFault). ended_as o how members) (sym same ∙ disk)) told) g
-        (end_shown ended (payloads ++ g.added) told (λ rest rests.
+        (λ disk. end_disk wrote now_written c d status kind records (StandsFor stance kept.build) (image_in stance kept.build) ended (is ∙ ap (λ (o : Option TakeFault). ended_as o how members) (sym same ∙ disk)) told) g
+        (end_shown log ended (payloads ++ g.added) told (λ rest rests.
         let none_now = calm rest rests in
         let shown = facts.shown none_now in
         (ends_in payloads g.added begun keeps.stands (g.keeps none_now).stands, subst (λ (s : Setting). IsWhole s (image_in stance kept.build)) shown.setting (whole (facts.running none_now) shown.begun))))

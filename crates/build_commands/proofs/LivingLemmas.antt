@@ -236,9 +236,9 @@ module _ {H A : Type 0} (honest : H → Type 0) (faults : H → ℕ) (calls : H 
   }
 
   -- those of a life that was led
-  pub life_events : {D T : Type 0} (reads : D → Option (List ℕ)) (may_leave : D → List ℕ → Type 0) (clock : D → ℕ) (since : D → ℕ → List ℕ → Type 0) (stance : T → Stance) (turns : List (Turn H A)) (setting : Setting) (entry : Option (List ℕ)) (origin : D)
+  pub life_events : {D T : Type 0} (reads : D → Option (List ℕ)) (may_leave : D → List ℕ → Type 0) (clock : D → ℕ) (since : D → ℕ → List ℕ → Type 0) (stance : T → Stance) {durable : Kept D T} (turns : List (Turn H A)) (setting : Setting) (entry : Option (List ℕ)) (origin : D)
       (before events : List Event) (old new : List (Member H A)) (history : List Entry) (kept : Kept D T) (ended : Result Rest TakeFault)
-      (e : Ends reads may_leave clock since stance honest faults calls launches dirs output exited left source_faults looks turns setting entry origin before events old new history kept ended) → (world_in setting events).started ≡ true → operators old ≤ 1 → TakesSo setting events old new turns history e.now
+      (e : Ends reads may_leave clock since stance honest faults calls launches dirs output exited left source_faults looks turns durable setting entry origin before events old new history kept ended) → (world_in setting events).started ≡ true → operators old ≤ 1 → TakesSo setting events old new turns history e.now
   life_events reads may_leave clock since stance turns setting entry origin before events old new history kept ended e begun one = record {
     begun = begun;
     goes = e.goes;

@@ -1,5 +1,6 @@
 -- What is judged of a script and an agents file, and of what their sources give.
 use Rattle.std.proofs.Common.{◌≡◌, ℕ, ◌<◌, ◌≤◌, List, length, Option, IfSome, Result, Ok, Err, inl, inr, sym, ◌∙◌, subst, arith}
+use Rattle.std.specs.Prelude.{IfOk}
 use Rattle.model_syntax.specs.declared.fault.ScriptFault.{ScriptFault}
 use Rattle.model_syntax.specs.declared.tree.Tree.{Tree}
 use Rattle.model_syntax.specs.FirstFault.{FirstFault}
@@ -79,3 +80,8 @@ module _ (script agents : Input) (s a : List ℕ) (rs : ReadWhole script_limit s
 pub unrefused : {s a : List ℕ} {tree : Tree} {site : Site} → Builds s a tree site → IsRefused s → ⊥
 unrefused b (by_fault first) = faultless_or_fault b.faultless first
 unrefused b (by_length long) = let fits = b.fits in omega (arith, long, fits)
+
+-- a plan that was made can be built
+pub plan_builds : (script agents : Input) (result : Result Plan Refusal) → Plans script agents result → IfOk result (λ plan. Builds plan.script plan.agents plan.tree plan.site)
+plan_builds script agents (Ok plan) gives = gives.builds
+plan_builds script agents (Err refusal) refuses = tt

@@ -1,4 +1,4 @@
--- What `run` comes to (this product's own).
+-- What `run` comes to, and `gen`, which is `run` on files that it makes (this product's own).
 use Rattle.std.specs.Prelude.{◌≡◌, ℕ, ℤ, List, [], ◌∷◌, Option, Some, None, max}
 use Rattle.device_faults.specs.Faults.{CountsFault}
 use Rattle.journal_core.specs.Answers.{IsStarted}
@@ -18,6 +18,7 @@ use Rattle.run_command.specs.Inputs.{Input}
 use Rattle.task_host.specs.declared.call.Call.{Call}
 use Rattle.task_host.specs.declared.order.Stream.{Stream}
 use Rattle.site_state.specs.declared.ask.Entry.{Entry}
+use Rattle.build_commands.specs.declared.end_text.EndText.{EndText}
 use Rattle.build_commands.specs.Launching.{LaunchedOnce}
 use Rattle.build_commands.specs.Living.{Finished, HostsStay}
 use Rattle.build_commands.specs.Plans.{Give, RefusesFiles}
@@ -36,7 +37,7 @@ pub data BeginSays : BeginFault → ℕ → List ℕ → Type 0 where
 module _ {D T H A : Type 0} (reads : D → Option (List ℕ)) (may_leave : D → List ℕ → Type 0) (clock : D → ℕ) (since : D → ℕ → List ℕ → Type 0) (stance : T → Stance) (faults : D → ℕ)
     (honest : H → Type 0) (host_faults : H → ℕ) (calls : H → Option (List Call)) (launches dirs : H → List ℕ) (output : H → ℕ → Stream → List ℕ) (exited : H → ℕ → Option ℤ)
     (left : A → Option (List ℕ)) (source_faults : A → ℕ)
-    (disk now : D) (hosts rest : List H) (answers unread : A) (history : List Entry) (old new : Option (List ℕ)) (sink_before sink_after : ℕ) where
+    (disk now : D) (hosts rest : List H) (answers unread : A) (history : List Entry) (kind : EndText) (old new : Option (List ℕ)) (sink_before sink_after : ℕ) where
   -- A build that was begun over this file, which has no record. Up to a moment at which the file is durable a crash leaves what it might have left
   -- before; from then on no event or the `Start`.
   pub record BeginsOver (script agents : List ℕ) (tree : Tree) (site : Site) (file : List ℕ) (started : D) : Type 0 where
@@ -50,12 +51,12 @@ module _ {D T H A : Type 0} (reads : D → Option (List ℕ)) (may_leave : D →
         → ((file : List ℕ) → reads disk ≡ Some file → BeginRefuses reads may_leave clock since stance (script_setting tree site) (StartEvent script agents) file disk fault now)
         → Tells old new sink_before sink_after text → Begins script agents tree site status
     begun : {status : ℕ} (started : D) → faults started ≡ faults disk → HostsStay honest host_faults calls hosts rest → LaunchedOnce launches hosts rest → Reports (faults disk) (faults now) (source_faults answers) (source_faults unread) old new sink_before sink_after status
-        → ∥ Finished reads may_leave clock since honest host_faults calls launches dirs output exited left source_faults (max site.looks 1) (script_setting tree site) (reads disk) started (StartEvent script agents ∷ []) hosts rest answers unread history now
+        → ∥ Finished reads may_leave clock since honest host_faults calls launches dirs output exited left source_faults (max site.looks 1) kind (script_setting tree site) (reads disk) started (StartEvent script agents ∷ []) hosts rest answers unread history now
         (faults started) (faults now) old new sink_before sink_after status ∥₁
         → ((file : List ℕ) → reads disk ≡ Some file → BeginsOver script agents tree site file started)
         → Begins script agents tree site status
 
-  -- The table of `run`: script or agents file is refused, and then the disk is not called and no answer is read; or both can be built.
+  -- The table of both, by what the sources of the two files gave: script or agents file is refused, and then the disk is not called and no answer is read; or both can be built.
   pub data Runs (script agents : Input) : ℕ → Type 0 where
     refused : {status : ℕ} {text : List ℕ} → RefusesFiles script agents status text → now ≡ disk → GivesBack hosts rest answers unread history → Tells old new sink_before sink_after text → Runs script agents status
     built : {s a : List ℕ} {tree : Tree} {site : Site} {status : ℕ} → Give script agents s a tree site → Begins s a tree site status → Runs script agents status

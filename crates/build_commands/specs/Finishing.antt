@@ -16,6 +16,9 @@ use Rattle.durable_build.specs.Taking.{DueAdds}
 use Rattle.saved_run.specs.Lives.{image_after, IsNext}
 use Rattle.saved_run.specs.Saved.{Stores, Survives, journal_length, journal_weights}
 use Rattle.build_commands.specs.declared.refusal.Refusal.{Refusal}
+use Rattle.build_commands.specs.declared.end_text.EndText.{EndText}
+use Rattle.build_commands.specs.declared.end_text.EndText.TheVariants.{Log}
+use Rattle.build_commands.specs.EndTexts.{text_in, world_text}
 use Rattle.build_commands.specs.Reporting.{image_status}
 use Rattle.build_commands.specs.Refusals.{SaysTake, refusal_status, refusal_text}
 use Rattle.build_commands.specs.Texts.{disk_failed_text, full_text, out_of_memory_text}
@@ -49,7 +52,7 @@ module _ {D : Type 0} (reads : D → Option (List ℕ)) (may_leave : D → List 
     pub moments : IsSome entry → AtEachMoment clock since origin disk (Survives setting before events risked)
     pub images : IsSome entry → (image : List ℕ) → may_leave disk image → Stores setting events image ⊎ IsSomeAnd risked (λ e. Stores setting (events ++ e ∷ []) image)
 
-  -- The build has ended, or nobody goes on with it: its text is its log.
+  -- The build has ended, or nobody goes on with it: its text is what was asked for.
   pub record Rests (events : List Event) : Type 0 where
     pub made : Made events None
     pub rests : ((world_in setting events).ended ≡ true) ⊎ Idles events
@@ -62,29 +65,34 @@ module _ {D : Type 0} (reads : D → Option (List ℕ)) (may_leave : D → List 
     full : {events : List Event} (len add : ℕ) → Made events None → (world_in setting events).ended ≡ false → IsFull Comes setting entry (reads disk) events len add → Breaks disk_before disk_after answers_before answers_after 14 (full_text len add)
     no_memory : {events : List Event} → Made events None → Breaks disk_before disk_after answers_before answers_after 8 out_of_memory_text
 
-  -- What was written of it: the log of a build that rests, whole or its front, then with 7; or the text of what broke it off.
-  pub data Finishes (disk_before disk_after answers_before answers_after : ℕ) (old new : Option (List ℕ)) (sink_before sink_after : ℕ) : ℕ → Type 0 where
-    by_rest : {events : List Event} {status : ℕ} → Rests events → Writes old new sink_before sink_after (world_in setting events).shared.log (world_status (world_in setting events)) status
-        → Finishes disk_before disk_after answers_before answers_after old new sink_before sink_after status
+  -- What was written of it: what was asked for of a build that rests, whole or its front, then with 7; or the text of what broke it off.
+  pub data Finishes (kind : EndText) (disk_before disk_after answers_before answers_after : ℕ) (old new : Option (List ℕ)) (sink_before sink_after : ℕ) : ℕ → Type 0 where
+    by_rest : {events : List Event} {status : ℕ} → Rests events → Writes old new sink_before sink_after (world_text kind setting events) (world_status (world_in setting events)) status
+        → Finishes kind disk_before disk_after answers_before answers_after old new sink_before sink_after status
     by_break : {text : List ℕ} {status : ℕ} → Breaks disk_before disk_after answers_before answers_after status text → writing.Tells old new sink_before sink_after text
-        → Finishes disk_before disk_after answers_before answers_after old new sink_before sink_after status
+        → Finishes kind disk_before disk_after answers_before answers_after old new sink_before sink_after status
 
--- The log of a build that rests was written, whole or its front, with the status of whatever build of the definitions it stands for: both are those of its image.
-pub record TellsRest (Stands : Build → Type 0) (image : Image) (old new : Option (List ℕ)) (sink_before sink_after status : ℕ) : Type 0 where
-  pub log : List ℕ
+-- What was asked for of a build that rests was written, whole or its front, with the status of whatever build of the definitions it stands for, and by that one's
+-- numbers; status and log are also those of its image.
+pub record TellsText (kind : EndText) (records : ℕ) (Stands : Build → Type 0) (image : Image) (old new : Option (List ℕ)) (sink_before sink_after status : ℕ) : Type 0 where
+  pub text : List ℕ
   pub ended : ℕ
   pub known : HasLog ended
-  pub wrote : Writes old new sink_before sink_after log ended status
-  pub shown : log ≡ image.log
+  pub wrote : Writes old new sink_before sink_after text ended status
+  pub shown : kind ≡ Log → text ≡ image.log
   pub by_image : ended ≡ image_status image
-  pub is : (w : Build) → Stands w → (log ≡ w.shared.log) × (ended ≡ world_status w)
+  pub is : (w : Build) → Stands w → (text ≡ text_in kind records w.shared) × (ended ≡ world_status w)
+
+-- Or memory was wanting for its text.
+abbrev pub TellsRest : EndText → ℕ → (Build → Type 0) → Image → Option (List ℕ) → Option (List ℕ) → ℕ → ℕ → ℕ → Type 0
+TellsRest kind records Stands image old new c d status = TellsText kind records Stands image old new c d status ⊎ ((status ≡ 8) × writing.Tells old new c d out_of_memory_text)
 
 -- What was written of a build that broke off by this fault, and with which status.
 abbrev pub TellsBreak : Option (List ℕ) → Option (List ℕ) → ℕ → ℕ → TakeFault → ℕ → Type 0
 TellsBreak old new c d fault status = (refusal : Refusal) × SaysTake fault refusal × (status ≡ refusal_status refusal) × writing.Tells old new c d (refusal_text refusal)
 
 -- What was written of a build that has gone on, and with which status.
-abbrev pub TellsEnd : (Build → Type 0) → Image → Option (List ℕ) → Option (List ℕ) → ℕ → ℕ → Result Rest TakeFault → ℕ → Type 0
-TellsEnd Stands image old new c d (Ok AnswersFailed) status = (status ≡ 6) × writing.Tells old new c d read_failed_text
-TellsEnd Stands image old new c d (Ok rest) status = TellsRest Stands image old new c d status
-TellsEnd Stands image old new c d (Err fault) status = TellsBreak old new c d fault status
+abbrev pub TellsEnd : EndText → ℕ → (Build → Type 0) → Image → Option (List ℕ) → Option (List ℕ) → ℕ → ℕ → Result Rest TakeFault → ℕ → Type 0
+TellsEnd kind records Stands image old new c d (Ok AnswersFailed) status = (status ≡ 6) × writing.Tells old new c d read_failed_text
+TellsEnd kind records Stands image old new c d (Ok rest) status = TellsRest kind records Stands image old new c d status
+TellsEnd kind records Stands image old new c d (Err fault) status = TellsBreak old new c d fault status

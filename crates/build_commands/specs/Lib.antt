@@ -3,6 +3,7 @@ pub mod Writing
 pub mod Refusals
 pub mod Showing
 pub mod Reporting
+pub mod EndTexts
 pub mod Finishing
 pub mod Leading
 pub mod Launching

@@ -26,6 +26,7 @@ use Rattle.site_run.specs.Replies.{replies}
 use Rattle.site_run.specs.Telling.{ClaimedInTime, HeardInTime, IsOrderOf, orders_in}
 use Rattle.site_run.specs.Serving.{AllFit, AreHonest, AreServed, HostStays}
 use Rattle.site_crew.specs.Crews.{answers_in, hosts_in, members_of, others_of}
+use Rattle.build_commands.specs.declared.end_text.EndText.{EndText}
 use Rattle.build_commands.specs.Finishing.{Finishes}
 
 -- Each host comes back at its place: honest where it was, its count of faults not lower, and with its calls behind those from before.
@@ -94,7 +95,7 @@ module _ {D H A : Type 0} (reads : D → Option (List ℕ)) (may_leave : D → L
     (honest : H → Type 0) (faults : H → ℕ) (calls : H → Option (List Call)) (launches dirs : H → List ℕ) (output : H → ℕ → Stream → List ℕ) (exited : H → ℕ → Option ℤ)
     (left : A → Option (List ℕ)) (source_faults : A → ℕ) (looks : ℕ) where
   -- How a life over a build ended.
-  pub record Finished (setting : Setting) (entry : Option (List ℕ)) (origin : D) (before : List Event) (hosts rest : List H) (answers unread : A) (history : List Entry) (disk : D) (disk_before disk_after : ℕ)
+  pub record Finished (kind : EndText) (setting : Setting) (entry : Option (List ℕ)) (origin : D) (before : List Event) (hosts rest : List H) (answers unread : A) (history : List Entry) (disk : D) (disk_before disk_after : ℕ)
       (written now : Option (List ℕ)) (sink_before sink_after status : ℕ) : Type 0 where
     pub lived : Lived honest faults calls launches dirs output exited left source_faults looks setting hosts rest answers unread history
     pub finishes : Finishes reads may_leave clock since
@@ -102,4 +103,4 @@ module _ {D H A : Type 0} (reads : D → Option (List ℕ)) (may_leave : D → L
         (ComesBy honest faults calls launches dirs output exited left source_faults looks setting lived.turns)
         (λ events. RestsWith Waits setting (world_in setting events) lived.new) (λ events. RestsWith AnswersFailed setting (world_in setting events) lived.new)
         (∥ HeardOf left source_faults answers unread (lines history) ∥₁)
-        setting entry origin before disk disk_before disk_after (source_faults answers) (source_faults unread) written now sink_before sink_after status
+        setting entry origin before disk kind disk_before disk_after (source_faults answers) (source_faults unread) written now sink_before sink_after status

@@ -1,5 +1,5 @@
 -- The script and the agents file of a call, read and judged (this product's own).
-use Rattle.std.specs.Prelude.{◌≡◌, ◌⊎◌, ◌<◌, ◌≤◌, ℕ, List, length, IfSome, Result, Ok, Err}
+use Rattle.std.specs.Prelude.{◌≡◌, ◌⊎◌, ◌<◌, ◌≤◌, ℕ, List, [], length, Some, IfSome, Result, Ok, Err}
 use Rattle.std.specs.Io.KnownBytes.{IsAtEnd}
 use Rattle.model_syntax.specs.declared.fault.ScriptFault.{ScriptFault}
 use Rattle.model_syntax.specs.declared.tree.Tree.{Tree}
@@ -34,6 +34,10 @@ Judged script agents (Err refusal) = Faults script agents (refusal_status refusa
 -- neither source counted a fault
 abbrev pub AreCalm : Input → Input → Type 0
 AreCalm script agents = IsCalm script × IsCalm agents
+
+-- a source that had just these bytes left, and gave them all without a fault
+abbrev pub whole : List ℕ → Input
+whole bytes = record { left = Some bytes; rest = Some []; before = 0; after = 0 }
 
 -- The sources of script and agents file had just these bytes left, where they tell them.
 pub record Hold (script agents : Input) (s a : List ℕ) : Type 0 where

@@ -66,8 +66,8 @@ pub record TellTaken (before : Option Image) (history : List Entry) (payloads : 
   pub events : events_of records ≡ granted ++ tooks history
   pub spelled : Told before records payloads
 
--- The record that may be on the disk though its take failed: that of the event which the history says that the disk failed; or where the opening was refused, of
--- which no history tells, that of a grant.
+-- The record that may be on the disk though its take failed: that of the event which the history says that the disk failed; or where the history is empty, that of
+-- a grant.
 pub record TellRisked (before : Option Image) (history : List Entry) (payloads : List (List ℕ)) : Type 0 where
   pub records : List EventRecord
   pub events : (events_of records ≡ pending history) ⊎ ((history ≡ []) × AreGrants (events_of records))
@@ -125,8 +125,8 @@ pub record LeavesStore {D : Type 0} (may_leave : D → List ℕ → Type 0) (clo
   pub up_to : AtEachMoment clock since old opened (may_leave old)
   pub keeps : ∥ KeepsRecords may_leave clock since setting opened payloads history disk written now sink_before sink_after status ∥₁
 
--- The record that was due for this event did not fit into the store: the history says so, of an event that was asked for or of a grant behind one; or the opening was
--- refused, so that nobody had a turn, and it is a grant. The text tells how long the journal is, and what the record would add, by some weights of the records of the
+-- The record that was due for this event did not fit into the store: the history says so, of an event that was asked for or of a grant behind one; or the history
+-- is empty and nobody had a turn, and it is a grant. The text tells how long the journal is, and what the record would add, by some weights of the records of the
 -- journal, with some image behind the event and some image of the record before.
 pub record IsTooLong (Asked : Event → Type 0) (Idle : Type 0) (history : List Entry) (written now : Option (List ℕ)) (sink_before sink_after : ℕ) : Type 0 where
   pub event : Event

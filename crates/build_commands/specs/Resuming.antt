@@ -7,6 +7,7 @@ use Rattle.model_run.specs.State.{Setting}
 use Rattle.task_host.specs.declared.call.Call.{Call}
 use Rattle.task_host.specs.declared.order.Stream.{Stream}
 use Rattle.site_state.specs.declared.ask.Entry.{Entry}
+use Rattle.build_commands.specs.declared.end_text.EndText.TheVariants.{Log}
 use Rattle.build_commands.specs.Launching.{LaunchedOnce}
 use Rattle.build_commands.specs.Leading.{IsLed}
 use Rattle.build_commands.specs.Living.{Finished, HostsStay}
@@ -40,7 +41,7 @@ module _ {D H A : Type 0} (reads : D → Option (List ℕ)) (may_leave : D → L
           → Resumes written now sink_before sink_after status
       went_on : {status : ℕ} (opened : D) → AtEachMoment clock since old opened (may_leave old) → faults opened ≡ faults old
           → Reports (faults old) (faults disk) (source_faults answers) (source_faults unread) written now sink_before sink_after status
-          → ∥ Finished reads may_leave clock since honest host_faults calls launches dirs output exited left source_faults (max setting.site.looks 1) setting (reads old) opened events hosts rest answers unread history disk
+          → ∥ Finished reads may_leave clock since honest host_faults calls launches dirs output exited left source_faults (max setting.site.looks 1) Log setting (reads old) opened events hosts rest answers unread history disk
           (faults opened) (faults disk) written now sink_before sink_after status ∥₁
           → Resumes written now sink_before sink_after status
 

@@ -9,6 +9,8 @@ ghost use Rattle.model_run.specs.State.{Setting};
 ghost use Rattle.durable_build.specs.Standing.{IsWhole, Keeps};
 ghost use Rattle.saved_run.specs.Lives.{Lasts};
 ghost use Rattle.site_crew.specs.Crews.{IsCrew, members_of, others_of};
+ghost use Rattle.build_commands.specs.declared.end_text.EndText.TheVariants.{Log};
+ghost use Rattle.build_commands.specs.EndTexts.{Counts};
 ghost use Rattle.build_commands.specs.Reporting.{KeepsRecords, Reports};
 ghost use Rattle.build_commands.specs.Finishing.{TellsEnd, TellsRest};
 ghost use Rattle.build_commands.specs.Launching.{LaunchedOnce};
@@ -16,9 +18,11 @@ ghost use Rattle.build_commands.specs.Leading.{IsLed};
 ghost use Rattle.build_commands.specs.Living.{Finished, HostsStay};
 
 use crate::done::Ended;
+use crate::end_text::EndText;
 use crate::refusal::{Refusal, tell, tell_text};
 use build_core::Build;
 use durable_build::{DurableBuild, TakeFault};
+use generated_build::summary;
 use jp_disk::Disk;
 use jp_io::{Sink, Source};
 use run_command::build_status;
@@ -26,22 +30,22 @@ use saved_thread::SavedThread;
 use script_run::Rest;
 use site_crew::Crew;
 use site_run::{Lived, go_on};
-use std::alloc::Global;
+use std::alloc::{AllocError, Global};
 use std::sync::Wait;
 use std::thread::Threads;
 use std::time::Clock;
 use task_host::Host;
 
-/// Lets a life go on until its build has ended or nobody can, and writes its log.
+/// Lets a life go on until its build has ended or nobody can, and writes what is asked for of it: its log, or its numbers.
 ///
 /// | status | comes | text |
 /// |---|---|---|
 /// | 14 | only where the record that is due for the next event does not fit into the store | the length of its journal, and what the record would add |
 /// | 5 | only where the disk counted a fault | `controller: disk failed` |
 /// | 6 | only where an input is open and the answers counted a fault | `controller: read failed` |
-/// | 7 | only where the sink counted a fault | a part of the log, from its beginning |
-/// | 0, 1, 10, 11, 12 | only where the build has ended so | its log |
-/// | 3 | only where no grant is due, no task is open, and no input is open or the answers were read to their end | the log so far |
+/// | 7 | only where the sink counted a fault | a part of the text, from its beginning |
+/// | 0, 1, 10, 11, 12 | only where the build has ended so | its text |
+/// | 3 | only where no grant is due, no task is open, and no input is open or the answers were read to their end | the text so far |
 /// | 8 | want of memory | `controller: out of memory` |
 ///
 /// `threads` says how many members work at once; with 1 they work one after the other, in their order. It may wait for ever, as the
@@ -56,6 +60,7 @@ pub fn finish<
 >(
     rt: &W,
     durable: DurableBuild<D, R>,
+    kind: EndText,
     hosts: Vec<H>,
     threads: usize,
     answers: A,
@@ -68,19 +73,20 @@ pub fn finish<
     ensures led { IsLed H.honest H.faults H.calls H.launches H.dirs H.output H.exited A.left A.faults (max (setting_in durable.build).site.looks 1) (setting_in durable.build)
         hosts.items result.hosts.items answers result.answers result.history.items (K.written out.old) (K.written out.new) (K.faults out.old) (K.faults out.new) result.status }
     ensures reports { Reports (D.faults durable.journal.disk) (D.faults result.disk) (A.faults answers) (A.faults result.answers) (K.written out.old) (K.written out.new) (K.faults out.old) (K.faults out.new) result.status }
-    ensures last { (payloads : List (List ℕ)) → Keeps D.reads D.may_leave R.stance durable payloads
+    ensures last { kind ≡ Log → (payloads : List (List ℕ)) → Keeps D.reads D.may_leave R.stance durable payloads
         → ∥ KeepsRecords D.may_leave D.clock D.may_have_left_since (setting_in durable.build) durable.journal.disk payloads result.history.items result.disk (K.written out.old) (K.written out.new) (K.faults out.old) (K.faults out.new) result.status ∥₁ }
     ensures finishes { (setting : Setting) (entry : Option (List ℕ)) (origin : D) (before : List AnEvent)
         → Lasts D.reads D.may_leave D.clock D.may_have_left_since R.stance setting entry origin before before durable
+        → Counts kind durable.records before
         → ∥ Finished D.reads D.may_leave D.clock D.may_have_left_since H.honest H.faults H.calls H.launches H.dirs H.output H.exited A.left A.faults (max setting.site.looks 1)
-        setting entry origin before hosts.items result.hosts.items answers result.answers result.history.items result.disk (D.faults durable.journal.disk) (D.faults result.disk)
+        kind setting entry origin before hosts.items result.hosts.items answers result.answers result.history.items result.disk (D.faults durable.journal.disk) (D.faults result.disk)
         (K.written out.old) (K.written out.new) (K.faults out.old) (K.faults out.new) result.status ∥₁ }
 {
     let alloc = rt.alloc();
     let looks = durable.build().site().looks.max(1);
     let executors = durable.build().site().executors.as_slice();
     match Crew::gather(alloc, executors, hosts, answers) {
-        Ok(crew) => live(rt, durable, crew, threads, looks, out),
+        Ok(crew) => live(rt, durable, kind, crew, threads, looks, out),
         Err((hosts, answers)) => {
             let status = tell(out, &Refusal::OutOfMemory);
             Ended {
@@ -105,6 +111,7 @@ fn live<
 >(
     rt: &W,
     durable: DurableBuild<D, R>,
+    kind: EndText,
     crew: Crew<H, A>,
     threads: usize,
     looks: u32,
@@ -125,19 +132,20 @@ fn live<
         (K.written out.old) (K.written out.new) (K.faults out.old) (K.faults out.new) result.status }
     ensures reports { (executors : List SiteExecutor) (hosts : List H) (answers : A) → crew.members.items ≡ members_of executors hosts answers
         → Reports (D.faults durable.journal.disk) (D.faults result.disk) (A.faults answers) (A.faults result.answers) (K.written out.old) (K.written out.new) (K.faults out.old) (K.faults out.new) result.status }
-    ensures last { (payloads : List (List ℕ)) → Keeps D.reads D.may_leave R.stance durable payloads
+    ensures last { kind ≡ Log → (payloads : List (List ℕ)) → Keeps D.reads D.may_leave R.stance durable payloads
         → ∥ KeepsRecords D.may_leave D.clock D.may_have_left_since (setting_in durable.build) durable.journal.disk payloads result.history.items result.disk (K.written out.old) (K.written out.new) (K.faults out.old) (K.faults out.new) result.status ∥₁ }
     ensures finishes { (hosts : List H) (answers : A) (setting : Setting) (entry : Option (List ℕ)) (origin : D) (before : List AnEvent) → crew.members.items ≡ members_of setting.site.executors hosts answers
         → crew.others.items ≡ reverse (others_of setting.site.executors hosts) → Lasts D.reads D.may_leave D.clock D.may_have_left_since R.stance setting entry origin before before durable
+        → Counts kind durable.records before
         → ∥ Finished D.reads D.may_leave D.clock D.may_have_left_since H.honest H.faults H.calls H.launches H.dirs H.output H.exited A.left A.faults looks
-        setting entry origin before hosts result.hosts.items answers result.answers result.history.items result.disk (D.faults durable.journal.disk) (D.faults result.disk)
+        kind setting entry origin before hosts result.hosts.items answers result.answers result.history.items result.disk (D.faults durable.journal.disk) (D.faults result.disk)
         (K.written out.old) (K.written out.new) (K.faults out.old) (K.faults out.new) result.status ∥₁ }
 {
     let alloc = rt.alloc();
     let mut crew = crew;
     match go_on(rt, alloc, threads, durable, &mut crew.members, looks) {
         Ok(Lived { site, ended }) => {
-            let status = tell_end(alloc, out, site.build(), ended);
+            let status = tell_end(alloc, out, kind, site.build(), site.records(), ended);
             let (disk, history) = site.close();
             let (hosts, answers) = crew.dismiss();
             Ended {
@@ -162,25 +170,43 @@ fn live<
     }
 }
 
-/// Writes the log of a build that rests, or why it does not go on, and answers the exit status.
+/// Writes the text of a build that rests, or why it does not go on, and answers the exit status.
 fn tell_end<R: SavedThread + Drop, K: Sink>(
     alloc: Global,
     out: &mut K,
+    kind: EndText,
     build: &Build<R>,
+    records: u64,
     ended: Result<Rest, TakeFault>,
 ) -> u8
-    ensures { TellsEnd (StandsFor R.stance build.now) (image_in R.stance build.now) (K.written out.old) (K.written out.new) (K.faults out.old) (K.faults out.new) ended result }
+    ensures { TellsEnd kind records (StandsFor R.stance build.now) (image_in R.stance build.now) (K.written out.old) (K.written out.new) (K.faults out.old) (K.faults out.new) ended result }
 {
     match ended {
         Ok(Rest::AnswersFailed) => tell(out, &Refusal::ReadFailed),
-        Ok(Rest::Ended | Rest::Waits) => tell_rest(out, build),
+        Ok(Rest::Ended | Rest::Waits) => tell_rest(alloc, out, kind, build, records),
         Err(fault) => tell(out, &Refusal::of_take(alloc, fault)),
     }
 }
 
-/// Writes the log of a build that rests, and answers the exit status.
-fn tell_rest<R: SavedThread + Drop, K: Sink>(out: &mut K, build: &Build<R>) -> u8
-    ensures { TellsRest (StandsFor R.stance build.now) (image_in R.stance build.now) (K.written out.old) (K.written out.new) (K.faults out.old) (K.faults out.new) result }
+/// Writes the text of a build that rests, and answers the exit status.
+fn tell_rest<R: SavedThread + Drop, K: Sink>(
+    alloc: Global,
+    out: &mut K,
+    kind: EndText,
+    build: &Build<R>,
+    records: u64,
+) -> u8
+    ensures { TellsRest kind records (StandsFor R.stance build.now) (image_in R.stance build.now) (K.written out.old) (K.written out.new) (K.faults out.old) (K.faults out.new) result }
 {
-    tell_text(out, build.log(), build_status(build))
+    let status = build_status(build);
+    match kind {
+        EndText::Log => tell_text(out, build.log(), status),
+        EndText::Numbers(stages) => {
+            let log = build.log().len();
+            match summary(alloc, stages, build.nodes(), records, log, build.result()) {
+                Ok(lines) => tell_text(out, lines.as_bytes(), status),
+                Err(AllocError) => tell(out, &Refusal::OutOfMemory),
+            }
+        }
+    }
 }

@@ -53,7 +53,7 @@ pub fn read_plan<S: Source>(alloc: Global, script: &mut S, agents: &mut S) -> Re
 }
 
 /// Judges the agents file and then the script.
-fn judge(alloc: Global, files: Files) -> Result<Plan, Refusal>
+pub(crate) fn judge(alloc: Global, files: Files) -> Result<Plan, Refusal>
     ensures { Judged files.script.items files.agents.items result }
 {
     match read_agents(alloc, &files.agents) {

@@ -7,6 +7,7 @@ ghost use Rattle.saved_run.specs.Saved.{Stores};
 ghost use Rattle.build_commands.specs.Resuming.{Reopens, Resumes};
 
 use crate::done::Ended;
+use crate::end_text::EndText;
 use crate::finishing::finish;
 use crate::refusal::{Refusal, tell};
 use jp_disk::Disk;
@@ -49,7 +50,15 @@ pub fn resume<
 {
     let alloc = rt.alloc();
     match Life::<D, R>::reopen(alloc, disk) {
-        Ok(life) => finish(rt, life.into_durable(), hosts, threads, answers, out),
+        Ok(life) => finish(
+            rt,
+            life.into_durable(),
+            EndText::Log,
+            hosts,
+            threads,
+            answers,
+            out,
+        ),
         Err((fault, disk)) => {
             let status = tell(out, &Refusal::of_store(alloc, fault));
             Ended {

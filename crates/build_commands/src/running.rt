@@ -1,12 +1,15 @@
 //! The command that begins the build of a script.
 
-ghost use Rattle.std.specs.Prelude.{◌+◌};
+ghost use Rattle.std.specs.Prelude.{◌+◌, IfOk};
 ghost use Rattle.jp_io.specs.Whole.{TakesAtMost};
 ghost use Rattle.run_command.specs.Files.{agents_limit, script_limit, Builds};
-ghost use Rattle.run_command.specs.Inputs.{taken_from};
+ghost use Rattle.run_command.specs.Inputs.{Input, taken_from};
+ghost use Rattle.build_commands.specs.declared.end_text.EndText.TheVariants.{Log};
 ghost use Rattle.build_commands.specs.Beginning.{Begins, Runs};
+ghost use Rattle.build_commands.specs.Plans.{Plans};
 
 use crate::done::Ended;
+use crate::end_text::EndText;
 use crate::finishing::finish;
 use crate::plan::{Plan, read_plan};
 use crate::refusal::{Refusal, tell};
@@ -56,12 +59,40 @@ pub fn run<
     out: &mut K,
 ) -> Ended<D, H, A>
     ensures runs { Runs D.reads D.may_leave D.clock D.may_have_left_since R.stance D.faults H.honest H.faults H.calls H.launches H.dirs H.output H.exited A.left A.faults disk result.disk hosts.items result.hosts.items answers result.answers result.history.items
-        (K.written out.old) (K.written out.new) (K.faults out.old) (K.faults out.new) (taken_from S.left S.faults script.old script.new) (taken_from S.left S.faults agents.old agents.new) result.status }
+        Log (K.written out.old) (K.written out.new) (K.faults out.old) (K.faults out.new) (taken_from S.left S.faults script.old script.new) (taken_from S.left S.faults agents.old agents.new) result.status }
     ensures most_script { TakesAtMost (script_limit + 1) (S.left script.old) (S.left script.new) }
     ensures most_agents { TakesAtMost (agents_limit + 1) (S.left agents.old) (S.left agents.new) }
 {
-    match read_plan(rt.alloc(), script, agents) {
-        Ok(plan) => begin::<D, R, W, H, A, K>(rt, plan, disk, hosts, threads, answers, out),
+    let plan = read_plan(rt.alloc(), script, agents);
+    build_planned::<D, R, W, H, A, K>(rt, plan, EndText::Log, disk, hosts, threads, answers, out)
+}
+
+/// Makes the store of the build of a script and an agents file, where they can be built, and goes on with it; and writes what is asked for
+/// of it.
+pub(crate) fn build_planned<
+    D: Disk + Send,
+    R: SavedThread + Drop + Send,
+    W: Threads + Wait + Sync + Clock + AllocGlobal,
+    H: Host + Drop + Send,
+    A: Source + Drop + Send,
+    K: Sink,
+>(
+    rt: &W,
+    plan: Result<Plan, Refusal>,
+    kind: EndText,
+    disk: D,
+    hosts: Vec<H>,
+    threads: usize,
+    answers: A,
+    out: &mut K,
+) -> Ended<D, H, A>
+    requires builds { IfOk plan (λ plan. Builds plan.script plan.agents plan.tree plan.site) }
+    ensures { (script agents : Input) → Plans script agents plan
+        → Runs D.reads D.may_leave D.clock D.may_have_left_since R.stance D.faults H.honest H.faults H.calls H.launches H.dirs H.output H.exited A.left A.faults disk result.disk hosts.items result.hosts.items answers result.answers result.history.items
+        kind (K.written out.old) (K.written out.new) (K.faults out.old) (K.faults out.new) script agents result.status }
+{
+    match plan {
+        Ok(plan) => begin::<D, R, W, H, A, K>(rt, plan, kind, disk, hosts, threads, answers, out),
         Err(refusal) => {
             let status = tell(out, &refusal);
             Ended {
@@ -86,6 +117,7 @@ fn begin<
 >(
     rt: &W,
     plan: Plan,
+    kind: EndText,
     disk: D,
     hosts: Vec<H>,
     threads: usize,
@@ -94,7 +126,7 @@ fn begin<
 ) -> Ended<D, H, A>
     requires builds { Builds plan.script plan.agents plan.tree plan.site }
     ensures { Begins D.reads D.may_leave D.clock D.may_have_left_since R.stance D.faults H.honest H.faults H.calls H.launches H.dirs H.output H.exited A.left A.faults disk result.disk hosts.items result.hosts.items answers result.answers result.history.items
-        (K.written out.old) (K.written out.new) (K.faults out.old) (K.faults out.new) plan.script plan.agents plan.tree plan.site result.status }
+        kind (K.written out.old) (K.written out.new) (K.faults out.old) (K.faults out.new) plan.script plan.agents plan.tree plan.site result.status }
 {
     let alloc = rt.alloc();
     let Plan {
@@ -104,7 +136,7 @@ fn begin<
         site,
     } = plan;
     match Life::<D, R>::begin(alloc, disk, tree, site, script, agents) {
-        Ok(life) => finish(rt, life.into_durable(), hosts, threads, answers, out),
+        Ok(life) => finish(rt, life.into_durable(), kind, hosts, threads, answers, out),
         Err((fault, disk)) => {
             let status = tell(out, &Refusal::of_begin(alloc, fault));
             Ended {

@@ -80,9 +80,9 @@ module _ {D T H A : Type 0} (reads : D → Option (List ℕ)) (may_leave : D →
 
   -- Of each task that was claimed in a life, each image that a crash may leave behind the life tells that it was an open one of the executor.
   pub claims_stay : (honest : H → Type 0) (faults : H → ℕ) (calls : H → Option (List Call)) (launches dirs : H → List ℕ) (output : H → ℕ → Stream → List ℕ) (exited : H → ℕ → Option ℤ)
-      (left : A → Option (List ℕ)) (source_faults : A → ℕ) (looks : ℕ) (turns : List (Turn H A)) (events : List Event) (old new : List (Member H A)) (history : List Entry) (kept : Kept D T) (ended : Result Rest TakeFault)
+      (left : A → Option (List ℕ)) (source_faults : A → ℕ) (looks : ℕ) {durable : Kept D T} (turns : List (Turn H A)) (events : List Event) (old new : List (Member H A)) (history : List Entry) (kept : Kept D T) (ended : Result Rest TakeFault)
       → (world_in setting events).started ≡ true
-      → Ends reads may_leave clock since stance honest faults calls launches dirs output exited left source_faults looks turns setting entry origin before events old new history kept ended
+      → Ends reads may_leave clock since stance honest faults calls launches dirs output exited left source_faults looks turns durable setting entry origin before events old new history kept ended
       → AllClaimed (λ executor task. (image : List ℕ) → may_leave kept.journal.disk image → HadOpenTask setting executor task image) history
   claims_stay honest faults calls launches dirs output exited left source_faults looks turns events old new history kept ended started ends =
       all_stay setting (events ++ ends.granted) (tooks history) (begun_all setting events ends.granted started) (may_leave kept.journal.disk)

@@ -1,8 +1,8 @@
 //! The commands by their names.
-ghost use Rattle.std.specs.Prelude.{◌≡◌, ◌≢◌, All, MatchOption};
-ghost use Rattle.command_words.specs.Words.{word_of};
+ghost use Rattle.std.specs.Prelude.{◌≡◌, ◌≢◌, MatchOption};
+ghost use Rattle.command_words.specs.Words.{IsOverFolder, word_of};
 
-/// A command over the store of a build.
+/// What the program can be asked for.
 #[derive(Clone, Copy, Debug, PartialEq, Eq)]
 pub enum Command {
     /// Begins the build of a script, and writes its log.
@@ -15,18 +15,11 @@ pub enum Command {
     Graph,
     /// Looks for faults of a script and its agents file.
     Check,
+    /// Begins the build of a script that it makes, of this number of stages, and writes its numbers.
+    Generate(u32),
 }
 
 impl Command {
-    /// All commands, in the order in which the usage names them.
-    pub const ALL: [Command; 5] = [
-        Command::Run,
-        Command::Resume,
-        Command::Log,
-        Command::Graph,
-        Command::Check,
-    ];
-
     /// The word of the command line that gives it.
     pub fn name(self) -> &'static str
         ensures { result.now ≡ word_of self }
@@ -37,25 +30,22 @@ impl Command {
             Command::Log => "log",
             Command::Graph => "graph",
             Command::Check => "check",
+            Command::Generate(_) => "gen",
         }
     }
 
-    /// The command that this word gives, and `None` exactly where no command has it.
-    pub fn named(word: &str) -> Option<Command>
-        ensures { MatchOption result ((command : Command) → word_of command ≢ word.now) (λ command. word_of command ≡ word.now) }
+    /// The command over a folder that this word gives, and `None` exactly where none has it.
+    pub(crate) fn over_folder(word: &str) -> Option<Command>
+        ensures { MatchOption result ((command : Command) → IsOverFolder command → word_of command ≢ word.now)
+            (λ command. IsOverFolder command × (word_of command ≡ word.now)) }
     {
-        first_named(&Command::ALL, word)
-    }
-}
-
-/// The first of these commands that this word gives.
-fn first_named(commands: &[Command], word: &str) -> Option<Command>
-    ensures { MatchOption result (All (λ command. word_of command ≢ word.now) commands.now) (λ command. word_of command ≡ word.now) }
-{
-    for command in commands {
-        if command.name() == word {
-            return Some(*command);
+        match word {
+            "run" => Some(Command::Run),
+            "resume" => Some(Command::Resume),
+            "log" => Some(Command::Log),
+            "graph" => Some(Command::Graph),
+            "check" => Some(Command::Check),
+            _ => None,
         }
     }
-    None
 }

@@ -1,7 +1,7 @@
-//! The words of the command line: which of them are which command, and its folder.
+//! The words of the command line: which of them are which command, with its folder or its number of stages.
 //!
 //! ```text
-//! let Some((command, folder)) = command_in(&words) else {
+//! let Some((command, operand)) = command_in(&words) else {
 //!     return usage();
 //! };
 //! ```

@@ -1,9 +1,10 @@
 -- The command of a call, its status, and what its devices tell.
-use Rattle.std.proofs.Common.{◌≡◌, ◌+◌, ◌*◌, ℕ, Bool, true, false, List, [], ◌∷◌, Option, None, Some, inl, inr, refl, sym, ap, ◌∙◌, subst, max, arith}
+use Rattle.std.proofs.Common.{◌≡◌, ◌+◌, ◌*◌, ◌<◌, ◌^◌, ℕ, Bool, true, false, List, [], ◌∷◌, Option, None, Some, inl, inr, refl, sym, ap, ◌∙◌, subst, max, arith}
 use Rattle.std.specs.Prelude.{nat_eq, if◌then◌else◌, IfSome, IsSomeAnd}
 use Rattle.command_words.specs.declared.command.Command.{Command}
-use Rattle.command_words.specs.declared.command.Command.TheVariants.{Run, Resume, Log, Graph, Check}
-use Rattle.command_words.specs.Words.{word_of, Gives, IsCommand}
+use Rattle.command_words.specs.declared.command.Command.TheVariants.{Run, Resume, Log, Graph, Check, Generate}
+use Rattle.command_words.specs.Words.{word_of, Gives, IsCommand, IsOperand, IsStages}
+use Rattle.std.proofs.lemmas.Fmt.{decimal_injective}
 use Rattle.jp_disk.proofs.MomentLemmas.{if_told}
 use Rattle.model_syntax.specs.declared.tree.Tree.{Tree}
 use Rattle.model_syntax.proofs.FirstFaultLaws.{faultless_or_fault}
@@ -19,6 +20,7 @@ use Rattle.run_command.specs.Files.{HasFault, HasSite, IsRefused, by_fault, by_l
 use Rattle.run_command.specs.Statuses.{HasRun, result_status, world_status, HasLog}
 use Rattle.run_command.specs.Inputs.{Input}
 use Rattle.run_command.proofs.StatusLemmas.{ended_status, going_status}
+use Rattle.build_commands.specs.declared.end_text.EndText.{EndText}
 use Rattle.build_commands.specs.Living.{Finished}
 use Rattle.build_commands.specs.Plans.{Hold}
 use Rattle.controller.specs.Call.{Call, Devices, Is}
@@ -29,38 +31,52 @@ abbrev tag : List ℕ → ℕ
 tag (a ∷ (b ∷ (c ∷ more))) = a * 1000000 + b * 1000 + c
 tag word = 0
 
-same_command : (a b : Command) → word_of a ≡ word_of b → a ≡ b
-same_command Run Run e = refl
-same_command Run Resume e = let t : 114117110 ≡ 114101115 = ap tag e in absurd (omega (arith, t))
-same_command Run Log e = let t : 114117110 ≡ 108111103 = ap tag e in absurd (omega (arith, t))
-same_command Run Graph e = let t : 114117110 ≡ 103114097 = ap tag e in absurd (omega (arith, t))
-same_command Run Check e = let t : 114117110 ≡ 99104101 = ap tag e in absurd (omega (arith, t))
-same_command Resume Run e = let t : 114101115 ≡ 114117110 = ap tag e in absurd (omega (arith, t))
-same_command Resume Resume e = refl
-same_command Resume Log e = let t : 114101115 ≡ 108111103 = ap tag e in absurd (omega (arith, t))
-same_command Resume Graph e = let t : 114101115 ≡ 103114097 = ap tag e in absurd (omega (arith, t))
-same_command Resume Check e = let t : 114101115 ≡ 99104101 = ap tag e in absurd (omega (arith, t))
-same_command Log Run e = let t : 108111103 ≡ 114117110 = ap tag e in absurd (omega (arith, t))
-same_command Log Resume e = let t : 108111103 ≡ 114101115 = ap tag e in absurd (omega (arith, t))
-same_command Log Log e = refl
-same_command Log Graph e = let t : 108111103 ≡ 103114097 = ap tag e in absurd (omega (arith, t))
-same_command Log Check e = let t : 108111103 ≡ 99104101 = ap tag e in absurd (omega (arith, t))
-same_command Graph Run e = let t : 103114097 ≡ 114117110 = ap tag e in absurd (omega (arith, t))
-same_command Graph Resume e = let t : 103114097 ≡ 114101115 = ap tag e in absurd (omega (arith, t))
-same_command Graph Log e = let t : 103114097 ≡ 108111103 = ap tag e in absurd (omega (arith, t))
-same_command Graph Graph e = refl
-same_command Graph Check e = let t : 103114097 ≡ 99104101 = ap tag e in absurd (omega (arith, t))
-same_command Check Run e = let t : 99104101 ≡ 114117110 = ap tag e in absurd (omega (arith, t))
-same_command Check Resume e = let t : 99104101 ≡ 114101115 = ap tag e in absurd (omega (arith, t))
-same_command Check Log e = let t : 99104101 ≡ 108111103 = ap tag e in absurd (omega (arith, t))
-same_command Check Graph e = let t : 99104101 ≡ 103114097 = ap tag e in absurd (omega (arith, t))
-same_command Check Check e = refl
+few : (word : List ℕ) (stages : ℕ) → IsStages word stages → stages < 2 ^ 64
+few word stages s = let most = s.most in omega (arith, most)
+
+same_command : (a b : Command) (word : List ℕ) → word_of a ≡ word_of b → IsOperand a word → IsOperand b word → a ≡ b
+same_command Run Run word e x y = refl
+same_command Run Resume word e x y = let t : 114117110 ≡ 114101115 = ap tag e in absurd (omega (arith, t))
+same_command Run Log word e x y = let t : 114117110 ≡ 108111103 = ap tag e in absurd (omega (arith, t))
+same_command Run Graph word e x y = let t : 114117110 ≡ 103114097 = ap tag e in absurd (omega (arith, t))
+same_command Run Check word e x y = let t : 114117110 ≡ 99104101 = ap tag e in absurd (omega (arith, t))
+same_command Run (Generate stages) word e x y = let t : 114117110 ≡ 103101110 = ap tag e in absurd (omega (arith, t))
+same_command Resume Run word e x y = let t : 114101115 ≡ 114117110 = ap tag e in absurd (omega (arith, t))
+same_command Resume Resume word e x y = refl
+same_command Resume Log word e x y = let t : 114101115 ≡ 108111103 = ap tag e in absurd (omega (arith, t))
+same_command Resume Graph word e x y = let t : 114101115 ≡ 103114097 = ap tag e in absurd (omega (arith, t))
+same_command Resume Check word e x y = let t : 114101115 ≡ 99104101 = ap tag e in absurd (omega (arith, t))
+same_command Resume (Generate stages) word e x y = let t : 114101115 ≡ 103101110 = ap tag e in absurd (omega (arith, t))
+same_command Log Run word e x y = let t : 108111103 ≡ 114117110 = ap tag e in absurd (omega (arith, t))
+same_command Log Resume word e x y = let t : 108111103 ≡ 114101115 = ap tag e in absurd (omega (arith, t))
+same_command Log Log word e x y = refl
+same_command Log Graph word e x y = let t : 108111103 ≡ 103114097 = ap tag e in absurd (omega (arith, t))
+same_command Log Check word e x y = let t : 108111103 ≡ 99104101 = ap tag e in absurd (omega (arith, t))
+same_command Log (Generate stages) word e x y = let t : 108111103 ≡ 103101110 = ap tag e in absurd (omega (arith, t))
+same_command Graph Run word e x y = let t : 103114097 ≡ 114117110 = ap tag e in absurd (omega (arith, t))
+same_command Graph Resume word e x y = let t : 103114097 ≡ 114101115 = ap tag e in absurd (omega (arith, t))
+same_command Graph Log word e x y = let t : 103114097 ≡ 108111103 = ap tag e in absurd (omega (arith, t))
+same_command Graph Graph word e x y = refl
+same_command Graph Check word e x y = let t : 103114097 ≡ 99104101 = ap tag e in absurd (omega (arith, t))
+same_command Graph (Generate stages) word e x y = let t : 103114097 ≡ 103101110 = ap tag e in absurd (omega (arith, t))
+same_command Check Run word e x y = let t : 99104101 ≡ 114117110 = ap tag e in absurd (omega (arith, t))
+same_command Check Resume word e x y = let t : 99104101 ≡ 114101115 = ap tag e in absurd (omega (arith, t))
+same_command Check Log word e x y = let t : 99104101 ≡ 108111103 = ap tag e in absurd (omega (arith, t))
+same_command Check Graph word e x y = let t : 99104101 ≡ 103114097 = ap tag e in absurd (omega (arith, t))
+same_command Check Check word e x y = refl
+same_command Check (Generate stages) word e x y = let t : 99104101 ≡ 103101110 = ap tag e in absurd (omega (arith, t))
+same_command (Generate stages) Run word e x y = let t : 103101110 ≡ 114117110 = ap tag e in absurd (omega (arith, t))
+same_command (Generate stages) Resume word e x y = let t : 103101110 ≡ 114101115 = ap tag e in absurd (omega (arith, t))
+same_command (Generate stages) Log word e x y = let t : 103101110 ≡ 108111103 = ap tag e in absurd (omega (arith, t))
+same_command (Generate stages) Graph word e x y = let t : 103101110 ≡ 103114097 = ap tag e in absurd (omega (arith, t))
+same_command (Generate stages) Check word e x y = let t : 103101110 ≡ 99104101 = ap tag e in absurd (omega (arith, t))
+same_command (Generate stages) (Generate more) word e x y = ap Generate (decimal_injective stages more (few word stages x) (few word more y) (sym x.is ∙ y.is))
 
 both_given : (words : List (List ℕ)) (a b : Command) (f g : List ℕ) → Gives words a f → Gives words b g → a ≡ b
 both_given [] a b f g x y = absurd x
 both_given (p ∷ []) a b f g x y = absurd x
 both_given (p ∷ (v ∷ [])) a b f g x y = absurd x
-both_given (p ∷ (v ∷ (n ∷ []))) a b f g x y = same_command a b (x.0 ∙ sym y.0)
+both_given (p ∷ (v ∷ (n ∷ []))) a b f g x y = same_command a b n (x.1.0 ∙ sym y.1.0) x.1.1 y.1.1
 both_given (p ∷ (v ∷ (n ∷ (m ∷ more)))) a b f g x y = absurd x
 
 -- the words are one command
@@ -150,7 +166,7 @@ some_and None P Q more holds = absurd holds
 some_and (Some x) P Q more holds = more x holds
 
 -- a life over a build of this setting, from these events on, has finished with this status
-abbrev pub FinishedIn : {D H A : Type 0} → Devices D H A → Call D H A → Setting → D → List Event → ℕ → Type 0
-FinishedIn v c setting origin before n =
+abbrev pub FinishedIn : {D H A : Type 0} → Devices D H A → Call D H A → EndText → Setting → D → List Event → ℕ → Type 0
+FinishedIn v c kind setting origin before n =
     Finished v.reads v.may_leave v.clock v.since v.honest v.host_faults v.calls v.launches v.dirs v.output v.exited v.left v.source_faults (max setting.site.looks 1)
-    setting (v.reads c.disk) origin before c.hosts c.hosts_now c.answers c.answers_now c.history c.now (v.faults origin) (v.faults c.now) c.old c.new c.sink_before c.sink_after n
+    kind setting (v.reads c.disk) origin before c.hosts c.hosts_now c.answers c.answers_now c.history c.now (v.faults origin) (v.faults c.now) c.old c.new c.sink_before c.sink_after n

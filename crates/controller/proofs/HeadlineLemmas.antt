@@ -2,14 +2,15 @@
 use Rattle.std.proofs.Common.{◌≡◌, ◌⊎◌, ◌≤◌, ℕ, List, length, inr, sym, subst}
 use Rattle.std.specs.Prelude.{IfSome}
 use Rattle.command_words.specs.declared.command.Command.{Command}
-use Rattle.command_words.specs.declared.command.Command.TheVariants.{Run, Resume, Log, Graph, Check}
+use Rattle.command_words.specs.declared.command.Command.TheVariants.{Run, Resume, Log, Graph, Check, Generate}
 use Rattle.command_words.specs.Words.{IsCommand}
 use Rattle.image_form.specs.declared.image.Image.{Image}
 use Rattle.model_run.specs.GraphText.{graph_text}
 use Rattle.model_run.specs.World.{Build}
 use Rattle.run_command.specs.Statuses.{HasRun}
 use Rattle.settle_laws.specs.Stances.{Stance}
-use Rattle.controller.specs.Call.{Call, Devices, Is, IsUnled, Tells, usage_text}
+use Rattle.build_commands.specs.declared.end_text.EndText.TheVariants as end
+use Rattle.controller.specs.Call.{Call, Devices, Is, IsUnled, Tells, made, usage_text}
 use Rattle.controller.specs.Causes.{CausesOf, Causes}
 use Rattle.controller.specs.Commands.{Does}
 use Rattle.controller.specs.Commands as does
@@ -22,7 +23,7 @@ use Rattle.controller.specs.Promises.{Promises}
 use Rattle.controller.specs.Reads.{Reads, ReadsOf, ReadsNoFile}
 use Rattle.controller.proofs.CallLemmas.{is_command, one_command}
 use Rattle.controller.proofs.CheckLemmas.{check_outputs, check_says, check_judges, check_causes, check_known}
-use Rattle.controller.proofs.LaunchLemmas.{resume_launches, run_launches, same_launches, show_launches}
+use Rattle.controller.proofs.LaunchLemmas.{made_launches, resume_launches, run_launches, same_launches, show_launches}
 use Rattle.controller.proofs.ResumeLemmas.{resume_unread, resume_says, resume_untold, resume_known, resume_any, resume_outputs, resume_crashes, resume_causes}
 use Rattle.controller.proofs.RunLemmas.{run_unread, run_outputs, run_says, run_crashes, run_judges, run_causes, run_known}
 use Rattle.controller.proofs.ShowLemmas.{show_says, show_outputs, show_untold, show_known}
@@ -35,7 +36,8 @@ module _ {D H A T : Type 0} (v : Devices D H A) (stance : T → Stance) (told_im
   -- OUTPUT
   output_by : DoesSo → (command : Command) → Is command c → OutputOf v command c
   output_by (does.usage unsaid files unled same two tells) k is = absurd (unsaid (is_command c k is))
-  output_by (does.runs by files table) k is = subst (λ (command : Command). OutputOf v command c) (one_command c Run k by is) (run_outputs v stance told_image counts_now only_now c table)
+  output_by (does.runs by files table) k is = subst (λ (command : Command). OutputOf v command c) (one_command c Run k by is) (run_outputs v stance told_image counts_now only_now end.Log c table)
+  output_by (does.generates stages by files table) k is = subst (λ (command : Command). OutputOf v command c) (one_command c (Generate stages) k by is) (run_outputs v stance told_image counts_now only_now (end.Numbers stages) (made stages c) table)
   output_by (does.resumes by files table) k is = subst (λ (command : Command). OutputOf v command c) (one_command c Resume k by is) (resume_outputs v told_image c table, resume_any v told_image c table.reopens)
   output_by (does.logs by files unled table) k is = subst (λ (command : Command). OutputOf v command c) (one_command c Log k by is) (show_outputs (λ (w : Build). w.shared.log) (λ (i : Image). i.log) v c table)
   output_by (does.graphs by files unled table) k is = subst (λ (command : Command). OutputOf v command c) (one_command c Graph k by is) (show_outputs (λ (w : Build). graph_text w.shared.nodes) (λ (i : Image). graph_text i.nodes) v c table)
@@ -43,7 +45,8 @@ module _ {D H A T : Type 0} (v : Devices D H A) (stance : T → Stance) (told_im
 
   refusal_by : DoesSo → HasRun c.status ⊎ ((text : List ℕ) × Says c.status text × Tells text c)
   refusal_by (does.usage unsaid files unled same two tells) = inr (usage_text, subst (λ (n : ℕ). Says n usage_text) (sym two) output.usage, tells)
-  refusal_by (does.runs by files table) = run_says v stance told_image counts_now only_now c table
+  refusal_by (does.runs by files table) = run_says v stance told_image counts_now only_now end.Log c table
+  refusal_by (does.generates stages by files table) = run_says v stance told_image counts_now only_now (end.Numbers stages) (made stages c) table
   refusal_by (does.resumes by files table) = resume_says v told_image c table.reopens
   refusal_by (does.logs by files unled table) = show_says (λ (w : Build). w.shared.log) (λ (i : Image). i.log) v c table.shows
   refusal_by (does.graphs by files unled table) = show_says (λ (w : Build). graph_text w.shared.nodes) (λ (i : Image). graph_text i.nodes) v c table.shows
@@ -56,7 +59,9 @@ module _ {D H A T : Type 0} (v : Devices D H A) (stance : T → Stance) (told_im
   crash_by : DoesSo → (command : Command) → Is command c → CrashOf v command c
   crash_by (does.usage unsaid files unled same two tells) k is = absurd (unsaid (is_command c k is))
   crash_by (does.runs by files table) k is =
-      subst (λ (command : Command). CrashOf v command c) (one_command c Run k by is) (run_crashes v stance told_image counts_now only_now c table)
+      subst (λ (command : Command). CrashOf v command c) (one_command c Run k by is) (run_crashes v stance told_image counts_now only_now end.Log c table)
+  crash_by (does.generates stages by files table) k is =
+      subst (λ (command : Command). CrashOf v command c) (one_command c (Generate stages) k by is) (run_crashes v stance told_image counts_now only_now (end.Numbers stages) (made stages c) table)
   crash_by (does.resumes by files table) k is =
       subst (λ (command : Command). CrashOf v command c) (one_command c Resume k by is) (resume_crashes v told_image c table)
   crash_by (does.logs by files unled table) k is = subst (λ (command : Command). CrashOf v command c) (one_command c Log k by is) table.any_moment
@@ -66,6 +71,7 @@ module _ {D H A T : Type 0} (v : Devices D H A) (stance : T → Stance) (told_im
   crash_usage : DoesSo → ¬ (IsCommand c.words) → c.now ≡ c.disk
   crash_usage (does.usage unsaid files unled same two tells) other = same
   crash_usage (does.runs by files table) other = absurd (other (is_command c Run by))
+  crash_usage (does.generates stages by files table) other = absurd (other (is_command c (Generate stages) by))
   crash_usage (does.resumes by files table) other = absurd (other (is_command c Resume by))
   crash_usage (does.logs by files unled table) other = absurd (other (is_command c Log by))
   crash_usage (does.graphs by files unled table) other = absurd (other (is_command c Graph by))
@@ -77,7 +83,8 @@ module _ {D H A T : Type 0} (v : Devices D H A) (stance : T → Stance) (told_im
   -- FIRST FAULT
   fault_by : DoesSo → (command : Command) → Is command c → FaultOf command c
   fault_by (does.usage unsaid files unled same two tells) k is = absurd (unsaid (is_command c k is))
-  fault_by (does.runs by files table) k is = subst (λ (command : Command). FaultOf command c) (one_command c Run k by is) (run_judges v stance told_image counts_now only_now c table)
+  fault_by (does.runs by files table) k is = subst (λ (command : Command). FaultOf command c) (one_command c Run k by is) (run_judges v stance told_image counts_now only_now end.Log c table)
+  fault_by (does.generates stages by files table) k is = subst (λ (command : Command). FaultOf command c) (one_command c (Generate stages) k by is) (run_judges v stance told_image counts_now only_now (end.Numbers stages) (made stages c) table)
   fault_by (does.resumes by files table) k is = subst (λ (command : Command). FaultOf command c) (one_command c Resume k by is) (resume_untold v told_image c table.reopens)
   fault_by (does.logs by files unled table) k is = subst (λ (command : Command). FaultOf command c) (one_command c Log k by is) (show_untold (λ (w : Build). w.shared.log) (λ (i : Image). i.log) v c table)
   fault_by (does.graphs by files unled table) k is = subst (λ (command : Command). FaultOf command c) (one_command c Graph k by is) (show_untold (λ (w : Build). graph_text w.shared.nodes) (λ (i : Image). graph_text i.nodes) v c table)
@@ -89,7 +96,8 @@ module _ {D H A T : Type 0} (v : Devices D H A) (stance : T → Stance) (told_im
   -- CAUSES
   causes_by : DoesSo → (command : Command) → Is command c → CausesOf v command c
   causes_by (does.usage unsaid files unled same two tells) k is = absurd (unsaid (is_command c k is))
-  causes_by (does.runs by files table) k is = subst (λ (command : Command). CausesOf v command c) (one_command c Run k by is) (run_causes v stance told_image counts_now only_now c table)
+  causes_by (does.runs by files table) k is = subst (λ (command : Command). CausesOf v command c) (one_command c Run k by is) (run_causes v stance told_image counts_now only_now end.Log c table)
+  causes_by (does.generates stages by files table) k is = subst (λ (command : Command). CausesOf v command c) (one_command c (Generate stages) k by is) (run_causes v stance told_image counts_now only_now (end.Numbers stages) (made stages c) table)
   causes_by (does.resumes by files table) k is = subst (λ (command : Command). CausesOf v command c) (one_command c Resume k by is) (resume_causes v told_image c table)
   causes_by (does.logs by files unled table) k is = subst (λ (command : Command). CausesOf v command c) (one_command c Log k by is) table.causes
   causes_by (does.graphs by files unled table) k is = subst (λ (command : Command). CausesOf v command c) (one_command c Graph k by is) table.causes
@@ -97,7 +105,8 @@ module _ {D H A T : Type 0} (v : Devices D H A) (stance : T → Stance) (told_im
 
   usage_only : DoesSo → c.status ≡ 2 → ¬ (IsCommand c.words)
   usage_only (does.usage unsaid files unled same two tells) is = unsaid
-  usage_only (does.runs by files table) is = absurd (run_known v stance told_image counts_now only_now c table is)
+  usage_only (does.runs by files table) is = absurd (run_known v stance told_image counts_now only_now end.Log c table is)
+  usage_only (does.generates stages by files table) is = absurd (run_known v stance told_image counts_now only_now (end.Numbers stages) (made stages c) table is)
   usage_only (does.resumes by files table) is = absurd (resume_known v told_image c table.reopens is)
   usage_only (does.logs by files unled table) is = absurd (show_known (λ (w : Build). w.shared.log) (λ (i : Image). i.log) v c table is)
   usage_only (does.graphs by files unled table) is = absurd (show_known (λ (w : Build). graph_text w.shared.nodes) (λ (i : Image). graph_text i.nodes) v c table is)
@@ -106,6 +115,7 @@ module _ {D H A T : Type 0} (v : Devices D H A) (stance : T → Stance) (told_im
   usage_always : DoesSo → ¬ (IsCommand c.words) → c.status ≡ 2
   usage_always (does.usage unsaid files unled same two tells) other = two
   usage_always (does.runs by files table) other = absurd (other (is_command c Run by))
+  usage_always (does.generates stages by files table) other = absurd (other (is_command c (Generate stages) by))
   usage_always (does.resumes by files table) other = absurd (other (is_command c Resume by))
   usage_always (does.logs by files unled table) other = absurd (other (is_command c Log by))
   usage_always (does.graphs by files unled table) other = absurd (other (is_command c Graph by))
@@ -117,7 +127,8 @@ module _ {D H A T : Type 0} (v : Devices D H A) (stance : T → Stance) (told_im
   -- READS
   reads_by : DoesSo → (command : Command) → Is command c → ReadsOf command c
   reads_by (does.usage unsaid files unled same two tells) k is = absurd (unsaid (is_command c k is))
-  reads_by (does.runs by files table) k is = subst (λ (command : Command). ReadsOf command c) (one_command c Run k by is) (files, run_unread v stance told_image counts_now only_now c table)
+  reads_by (does.runs by files table) k is = subst (λ (command : Command). ReadsOf command c) (one_command c Run k by is) (files, run_unread v stance told_image counts_now only_now end.Log c table)
+  reads_by (does.generates stages by files table) k is = subst (λ (command : Command). ReadsOf command c) (one_command c (Generate stages) k by is) (files, run_unread v stance told_image counts_now only_now (end.Numbers stages) (made stages c) table)
   reads_by (does.resumes by files table) k is = subst (λ (command : Command). ReadsOf command c) (one_command c Resume k by is) (files, resume_unread v told_image c table.reopens)
   reads_by (does.logs by files unled table) k is = subst (λ (command : Command). ReadsOf command c) (one_command c Log k by is) (files, unled)
   reads_by (does.graphs by files unled table) k is = subst (λ (command : Command). ReadsOf command c) (one_command c Graph k by is) (files, unled)
@@ -126,6 +137,7 @@ module _ {D H A T : Type 0} (v : Devices D H A) (stance : T → Stance) (told_im
   reads_usage : DoesSo → ¬ (IsCommand c.words) → ReadsNoFile c × IsUnled c
   reads_usage (does.usage unsaid files unled same two tells) other = (files, unled)
   reads_usage (does.runs by files table) other = absurd (other (is_command c Run by))
+  reads_usage (does.generates stages by files table) other = absurd (other (is_command c (Generate stages) by))
   reads_usage (does.resumes by files table) other = absurd (other (is_command c Resume by))
   reads_usage (does.logs by files unled table) other = absurd (other (is_command c Log by))
   reads_usage (does.graphs by files unled table) other = absurd (other (is_command c Graph by))
@@ -137,7 +149,8 @@ module _ {D H A T : Type 0} (v : Devices D H A) (stance : T → Stance) (told_im
   -- LAUNCHES
   launches_of : length c.hosts ≡ 64 → DoesSo → Launches v c
   launches_of many (does.usage unsaid files unled same two tells) = same_launches v stance told_image counts_now only_now c many unled same
-  launches_of many (does.runs by files table) = run_launches v stance told_image counts_now only_now c many table
+  launches_of many (does.runs by files table) = run_launches v stance told_image counts_now only_now c many end.Log table
+  launches_of many (does.generates stages by files table) = made_launches v stages c (run_launches v stance told_image counts_now only_now (made stages c) many (end.Numbers stages) table)
   launches_of many (does.resumes by files table) = resume_launches v stance told_image counts_now only_now c many table
   launches_of many (does.logs by files unled table) = show_launches v stance told_image counts_now only_now c many unled table.any_moment
   launches_of many (does.graphs by files unled table) = show_launches v stance told_image counts_now only_now c many unled table.any_moment

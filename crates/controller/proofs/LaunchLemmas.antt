@@ -19,6 +19,8 @@ use Rattle.saved_run.specs.declared.life.BeginFault.{BeginFault}
 use Rattle.saved_run.specs.declared.life.BeginFault.TheVariants as fault
 use Rattle.saved_run.specs.Lives.{BeginRefuses}
 use Rattle.run_command.specs.Files.{Builds}
+use Rattle.build_commands.specs.declared.end_text.EndText.{EndText}
+use Rattle.build_commands.specs.declared.end_text.EndText.TheVariants as end
 use Rattle.build_commands.specs.Beginning as begin
 use Rattle.build_commands.specs.Resuming.{Reopens, Resumes}
 use Rattle.build_commands.specs.Resuming as resume
@@ -40,7 +42,7 @@ use Rattle.build_commands.specs.Launching.{LaunchedOnce}
 use Rattle.build_commands.specs.Living.{HostsStay}
 use Rattle.build_commands.proofs.LaunchLemmas as since
 use Rattle.build_commands.proofs.LivingLemmas.{stay_same}
-use Rattle.controller.specs.Call.{Call, ComesIn, Devices, Finds, IsUnled, LifeIn}
+use Rattle.controller.specs.Call.{Call, ComesIn, Devices, Finds, IsUnled, LifeIn, made}
 use Rattle.controller.specs.Launches.{FitLeft, Launches, executor_hosts, tasks_on}
 use Rattle.controller.proofs.SiteLemmas.{Consecutive, site_seated, store_begun}
 
@@ -164,21 +166,21 @@ module _ {D H A T : Type 0} (v : Devices D H A) (stance : T → Stance) (told_im
   stays moments = nothing_new v stance told_image c (λ image left. moments.each image (counts_now c.now (v.clock c.disk) image moments.later left))
 
   -- a life that finished, of a build whose setting this is
-  module _ (setting : Setting) (proper : IsProper setting) (all : Consecutive 0 setting.site.executors) (origin : D) (before : List Event) (same : v.faults origin ≡ v.faults c.disk) where
-    finished_fit : FinishedIn v c setting origin before c.status → IsSome (v.reads c.disk) → AllAre v.honest c.hosts → AllFit setting before (executor_hosts v c.hosts) → (image : List ℕ) → v.may_leave c.now image
+  module _ (kind : EndText) (setting : Setting) (proper : IsProper setting) (all : Consecutive 0 setting.site.executors) (origin : D) (before : List Event) (same : v.faults origin ≡ v.faults c.disk) where
+    finished_fit : FinishedIn v c kind setting origin before c.status → IsSome (v.reads c.disk) → AllAre v.honest c.hosts → AllFit setting before (executor_hosts v c.hosts) → (image : List ℕ) → v.may_leave c.now image
         → (s : Setting) (es : List Event) → Stores s es image → AllFit s es (executor_hosts v c.hosts_now)
     finished_fit f known are fit image left s es stores =
-        let g = gone v told_image setting origin before c same f in
+        let g = gone v told_image kind setting origin before c same f in
         led_fit v stance c setting proper all before g.taken g.takes (some_taken setting before g.taken g.more g.takes.goes.begun g.is) are fit image
         (left_now (ComesIn v setting c g.takes.life) setting g.taken image g.risked g.next (g.images known image left)) s es stores
 
-    finished_once : FinishedIn v c setting origin before c.status → AllAre v.honest c.hosts → AllFit setting before (executor_hosts v c.hosts) → IsDistinct nat_eq (all_launches (executor_hosts v c.hosts_now))
-    finished_once f are fit = let g = gone v told_image setting origin before c same f in led_once v stance c setting proper all before g.taken g.takes are fit
+    finished_once : FinishedIn v c kind setting origin before c.status → AllAre v.honest c.hosts → AllFit setting before (executor_hosts v c.hosts) → IsDistinct nat_eq (all_launches (executor_hosts v c.hosts_now))
+    finished_once f are fit = let g = gone v told_image kind setting origin before c same f in led_once v stance c setting proper all before g.taken g.takes are fit
 
-    life_fits : ∥ FinishedIn v c setting origin before c.status ∥₁ → IsSome (v.reads c.disk) → AllAre v.honest c.hosts → ∥ AllFit setting before (executor_hosts v c.hosts) ∥₁ → FitLeft v c.now c.hosts_now
+    life_fits : ∥ FinishedIn v c kind setting origin before c.status ∥₁ → IsSome (v.reads c.disk) → AllAre v.honest c.hosts → ∥ AllFit setting before (executor_hosts v c.hosts) ∥₁ → FitLeft v c.now c.hosts_now
     life_fits finishes known are fits image left s es stores = ∥∥₁_elim finishes ∥∥₁_prop (λ f. ∥∥₁_map fits (λ fit. finished_fit f known are fit image left s es stores))
 
-    life_once : ∥ FinishedIn v c setting origin before c.status ∥₁ → AllAre v.honest c.hosts → ∥ AllFit setting before (executor_hosts v c.hosts) ∥₁ → IsDistinct nat_eq (all_launches (executor_hosts v c.hosts_now))
+    life_once : ∥ FinishedIn v c kind setting origin before c.status ∥₁ → AllAre v.honest c.hosts → ∥ AllFit setting before (executor_hosts v c.hosts) ∥₁ → IsDistinct nat_eq (all_launches (executor_hosts v c.hosts_now))
     life_once finishes are fits =
         let prop = IsDistinct-prop nat_eq (all_launches (executor_hosts v c.hosts_now)) in
         ∥∥₁_elim finishes prop (λ f. ∥∥₁_elim fits prop (λ fit. finished_once f are fit))
@@ -189,11 +191,11 @@ module _ {D H A T : Type 0} (v : Devices D H A) (stance : T → Stance) (told_im
   unbegun_leaves s a tree site builds f five refuses setting events finds left image leaves t es stores =
       ⊎_elim (λ old. left image old t es stores)
       (⊎_elim (λ kept. fit_records v stance told_image c setting events finds left finds.file image finds.told kept t es stores) (λ start. fit_fresh v stance told_image c left finds.file finds.told start.1 setting t es))
-      (unbegun_image v stance told_image counts_now only_now c s a tree site builds finds.file f image five (refuses finds.file finds.told) leaves)
+      (unbegun_image v stance told_image counts_now only_now end.Log c s a tree site builds finds.file f image five (refuses finds.file finds.told) leaves)
 
-  begun_launches : (s a : List ℕ) (tree : Tree) (site : Site) → Builds s a tree site → (started : D) → v.faults started ≡ v.faults c.disk → HostsStay v.honest v.host_faults v.calls c.hosts c.hosts_now → LaunchedOnce v.launches c.hosts c.hosts_now
-      → ∥ FinishedIn v c (script_setting tree site) started (StartEvent s a ∷ []) c.status ∥₁ → ((file : List ℕ) → v.reads c.disk ≡ Some file → ¬ (IsStarted file)) → Launches v c
-  begun_launches s a tree site builds started same stay launched finishes fresh =
+  begun_launches : (kind : EndText) (s a : List ℕ) (tree : Tree) (site : Site) → Builds s a tree site → (started : D) → v.faults started ≡ v.faults c.disk → HostsStay v.honest v.host_faults v.calls c.hosts c.hosts_now → LaunchedOnce v.launches c.hosts c.hosts_now
+      → ∥ FinishedIn v c kind (script_setting tree site) started (StartEvent s a ∷ []) c.status ∥₁ → ((file : List ℕ) → v.reads c.disk ≡ Some file → ¬ (IsStarted file)) → Launches v c
+  begun_launches kind s a tree site builds started same stay launched finishes fresh =
       let setting = script_setting tree site in
       let proper = mean_proper s a setting (mean_of builds) in
       let all = (site_seated a site builds.means).consecutive in
@@ -204,19 +206,19 @@ module _ {D H A T : Type 0} (v : Devices D H A) (stance : T → Stance) (told_im
         stay = stay;
         led = inr (∥∥₁_map finishes (λ f. (setting, f.lived)));
         launched = launched;
-        fit = λ t es finds are left. life_fits setting proper all started first same finishes (ap is_some finds.told) are (fits t es finds left);
-        once = λ t es finds are left. life_once setting proper all started first same finishes are (fits t es finds left);
+        fit = λ t es finds are left. life_fits kind setting proper all started first same finishes (ap is_some finds.told) are (fits t es finds left);
+        once = λ t es finds are left. life_once kind setting proper all started first same finishes are (fits t es finds left);
       }
 
-  run_by : {n : ℕ} → RunsBy v stance c n → n ≡ c.status → Launches v c
-  run_by (begin.refused refused same unled tells) is = unled_here unled (same_disk v stance told_image c same)
-  run_by (begin.built {s = s} {a = a} {tree = tree} {site = site} give (begin.unbegun {fault = f} unled says counts sizes refuses tells)) is =
+  run_by : (kind : EndText) {n : ℕ} → RunsBy v stance kind c n → n ≡ c.status → Launches v c
+  run_by kind (begin.refused refused same unled tells) is = unled_here unled (same_disk v stance told_image c same)
+  run_by kind (begin.built {s = s} {a = a} {tree = tree} {site = site} give (begin.unbegun {fault = f} unled says counts sizes refuses tells)) is =
       unled_here unled (unbegun_leaves s a tree site give.builds f (λ disk. sym is ∙ begin_disk says disk) refuses)
-  run_by (begin.built {s = s} {a = a} {tree = tree} {site = site} give (begin.begun started same stay launched reports finishes over)) is =
-      begun_launches s a tree site give.builds started same stay launched (subst (λ (m : ℕ). ∥ FinishedIn v c (script_setting tree site) started (StartEvent s a ∷ []) m ∥₁) is finishes) (λ file told. (over file told).fresh)
+  run_by kind (begin.built {s = s} {a = a} {tree = tree} {site = site} give (begin.begun started same stay launched reports finishes over)) is =
+      begun_launches kind s a tree site give.builds started same stay launched (subst (λ (m : ℕ). ∥ FinishedIn v c kind (script_setting tree site) started (StartEvent s a ∷ []) m ∥₁) is finishes) (λ file told. (over file told).fresh)
 
-  pub run_launches : RunsBy v stance c c.status → Launches v c
-  run_launches runs = run_by runs refl
+  pub run_launches : (kind : EndText) → RunsBy v stance kind c c.status → Launches v c
+  run_launches kind runs = run_by kind runs refl
 
   -- `resume`
   abbrev ResumesSo : Setting → List Event → ℕ → Type 0
@@ -239,10 +241,10 @@ module _ {D H A T : Type 0} (v : Devices D H A) (stance : T → Stance) (told_im
   reopens_launched (resume.goes_on setting led stay launched has store reports) = launched
 
   -- a store's setting is that of a script, with executors numbered one after the other
-  went_fits : (setting : Setting) (events : List Event) → Finds v setting events c → (opened : D) → v.faults opened ≡ v.faults c.disk → ∥ FinishedIn v c setting opened events c.status ∥₁ → AllAre v.honest c.hosts → FitLeft v c.disk c.hosts
+  went_fits : (setting : Setting) (events : List Event) → Finds v setting events c → (opened : D) → v.faults opened ≡ v.faults c.disk → ∥ FinishedIn v c end.Log setting opened events c.status ∥₁ → AllAre v.honest c.hosts → FitLeft v c.disk c.hosts
       → FitLeft v c.now c.hosts_now × IsDistinct nat_eq (all_launches (executor_hosts v c.hosts_now))
   went_fits setting [] finds opened same finishes are left =
-      let never = λ (f : FinishedIn v c setting opened [] c.status). let g = gone v told_image setting opened [] c same f in let bad : false ≡ true = g.takes.goes.begun in bad in (
+      let never = λ (f : FinishedIn v c end.Log setting opened [] c.status). let g = gone v told_image end.Log setting opened [] c same f in let bad : false ≡ true = g.takes.goes.begun in bad in (
         λ image leaves t es stores. ∥∥₁_elim finishes ∥∥₁_prop (λ f. let bad : false ≡ true = never f in absurd (cc)),
         ∥∥₁_elim finishes (IsDistinct-prop nat_eq (all_launches (executor_hosts v c.hosts_now))) (λ f. let bad : false ≡ true = never f in absurd (cc)),
       )
@@ -251,14 +253,14 @@ module _ {D H A T : Type 0} (v : Devices D H A) (stance : T → Stance) (told_im
       let proper = mean_proper begun.script begun.agents setting begun.mean in
       let all = (site_seated begun.agents setting.site begun.mean.means).consecutive in
       let fits = entry_fit v stance told_image c setting (e ∷ es) finds left in
-      (life_fits setting proper all opened (e ∷ es) same finishes (ap is_some finds.told) are fits, life_once setting proper all opened (e ∷ es) same finishes are fits)
+      (life_fits end.Log setting proper all opened (e ∷ es) same finishes (ap is_some finds.told) are fits, life_once end.Log setting proper all opened (e ∷ es) same finishes are fits)
 
   resume_fits : {n : ℕ} (setting : Setting) (events : List Event) → Finds v setting events c → ResumesSo setting events n → n ≡ c.status → AllAre v.honest c.hosts → FitLeft v c.disk c.hosts
       → FitLeft v c.now c.hosts_now × IsDistinct nat_eq (all_launches (executor_hosts v c.hosts_now))
   resume_fits setting events finds (resume.refused unled same why tells) is are left =
       let so = unled_so v stance told_image c c.hosts_now unled.0 (stays same.moments) in (so.1 setting events finds are left, so.2 setting events finds are left)
   resume_fits setting events finds (resume.went_on opened up_to same reports finishes) is are left =
-      went_fits setting events finds opened same (subst (λ (m : ℕ). ∥ FinishedIn v c setting opened events m ∥₁) is finishes) are left
+      went_fits setting events finds opened same (subst (λ (m : ℕ). ∥ FinishedIn v c end.Log setting opened events m ∥₁) is finishes) are left
 
   pub resume_launches : ResumesBy v c → Launches v c
   resume_launches by = record {
@@ -276,3 +278,14 @@ module _ {D H A T : Type 0} (v : Devices D H A) (stance : T → Stance) (told_im
 
   pub same_launches : IsUnled c → c.now ≡ c.disk → Launches v c
   same_launches unled same = unled_here unled (same_disk v stance told_image c same)
+
+-- What is promised of the launches of a call on files that were made is promised of the call: the sources of the two files have no part in it.
+pub made_launches : {D H A : Type 0} (v : Devices D H A) (stages : ℕ) (c : Call D H A) → Launches v (made stages c) → Launches v c
+made_launches v stages c l = record {
+  enough = l.enough;
+  stay = l.stay;
+  led = l.led;
+  launched = l.launched;
+  fit = λ setting events finds are left. l.fit setting events (record { file = finds.file; told = finds.told; stores = finds.stores }) are left;
+  once = λ setting events finds are left. l.once setting events (record { file = finds.file; told = finds.told; stores = finds.stores }) are left;
+}

@@ -15,6 +15,8 @@ use Rattle.run_command.specs.Statuses.{HasRun, world_status}
 use Rattle.run_command.proofs.StatusLemmas.{going_status}
 use Rattle.build_commands.specs.Finishing.{ComesNext, Made, Rests, Breaks, Finishes}
 use Rattle.build_commands.specs.Finishing as finish
+use Rattle.build_commands.specs.declared.end_text.EndText.{EndText}
+use Rattle.build_commands.specs.EndTexts.{world_text}
 use Rattle.build_commands.specs.Living.{LivedBy}
 use Rattle.build_commands.specs.Writing as writing
 use Rattle.build_commands.proofs.LivingLemmas.{crew_read}
@@ -32,14 +34,14 @@ goes_more {before = before} (life.takes e goes comes accepted) =
     let so = goes_more goes in (so.0 ++ e ∷ [], ap (λ (es : List Event). es ++ e ∷ []) so.1 ∙ append_assoc before so.0 (e ∷ []))
 goes_more (life.passes line goes none passed) = goes_more goes
 
-module _ {D H A : Type 0} (v : Devices D H A) (told_image : (d : D) → IfSome (v.reads d) (λ file. v.may_leave d file)) (setting : Setting) (origin : D) (before : List Event) (c : Call D H A)
+module _ {D H A : Type 0} (v : Devices D H A) (told_image : (d : D) → IfSome (v.reads d) (λ file. v.may_leave d file)) (kind : EndText) (setting : Setting) (origin : D) (before : List Event) (c : Call D H A)
     (same : v.faults origin ≡ v.faults c.disk) where
   abbrev FinishedSo : ℕ → Type 0
-  FinishedSo n = FinishedIn v c setting origin before n
+  FinishedSo n = FinishedIn v c kind setting origin before n
 
-  -- its log was shown, and none of its events is open
+  -- its text was shown, and none of its events is open
   abbrev ShownSo : List Event → Option Event → ℕ → Type 0
-  ShownSo events risked n = HasRun n → (risked ≡ None) × writing.Writes c.old c.new c.sink_before c.sink_after (world_in setting events).shared.log (world_status (world_in setting events)) n
+  ShownSo events risked n = HasRun n → (risked ≡ None) × writing.Writes c.old c.new c.sink_before c.sink_after (world_text kind setting events) (world_status (world_in setting events)) n
 
   -- what the store has then, and what a crash leaves of it
   pub record Gone (n : ℕ) : Type 0 where
@@ -97,7 +99,7 @@ module _ {D H A : Type 0} (v : Devices D H A) (told_image : (d : D) → IfSome (
         (v.faults origin) (v.faults c.now) (v.source_faults c.answers) (v.source_faults c.answers_now) n text
 
     abbrev FinishesSo : ℕ → Type 0
-    FinishesSo n = Finishes v.reads v.may_leave v.clock v.since TakesSo ComesSo IdlesSo UnheardSo HeardSo setting (v.reads c.disk) origin before c.now
+    FinishesSo n = Finishes v.reads v.may_leave v.clock v.since TakesSo ComesSo IdlesSo UnheardSo HeardSo setting (v.reads c.disk) origin before c.now kind
         (v.faults origin) (v.faults c.now) (v.source_faults c.answers) (v.source_faults c.answers_now) c.old c.new c.sink_before c.sink_after n
 
     takes_of : {events : List Event} {risked : Option Event} → MadeSo events risked → Takes v setting before events c
@@ -115,7 +117,7 @@ module _ {D H A : Type 0} (v : Devices D H A) (told_image : (d : D) → IfSome (
     breaks_say (finish.full len add made going is) = output.full len add is.too_long
     breaks_say (finish.no_memory made) = output.no_memory
 
-    -- one that broke off shows no log
+    -- one that broke off shows none
     not_shown : {n : ℕ} {text : List ℕ} (events : List Event) (risked : Option Event) → BreaksSo n text → ShownSo events risked n
     not_shown events risked breaks run = absurd (says_unrun (breaks_say breaks) run)
 
@@ -152,24 +154,24 @@ module _ {D H A : Type 0} (v : Devices D H A) (told_image : (d : D) → IfSome (
     done_so : {events : List Event} → RestsSo events → ((world_in setting events).ended ≡ true) ⊎ IsIdle v setting events c
     done_so {events = events} rests = ⊎_elim (λ done. inl done) (λ idles. inr (idle events idles)) rests.rests
 
-    -- one that rests has its log
+    -- one that rests has its text
     rests_delivered : {events : List Event} {n : ℕ} → RestsSo events
-        → writing.Writes c.old c.new c.sink_before c.sink_after (world_in setting events).shared.log (world_status (world_in setting events)) n → n ≡ c.status → (more : List Event) × Delivers v setting before (before ++ more) c
+        → writing.Writes c.old c.new c.sink_before c.sink_after (world_text kind setting events) (world_status (world_in setting events)) n → n ≡ c.status → (more : List Event) × Delivers v kind setting before (before ++ more) c
     unfolding takes_of
     rests_delivered {events = events} rests writes is =
         let so = goes_more rests.made.takes.goes in (
           so.0,
-          subst (λ (es : List Event). Delivers v setting before es c) so.1 (record {
+          subst (λ (es : List Event). Delivers v kind setting before es c) so.1 (record {
             takes = takes_of rests.made;
             rests = done_so rests;
             heard = rests.heard;
-            log = subst (λ (m : ℕ). writing.Writes c.old c.new c.sink_before c.sink_after (world_in setting events).shared.log (world_status (world_in setting events)) m) is writes;
+            text = subst (λ (m : ℕ). writing.Writes c.old c.new c.sink_before c.sink_after (world_text kind setting events) (world_status (world_in setting events)) m) is writes;
             stores = stored rests.made;
             durable = durable rests.made;
           }),
         )
 
-    delivers : {n : ℕ} → FinishesSo n → n ≡ c.status → HasRun n → (more : List Event) × Delivers v setting before (before ++ more) c
+    delivers : {n : ℕ} → FinishesSo n → n ≡ c.status → HasRun n → (more : List Event) × Delivers v kind setting before (before ++ more) c
     delivers (finish.by_rest rests writes) is run = rests_delivered rests writes is
     delivers (finish.by_break breaks tells) is run = absurd (says_unrun (breaks_say breaks) run)
 
@@ -211,7 +213,7 @@ module _ {D H A : Type 0} (v : Devices D H A) (told_image : (d : D) → IfSome (
   pub gone : {n : ℕ} → FinishedSo n → Gone n
   gone f = gone_by f.lived f.finishes
 
-  pub finish_delivers : FinishedSo c.status → HasRun c.status → (more : List Event) × Delivers v setting before (before ++ more) c
+  pub finish_delivers : FinishedSo c.status → HasRun c.status → (more : List Event) × Delivers v kind setting before (before ++ more) c
   finish_delivers f run = delivers f.lived f.finishes refl run
 
   -- the same of the events from before and more

@@ -27,6 +27,7 @@ use Rattle.site_life.proofs.WayLaws.{LaunchesMore, MemberLaunches, launches_same
 use Rattle.site_run.specs.Telling.{ClaimedInTime}
 use Rattle.site_crew.specs.Crews.{hosts_in, members_of, others_of}
 use Rattle.run_command.specs.Statuses.{HasRun, world_status}
+use Rattle.build_commands.specs.declared.end_text.EndText.TheVariants as end
 use Rattle.build_commands.specs.Living.{HostsStay}
 use Rattle.build_commands.specs.Reporting.{IsBroken, KeepsRecords, LeavesStore, ShowsEnd, StartsBy, TellTaken}
 use Rattle.jp_disk.specs.Moments.{AtEachMoment}
@@ -51,8 +52,8 @@ module _ {D H A : Type 0} (v : Devices D H A) (c : Call D H A) where
     pub log : Writes (world_in setting (found ++ more)).shared.log (world_status (world_in setting (found ++ more))) c
     pub durable : (image : List ℕ) → v.may_leave c.now image → Stores setting (found ++ more) image
 
-  shown_by : (setting : Setting) (found : List Event) → Finds v setting found c → (more : List Event) × Delivers v setting found (found ++ more) c → Shown setting found
-  shown_by setting found finds d = record { more = d.0; takes = d.1.takes; log = d.1.log; durable = d.1.durable (ap is_some finds.told) }
+  shown_by : (setting : Setting) (found : List Event) → Finds v setting found c → (more : List Event) × Delivers v end.Log setting found (found ++ more) c → Shown setting found
+  shown_by setting found finds d = record { more = d.0; takes = d.1.takes; log = d.1.text; durable = d.1.durable (ap is_some finds.told) }
 
   pub resume_shows : Output v c → Is Resume c → HasRun c.status → (setting : Setting) (found : List Event) → Finds v setting found c → ∥ Shown setting found ∥₁
   resume_shows output is run setting found finds = ∥∥₁_map ((output.command Resume is).0 run setting found finds) (shown_by setting found finds)

@@ -9,6 +9,7 @@ use Rattle.model_run.specs.declared.event.Event.{Event}
 use Rattle.model_run.specs.State.{Setting}
 use Rattle.run_command.specs.Statuses.{HasRun}
 use Rattle.run_command.specs.Inputs.{HasFailed}
+use Rattle.build_commands.specs.declared.end_text.EndText.TheVariants as end
 use Rattle.build_commands.specs.Reporting.{LeavesStore}
 use Rattle.build_commands.specs.Resuming.{IsUntouched, NotOpened, Resumes, Reopens}
 use Rattle.build_commands.specs.Resuming as resume
@@ -128,16 +129,16 @@ module _ {D H A : Type 0} (v : Devices D H A) (told_image : (d : D) → IfSome (
   -- over a consistent one
   module _ (setting : Setting) (events : List Event) where
     abbrev FinishedSo : D → ℕ → Type 0
-    FinishedSo opened n = FinishedIn v c setting opened events n
+    FinishedSo opened n = FinishedIn v c end.Log setting opened events n
 
-    delivered : {n : ℕ} → ResumesSo setting events n → n ≡ c.status → HasRun n → ∥ ((more : List Event) × Delivers v setting events (events ++ more) c) ∥₁
+    delivered : {n : ℕ} → ResumesSo setting events n → n ≡ c.status → HasRun n → ∥ ((more : List Event) × Delivers v end.Log setting events (events ++ more) c) ∥₁
     delivered (resume.refused unled same why tells) is run = absurd (opened_unrun why run)
     delivered (resume.went_on opened up_to same reports finishes) is run =
-        ∥∥₁_map (subst (λ (m : ℕ). ∥ FinishedSo opened m ∥₁) is finishes) (λ f. finish_delivers v told_image setting opened events c same f (subst HasRun is run))
+        ∥∥₁_map (subst (λ (m : ℕ). ∥ FinishedSo opened m ∥₁) is finishes) (λ f. finish_delivers v told_image end.Log setting opened events c same f (subst HasRun is run))
 
     lasts_by : IsSome (v.reads c.disk) → (opened : D) → AtEachMoment v.clock v.since c.disk opened (v.may_leave c.disk) → v.faults opened ≡ v.faults c.disk → FinishedSo opened c.status → LastsResume v setting events c
     lasts_by known opened up_to same finishes =
-        let g = gone v told_image setting opened events c same finishes in
+        let g = gone v told_image end.Log setting opened events c same finishes in
         record {
           taken = g.taken;
           risked = g.risked;
@@ -156,7 +157,7 @@ module _ {D H A : Type 0} (v : Devices D H A) (told_image : (d : D) → IfSome (
 
     went : {n : ℕ} → ResumesSo setting events n → n ≡ c.status → Unopened v c ⊎ ∥ WentOn v setting events c ∥₁
     went (resume.refused unled same why tells) is = inl (record { why = subst (λ (m : ℕ). (m ≡ 9) ⊎ (m ≡ 5) ⊎ (m ≡ 8)) is (opened_why why); disk = same; unled = unled })
-    went (resume.went_on opened up_to same reports finishes) is = inr (∥∥₁_map (subst (λ (m : ℕ). ∥ FinishedSo opened m ∥₁) is finishes) (finish_went v told_image setting opened events c same))
+    went (resume.went_on opened up_to same reports finishes) is = inr (∥∥₁_map (subst (λ (m : ℕ). ∥ FinishedSo opened m ∥₁) is finishes) (finish_went v told_image end.Log setting opened events c same))
 
     not_opened_works : {n : ℕ} {text : List ℕ} → NotOpened events (v.faults c.disk) (v.faults c.now) n text → AllCalm v c → ¬ (events ≡ []) → HasWorked n
     not_opened_works (resume.no_build none) calm some = absurd (some none)
@@ -171,7 +172,7 @@ module _ {D H A : Type 0} (v : Devices D H A) (told_image : (d : D) → IfSome (
     here : (setting : Setting) (events : List Event) → Finds v setting events c → ResumesSo setting events c.status
     here setting events finds = by.resumes finds.file finds.told setting events finds.stores
 
-    pub resume_outputs : HasRun c.status → (setting : Setting) (events : List Event) → Finds v setting events c → ∥ ((more : List Event) × Delivers v setting events (events ++ more) c) ∥₁
+    pub resume_outputs : HasRun c.status → (setting : Setting) (events : List Event) → Finds v setting events c → ∥ ((more : List Event) × Delivers v end.Log setting events (events ++ more) c) ∥₁
     resume_outputs run setting events finds = delivered setting events (here setting events finds) refl run
 
     -- a store that was not opened has each byte

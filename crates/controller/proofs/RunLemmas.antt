@@ -31,6 +31,7 @@ use Rattle.saved_run.specs.Saved.{Stores, Survives}
 use Rattle.run_command.specs.Files.{HasFault, HasSite, IsRefused, by_fault, by_length, OfFiles, Builds}
 use Rattle.run_command.specs.Statuses.{HasLog, HasRun}
 use Rattle.run_command.specs.Inputs.{HasFailed}
+use Rattle.build_commands.specs.declared.end_text.EndText.{EndText}
 use Rattle.build_commands.specs.Beginning.{BeginSays, BeginsOver}
 use Rattle.build_commands.specs.Beginning as begin
 use Rattle.build_commands.specs.Plans.{AreCalm, Faults, Hold, RefusesFiles}
@@ -247,36 +248,36 @@ risked_only (take.Full len add) start risked is = inr is
 risked_only take.Stopped start risked is = inr is
 
 module _ {D H A T : Type 0} (v : Devices D H A) (stance : T → Stance) (told_image : (d : D) → IfSome (v.reads d) (λ file. v.may_leave d file))
-    (counts_now : (d : D) (t : ℕ) (image : List ℕ) → t ≤ v.clock d → v.may_leave d image → v.since d t image) (only_now : (d : D) (image : List ℕ) → v.since d (v.clock d) image → v.may_leave d image) (c : Call D H A) where
+    (counts_now : (d : D) (t : ℕ) (image : List ℕ) → t ≤ v.clock d → v.may_leave d image → v.since d t image) (only_now : (d : D) (image : List ℕ) → v.since d (v.clock d) image → v.may_leave d image) (kind : EndText) (c : Call D H A) where
   abbrev RunsSo : ℕ → Type 0
-  RunsSo n = RunsBy v stance c n
+  RunsSo n = RunsBy v stance kind c n
 
   abbrev FinishedBy : (s a : List ℕ) → Tree → Site → D → ℕ → Type 0
-  FinishedBy s a tree site started n = FinishedIn v c (script_setting tree site) started (StartEvent s a ∷ []) n
+  FinishedBy s a tree site started n = FinishedIn v c kind (script_setting tree site) started (StartEvent s a ∷ []) n
 
   abbrev OverSo : (s a : List ℕ) → Tree → Site → List ℕ → D → Type 0
   OverSo s a tree site file started =
       BeginsOver v.reads v.may_leave v.clock v.since stance v.faults v.honest v.host_faults v.calls v.launches v.dirs v.output v.exited v.left v.source_faults c.disk c.now c.hosts c.hosts_now c.answers c.answers_now c.history
-      c.old c.new c.sink_before c.sink_after s a tree site file started
+      kind c.old c.new c.sink_before c.sink_after s a tree site file started
 
   -- a call that left the disk as it was
   pub stays_here : c.now ≡ c.disk → Stays v c
   stays_here same = subst (λ (d : D). AtEachMoment v.clock v.since c.disk d (v.may_leave c.disk)) (sym same) (starts v.clock v.since c.disk (v.may_leave c.disk) (λ image left. only_now c.disk image left))
 
   -- OUTPUT
-  delivered : (s a : List ℕ) (tree : Tree) (site : Site) → Builds s a tree site → (started : D) → v.faults started ≡ v.faults c.disk → HasRun c.status → FinishedBy s a tree site started c.status → DeliversRun v c s a
+  delivered : (s a : List ℕ) (tree : Tree) (site : Site) → Builds s a tree site → (started : D) → v.faults started ≡ v.faults c.disk → HasRun c.status → FinishedBy s a tree site started c.status → DeliversRun v kind c s a
   delivered s a tree site builds started same run finishes =
-      let d = finish_delivers v told_image (script_setting tree site) started (StartEvent s a ∷ []) c same finishes run in
+      let d = finish_delivers v told_image kind (script_setting tree site) started (StartEvent s a ∷ []) c same finishes run in
       record { setting = script_setting tree site; mean = mean_of builds; more = d.0; delivers = d.1 }
 
-  outputs : {n : ℕ} → RunsSo n → n ≡ c.status → HasRun n → IsAtEnd c.script.rest × IsAtEnd c.agents.rest × WithFiles c (λ script agents. ∥ DeliversRun v c script agents ∥₁)
+  outputs : {n : ℕ} → RunsSo n → n ≡ c.status → HasRun n → IsAtEnd c.script.rest × IsAtEnd c.agents.rest × WithFiles c (λ script agents. ∥ DeliversRun v kind c script agents ∥₁)
   outputs (begin.refused refused same unled tells) is run = absurd (says_unrun (files_say refused) run)
   outputs (begin.built give (begin.unbegun unled says counts sizes refuses tells)) is run = absurd (begin_unrun says run)
   outputs (begin.built {s = s} {a = a} {tree = tree} {site = site} give (begin.begun started same stay launched reports finishes over)) is run =
       let here = subst (λ (m : ℕ). ∥ FinishedBy s a tree site started m ∥₁) is finishes in
       (give.script_ends, give.agents_end, (s, a, give.hold, ∥∥₁_map here (delivered s a tree site give.builds started same (subst HasRun is run))))
 
-  pub run_outputs : RunsSo c.status → HasRun c.status → IsAtEnd c.script.rest × IsAtEnd c.agents.rest × WithFiles c (λ script agents. ∥ DeliversRun v c script agents ∥₁)
+  pub run_outputs : RunsSo c.status → HasRun c.status → IsAtEnd c.script.rest × IsAtEnd c.agents.rest × WithFiles c (λ script agents. ∥ DeliversRun v kind c script agents ∥₁)
   run_outputs runs run = outputs runs refl run
 
   pub run_says : {n : ℕ} → RunsSo n → HasRun n ⊎ ((text : List ℕ) × Says n text × Tells text c)
@@ -295,7 +296,7 @@ module _ {D H A T : Type 0} (v : Devices D H A) (stance : T → Stance) (told_im
 
     -- a `Start` whose take failed
     start_lasts : (file : List ℕ) (f : TakeFault) → (HasRun c.status → ⊥) → CountsFault (v.faults c.disk) (v.faults c.now) (fault.Take f ≡ fault.Take take.Disk)
-        → StartFails v.reads v.may_leave v.clock v.since stance (script_setting tree site) (StartEvent s a) file c.disk c.now f → LastsRun v c file s a
+        → StartFails v.reads v.may_leave v.clock v.since stance (script_setting tree site) (StartEvent s a) file c.disk c.now f → LastsRun v kind c file s a
     start_lasts file f unrun counts fails = record {
       setting = script_setting tree site;
       mean = mean_of builds;
@@ -320,7 +321,7 @@ module _ {D H A T : Type 0} (v : Devices D H A) (stance : T → Stance) (told_im
             survives.front.within
 
     abbrev Leaves : List ℕ → Type 0
-    Leaves file = Stays v c ⊎ (SinceSync v.clock v.since v.may_leave file c.disk c.now (λ image. records image ≡ records file) ⊎ (¬ (IsStarted file) × LastsRun v c file s a))
+    Leaves file = Stays v c ⊎ (SinceSync v.clock v.since v.may_leave file c.disk c.now (λ image. records image ≡ records file) ⊎ (¬ (IsStarted file) × LastsRun v kind c file s a))
 
     failed_leaves : (file : List ℕ) (f : TakeFault) → (HasRun c.status → ⊥) → CountsFault (v.faults c.disk) (v.faults c.now) (fault.Take f ≡ fault.Take take.Disk)
         → StartFails v.reads v.may_leave v.clock v.since stance (script_setting tree site) (StartEvent s a) file c.disk c.now f → Leaves file
@@ -335,11 +336,11 @@ module _ {D H A T : Type 0} (v : Devices D H A) (stance : T → Stance) (told_im
     unbegun_leaves file (fault.Take take.Stopped) unrun counts refuses = ⊎_elim (λ stays. inl stays) (⊎_elim (λ keeps. inr (inl keeps)) (λ fails. failed_leaves file take.Stopped unrun counts fails)) refuses.1
 
     -- a build that was begun and went on
-    begun_lasts : (file : List ℕ) (started : D) → v.reads c.disk ≡ Some file → v.faults started ≡ v.faults c.disk → FinishedBy s a tree site started c.status → OverSo s a tree site file started → LastsRun v c file s a
+    begun_lasts : (file : List ℕ) (started : D) → v.reads c.disk ≡ Some file → v.faults started ≡ v.faults c.disk → FinishedBy s a tree site started c.status → OverSo s a tree site file started → LastsRun v kind c file s a
     begun_lasts file started told same finishes over =
         let setting : Setting = script_setting tree site in
         let start : List Event = StartEvent s a ∷ [] in
-        let g = gone v told_image setting started start c same finishes in
+        let g = gone v told_image kind setting started start c same finishes in
         let known : IsSome (v.reads c.disk) = ap is_some told in
         record {
           setting = setting;
@@ -380,7 +381,7 @@ module _ {D H A T : Type 0} (v : Devices D H A) (stance : T → Stance) (told_im
 
   abbrev CrashesSo : List ℕ → Type 0
   CrashesSo file = Stays v c
-      ⊎ (SinceSync v.clock v.since v.may_leave file c.disk c.now (λ image. records image ≡ records file) ⊎ (¬ (IsStarted file) × WithFiles c (λ script agents. ∥ LastsRun v c file script agents ∥₁)))
+      ⊎ (SinceSync v.clock v.since v.may_leave file c.disk c.now (λ image. records image ≡ records file) ⊎ (¬ (IsStarted file) × WithFiles c (λ script agents. ∥ LastsRun v kind c file script agents ∥₁)))
 
   leaves_files : (file : List ℕ) (s a : List ℕ) (tree : Tree) (site : Site) (builds : Builds s a tree site) → Hold c.script c.agents s a → Leaves s a tree site builds file → CrashesSo file
   leaves_files file s a tree site builds hold (inl stays) = inl stays
@@ -530,7 +531,7 @@ module _ {D H A T : Type 0} (v : Devices D H A) (stance : T → Stance) (told_im
   went_by s a tree site builds started same finishes = record {
     setting = script_setting tree site;
     mean = mean_of builds;
-    went_on = finish_went v told_image (script_setting tree site) started (StartEvent s a ∷ []) c same finishes;
+    went_on = finish_went v told_image kind (script_setting tree site) started (StartEvent s a ∷ []) c same finishes;
   }
 
   went_on : {n : ℕ} → RunsSo n → n ≡ c.status → LeavesAll v c ⊎ WithFiles c (λ script agents. Unbegun v c script agents ⊎ ∥ RunWentOn v c script agents ∥₁)

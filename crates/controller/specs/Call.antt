@@ -13,8 +13,9 @@ use Rattle.saved_run.specs.Saved.{Stores}
 use Rattle.site_state.specs.declared.ask.Entry.{Entry}
 use Rattle.site_state.specs.Histories.{lines}
 use Rattle.run_command.specs.Inputs.{Input, HasFailed, taken_from}
+use Rattle.generated_build.specs.Files.{agents_of_any, script_of}
 use Rattle.build_commands.specs.Living.{ComesBy, HeardOf, IsRefused, Lived, LivedBy}
-use Rattle.build_commands.specs.Plans.{Hold}
+use Rattle.build_commands.specs.Plans.{Hold, whole}
 use Rattle.build_commands.specs.Resuming.{GivesBack, IsUntouched}
 use Rattle.build_commands.specs.Writing as writing
 
@@ -98,7 +99,11 @@ module _ {D H A : Type 0} where
 
   -- the words are this command
   abbrev pub Is : Command → Call D H A → Type 0
-  Is command c = (folder : List ℕ) × Gives c.words command folder
+  Is command c = (word : List ℕ) × Gives c.words command word
+
+  -- the call as one of `run` whose sources had just the files that `gen` makes for so many stages
+  abbrev pub made : ℕ → Call D H A → Call D H A
+  made stages c = record c { script = whole (script_of stages); agents = whole agents_of_any }
 
   -- neither the source of the script nor that of the agents file counted a fault
   abbrev pub AreRead : Call D H A → Type 0

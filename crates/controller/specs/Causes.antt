@@ -1,7 +1,7 @@
 -- When each status of a call comes: the table of statuses in docs/USING.md (this product's own).
 use Rattle.std.specs.Prelude.{◌≡◌, ◌⊎◌, ◌↔◌, ◌+◌, ◌<◌, ◌^◌, ℕ, true, false, List, [], ◌∷◌, ◌++◌, Some, IsSome}
 use Rattle.command_words.specs.declared.command.Command.{Command}
-use Rattle.command_words.specs.declared.command.Command.TheVariants.{Run, Resume, Log, Graph, Check}
+use Rattle.command_words.specs.declared.command.Command.TheVariants.{Run, Resume, Log, Graph, Check, Generate}
 use Rattle.command_words.specs.Words.{IsCommand}
 use Rattle.device_faults.specs.Faults.{Rose}
 use Rattle.jp_disk.specs.Images.{IsOnlyImage}
@@ -25,7 +25,7 @@ use Rattle.build_commands.specs.Resuming.{IsUntouched}
 use Rattle.build_commands.specs.Texts.{full_text, has_build_text}
 use Rattle.build_commands.specs.Showing as showing
 use Rattle.build_commands.specs.Showing.{HasNone, NotTold}
-use Rattle.controller.specs.Call.{AreRead, Call, ComesIn, Devices, HeardIn, Is, IsIdle, IsUnheard, IsUnled, Finds, LifeIn, Takes, Tells, Unopened, WithFiles, answered}
+use Rattle.controller.specs.Call.{AreRead, Call, ComesIn, Devices, HeardIn, Is, IsIdle, IsUnheard, IsUnled, Finds, LifeIn, Takes, Tells, Unopened, WithFiles, answered, made}
 
 -- the status of a build that has ended or waits; or want of memory, or a store that is full
 abbrev pub HasWorked : ℕ → Type 0
@@ -142,6 +142,7 @@ module _ {D H A : Type 0} (v : Devices D H A) where
   CausesOf Log c = showing.Causes (v.reads c.disk) (v.faults c.disk) (v.faults c.now) c.sink_before c.sink_after c.status
   CausesOf Graph c = showing.Causes (v.reads c.disk) (v.faults c.disk) (v.faults c.now) c.sink_before c.sink_after c.status
   CausesOf Check c = CheckCauses c
+  CausesOf (Generate stages) c = RunCauses (made stages c)
 
   pub record Causes (c : Call D H A) : Type 0 where
     -- 2 exactly where the words are no command

@@ -1,7 +1,7 @@
 -- What a crash may leave of the store, at each moment of a call (this product's own).
 use Rattle.std.specs.Prelude.{◌≡◌, ◌⊎◌, ℕ, List, [], ◌∷◌, ◌++◌, Option, None, Some, IfSome, IsSomeAnd}
 use Rattle.command_words.specs.declared.command.Command.{Command}
-use Rattle.command_words.specs.declared.command.Command.TheVariants.{Run, Resume, Log, Graph, Check}
+use Rattle.command_words.specs.declared.command.Command.TheVariants.{Run, Resume, Log, Graph, Check, Generate}
 use Rattle.command_words.specs.Words.{IsCommand}
 use Rattle.device_faults.specs.Faults.{Rose}
 use Rattle.jp_disk.specs.Images.{IsOnlyImage}
@@ -16,9 +16,12 @@ use Rattle.model_run.specs.World.{world_in}
 use Rattle.store_laws.specs.Store.{Mean}
 use Rattle.saved_run.specs.Saved.{Stores, Survives}
 use Rattle.run_command.specs.Statuses.{HasRun, world_status}
+use Rattle.build_commands.specs.declared.end_text.EndText.{EndText}
+use Rattle.build_commands.specs.declared.end_text.EndText.TheVariants as end
+use Rattle.build_commands.specs.EndTexts.{world_text}
 use Rattle.build_commands.specs.Finishing.{ComesNext}
 use Rattle.build_commands.specs.Resuming.{IsUntouched}
-use Rattle.controller.specs.Call.{Call, ComesIn, Devices, Is, Finds, Takes, WithFiles, Writes}
+use Rattle.controller.specs.Call.{Call, ComesIn, Devices, Is, Finds, Takes, WithFiles, Writes, made}
 
 module _ {D H A : Type 0} (v : Devices D H A) where
   -- a crash leaves nothing that it might not have left at the beginning
@@ -26,15 +29,15 @@ module _ {D H A : Type 0} (v : Devices D H A) where
   Stays c = AtEachMoment v.clock v.since c.disk c.now (v.may_leave c.disk)
 
   -- Up to a moment a crash leaves what it might have left at the beginning; from then on a consistent store, whose events begin with these and are a front
-  -- of the taken ones, or all of them and the one whose take the disk failed. At the end it leaves all taken ones. A log that is shown is theirs, and then
+  -- of the taken ones, or all of them and the one whose take the disk failed. At the end it leaves all taken ones. A text that is shown is theirs, and then
   -- they are all that a crash leaves.
-  pub record Lasts (setting : Setting) (before taken : List Event) (risked : Option Event) (c : Call D H A) : Type 0 where
+  pub record Lasts (kind : EndText) (setting : Setting) (before taken : List Event) (risked : Option Event) (c : Call D H A) : Type 0 where
     pub origin : D
     pub up_to : AtEachMoment v.clock v.since c.disk origin (v.may_leave c.disk)
     pub from_then : AtEachMoment v.clock v.since origin c.now (Survives setting before taken risked)
     pub at_end : (image : List ℕ) → v.may_leave c.now image → Stores setting taken image ⊎ IsSomeAnd risked (λ e. Stores setting (taken ++ e ∷ []) image)
     pub sure : ¬ (Rose (v.faults c.disk) (v.faults c.now)) → risked ≡ None
-    pub shown : HasRun c.status → (risked ≡ None) × Writes (world_in setting taken).shared.log (world_status (world_in setting taken)) c
+    pub shown : HasRun c.status → (risked ≡ None) × Writes (world_text kind setting taken) (world_status (world_in setting taken)) c
 
   -- a life took these events, from those before on; and the one whose take the disk failed came next
   pub record TakesUpTo (setting : Setting) (before taken : List Event) (risked : Option Event) (c : Call D H A) : Type 0 where
@@ -43,12 +46,12 @@ module _ {D H A : Type 0} (v : Devices D H A) where
 
   -- `run` of these files, over a store without a record: their `Start` was taken, and events behind it; or nothing was. The moment is that of a sync, at which
   -- a crash leaves just the file.
-  pub record LastsRun (c : Call D H A) (file script agents : List ℕ) : Type 0 where
+  pub record LastsRun (kind : EndText) (c : Call D H A) (file script agents : List ℕ) : Type 0 where
     pub setting : Setting
     pub mean : Mean script agents setting
     pub taken : List Event
     pub risked : Option Event
-    pub lasts : Lasts setting [] taken risked c
+    pub lasts : Lasts kind setting [] taken risked c
     pub synced : IsOnlyImage file (v.may_leave lasts.origin)
     pub starts : TakesUpTo setting (StartEvent script agents ∷ []) taken risked c ⊎ ((taken ≡ []) × IfSome risked (λ e. e ≡ StartEvent script agents))
 
@@ -57,13 +60,18 @@ module _ {D H A : Type 0} (v : Devices D H A) where
     pub taken : List Event
     pub risked : Option Event
     pub takes : TakesUpTo setting events taken risked c
-    pub lasts : Lasts setting events taken risked c
+    pub lasts : Lasts end.Log setting events taken risked c
+
+  -- `run`, and `gen` on the files that it makes
+  abbrev pub LeavesRun : EndText → Call D H A → Type 0
+  LeavesRun kind c = (file : List ℕ) → v.reads c.disk ≡ Some file
+      → Stays c ⊎ (SinceSync v.clock v.since v.may_leave file c.disk c.now (λ image. records image ≡ records file) ⊎ (¬ (IsStarted file) × WithFiles c (λ script agents. ∥ LastsRun kind c file script agents ∥₁)))
 
   -- `run` over a store with a record leaves its records as they are, and so does `resume` of one that it tells to have none, or to be damaged, byte for byte;
   -- `log` and `graph` let a crash leave nothing new, and `check` does not call the disk.
   abbrev pub CrashOf : Command → Call D H A → Type 0
-  CrashOf Run c = (file : List ℕ) → v.reads c.disk ≡ Some file
-      → Stays c ⊎ (SinceSync v.clock v.since v.may_leave file c.disk c.now (λ image. records image ≡ records file) ⊎ (¬ (IsStarted file) × WithFiles c (λ script agents. ∥ LastsRun c file script agents ∥₁)))
+  CrashOf Run c = LeavesRun end.Log c
+  CrashOf (Generate stages) c = LeavesRun (end.Numbers stages) (made stages c)
   CrashOf Resume c =
       (c.status ≡ 9 → IsUntouched v.reads v.may_leave v.clock v.since c.disk c.now)
       × ((setting : Setting) (events : List Event) → Finds v setting events c → Stays c ⊎ ∥ LastsResume setting events c ∥₁)

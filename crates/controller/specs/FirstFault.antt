@@ -1,10 +1,10 @@
 -- What a call says of a script or an agents file with a fault (this product's own).
 use Rattle.std.specs.Prelude.{◌≡◌, ◌⊎◌, ℕ, List}
 use Rattle.command_words.specs.declared.command.Command.{Command}
-use Rattle.command_words.specs.declared.command.Command.TheVariants.{Run, Check}
+use Rattle.command_words.specs.declared.command.Command.TheVariants.{Run, Check, Generate}
 use Rattle.run_command.specs.Files.{HasFault, IsRefused, OfFiles}
 use Rattle.build_commands.specs.Plans.{AreCalm, Faults}
-use Rattle.controller.specs.Call.{AreRead, Call, Is, Tells, WithFiles}
+use Rattle.controller.specs.Call.{AreRead, Call, Is, Tells, WithFiles, made}
 
 -- the status tells a fault of the script, or of the agents file
 abbrev pub TellsFault : ℕ → Type 0
@@ -17,10 +17,11 @@ pub record JudgesFiles {D H A : Type 0} (c : Call D H A) : Type 0 where
   pub tells : AreRead c → OfFiles c.script c.agents (λ script agents. HasFault agents ⊎ IsRefused script → TellsFault c.status ⊎ (c.status ≡ 8))
   pub untouched : TellsFault c.status → c.now ≡ c.disk
 
--- `run` and `check` judge both files, and the other commands neither
+-- `run` and `check` judge both files, `gen` those that it makes, and the other commands none
 abbrev pub FaultOf : {D H A : Type 0} → Command → Call D H A → Type 0
 FaultOf Run c = JudgesFiles c
 FaultOf Check c = JudgesFiles c
+FaultOf (Generate stages) c = JudgesFiles (made stages c)
 FaultOf command c = ¬ (TellsFault c.status)
 
 pub record FirstFault {D H A : Type 0} (c : Call D H A) : Type 0 where

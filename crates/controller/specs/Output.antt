@@ -2,7 +2,7 @@
 use Rattle.std.specs.Prelude.{◌≡◌, ◌⊎◌, ◌+◌, ◌<◌, ◌^◌, ℕ, true, List, [], ◌∷◌, ◌++◌, Some, IfSome, IsSome}
 use Rattle.std.specs.Io.KnownBytes.{IsAtEnd}
 use Rattle.command_words.specs.declared.command.Command.{Command}
-use Rattle.command_words.specs.declared.command.Command.TheVariants.{Run, Resume, Log, Graph, Check}
+use Rattle.command_words.specs.declared.command.Command.TheVariants.{Run, Resume, Log, Graph, Check, Generate}
 use Rattle.model_syntax.specs.declared.fault.ScriptFault.{ScriptFault}
 use Rattle.model_run.specs.declared.agents.AgentsKind.{AgentsKind}
 use Rattle.model_run.specs.declared.event.Event.{Event}
@@ -19,10 +19,13 @@ use Rattle.saved_run.specs.Saved.{Stores}
 use Rattle.run_command.specs.Files.{HasSite, IsRefused}
 use Rattle.run_command.specs.Statuses.{HasRun, world_status}
 use Rattle.run_command.specs.Texts as run
+use Rattle.build_commands.specs.declared.end_text.EndText.{EndText}
+use Rattle.build_commands.specs.declared.end_text.EndText.TheVariants as end
+use Rattle.build_commands.specs.EndTexts.{world_text}
 use Rattle.build_commands.specs.Reporting.{IsTooLong, LeavesStore}
 use Rattle.build_commands.specs.Showing.{ShowsLast}
 use Rattle.build_commands.specs.Texts as store
-use Rattle.controller.specs.Call.{AsksIn, Call, Devices, HeardIn, Is, IsIdle, Finds, LifeIn, Takes, Tells, Unopened, WithFiles, Writes, usage_text}
+use Rattle.controller.specs.Call.{AsksIn, Call, Devices, HeardIn, Is, IsIdle, Finds, LifeIn, Takes, Tells, Unopened, WithFiles, Writes, made, usage_text}
 
 -- the status and the text of a call that does not do what its command is for
 pub data Says : ℕ → List ℕ → Type 0 where
@@ -39,23 +42,23 @@ pub data Says : ℕ → List ℕ → Type 0 where
   full : (len add : ℕ) → 2 ^ 30 < len + add → Says 14 (store.full_text len add)
 
 module _ {D H A : Type 0} (v : Devices D H A) where
-  -- The build went on from the events before to these, until it had ended or nobody went on with it; the lines that it heard are those read of the answers; and the log of their world was written, with the status of
-  -- that world, or the front of the log, and then with 7. Where the disk told its bytes, all these events are durable: a read gives a consistent store of just
+  -- The build went on from the events before to these, until it had ended or nobody went on with it; the lines that it heard are those read of the answers; and what was asked for of their world was written, with the status
+  -- of that world, or the front of it, and then with 7. Where the disk told its bytes, all these events are durable: a read gives a consistent store of just
   -- them, and so does a crash.
-  pub record Delivers (setting : Setting) (before events : List Event) (c : Call D H A) : Type 0 where
+  pub record Delivers (kind : EndText) (setting : Setting) (before events : List Event) (c : Call D H A) : Type 0 where
     pub takes : Takes v setting before events c
     pub rests : ((world_in setting events).ended ≡ true) ⊎ IsIdle v setting events c
     pub heard : HeardIn v c
-    pub log : Writes (world_in setting events).shared.log (world_status (world_in setting events)) c
+    pub text : Writes (world_text kind setting events) (world_status (world_in setting events)) c
     pub stores : IsSome (v.reads c.disk) → IfSome (v.reads c.now) (Stores setting events)
     pub durable : IsSome (v.reads c.disk) → (image : List ℕ) → v.may_leave c.now image → Stores setting events image
 
   -- the events of `run` begin with the `Start` of all bytes of both files
-  pub record DeliversRun (c : Call D H A) (script agents : List ℕ) : Type 0 where
+  pub record DeliversRun (kind : EndText) (c : Call D H A) (script agents : List ℕ) : Type 0 where
     pub setting : Setting
     pub mean : Mean script agents setting
     pub more : List Event
-    pub delivers : Delivers setting (StartEvent script agents ∷ []) (StartEvent script agents ∷ more) c
+    pub delivers : Delivers kind setting (StartEvent script agents ∷ []) (StartEvent script agents ∷ more) c
 
   -- What is shown of the build of the store, of which no byte changes. It is the text of the last record's image, whatever else the records tell.
   pub record ShowsStore (text_of : Build → List ℕ) (text_in : Image → List ℕ) (c : Call D H A) : Type 0 where
@@ -75,10 +78,15 @@ module _ {D H A : Type 0} (v : Devices D H A) where
     pub leaves : (file : List ℕ) → v.reads c.disk ≡ Some file → LeavesStore v.may_leave v.clock v.since setting file c.history c.disk c.now c.old c.new c.sink_before c.sink_after c.status
     pub too_long : c.status ≡ 14 → ∥ IsTooLong (AsksIn v setting c life) (life.turns ≡ []) c.history c.old c.new c.sink_before c.sink_after ∥₁
 
+  -- `run`, and `gen` on the files that it makes: both were read to their ends, and their build has ended or waits.
+  abbrev pub DeliversFiles : EndText → Call D H A → Type 0
+  DeliversFiles kind c = HasRun c.status → IsAtEnd c.script.rest × IsAtEnd c.agents.rest × WithFiles c (λ script agents. ∥ DeliversRun kind c script agents ∥₁)
+
   -- What a command is for: a build that has ended or waits, whose events begin with those of the store; the log or the graph of the store's build; `ok`.
   abbrev pub OutputOf : Command → Call D H A → Type 0
-  OutputOf Run c = HasRun c.status → IsAtEnd c.script.rest × IsAtEnd c.agents.rest × WithFiles c (λ script agents. ∥ DeliversRun c script agents ∥₁)
-  OutputOf Resume c = (HasRun c.status → (setting : Setting) (events : List Event) → Finds v setting events c → ∥ ((more : List Event) × Delivers setting events (events ++ more) c) ∥₁) × (Unopened v c ⊎ GoesOn c)
+  OutputOf Run c = DeliversFiles end.Log c
+  OutputOf (Generate stages) c = DeliversFiles (end.Numbers stages) (made stages c)
+  OutputOf Resume c = (HasRun c.status → (setting : Setting) (events : List Event) → Finds v setting events c → ∥ ((more : List Event) × Delivers end.Log setting events (events ++ more) c) ∥₁) × (Unopened v c ⊎ GoesOn c)
   OutputOf Log c = ShowsStore (λ w. w.shared.log) (λ i. i.log) c
   OutputOf Graph c = ShowsStore (λ w. graph_text w.shared.nodes) (λ i. graph_text i.nodes) c
   OutputOf Check c = HasRun c.status → Writes store.ok_text 0 c × WithFiles c (λ script agents. HasSite agents × ¬ (IsRefused script))

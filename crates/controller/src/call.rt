@@ -6,7 +6,7 @@ ghost use Rattle.controller.specs.Call.{call_of, devices, usage_text};
 ghost use Rattle.controller.specs.Commands.{Does};
 ghost use Rattle.controller.specs.Promises.{Promises};
 
-use build_commands::{Done, Ended, check, graph, log, resume, run};
+use build_commands::{Done, Ended, check, generate, graph, log, resume, run};
 use command_words::{Command, command_in};
 use jp_disk::Disk;
 use jp_io::{Sink, Source, write_all};
@@ -19,9 +19,11 @@ use task_host::Host;
 
 /// Does the command that the words give, over the store of a build.
 ///
-/// The words are a command exactly where there are three of them, the second is `run`, `resume`, `log`, `graph` or `check`, and the
-/// third, the folder, is not empty and does not begin with `-`. `run` begins the build of a script and `resume` goes on with that of
-/// a store; both let its hosts work until it has ended or nobody can go on, and write its log. `log` and `graph` write what the build of a store
+/// The words are a command exactly where there are three of them, and the second is `run`, `resume`, `log`, `graph` or `check` with a
+/// third, the folder, that is not empty and does not begin with `-`; or the second is `gen`, and the third is a number N from 1 to 2000 in
+/// decimal. `run` begins the build of a script and `resume` goes on with that of
+/// a store; both let its hosts work until it has ended or nobody can go on, and write its log. `gen` is `run` on a script of N stages and
+/// an agents file that it makes, and writes six lines with the numbers of its build in place of the log. `log` and `graph` write what the build of a store
 /// has come to, and change no byte of it. `check` looks for faults of a script and its agents file, and does not call the disk.
 ///
 /// | status | comes | text |
@@ -109,6 +111,9 @@ fn do_command<
     match command_in(words) {
         Some((Command::Run, _)) => {
             run::<D, R, W, S, H, A, K>(rt, script, agents, disk, hosts, threads, answers, out)
+        }
+        Some((Command::Generate(stages), _)) => {
+            generate::<D, R, W, H, A, K>(rt, stages, disk, hosts, threads, answers, out)
         }
         Some((Command::Resume, _)) => {
             resume::<D, R, W, H, A, K>(rt, disk, hosts, threads, answers, out)

@@ -210,9 +210,9 @@ module _ {H A : Type 0} (honest : H → Type 0) (faults : H → ℕ) (calls : H 
   -- Where each output of the store's events stands on the hosts at the beginning of a life, each output of the events at its end stands there then,
   -- of a life with honest hosts of different executors, below the last number of 64 bits.
   pub members_deliver : {D T : Type 0} (reads : D → Option (List ℕ)) (may_leave : D → List ℕ → Type 0) (clock : D → ℕ) (since : D → ℕ → List ℕ → Type 0) (stance : T → Stance)
-      (setting : Setting) (proper : IsProper setting) (entry : Option (List ℕ)) (origin : D) (before events : List Event) (turns : List (Turn H A)) (old new : List (Member H A)) (history : List Entry) (kept : Kept D T) (ended : Result Rest TakeFault)
+      (setting : Setting) (proper : IsProper setting) (entry : Option (List ℕ)) (origin : D) (before events : List Event) {durable : Kept D T} (turns : List (Turn H A)) (old new : List (Member H A)) (history : List Entry) (kept : Kept D T) (ended : Result Rest TakeFault)
       → (world_in setting events).started ≡ true
-      → (ends : Ends reads may_leave clock since stance honest faults calls launches dirs output exited left source_faults looks turns setting entry origin before events old new history kept ended)
+      → (ends : Ends reads may_leave clock since stance honest faults calls launches dirs output exited left source_faults looks turns durable setting entry origin before events old new history kept ended)
       → AreHonest honest old → AreApart (hosts_of launches dirs old) → AreShort (ends.granted ++ tooks history) → AllDelivered output setting events old → AllDelivered output setting ends.now new
   members_deliver reads may_leave clock since stance setting proper entry origin before events turns old new history kept ended started ends are apart short delivered =
       subst (λ (now : List Event). AllDelivered output setting now new) (sym (ends.is ∙ append_assoc events ends.granted (tooks history)))

@@ -1,10 +1,11 @@
-//! The program: five commands over a Pipeline in a folder, in which its build is kept.
+//! The program: five commands over a Pipeline in a folder, in which its build is kept, and one over a build that it makes.
 //!
 //! `controller run DIR` reads the script in `DIR/Jenkinsfile` and what executors it has in `DIR/agents.json`, runs it and
 //! writes the console log; each event of the build is kept in `DIR/program.dat` before the next one comes, so that
 //! `controller resume DIR` can go on with it after a stop at any moment. `controller log DIR` and `controller graph DIR` write
 //! what the build has come to, and `controller check DIR` looks for faults of the two files. Answer lines for the steps `input`
-//! are read from standard input. All that it promises stands at [`controller::controller`], which `main` calls once, by
+//! are read from standard input. `controller gen N` makes a script of N stages, runs it over a disk and hosts in memory, and writes
+//! its numbers. All that it promises stands at [`controller::controller`], which `main` calls once, by
 //! [`call_controller`].
 //!
 //! One controller at a time works on a folder: `run` and `resume` hold a lock on `DIR/program.lock`.
@@ -16,8 +17,8 @@ use build_commands::{Refusal, tell};
 use command_words::{Command, command_in};
 use controller::{Ended, controller};
 use cps_machine::MachineThread;
-use jp_disk::Disk;
-use jp_io::{LazyFile, Sink, Source, StdSink, StdSource};
+use jp_disk::{Bytes, Disk, MemoryDisk, Numbers};
+use jp_io::{CleanSource, LazyFile, Sink, Source, StdSink, StdSource};
 use real_edge::{FileDisk, FolderHost, Life, LockedDisk};
 use std::alloc::{AllocError, Global};
 use std::fs::File;
@@ -28,12 +29,18 @@ use std::sync::Wait;
 use std::thread::Threads;
 use std::time::Clock;
 use std::{env, io};
-use task_host::Host;
+use task_host::{Host, MemoryHost};
 
 fn main(rt: HostRuntime) -> ExitCode {
     let alloc = rt.alloc();
     let mut out = StdSink::new(io::writer(&rt));
-    let Ok(call) = read_call(&rt, alloc) else {
+    let Ok(words) = read_words(&rt, alloc) else {
+        return ExitCode::from(tell(&mut out, &Refusal::OutOfMemory));
+    };
+    if let Some((Command::Generate(_), _)) = command_in(&words) {
+        return ExitCode::from(call_in_memory(&rt, words, &mut out));
+    }
+    let Ok(call) = paths_of(alloc, words) else {
         return ExitCode::from(tell(&mut out, &Refusal::OutOfMemory));
     };
     let Call {
@@ -61,6 +68,31 @@ fn main(rt: HostRuntime) -> ExitCode {
         &mut out,
     );
     ExitCode::from(ended.status)
+}
+
+/// Does the command that the words give over a disk and hosts in memory, and answers the exit status. It opens no file.
+fn call_in_memory<W: Threads + Wait + Sync + Clock + AllocGlobal, K: Sink>(
+    rt: &W,
+    words: Vec<String>,
+    out: &mut K,
+) -> u8 {
+    let alloc = rt.alloc();
+    let Ok(hosts) = echoing_hosts(alloc) else {
+        return tell(out, &Refusal::OutOfMemory);
+    };
+    let mut script = CleanSource::new(Vec::new(alloc));
+    let mut agents = CleanSource::new(Vec::new(alloc));
+    let ended = call_controller(
+        rt,
+        words,
+        &mut script,
+        &mut agents,
+        MemoryDisk::new(Bytes::new(alloc), Numbers::new(alloc), None),
+        hosts,
+        CleanSource::new(Vec::new(alloc)),
+        out,
+    );
+    ended.status
 }
 
 /// The call of the controller with threads of the machine's kind, in which all members work at once.
@@ -118,6 +150,17 @@ fn hosts_of<'a, R: Files + Env + AllocGlobal + Eprint + Clock + Processes>(
     Ok(hosts)
 }
 
+/// Hosts in memory, on each of which a task writes its number and ends.
+fn echoing_hosts(alloc: Global) -> Result<Vec<MemoryHost>, AllocError>
+    ensures hosts { IfOk result (λ hosts. length hosts.items ≡ 64) }
+{
+    let mut hosts = Vec::new(alloc);
+    for _ in 0..HOSTS {
+        hosts.push(MemoryHost::echoing(alloc))?;
+    }
+    Ok(hosts)
+}
+
 /// The words of the command line, and the paths of the files in the folder that they name.
 #[derive(Drop)]
 struct Call {
@@ -131,9 +174,8 @@ struct Call {
     life: Life,
 }
 
-/// Reads the words, and puts together the paths that they ask for. Where the words are no command no file is opened.
-fn read_call<R: Env + AllocGlobal>(rt: &R, alloc: Global) -> Result<Call, AllocError> {
-    let words = read_words(rt, alloc)?;
+/// Puts together the paths that the words ask for. Where they are no command no file is opened.
+fn paths_of(alloc: Global, words: Vec<String>) -> Result<Call, AllocError> {
     let (folder, writes, life) = match command_in(&words) {
         Some((Command::Run, folder)) => (folder, true, Life::First),
         Some((Command::Resume, folder)) => (folder, true, Life::Later),

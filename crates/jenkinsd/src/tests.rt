@@ -1,10 +1,8 @@
-ghost use Rattle.std.specs.Prelude.{◌≡◌, IfOk, length};
+ghost use Rattle.std.specs.Prelude.{◌≡◌, length};
 
 use super::*;
-use jp_disk::{Bytes, MemoryDisk, Numbers};
 use jp_io::{MemorySink, MemorySource};
 use std::test::Fail;
-use task_host::MemoryHost;
 
 mod folders;
 mod threads;
@@ -17,10 +15,10 @@ fn source(alloc: Global, text: &str, fails_at: u64) -> Result<MemorySource, Allo
     Ok(MemorySource::new(bytes, Vec::from_slice(alloc, &[fails_at])?))
 }
 
-/// The words of the command `run`.
-fn words(alloc: Global) -> Result<Vec<String>, AllocError> {
+/// The words of a command, with this one behind it.
+fn words(alloc: Global, command: &str, operand: &str) -> Result<Vec<String>, AllocError> {
     let mut words = Vec::new(alloc);
-    for word in ["controller", "run", "demo"] {
+    for word in ["controller", command, operand] {
         words.push(String::from_str(alloc, word)?)?;
     }
     Ok(words)
@@ -47,17 +45,6 @@ fn open_streams(
         answers: source(alloc, answers, fails[2])?,
         out: MemorySink::new(alloc, Vec::from_slice(alloc, &[fails[3]])?),
     })
-}
-
-/// The hosts of a call, on each of which a task writes its number and ends.
-fn echoing_hosts(alloc: Global) -> Result<Vec<MemoryHost>, AllocError>
-    ensures { IfOk result (λ hosts. length hosts.items ≡ 64) }
-{
-    let mut hosts = Vec::new(alloc);
-    for _ in 0..HOSTS {
-        hosts.push(MemoryHost::echoing(alloc))?;
-    }
-    Ok(hosts)
 }
 
 /// What a call came to.
@@ -112,7 +99,7 @@ fn ends_with<W: Threads + Wait + Sync + Clock + AllocGlobal>(
 ) -> Result<bool, AllocError> {
     let streams = open_streams(rt.alloc(), files, fails)?;
     let hosts = echoing_hosts(rt.alloc())?;
-    let called = call(rt, words(rt.alloc())?, streams, hosts);
+    let called = call(rt, words(rt.alloc(), "run", "demo")?, streams, hosts);
     Ok(called.status == status && called.out.bytes() == text.as_bytes())
 }
 
@@ -242,6 +229,30 @@ fn failing_reads_give_6_and_a_failing_write_gives_7(rt: HostRuntime) -> Result<(
     for (script, fails, status, text) in FAILURES {
         let files = [script, AGENTS, ""];
         assert!(rt; ends_with(&rt, files, fails, status, text)?, "{script}");
+    }
+    Ok(())
+}
+
+/// A number of stages, and the lines of their build.
+const GENERATED: [(&str, &str); 2] = [
+    (
+        "1",
+        "stages 1\nnodes 13\ntasks 1\nrecords 4\nlog 319\nresult SUCCESS\n",
+    ),
+    (
+        "3",
+        "stages 3\nnodes 33\ntasks 3\nrecords 10\nlog 755\nresult SUCCESS\n",
+    ),
+];
+
+#[test]
+fn generated_builds_tell_their_numbers(rt: HostRuntime) -> Result<(), Fail> {
+    for (stages, lines) in GENERATED {
+        let alloc = rt.alloc();
+        let mut out = MemorySink::new(alloc, Vec::new(alloc));
+        let status = call_in_memory(&rt, words(alloc, "gen", stages)?, &mut out);
+        assert_eq!(rt; status, 0);
+        assert_eq!(rt; out.bytes(), lines.as_bytes());
     }
     Ok(())
 }

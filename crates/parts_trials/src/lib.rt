@@ -6,6 +6,8 @@
 #[cfg(test)]
 mod arguments; // step_arguments
 #[cfg(test)]
+mod generated; // generated_build
+#[cfg(test)]
 mod graphs; // flow_graph
 #[cfg(test)]
 mod heaps; // cell_heap

@@ -1,5 +1,5 @@
 -- How a life begins.
-use Rattle.std.proofs.Common.{◌≡◌, ◌⊎◌, ◌<◌, ℕ, Bool, true, false, List, [], ◌∷◌, Option, Some, None, Ok, Err, inl, inr, refl, sym, ap, ◌∙◌, subst, length, arith}
+use Rattle.std.proofs.Common.{◌≡◌, ◌⊎◌, ◌<◌, ◌+◌, ℕ, Bool, true, false, List, [], ◌∷◌, Option, Some, None, Ok, Err, inl, inr, refl, sym, ap, ◌∙◌, subst, length, arith}
 use Rattle.std.specs.Prelude.{nat_lt, if◌then◌else◌, codes}
 use Rattle.std.specs.Str.{is_utf8}
 use Rattle.serde_json.specs.Data.{Data}
@@ -163,14 +163,14 @@ module _ {D T : Type 0} (reads : D → Option (List ℕ)) (may_leave : D → Lis
   }
 
 -- a build that has taken its `Start` alone
-pub is_begun : {D T : Type 0} (stance : T → Stance) (setting : Setting) (script agents : List ℕ) (fresh new : Kept D T) → Mean script agents setting → setting_in fresh.build ≡ setting → StandsFor stance fresh.build unbegun
+pub is_begun : {D T : Type 0} (stance : T → Stance) (setting : Setting) (script agents : List ℕ) (fresh new : Kept D T) → Mean script agents setting → setting_in fresh.build ≡ setting → StandsFor stance fresh.build unbegun → fresh.records ≡ 0
     → (answer : Taken) → answer ≡ taken (standing_of fresh.build) (event.Start script agents) → setting_in new.build ≡ setting_in fresh.build → TakeLeaves stance fresh new (event.Start script agents) (Ok answer)
     → TakeSources fresh new (event.Start script agents) (Ok answer) → ((w : Build) → StandsFor stance fresh.build w → StandsFor stance new.build (after_one (setting_in fresh.build) w (event.Start script agents)))
     → IsBegun stance setting script agents new
-is_begun stance setting script agents fresh new mean same stands answer is here leaves sources goes = by_answer answer (is ∙ ap (λ (b : Standing). taken b (event.Start script agents)) (same_standing stance fresh.build unbegun stands)) leaves sources
+is_begun stance setting script agents fresh new mean same stands none answer is here leaves sources goes = by_answer answer (is ∙ ap (λ (b : Standing). taken b (event.Start script agents)) (same_standing stance fresh.build unbegun stands)) leaves sources
   where
     by_answer : (a : Taken) → a ≡ Accepted → TakeLeaves stance fresh new (event.Start script agents) (Ok a) → TakeSources fresh new (event.Start script agents) (Ok a) → IsBegun stance setting script agents new
-    by_answer Accepted at left kept = record { goes = goes_begun stance setting script agents fresh new mean same stands here left.0 goes; has_script = kept.0; has_agents = kept.1 }
+    by_answer Accepted at left kept = record { goes = goes_begun stance setting script agents fresh new mean same stands here left.0 goes; counted = left.2.records ∙ ap (λ (n : ℕ). n + 1) none; has_script = kept.0; has_agents = kept.1 }
     by_answer NotOpen at left kept = absurd (cc)
     by_answer (WrongPlace place) at left kept = absurd (cc)
     by_answer Finished at left kept = absurd (cc)

@@ -68,14 +68,15 @@ pub record Goes {D T : Type 0} (stance : T → Stance) (setting : Setting) (even
   pub running : kept.stopped ≡ false
   pub stands : StandsFor stance kept.build (world_in setting events)
 
--- A build that was begun, on each disk: it has taken its `Start` alone, whose bytes are kept.
+-- A build that was begun, on each disk: it has taken its `Start` alone, of which there is a record, and whose bytes are kept.
 pub record IsBegun {D T : Type 0} (stance : T → Stance) (setting : Setting) (script agents : List ℕ) (kept : Kept D T) : Type 0 where
   pub goes : Goes stance setting (event.Start script agents ∷ []) kept
+  pub counted : kept.records ≡ 1
   pub has_script : kept.script ≡ script
   pub has_agents : kept.agents ≡ agents
 
 -- What the fault of a life tells, on each disk: `Full` is that of the record that is due for some event, by what the kept records weigh, with the image that the build
--- has behind it, and the image of the record before. `Stopped` is none.
+-- has now, and behind some image. `Stopped` is none.
 abbrev pub TellsFault : {D T : Type 0} → (T → Stance) → Kept D T → TakeFault → Type 0
 TellsFault stance kept Memory = Unit {0}
 TellsFault stance kept Disk = Unit {0}

@@ -103,15 +103,15 @@ module _ {D T : Type 0} (reads : D → Option (List ℕ)) (may_leave : D → Lis
   module _ {H A : Type 0} (honest : H → Type 0) (faults : H → ℕ) (calls : H → Option (List Call)) (launches dirs : H → List ℕ) (output : H → ℕ → Stream → List ℕ) (exited : H → ℕ → Option ℤ)
       (left : A → Option (List ℕ)) (source_faults : A → ℕ) (looks : ℕ) where
     -- Behind a life, of the members' hosts and of others.
-    pub others_leave : (turns : List (Turn H A)) (events : List Event) (old new : List (Member H A)) (history : List Entry) (kept : Kept D T) (ended : Result Rest TakeFault) → (world_in setting events).started ≡ true
-        → Ends reads may_leave clock since stance honest faults calls launches dirs output exited left source_faults looks turns setting entry origin before events old new history kept ended
+    pub others_leave : {durable : Kept D T} (turns : List (Turn H A)) (events : List Event) (old new : List (Member H A)) (history : List Entry) (kept : Kept D T) (ended : Result Rest TakeFault) → (world_in setting events).started ≡ true
+        → Ends reads may_leave clock since stance honest faults calls launches dirs output exited left source_faults looks turns durable setting entry origin before events old new history kept ended
         → (hosts : List ExecutorHost) → fitting.AllFit setting events hosts → (image : List ℕ) → may_leave kept.journal.disk image → (s : Setting) (es : List Event) → Stores s es image → fitting.AllFit s es hosts
     others_leave turns events old new history kept ended begun ends hosts fit image leaves s es stores =
         has_fits setting ends.now image hosts (now_some events ends.granted (tooks history) ends.now begun ends.is)
         (ends_leave _ ends.now new kept ended ends.ends image leaves) (ends.others hosts fit) (λ e accepted. ends.others_next hosts fit e accepted) s es stores
 
-    pub life_leaves : (turns : List (Turn H A)) (events : List Event) (old new : List (Member H A)) (history : List Entry) (kept : Kept D T) (ended : Result Rest TakeFault) → (world_in setting events).started ≡ true
-        → Ends reads may_leave clock since stance honest faults calls launches dirs output exited left source_faults looks turns setting entry origin before events old new history kept ended
+    pub life_leaves : {durable : Kept D T} (turns : List (Turn H A)) (events : List Event) (old new : List (Member H A)) (history : List Entry) (kept : Kept D T) (ended : Result Rest TakeFault) → (world_in setting events).started ≡ true
+        → Ends reads may_leave clock since stance honest faults calls launches dirs output exited left source_faults looks turns durable setting entry origin before events old new history kept ended
         → AreHonest honest old → AllFit launches dirs setting events old → (image : List ℕ) → may_leave kept.journal.disk image → (s : Setting) (es : List Event) → Stores s es image → AllFit launches dirs s es new
     life_leaves turns events old new history kept ended begun ends are fit image leaves s es stores =
         has_fits setting ends.now image (hosts_of launches dirs new) (now_some events ends.granted (tooks history) ends.now begun ends.is)

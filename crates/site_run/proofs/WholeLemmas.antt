@@ -293,12 +293,13 @@ module _ {D T : Type 0} (reads : D → Option (List ℕ)) (may_leave : D → Lis
 
             ends_so : (ended : Result Rest TakeFault) → AllAre (λ (turn : Turn H A). AllAre (IsOrderOf setting begun (tooks h)) (orders_in turn.calls)) turns → (operators old ≤ 1 → EachIs (HeardInTime setting begun) [] h) → EachIs (ClaimedInTime setting begun) [] h → ended ≡ ended_as (kept_fault h) how new
                 → (kept_fault h ≡ None → IfOk how (λ come. RestsWith (rest_of come new) setting (W.world_in setting now) new))
-                → Ends reads may_leave clock since stance honest faults calls launches dirs output exited left source_faults looks turns setting entry origin before events old new h kept ended
+                → Ends reads may_leave clock since stance honest faults calls launches dirs output exited left source_faults looks turns durable setting entry origin before events old new h kept ended
             ends_so ended orders in_time claims is rests = record {
               granted = tooks made;
               are_grants = grants_are grants;
               now = now;
               is = refl;
+              counted = omega (arith, site.counted, facts.counted);
               goes = goes_all;
               led = led;
               claims = claims;
@@ -336,7 +337,7 @@ module _ {D T : Type 0} (reads : D → Option (List ℕ)) (may_leave : D → Lis
 
           -- A life, by what its members did and by what is known of the state behind it.
           pub life_ends : ∥ IsSite reads may_leave clock since disk_faults stance opened kept h capacity ∥₁ → (ended : Result Rest TakeFault) → ended ≡ ended_as (kept_fault h) how new
-              → ∥ Ends reads may_leave clock since stance honest faults calls launches dirs output exited left source_faults looks turns setting entry origin before events old new h kept ended ∥₁
+              → ∥ Ends reads may_leave clock since stance honest faults calls launches dirs output exited left source_faults looks turns durable setting entry origin before events old new h kept ended ∥₁
           life_ends known ended is = ∥∥₁_elim known ∥∥₁_prop (λ site. ∥∥₁_elim told ∥∥₁_prop (λ at. ∥∥₁_elim ordered ∥∥₁_prop (λ orders. ∥∥₁_elim timed ∥∥₁_prop (λ in_time. ∥∥₁_elim claimed ∥∥₁_prop (λ claims. by site at orders in_time claims (calm_or_not (kept_fault h)))))))
             where
               calm_or_not : (f : Option TakeFault) → (f ≡ None) ⊎ (f ≡ None → ⊥)
@@ -345,7 +346,7 @@ module _ {D T : Type 0} (reads : D → Option (List ℕ)) (may_leave : D → Lis
 
               by : IsSite reads may_leave clock since disk_faults stance opened kept h capacity → At stance setting lasts.goes.proper Reported begun h → AllAre (λ (turn : Turn H A). AllAre (IsOrderOf setting begun (tooks h)) (orders_in turn.calls)) turns
                   → (operators old ≤ 1 → EachIs (HeardInTime setting begun) [] h) → EachIs (ClaimedInTime setting begun) [] h → (kept_fault h ≡ None) ⊎ (kept_fault h ≡ None → ⊥)
-                  → ∥ Ends reads may_leave clock since stance honest faults calls launches dirs output exited left source_faults looks turns setting entry origin before events old new h kept ended ∥₁
+                  → ∥ Ends reads may_leave clock since stance honest faults calls launches dirs output exited left source_faults looks turns durable setting entry origin before events old new h kept ended ∥₁
               by site at orders in_time claims (inl calm) = ∥∥₁_map (look_rests site calm how life.ends) (λ rests. ends_so at site.facts ended orders in_time claims is (λ none. rests))
               by site at orders in_time claims (inr fault) = ∣ ends_so at site.facts ended orders in_time claims is (λ none. absurd (fault none)) ∣₁
 

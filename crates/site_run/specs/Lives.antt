@@ -1,5 +1,5 @@
 -- How a life with hosts ended, and what it was (this product's own).
-use Rattle.std.specs.Prelude.{◌≡◌, ◌≤◌, ◌⊎◌, ℕ, ℤ, nat_eq, true, false, List, [], ◌∷◌, ◌++◌, Option, None, IfOk, IfSome, Result, Ok, Err}
+use Rattle.std.specs.Prelude.{◌≡◌, ◌≤◌, ◌⊎◌, ◌+◌, ℕ, ℤ, nat_eq, true, false, List, [], ◌∷◌, ◌++◌, length, Option, None, IfOk, IfSome, Result, Ok, Err}
 use Rattle.program_lock.specs.declared.program.Memory.{Memory}
 use Rattle.program_lock.specs.Legal.{Answers}
 use Rattle.task_host.specs.declared.call.Call.{Call}
@@ -86,12 +86,14 @@ module _ {D T H A : Type 0} (reads : D → Option (List ℕ)) (may_leave : D →
 
   -- From these events on: those at its end, how they came, how it ended, and that honest hosts which fitted the events fit those, so that on the
   -- hosts of different executors no task was launched twice, in this life and all before it.
-  pub record Ends (turns : List (Turn H A)) (setting : Setting) (entry : Option (List ℕ)) (origin : D) (before events : List Event) (old new : List (Member H A)) (history : List Entry) (kept : Kept D T) (ended : Result Rest TakeFault) : Type 0 where
+  pub record Ends (turns : List (Turn H A)) (durable : Kept D T) (setting : Setting) (entry : Option (List ℕ)) (origin : D) (before events : List Event) (old new : List (Member H A)) (history : List Entry) (kept : Kept D T) (ended : Result Rest TakeFault) : Type 0 where
     -- those at the end are those at the beginning, the grants that a stop had left out, and those of the history
     pub granted : List Event
     pub are_grants : AllAre (λ e. is_grant e ≡ true) granted
     pub now : List Event
     pub is : now ≡ (events ++ granted) ++ tooks history
+    -- and there is one record more for each event behind those at the beginning
+    pub counted : kept.records ≡ durable.records + (length granted + length (tooks history))
     pub goes : GoesBy setting (IsReported turns) events now (lines history)
     -- the turns are those of a life to which the build of these events replied
     pub led : LifeOf honest faults calls launches dirs output exited left source_faults looks (replies setting) (events ++ granted) old new turns history
@@ -122,4 +124,4 @@ module _ {D T H A : Type 0} (reads : D → Option (List ℕ)) (may_leave : D →
     -- what is known of the store from before the opening to the end, whatever its records tell
     pub whole : ∥ Facts reads may_leave clock since disk_faults stance durable kept (opened.0 ++ history) ∥₁
     pub comes : (setting : Setting) (entry : Option (List ℕ)) (origin : D) (before events : List Event) → Lasts reads may_leave clock since stance setting entry origin before events durable
-        → ∥ Ends (turns_of life.rounds ++ life.last) setting entry origin before events old new history kept ended ∥₁
+        → ∥ Ends (turns_of life.rounds ++ life.last) durable setting entry origin before events old new history kept ended ∥₁

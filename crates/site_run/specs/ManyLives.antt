@@ -25,7 +25,7 @@ module _ {D T H A : Type 0} (reads : D → Option (List ℕ)) (may_leave : D →
   pub data OneLife (setting : Setting) (events : List Event) (old : List (Member H A)) : D → List (Member H A) → Type 0 where
     led : {entry : Option (List ℕ)} {origin : D} {before : List Event} {durable kept : Kept D T} {turns : List (Turn H A)} {new : List (Member H A)} {history : List Entry} {ended : Result Rest TakeFault}
         → IsSome entry → Lasts reads may_leave clock since stance setting entry origin before events durable
-        → Ends reads may_leave clock since stance honest faults calls launches dirs output exited left source_faults looks turns setting entry origin before events old new history kept ended
+        → Ends reads may_leave clock since stance honest faults calls launches dirs output exited left source_faults looks turns durable setting entry origin before events old new history kept ended
         → AreServed honest faults calls left source_faults old new → OneLife setting events old kept.journal.disk new
     refused : {entry : Option (List ℕ)} {origin : D} {before : List Event} {durable : Kept D T} {disk : D} (fault : TakeFault)
         → IsSome entry → Lasts reads may_leave clock since stance setting entry origin before events durable

@@ -25,7 +25,7 @@ fn step_on<W: Threads + Wait + Sync + Clock + AllocGlobal, H: Host + Drop + Send
     requires { length hosts.items ≡ 64 }
 {
     let streams = open_streams(rt.alloc(), ["node { sh 'echo hi' }", agents, ""], NONE)?;
-    Ok(call(rt, words(rt.alloc())?, streams, hosts))
+    Ok(call(rt, words(rt.alloc(), "run", "demo")?, streams, hosts))
 }
 
 #[test]

@@ -119,7 +119,7 @@ fn usual<W: Threads + Wait + Sync + Clock + AllocGlobal>(
 ) -> Result<Called<MemoryHost>, AllocError> {
     let streams = open_streams(rt.alloc(), [USUAL, USUAL_AGENTS, ""], NONE)?;
     let hosts = echoing_hosts(rt.alloc())?;
-    Ok(call(rt, words(rt.alloc())?, streams, hosts))
+    Ok(call(rt, words(rt.alloc(), "run", "demo")?, streams, hosts))
 }
 
 #[test]
@@ -174,7 +174,7 @@ fn meeting<W: Threads + Wait + Sync + Clock + AllocGlobal>(rt: &W) -> Result<u8,
     let (first, other) = (AtomicBool::new(false), AtomicBool::new(false));
     let streams = open_streams(rt.alloc(), [TWO_AT_ONCE, PATIENT, ""], NONE)?;
     let hosts = meeting_hosts(rt, rt.alloc(), &first, &other)?;
-    Ok(call(rt, words(rt.alloc())?, streams, hosts).status)
+    Ok(call(rt, words(rt.alloc(), "run", "demo")?, streams, hosts).status)
 }
 
 /// The status of a call over an empty store, in which one member works at a time.
@@ -216,7 +216,7 @@ fn meeting_in_turn<W: Threads + Wait + Sync + Clock + AllocGlobal>(
     let (first, other) = (AtomicBool::new(false), AtomicBool::new(false));
     let streams = open_streams(rt.alloc(), [TWO_AT_ONCE, IMPATIENT, ""], NONE)?;
     let hosts = meeting_hosts(rt, rt.alloc(), &first, &other)?;
-    Ok(status_in_turn(rt, words(rt.alloc())?, streams, hosts))
+    Ok(status_in_turn(rt, words(rt.alloc(), "run", "demo")?, streams, hosts))
 }
 
 #[test]

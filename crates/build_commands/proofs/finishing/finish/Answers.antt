@@ -32,7 +32,7 @@ returns-in-Err-clause-reports g c =
     (sym c.tell-status.ensures.status) (report.no_memory (ap faults c.close.ensures) c.tell-status.ensures.text)
 
 pub returns-in-Err-clause-finishes : goal.returns-in-Err-clause-finishes
-returns-in-Err-clause-finishes g c = λ setting entry origin before lasts.
+returns-in-Err-clause-finishes g c = λ setting entry origin before lasts counts.
     let A = g.A.Source in
     let H = g.H.Host in
     let D = g.D.Disk in
@@ -43,13 +43,13 @@ returns-in-Err-clause-finishes g c = λ setting entry origin before lasts.
     let hosts_are = back.0 ∙ sym (hosts_all setting.site.executors c.args.hosts.items c.args.answers) in
     let are = one_answer setting.site.executors c.args.hosts.items c.args.answers ∙ ap (λ (a : g.row.A.Denot). a ∷ []) (sym back.1) in
     ∣ finished_wanting D.reads D.may_leave D.clock D.may_have_left_since g.R.ScriptThread.stance D.faults H.honest H.faults H.calls H.launches H.dirs H.output H.exited A.left A.faults looks
-    setting entry origin before c.args.hosts.items c.in-Err.hosts.items c.args.answers c.in-Err.answers (K.written c.args.out.now) (K.written c.tell-status.new.out) (K.faults c.args.out.now) (K.faults c.tell-status.new.out) c.tell-status.result (D.faults c.args.durable.journal.disk)
+    c.args.kind setting entry origin before c.args.hosts.items c.in-Err.hosts.items c.args.answers c.in-Err.answers (K.written c.args.out.now) (K.written c.tell-status.new.out) (K.faults c.args.out.now) (K.faults c.tell-status.new.out) c.tell-status.result (D.faults c.args.durable.journal.disk)
     c.new.result.items c.args.durable c.close.result c.close.ensures c.new.ensures.items (no_turns H.honest H.faults H.calls H.launches H.dirs H.output H.exited A.left A.faults looks any_reply tt begun)
     (still_served H.honest H.faults H.calls H.launches H.dirs H.output H.exited A.left A.faults looks begun) hosts_are are
     (no_events H.honest H.faults H.calls H.launches H.dirs H.output H.exited A.left A.faults looks g.R.ScriptThread.stance setting lasts.goes.proper before lasts.goes.begun begun) lasts c.tell-status.ensures.status c.tell-status.ensures.text ∣₁
 
 pub returns-in-Err-clause-last : goal.returns-in-Err-clause-last
-returns-in-Err-clause-last g c = λ payloads keeps.
+returns-in-Err-clause-last g c = λ log payloads keeps.
     let D = g.D.Disk in
     let K = g.K.Sink in
     ∣ subst (λ (d : g.row.D.Denot). KeepsRecords D.may_leave D.clock D.may_have_left_since (setting_in c.args.durable.build) c.args.durable.journal.disk payloads c.new.result.items d (K.written c.args.out.now) (K.written c.tell-status.new.out) (K.faults c.args.out.now) (K.faults c.tell-status.new.out) c.tell-status.result) (sym c.close.ensures)
@@ -120,7 +120,7 @@ returns-in-Ok-clause-led g c =
     (c.live.ensures.led setting c.args.hosts.items c.args.answers crew.made crew.rest)
 
 pub returns-in-Ok-clause-finishes : goal.returns-in-Ok-clause-finishes
-returns-in-Ok-clause-finishes g c = λ setting entry origin before lasts.
+returns-in-Ok-clause-finishes g c = λ setting entry origin before lasts counts.
     let A = g.A.Source in
     let H = g.H.Host in
     let D = g.D.Disk in
@@ -132,6 +132,6 @@ returns-in-Ok-clause-finishes g c = λ setting entry origin before lasts.
     (gathered here c.site.result.now c.site-2.result.now c.as_slice-executors.result.now c.in-Ok.crew.members.items c.in-Ok.crew.others.items c.args.hosts.items c.args.answers c.max-looks.result
     site other c.as_slice-executors.ensures c.max-looks.ensures c.in-Ok.ensures.members c.in-Ok.ensures.others) in
     subst (λ (n : ℕ). ∥ Finished D.reads D.may_leave D.clock D.may_have_left_since H.honest H.faults H.calls H.launches H.dirs H.output H.exited A.left A.faults n
-    setting entry origin before c.args.hosts.items c.live.result.hosts.items c.args.answers c.live.result.answers c.live.result.history.items c.live.result.disk (D.faults c.args.durable.journal.disk) (D.faults c.live.result.disk)
+    c.args.kind setting entry origin before c.args.hosts.items c.live.result.hosts.items c.args.answers c.live.result.answers c.live.result.history.items c.live.result.disk (D.faults c.args.durable.journal.disk) (D.faults c.live.result.disk)
     (K.written c.args.out.now) (K.written c.live.new.out) (K.faults c.args.out.now) (K.faults c.live.new.out) c.live.result.status ∥₁) crew.at_least
-    (c.live.ensures.finishes c.args.hosts.items c.args.answers setting entry origin before crew.made crew.rest lasts)
+    (c.live.ensures.finishes c.args.hosts.items c.args.answers setting entry origin before crew.made crew.rest lasts counts)

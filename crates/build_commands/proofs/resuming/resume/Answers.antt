@@ -33,7 +33,7 @@ returns-in-Ok-clause-reopens g c =
       begun = starts_by stance kept.build kept.script kept.agents o.payloads o.some keeps.stands;
       opened = kept.journal.disk;
       up_to = subst (λ (k : Kept g.row.D.Denot g.row.R.Denot). AtEachMoment D.clock D.may_have_left_since c.args.disk k.journal.disk (D.may_leave c.args.disk)) (sym c.into_durable.ensures) c.in-Ok.ensures.any_moment;
-      keeps = c.finish.ensures.last o.payloads keeps;
+      keeps = c.finish.ensures.last refl o.payloads keeps;
     })
     (subst (λ (n : ℕ). Reports n (D.faults c.finish.result.disk) (A.faults c.args.answers) (A.faults c.finish.result.answers) (K.written c.args.out.now) (K.written c.finish.new.out) (K.faults c.args.out.now) (K.faults c.finish.new.out) c.finish.result.status)
     (ap (λ (k : Kept g.row.D.Denot g.row.R.Denot). D.faults k.journal.disk) c.into_durable.ensures ∙ c.in-Ok.ensures.cause.calm (λ e. e)) c.finish.ensures.reports)
@@ -52,7 +52,7 @@ returns-in-Ok-clause-resumes g c = λ file told setting events stores.
     (ap (λ (k : Kept g.row.D.Denot g.row.R.Denot). D.faults k.journal.disk) c.into_durable.ensures ∙ c.in-Ok.ensures.cause.calm (λ e. e))
     (subst (λ (n : ℕ). Reports n (D.faults c.finish.result.disk) (A.faults c.args.answers) (A.faults c.finish.result.answers) (K.written c.args.out.now) (K.written c.finish.new.out) (K.faults c.args.out.now) (K.faults c.finish.new.out) c.finish.result.status)
     (ap (λ (k : Kept g.row.D.Denot g.row.R.Denot). D.faults k.journal.disk) c.into_durable.ensures ∙ c.in-Ok.ensures.cause.calm (λ e. e)) c.finish.ensures.reports)
-    (c.finish.ensures.finishes setting (D.reads c.args.disk) opened events (lasts_here D.reads D.may_leave D.clock D.may_have_left_since stance (g.met.D.Disk g.world.𝓛 g.world.𝓜 g.world.𝓡 ((λ s x. x), (λ x. x), (λ x. x), λ x. x)).only_now setting (D.reads c.args.disk) events kept stands.goes (λ known. stands.saves)))
+    (c.finish.ensures.finishes setting (D.reads c.args.disk) opened events (lasts_here D.reads D.may_leave D.clock D.may_have_left_since stance (g.met.D.Disk g.world.𝓛 g.world.𝓜 g.world.𝓡 ((λ s x. x), (λ x. x), (λ x. x), λ x. x)).only_now setting (D.reads c.args.disk) events kept stands.goes (λ known. stands.saves)) tt)
 
 pub returns-in-Err-clause-reopens : goal.returns-in-Err-clause-reopens
 returns-in-Err-clause-reopens g c =

@@ -8,7 +8,7 @@ use Rattle.saved_run.specs.Saved.{Saves}
 use Rattle.saved_run.proofs.LifeLemmas.{lasts_here}
 use Rattle.build_commands.specs.Beginning.{Begins, BeginsOver, begun, unbegun}
 use Rattle.build_commands.specs.Reporting.{Reports}
-use Rattle.build_commands.proofs.BeginLemmas.{begin_says, known_file, meant}
+use Rattle.build_commands.proofs.BeginLemmas.{begin_says, counts_first, known_file, meant}
 use Rattle.build_commands.proofs.running.begin.Goals as goal
 
 pub begin-requires : goal.begin-requires
@@ -35,9 +35,10 @@ returns-in-Ok g c =
     let goes = subst (λ (k : Kept g.row.D.Denot g.row.R.Denot). Goes stance setting first k) back c.in-Ok.ensures.made.goes in
     begun started calm c.finish.ensures.stay c.finish.ensures.launched
     (subst (λ (n : ℕ). Reports n (D.faults c.finish.result.disk) (A.faults c.args.answers) (A.faults c.finish.result.answers) (K.written c.args.out.now) (K.written c.finish.new.out) (K.faults c.args.out.now) (K.faults c.finish.new.out) c.finish.result.status) calm c.finish.ensures.reports)
-    (c.finish.ensures.finishes setting entry started first (lasts_here D.reads D.may_leave D.clock D.may_have_left_since stance (g.met.D.Disk g.world.𝓛 g.world.𝓜 g.world.𝓡 ((λ s x. x), (λ x. x), (λ x. x), λ x. x)).only_now setting entry first kept goes saves))
+    (c.finish.ensures.finishes setting entry started first (lasts_here D.reads D.may_leave D.clock D.may_have_left_since stance (g.met.D.Disk g.world.𝓛 g.world.𝓜 g.world.𝓡 ((λ s x. x), (λ x. x), (λ x. x), λ x. x)).only_now setting entry first kept goes saves)
+    (counts_first c.args.kind kept.records (StartEvent plan.script plan.agents) (ap (λ (k : Kept g.row.D.Denot g.row.R.Denot). k.records) c.into_durable.ensures ∙ c.in-Ok.ensures.made.counted)))
     (λ file told. subst (λ (k : Kept g.row.D.Denot g.row.R.Denot). BeginsOver D.reads D.may_leave D.clock D.may_have_left_since stance D.faults H.honest H.faults H.calls H.launches H.dirs H.output H.exited A.left A.faults c.args.disk c.finish.result.disk
-    c.args.hosts.items c.finish.result.hosts.items c.args.answers c.finish.result.answers c.finish.result.history.items (K.written c.args.out.now) (K.written c.finish.new.out) (K.faults c.args.out.now) (K.faults c.finish.new.out) plan.script plan.agents plan.tree plan.site file k.journal.disk) back
+    c.args.hosts.items c.finish.result.hosts.items c.args.answers c.finish.result.answers c.finish.result.history.items c.args.kind (K.written c.args.out.now) (K.written c.finish.new.out) (K.faults c.args.out.now) (K.faults c.finish.new.out) plan.script plan.agents plan.tree plan.site file k.journal.disk) back
     (let made = c.in-Ok.ensures.begun file told in record { fresh = made.fresh; moments = made.moments }))
 
 pub returns-in-Err : goal.returns-in-Err
@@ -48,5 +49,5 @@ returns-in-Err g c =
     let K = g.K.Sink in
     let plan = c.args.plan in
     subst (λ (n : ℕ). Begins D.reads D.may_leave D.clock D.may_have_left_since g.R.ScriptThread.stance D.faults H.honest H.faults H.calls H.launches H.dirs H.output H.exited A.left A.faults c.args.disk c.in-Err.disk
-    c.args.hosts.items c.args.hosts.items c.args.answers c.args.answers c.new.result.items (K.written c.args.out.now) (K.written c.tell-status.new.out) (K.faults c.args.out.now) (K.faults c.tell-status.new.out) plan.script plan.agents plan.tree plan.site n) (sym c.tell-status.ensures.status)
+    c.args.hosts.items c.args.hosts.items c.args.answers c.args.answers c.new.result.items c.args.kind (K.written c.args.out.now) (K.written c.tell-status.new.out) (K.faults c.args.out.now) (K.faults c.tell-status.new.out) plan.script plan.agents plan.tree plan.site n) (sym c.tell-status.ensures.status)
     (unbegun (refl, refl, c.new.ensures.items) (begin_says c.in-Err.fault c.of_begin.result c.of_begin.ensures) c.in-Err.ensures.cause c.in-Err.ensures.faults c.in-Err.ensures.begun c.tell-status.ensures.text)

@@ -60,7 +60,7 @@ returns-in-Ok-take-clause-made g c =
     let is = c.in-Ok-create.ensures.fresh in
     let same : setting_in fresh.build ≡ script_setting c.args.tree c.args.site = ap (λ (b : Parts g.row.R.Denot). setting_in b) is.0 ∙ c.in-Ok.ensures.setting in
     let stands = subst (λ (b : Parts g.row.R.Denot). StandsFor stance b unbegun) (sym is.0) c.in-Ok.ensures.stands in
-    is_begun stance (script_setting c.args.tree c.args.site) c.args.script c.args.agents fresh c.take.new.self c.requires.mean same stands c.in-Ok-take.field-0 c.in-Ok-take.ensures.answers.1 c.in-Ok-take.ensures.setting
+    is_begun stance (script_setting c.args.tree c.args.site) c.args.script c.args.agents fresh c.take.new.self c.requires.mean same stands c.in-Ok-create.ensures.counts.1 c.in-Ok-take.field-0 c.in-Ok-take.ensures.answers.1 c.in-Ok-take.ensures.setting
     c.in-Ok-take.ensures.leaves c.in-Ok-take.ensures.sources c.in-Ok-take.ensures.stands
 
 pub returns-clause-faults : goal.returns-clause-faults

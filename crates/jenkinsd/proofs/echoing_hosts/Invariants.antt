@@ -1,5 +1,5 @@
 use Rattle.std.proofs.Common.{◌≡◌, ◌≤◌, length}
-use Rattle.jenkinsd.proofs.tests.echoing_hosts.Given as goal
+use Rattle.jenkinsd.proofs.echoing_hosts.Given as goal
 
 -- Each turn gives one host.
 abbrev pub invariant-loop : goal.invariant-loop
