@@ -24,14 +24,20 @@ LOG = f"{TOP}/crates/{PROGRAM}/out/build.log"
 MEMORY_OF_A_CHECK = 4_000_000
 
 
-def crates_below(program):
-    """The program's crates with the crates that each names, lowest first, as crates.txt has them."""
+def listed():
+    """The crates of crates.txt, each with those that it names."""
     named = {}
     with open(f"{TOP}/crates.txt", encoding="utf-8") as lines:
         for line in lines:
             head, colon, deps = line.partition("#")[0].partition(":")
             if colon:
                 named[head.split()[0]] = deps.split()
+    return named
+
+
+def crates_below(program):
+    """The program's crates with the crates that each names, lowest first, as crates.txt has them."""
+    named = listed()
     order = {}
 
     def visit(name):

@@ -1,20 +1,30 @@
 #!/usr/bin/env python3
 """Runs the controller without proving it: `tools/unproved.py WORD..`, as `./controller` does where the program is not built.
 
-The kit compiles the sources anew and runs them, with checks in place of proofs. Standard output and the exit status are those of
-the program, and the store is the one of the folder. Standard error first says that the run is unproved, and on a terminal counts
-the seconds until it has ended. Where the kit gives no answer, because it cannot compile the sources or the run passes one of its
-bounds, the exit status is 125; a build that had begun is then stopped as by a kill.
+The kit compiles the sources anew and runs them, with checks in place of proofs, in the way of `quick_try.py` or, where its parts are
+others than that file names or a part fails, by its `rt try`. Standard output and the exit status are those of the program, and the
+store is the one of the folder. Standard error first says that the run is unproved, and on a terminal counts the seconds until it has
+ended. Where the kit gives no answer, because it cannot compile the sources or the run passes one of its bounds, the exit status is
+125; a build that had begun is then stopped as by a kill.
 """
+import contextlib
 import os
 import re
+import select
+import shutil
+import signal
 import subprocess
 import sys
+import tempfile
 import time
+
+import quick_try
 
 TOP = os.path.dirname(os.path.dirname(os.path.realpath(__file__)))
 NO_ANSWER = 125
 SECONDS = "600"
+# How much is read of standard input, in bytes.
+GIVEN = 64 << 20
 COMMANDS = ("run", "resume", "log", "graph", "check")
 
 
@@ -29,20 +39,56 @@ def with_whole_path(words):
     return words
 
 
+def given():
+    """What standard input gives until it ends, or is silent for two seconds."""
+    text = bytearray()
+    if sys.stdin is None or sys.stdin.isatty():
+        return text
+    while len(text) < GIVEN and select.select([0], [], [], 2)[0]:
+        more = os.read(0, 1 << 20)
+        if not more:
+            return text
+        text += more
+    say(f"standard input did not end: the program gets its first {len(text)} bytes")
+    return text
+
+
 def kit_run(words):
     """What the kit's run said on standard error, where the kit's own lines follow those of the program."""
-    command = ["rt", "try", "--seconds", SECONDS, "--", *words]
+    rt = shutil.which("rt")
+    if rt is None:
+        raise FileNotFoundError
+    kit = os.path.dirname(os.path.dirname(os.path.realpath(rt)))
+    with tempfile.TemporaryDirectory(prefix="controller-") as folder:
+        with open(f"{folder}/stdin", "wb") as file:
+            file.write(given())
+        if quick_try.is_here(kit):
+            told, status = called(quick_try.command(kit, folder, SECONDS, words), folder)
+            # The kit's last line says that nothing is proved, once it has run the program.
+            if status < 0 or told.endswith(" proved=no\n"):
+                return told
+        return called([rt, "try", "--seconds", SECONDS, "--", *words], folder)[0]
+
+
+def called(command, folder):
+    """What the command wrote on standard error, and its exit status. What it wrote on standard output is passed on."""
     # A terminal that shows the count gets the log once that line is cleared.
     streams = {"stdout": subprocess.PIPE if sys.stdout.isatty() else None, "stderr": subprocess.PIPE}
-    with subprocess.Popen(command, cwd=f"{TOP}/crates/jenkinsd", **streams) as child:
-        try:
-            printed, told = counted(child) if sys.stderr.isatty() else child.communicate()
-        except BaseException:
-            child.kill()
-            raise
+    # The kit's memory is not given back while it works, since it wants it again at once.
+    env = {**os.environ, "TMPDIR": folder, "MIMALLOC_PURGE_DELAY": "-1"}
+    with open(f"{folder}/stdin", "rb") as stdin:
+        child = subprocess.Popen(command, cwd=f"{TOP}/crates/jenkinsd", env=env, stdin=stdin, start_new_session=True, **streams)
+    try:
+        printed, told = counted(child) if sys.stderr.isatty() else child.communicate()
+    except BaseException:
+        # The kit's own way ends what it began; nothing else does.
+        with contextlib.suppress(ProcessLookupError):
+            os.killpg(child.pid, signal.SIGTERM if command[1] == "try" else signal.SIGKILL)
+        child.wait()
+        raise
     sys.stdout.buffer.write(printed or b"")
     sys.stdout.flush()
-    return told.decode(errors="replace")
+    return told.decode(errors="replace"), child.returncode
 
 
 def counted(child):
@@ -59,6 +105,8 @@ def counted(child):
 
 
 def main(words):
+    for it in (signal.SIGTERM, signal.SIGHUP):
+        signal.signal(it, lambda number, _: sys.exit(128 + number))
     say("unproved and slow; ./controller build proves and builds the program")
     try:
         told = kit_run(with_whole_path(words))
@@ -71,11 +119,10 @@ def main(words):
         say(f"the kit could not be run: {why.strerror}")
         return NO_ANSWER
     ended = re.search(r"^run=ended status=(\d+) .*$", told, re.M)
-    if ended:
-        own = re.sub(r"^(checked: ended|run=ended|races:) .*\n?", "", told, flags=re.M)
-        sys.stderr.write(own)
-        return int(ended[1])
+    told = re.sub(r"^(interpreter:|checked: ended|run=ended|races:) .*\n?", "", told, flags=re.M)
     sys.stderr.write(told)
+    if ended:
+        return int(ended[1])
     say("the kit gave no answer (it bounds a run's time and output): ./controller build makes a program without such bounds")
     return NO_ANSWER
 
