@@ -89,7 +89,8 @@ impl<D: Disk, R: SavedThread + Drop> SiteState<D, R> {
         self.durable.build()
     }
 
-    /// How many records the journal has, one for each event that the build has accepted. It needs no memory.
+    /// How many records the journal has: one for each event that the build has accepted, while no fault is kept. Behind a fault
+    /// the build may have accepted one event more, or the journal may have one record more. It needs no memory.
     pub fn records(&self) -> u64
         ensures { result ≡ self.now.durable.records }
     {
