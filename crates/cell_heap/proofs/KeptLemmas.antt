@@ -14,7 +14,7 @@ use Rattle.cell_heap.specs.Soundness.{AreSound, CellBelow, IsSoundIn}
 use Rattle.cell_heap.specs.ValueTypes.{Cell}
 use Rattle.cell_heap.specs.declared.heap.Heap.TheInside.{Inside}
 use Rattle.cell_heap.proofs.FollowsLemmas.{Follows-push, Follows-set}
-use Rattle.cell_heap.proofs.PlaceLemmas.{all_placed-push, all_placed-set}
+use Rattle.cell_heap.proofs.IndexLemmas.{AreIndexesIn-push, AreIndexesIn-set}
 use Rattle.cell_heap.proofs.SizeLemmas.{heap_bytes-push, heap_bytes-set}
 use Rattle.cell_heap.proofs.SoundLemmas.{AreSound-push, AreSound-set}
 
@@ -42,15 +42,15 @@ module _ (h : Inside) (r : Region) (view : region_of h ≡ r) where
   marks_match : IsKept h → length r.changed ≡ length r.cells
   marks_match k = omega (arith, k.marked, h.cells.ok.0, ap (λ (s : Region). length s.changed) view, same_length)
 
-  pub written : (i : ℕ) (c d : Cell) (marks : Marks) (total : ℕ) → marks ≡ record h.changes { flags = set h.changes.flags i true } → c ≡ d → region_of (record { cells = with_item h.cells i c; changes = marks; total = total; places = h.places }) ≡ with_cell r i d
+  pub written : (i : ℕ) (c d : Cell) (marks : Marks) (total : ℕ) → marks ≡ record h.changes { flags = set h.changes.flags i true } → c ≡ d → region_of (record { cells = with_item h.cells i c; changes = marks; total = total; indexes = h.indexes }) ≡ with_cell r i d
   written i c d marks total marked same = rw (← view, marked, same) refl
 
-  pub written-follows : (i : ℕ) (c : Cell) (marks : Marks) (total : ℕ) → IsKept h → marks ≡ record h.changes { flags = set h.changes.flags i true } → Follows r (region_of (record { cells = with_item h.cells i c; changes = marks; total = total; places = h.places }))
+  pub written-follows : (i : ℕ) (c : Cell) (marks : Marks) (total : ℕ) → IsKept h → marks ≡ record h.changes { flags = set h.changes.flags i true } → Follows r (region_of (record { cells = with_item h.cells i c; changes = marks; total = total; indexes = h.indexes }))
   written-follows i c marks total k marked =
-      Follows-set r (region_of (record { cells = with_item h.cells i c; changes = marks; total = total; places = h.places })) i c (marks_match k) (written i c c marks total marked refl)
+      Follows-set r (region_of (record { cells = with_item h.cells i c; changes = marks; total = total; indexes = h.indexes })) i c (marks_match k) (written i c c marks total marked refl)
 
   -- the cell `was` at i, which is no text, becomes c, and the total changes as the bytes of the cell do
-  pub IsKept-set : (i : ℕ) (was c : Cell) (marks : Marks) (total : ℕ) → IsKept h → i < length r.cells → (HasText (slice_get r.cells i) → ⊥) → was ≡ get_or h.cells.items i was → IsSoundIn (length r.cells) c → marks ≡ record h.changes { flags = set h.changes.flags i true } → total + cell_bytes was ≡ h.total + cell_bytes c → total ≤ 2 ^ 62 → IsKept (record { cells = with_item h.cells i c; changes = marks; total = total; places = h.places })
+  pub IsKept-set : (i : ℕ) (was c : Cell) (marks : Marks) (total : ℕ) → IsKept h → i < length r.cells → (HasText (slice_get r.cells i) → ⊥) → was ≡ get_or h.cells.items i was → IsSoundIn (length r.cells) c → marks ≡ record h.changes { flags = set h.changes.flags i true } → total + cell_bytes was ≡ h.total + cell_bytes c → total ≤ 2 ^ 62 → IsKept (record { cells = with_item h.cells i c; changes = marks; total = total; indexes = h.indexes })
   IsKept-set i was c marks total k lt none read sound marked counted bounded =
       let within : i < length h.cells.items = omega (arith, lt, same_length) in
       let new : IsSoundIn (length h.cells.items) c = subst (λ (n : ℕ). IsSoundIn n c) (sym same_length) sound in
@@ -64,12 +64,12 @@ module _ (h : Inside) (r : Region) (view : region_of h ≡ r) where
         counted = omega (arith, bytes, at, counted, k.counted);
         bounded = bounded;
         room = omega (arith, spare, k.room);
-        placed = all_placed-set h.cells.items i c h.places (λ text. none (subst (λ (xs : List Cell). HasText (slice_get xs i)) same_cells text)) k.placed;
+        indexed = AreIndexesIn-set h.cells.items i c h.indexes.by_cell.items (λ text. none (subst (λ (xs : List Cell). HasText (slice_get xs i)) same_cells text)) k.indexed;
       }
 
 -- a new cell
-pub IsKept-push : (h next : Inside) (c : Cell) → IsKept h → next.cells.items ≡ h.cells.items ++ c ∷ [] → vec_capacity next.cells ≡ vec_capacity h.cells → 0 < h.changes.spare → next.changes ≡ record { flags = h.changes.flags ++ true ∷ []; spare = h.changes.spare - 1 } → next.total ≡ h.total + cell_bytes c → next.places ≡ h.places → CellBelow (length h.cells.items) c → next.total ≤ 268435456 → length h.cells.items < 1048576 → IsKept next
-IsKept-push h next c k items capacity room marks total places below small few =
+pub IsKept-push : (h next : Inside) (c : Cell) → IsKept h → next.cells.items ≡ h.cells.items ++ c ∷ [] → vec_capacity next.cells ≡ vec_capacity h.cells → 0 < h.changes.spare → next.changes ≡ record { flags = h.changes.flags ++ true ∷ []; spare = h.changes.spare - 1 } → next.total ≡ h.total + cell_bytes c → next.indexes ≡ h.indexes → CellBelow (length h.cells.items) c → next.total ≤ 268435456 → length h.cells.items < 1048576 → IsKept next
+IsKept-push h next c k items capacity room marks total indexes below small few =
     let lens : length next.cells.items ≡ length h.cells.items + 1 = ap length items ∙ length_push h.cells.items c in
     let flags : length next.changes.flags ≡ length h.changes.flags + 1 = ap (λ (m : Marks). length m.flags) marks ∙ length_push h.changes.flags true in
     let spare : next.changes.spare ≡ h.changes.spare - 1 = ap (λ (m : Marks). m.spare) marks in
@@ -81,7 +81,7 @@ IsKept-push h next c k items capacity room marks total places below small few =
       counted = omega (arith, bytes, total, k.counted);
       bounded = omega (arith, small);
       room = omega (arith, lens, next.cells.ok.0, h.cells.ok.0, spare, capacity, room, k.room);
-      placed = rw (items, places) (all_placed-push h.cells.items c h.places k.placed);
+      indexed = rw (items, indexes) (AreIndexesIn-push h.cells.items c h.indexes.by_cell.items k.indexed);
     }
 
 -- and what a contract sees of it

@@ -1,5 +1,6 @@
 pub mod EntryLemmas
 pub mod FollowsLemmas
+pub mod IndexLemmas
 pub mod KeptLemmas
 pub mod MarkLemmas
 pub mod PlaceLemmas

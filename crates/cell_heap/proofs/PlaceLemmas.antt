@@ -1,15 +1,10 @@
--- Where a character begins, counted on from a place in front of it; and the places that a heap keeps.
-use Rattle.std.proofs.Common.{◌≡◌, ℕ, zero, suc, ◌+◌, ◌-◌, ◌<◌, ◌≤◌, ◌⊎◌, Bool, true, false, cond, List, [], ◌∷◌, ◌++◌, length, get_or, set, drop, Option, Some, None, slice_get, refl, sym, ap, ◌∙◌, subst, inl, inr, arith}
-use Rattle.std.specs.List.{All}
-use Rattle.std.proofs.lemmas.Bool.{cases_lt}
-use Rattle.std.proofs.lemmas.List.{drop_more, get_or_past}
-use Rattle.std.proofs.lemmas.List.Elements.{All-get_or, All-weaker}
+-- Where a character begins, counted on from a place in front of it; and texts that stay where they are.
+use Rattle.std.proofs.Common.{◌≡◌, ℕ, zero, suc, ◌+◌, ◌-◌, ◌<◌, ◌≤◌, ◌⊎◌, Bool, true, false, cond, List, [], ◌∷◌, ◌++◌, length, get_or, set, drop, Option, Some, slice_get, refl, sym, ap, ◌∙◌, inl, inr, arith}
+use Rattle.std.proofs.lemmas.List.{drop_more}
 use Rattle.std.specs.Fmt.{is_char_start}
 use Rattle.model_values.specs.Fitting.{HasText}
-use Rattle.cell_heap.specs.Contents.{text_in}
-use Rattle.cell_heap.specs.Places.{IsPlaceIn, place_behind, place_of_character}
+use Rattle.cell_heap.specs.Places.{place_behind, place_of_character}
 use Rattle.cell_heap.specs.ValueTypes.{Cell, TextCell}
-use Rattle.cell_heap.specs.declared.places.TextPlace.{TextPlace}
 
 pub true_or_false : (b : Bool) → (b ≡ true) ⊎ (b ≡ false)
 true_or_false true = inl refl
@@ -116,41 +111,15 @@ pub no_text : (P : Option Cell → Type 0) → ((s : List ℕ) → P (Some (Text
 no_text P other (Some (TextCell s)) is text = other s is
 no_text P other o is text = text
 
--- the places that are kept stay right where a cell is new, and where one is written that is no text
-kept-push : (h : List Cell) (j : ℕ) (c : Cell) → HasText (slice_get h j) → slice_get (h ++ c ∷ []) j ≡ slice_get h j
+-- a text stays where it is when a cell is new, and when one is written that is no text
+pub kept-push : (h : List Cell) (j : ℕ) (c : Cell) → HasText (slice_get h j) → slice_get (h ++ c ∷ []) j ≡ slice_get h j
 kept-push [] j c text = absurd text
 kept-push (x ∷ h) zero c text = refl
 kept-push (x ∷ h) (suc j) c text = kept-push h j c text
 
-kept-set : (h : List Cell) (i j : ℕ) (c : Cell) → (HasText (slice_get h i) → ⊥) → HasText (slice_get h j) → slice_get (set h i c) j ≡ slice_get h j
+pub kept-set : (h : List Cell) (i j : ℕ) (c : Cell) → (HasText (slice_get h i) → ⊥) → HasText (slice_get h j) → slice_get (set h i c) j ≡ slice_get h j
 kept-set [] i j c none text = absurd text
 kept-set (x ∷ h) zero zero c none text = absurd (none text)
 kept-set (x ∷ h) zero (suc j) c none text = refl
 kept-set (x ∷ h) (suc i) zero c none text = refl
 kept-set (x ∷ h) (suc i) (suc j) c none text = kept-set h i j c none text
-
-placed-same : (h g : List Cell) → ((j : ℕ) → HasText (slice_get h j) → slice_get g j ≡ slice_get h j) → (o : Option TextPlace) → IsPlaceIn h o → IsPlaceIn g o
-placed-same h g same None is = tt
-placed-same h g same (Some p) is =
-    let there : slice_get g p.cell ≡ slice_get h p.cell = same p.cell is.text in record {
-      text = subst HasText (sym there) is.text;
-      begins = is.begins ∙ ap (λ (o : Option Cell). place_of_character (text_in o) p.at) (sym there);
-    }
-
-pub all_placed-push : (h : List Cell) (c : Cell) (ps : List (Option TextPlace)) → All (IsPlaceIn h) ps → All (IsPlaceIn (h ++ c ∷ [])) ps
-all_placed-push h c ps all =
-    let g = h ++ c ∷ [] in
-    All-weaker (IsPlaceIn h) (IsPlaceIn g) (placed-same h g (λ j text. kept-push h j c text)) ps all
-
-pub all_placed-set : (h : List Cell) (i : ℕ) (c : Cell) (ps : List (Option TextPlace)) → (HasText (slice_get h i) → ⊥) → All (IsPlaceIn h) ps → All (IsPlaceIn (set h i c)) ps
-all_placed-set h i c ps none all =
-    let g = set h i c in
-    All-weaker (IsPlaceIn h) (IsPlaceIn g) (placed-same h g (λ j text. kept-set h i j c none text)) ps all
-
--- what is kept in a place, which is none where there is no such place
-pub place_at : (h : List Cell) (ps : List (Option TextPlace)) (i : ℕ) → All (IsPlaceIn h) ps → IsPlaceIn h (get_or ps i None)
-place_at h ps i all =
-    elim (cases_lt i (length ps)) [
-      | inl lt ↦ All-get_or (IsPlaceIn h) ps i None lt all
-      | inr le ↦ subst (IsPlaceIn h) (sym (get_or_past ps i None le)) tt
-    ]

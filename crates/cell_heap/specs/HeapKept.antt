@@ -1,8 +1,8 @@
 -- What a heap keeps of its fields.
-use Rattle.std.specs.Prelude.{◌≡◌, ◌+◌, ◌<◌, ◌≤◌, ◌^◌, All, length, vec_len, vec_capacity}
+use Rattle.std.specs.Prelude.{◌≡◌, ◌+◌, ◌<◌, ◌≤◌, ◌^◌, length, vec_len, vec_capacity}
 use Rattle.model_values.specs.Cells.{heap_bytes}
 use Rattle.cell_heap.specs.declared.heap.Heap.TheInside.{Inside}
-use Rattle.cell_heap.specs.Places.{IsPlaceIn}
+use Rattle.cell_heap.specs.Places.{AreIndexesIn}
 use Rattle.cell_heap.specs.Soundness.{AreSound}
 
 pub record IsKept (h : Inside) : Type 0 where
@@ -14,5 +14,5 @@ pub record IsKept (h : Inside) : Type 0 where
   pub bounded : h.total ≤ 2 ^ 62
   -- there is room for the spare cells
   pub room : vec_len h.cells + h.changes.spare ≤ vec_capacity h.cells
-  -- each place of a text is right
-  pub placed : All (IsPlaceIn h.cells.items) h.places
+  -- the index of each text is right
+  pub indexed : AreIndexesIn h.cells.items h.indexes.by_cell.items

@@ -1,10 +1,7 @@
--- At which byte a character of a text begins, and which places of this kind a heap keeps.
-use Rattle.std.specs.Prelude.{◌≡◌, ℕ, zero, suc, ◌+◌, if◌then◌else◌, List, [], ◌∷◌, Option, Some, None, slice_get}
+-- At which byte a character of a text begins, and what a heap keeps of this.
+use Rattle.std.specs.Prelude.{◌≡◌, ℕ, zero, suc, ◌+◌, ◌*◌, if◌then◌else◌, List, [], ◌∷◌, Option, Some, slice_get, slice_index, slice_index_or, EachIndex}
 use Rattle.std.specs.Fmt.{is_char_start}
-use Rattle.model_values.specs.Fitting.{HasText}
-use Rattle.cell_heap.specs.Contents.{text_in}
-use Rattle.cell_heap.specs.ValueTypes.{Cell}
-use Rattle.cell_heap.specs.declared.places.TextPlace.{TextPlace}
+use Rattle.cell_heap.specs.ValueTypes.{Cell, TextCell}
 
 -- in the bytes behind a first one: where the next but n begins
 abbrev pub place_behind : ℕ → List ℕ → ℕ
@@ -17,12 +14,15 @@ place_of_character [] n = 0
 place_of_character (b ∷ bs) zero = 0
 place_of_character (b ∷ bs) (suc n) = 1 + place_behind n bs
 
--- a place of a text: its cell is one, and in it the character of this number begins at this byte
-pub record IsIn (h : List Cell) (p : TextPlace) : Type 0 where
-  pub text : HasText (slice_get h p.cell)
-  pub begins : p.byte ≡ place_of_character (text_in (slice_get h p.cell)) p.at
+-- an index of a text: its entry k is the byte at which the character of the number 64 (k + 1) begins
+abbrev pub IsIndexOf : List ℕ → List ℕ → Type 0
+IsIndexOf s bytes = EachIndex bytes (λ k. slice_index bytes k ≡ place_of_character s (64 * (k + 1)))
 
--- what is kept of a text, or nothing
-abbrev pub IsPlaceIn : List Cell → Option TextPlace → Type 0
-IsPlaceIn h (Some p) = IsIn h p
-IsPlaceIn h None = Unit {0}
+-- what is kept of a cell: of a text an index, and of another one nothing
+abbrev pub IsIndexIn : Option Cell → List ℕ → Type 0
+IsIndexIn (Some (TextCell s)) bytes = IsIndexOf s bytes
+IsIndexIn _ bytes = bytes ≡ []
+
+-- and of each cell of a heap; where the list ends, nothing is kept
+abbrev pub AreIndexesIn : List Cell → List (List ℕ) → Type 0
+AreIndexesIn h indexes = (i : ℕ) → IsIndexIn (slice_get h i) (slice_index_or indexes i [])

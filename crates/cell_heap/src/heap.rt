@@ -13,9 +13,8 @@ ghost use Rattle.cell_heap.specs.Soundness.{AreSound, IsSoundIn, CellBelow, Valu
 
 use crate::CellRefusal;
 use crate::changes::Changes;
-use crate::characters::place_of_character;
 use crate::contents::text_of;
-use crate::places::{NEAR, PLACES, TextPlace, place_before};
+use crate::indexes::TextIndexes;
 use crate::refusal::{MAX_BYTES, MAX_CELLS, MAX_ENTRIES};
 use crate::sizes::bytes_of;
 use model_text::Ids;
@@ -35,7 +34,7 @@ pub struct Heap {
     cells: Vec<Cell>,
     changes: Changes,
     total: u64,
-    places: [Option<TextPlace>; PLACES],
+    indexes: TextIndexes,
 }
 
 impl Model for Heap {
@@ -61,7 +60,7 @@ impl Heap {
             cells: Vec::new(alloc),
             changes: Changes::new(alloc),
             total: 0,
-            places: [None; PLACES],
+            indexes: TextIndexes::new(alloc),
         }
     }
 
@@ -82,7 +81,7 @@ impl Heap {
             cells,
             changes,
             total,
-            places: [None; PLACES],
+            indexes: TextIndexes::new(alloc),
         })
     }
 
@@ -118,10 +117,12 @@ impl Heap {
     }
 
     /// The byte at which this character of the text in this cell begins, counted from 0, and behind the last character
-    /// the length. No cell changes, and it takes no memory. It goes once over the bytes between: from the character
-    /// that was asked for before in this text, where that is not behind this one, else from the text's front. The heap
-    /// keeps eight such places. A text takes the one of another, whose number leaves the same remainder by 8, when it
-    /// is asked for a character behind its first 64 bytes.
+    /// the length. No cell changes.
+    ///
+    /// It goes over fewer than 64 characters, from an entry of the text's index, whatever was asked for before. The
+    /// index is made longer first, which goes over each byte in front of `at` once in the life of the heap. It takes
+    /// 8 bytes for each 64 characters; the list of the indexes goes up to the last text that has one, and a text of
+    /// fewer than 64 bytes has none. Where memory is refused for them, the call goes over the more characters itself.
     pub fn character_at(&mut self, id: u32, at: usize) -> usize
         requires within { id < length self.old.cells }
         requires text { HasText (slice_get self.old.cells id) }
@@ -129,14 +130,7 @@ impl Heap {
         ensures unchanged { self.new ≡ self.old }
     {
         let text = text_of(&self.cells[id as usize]).as_slice();
-        let slot = id as usize % PLACES;
-        let before = place_before(self.places[slot], id, at);
-        let behind = &text[before.byte..];
-        let byte = before.byte + place_of_character(behind, at - before.at);
-        if byte >= NEAR {
-            self.places[slot] = Some(TextPlace { cell: id, at, byte });
-        }
-        byte
+        self.indexes.place_of(id, text, at)
     }
 
     /// A new cell behind all others, which is changed; its number is how many there were. What it holds names cells

@@ -21,7 +21,7 @@ mod changes;
 mod characters;
 mod contents;
 mod heap;
-mod places;
+mod indexes;
 mod refusal;
 mod sizes;
 

@@ -57,14 +57,17 @@ fn a_list_of_65536_entries_takes_no_more(rt: HostRuntime) -> Result<(), Fail> {
 fn maps_take_and_give_back_entries(rt: HostRuntime) -> Result<(), Fail> {
     let mut heap = Heap::new(rt.alloc());
     heap.new_cell(Cell::Map(Entries::new(rt.alloc())))?;
-    assert_eq!(rt; heap.map_put(0, Key::Int(3), Value::Null), Ok(None));
-    assert_eq!(rt;
+    let put = [
+        heap.map_put(0, Key::Int(3), Value::Null),
         heap.map_put(0, Key::Int(3), Value::Int(1)),
-        Ok(Some(Value::Null))
-    );
+    ];
+    assert!(rt; put == [Ok(None), Ok(Some(Value::Null))]);
     assert_eq!(rt; heap.bytes(), 48);
-    assert_eq!(rt; heap.map_remove(0, &Key::Int(3)), Some(Value::Int(1)));
-    assert_eq!(rt; heap.map_remove(0, &Key::Int(3)), None);
+    let removed = [
+        heap.map_remove(0, &Key::Int(3)),
+        heap.map_remove(0, &Key::Int(3)),
+    ];
+    assert!(rt; removed == [Some(Value::Int(1)), None]);
     Ok(())
 }
 
@@ -76,6 +79,15 @@ fn a_restored_heap_has_its_cells_unchanged(rt: HostRuntime) -> Result<(), Fail> 
     assert_eq!(rt; heap.len(), 1);
     assert_eq!(rt; heap.changed_since()?.len(), 0);
     Ok(())
+}
+
+/// A text of so many times the same piece.
+fn repeated(alloc: Global, piece: &str, times: usize) -> Result<Text, AllocError> {
+    let mut text = Text::new(alloc);
+    for _ in 0..times {
+        text.append(piece.as_bytes())?;
+    }
+    Ok(text)
 }
 
 /// The byte at which a character of the text in a cell begins.
@@ -94,13 +106,15 @@ fn characters_begin_where_they_do_in_whatever_order_they_are_asked_for(
     rt: HostRuntime,
 ) -> Result<(), Fail> {
     let mut heap = Heap::new(rt.alloc());
-    for id in 0..9 {
-        let text = match id {
-            0 => "aé€😀baé€😀baé€😀baé€😀baé€😀baé€😀baé€😀baé€😀b",
-            8 => "€€€€€€€€€€€€€€€€€€€€€€€€€€€€€€",
-            _ => "",
+    for id in 0..12 {
+        let (piece, times) = match id {
+            0 => ("aé€😀b", 8),
+            3 => ("aé€😀b", 60),
+            8 => ("€", 30),
+            11 => ("€", 300),
+            _ => ("", 0),
         };
-        heap.new_cell(Cell::Text(Text::from_str(rt.alloc(), text)?))?;
+        heap.new_cell(Cell::Text(repeated(rt.alloc(), piece, times)?))?;
     }
     for (id, at, byte) in [
         (0, 0, 0),
@@ -119,6 +133,24 @@ fn characters_begin_where_they_do_in_whatever_order_they_are_asked_for(
         (8, 30, 90),
         (0, 4, 10),
         (1, 1, 0),
+        (3, 250, 550),
+        (11, 199, 597),
+        (3, 251, 551),
+        (11, 200, 600),
+        (3, 129, 285),
+        (3, 128, 281),
+        (11, 128, 384),
+        (3, 127, 278),
+        (11, 127, 381),
+        (3, 65, 143),
+        (3, 64, 142),
+        (3, 63, 138),
+        (11, 64, 192),
+        (3, 1, 1),
+        (3, 299, 659),
+        (3, 300, 660),
+        (3, 301, 660),
+        (11, 400, 900),
     ] {
         assert_eq!(rt; byte_in(&mut heap, id, at)?, byte);
     }

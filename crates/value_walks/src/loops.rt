@@ -18,7 +18,7 @@ use std::alloc::{AllocError, Global};
 use value_view::{Kind, OpRefusal, character_range, kind_of};
 
 /// How far a `for` over a value has come: its turn, counted from 0, and of a text the byte at which the character of
-/// that turn begins. So no turn counts the characters in front.
+/// that turn begins.
 #[derive(Clone, Copy, Debug, PartialEq, Eq)]
 pub struct LoopPlace {
     pub at: u32,
@@ -26,8 +26,7 @@ pub struct LoopPlace {
 }
 
 impl LoopPlace {
-    /// The place of turn `at`. Over a text it goes once over the bytes between: from the place that was asked for before,
-    /// which the heap keeps, else from the front ([`Heap::character_at`]).
+    /// The place of turn `at`, in a text by its index ([`Heap::character_at`]).
     pub fn of(heap: &mut Heap, on: &Value, at: u32) -> LoopPlace
         requires { ValueBelow (length heap.old.cells) on.now }
         ensures at { result.at ≡ at }

@@ -15,7 +15,7 @@ pub invariant_of-self : goal.invariant_of-self
 invariant_of-self c =
     let h = c.self.inside in
     let kept = c.self.invariant in
-    let next : Inside = record { cells = c.push_reserved.new.self; changes = c.push.new.self; total = h.total + c.in_ok-bytes.bytes; places = h.places } in
+    let next : Inside = record { cells = c.push_reserved.new.self; changes = c.push.new.self; total = h.total + c.in_ok-bytes.bytes; indexes = h.indexes } in
     let reserved = c.in_ok-reserve.ensures.ok in
     let cells : h.cells.items ≡ c.args.self.now.cells = ap (λ (r : Region). r.cells) c.self.view_is ∙ ap (λ (r : Region). r.cells) reserved in
     let lens : length h.cells.items ≡ length c.args.self.now.cells = ap (λ (xs : List Cell). length xs) cells in
@@ -30,7 +30,7 @@ invariant_of-self c =
 pub returns-clause-follows : goal.returns-clause-follows
 returns-clause-follows c =
     let h = c.self.inside in
-    let next : Inside = record { cells = c.push_reserved.new.self; changes = c.push.new.self; total = h.total + c.in_ok-bytes.bytes; places = h.places } in
+    let next : Inside = record { cells = c.push_reserved.new.self; changes = c.push.new.self; total = h.total + c.in_ok-bytes.bytes; indexes = h.indexes } in
     let behind : Follows c.reserve.new.self (region_of next) = pushed-follows h next c.reserve.new.self c.args.cell c.self.view_is c.self.invariant c.push_reserved.ensures.items c.push.ensures in
     let from = subst (λ (r : Region). Follows r (region_of next)) c.in_ok-reserve.ensures.ok behind in
     record { grows = from.grows; unmarked = from.unmarked; same = from.same }
