@@ -1,10 +1,14 @@
 -- What an event leaves unmarked is as it was.
-use Rattle.std.proofs.Common.{◌≡◌, ℕ, Bool, false, List, [], ◌∷◌, ◌++◌, length, replicate, Option, ap}
+use Rattle.std.proofs.Common.{◌≡◌, ◌∙◌, ℕ, Bool, false, List, [], ◌∷◌, ◌++◌, length, replicate, Option, ap, refl}
 use Rattle.cell_heap.specs.Region.{Region}
-use Rattle.cell_heap.proofs.FollowsLemmas.{Follows-refl, Follows-same, Follows-trans}
+use Rattle.cell_heap.proofs.FollowsLemmas.{Follows-same, Follows-trans}
 use Rattle.model_run.specs.declared.flow.FlowNode.{FlowNode}
+use Rattle.model_run.specs.declared.result.BuildResult.{BuildResult}
+use Rattle.model_run.specs.FlowNodes.{IsFront}
+use Rattle.model_run.specs.LogText.{line}
+use Rattle.model_run.specs.Results.{ended_log}
 use Rattle.model_run.specs.World as W
-use Rattle.model_run.proofs.Front.{front_itself, front_same, front_on}
+use Rattle.model_run.proofs.Front.{front_ended, front_line, front_same, front_on}
 use Rattle.green_threads.specs.declared.runner.Seated.{Seated}
 use Rattle.green_threads.specs.declared.runner.Stop.{Stop}
 use Rattle.green_threads.specs.declared.settled.Settled.{Settled}
@@ -28,30 +32,37 @@ module _ {T S : Type 0} (limit : ℕ) (seated : T → ℕ → Option ℕ → T) 
   settles_by _ _ _ _ _ _ (limit_met n g u u' v k t w first tu) = turn v.seat.thread u v.answer _ t u' tu
   settles_by _ _ _ _ _ _ (too_many n g u u' v bs t w first tu many) = turn v.seat.thread u v.answer _ t u' tu
 
+front_with : {A : Type 0} (old : List A) {new now : List A} → now ≡ new → IsFront old new → IsFront old now
+front_with old is front = (front.0, is ∙ front.1)
+
 -- where cells and flow nodes are the same
-pub rests : (u v : Shared) → v.heap ≡ u.heap → v.graph ≡ u.graph → GoesOnFrom u v
-rests u v cells nodes = record { cells = Follows-same u.heap v.heap cells; nodes = front_same u.graph v.graph nodes }
+pub rests : (u v : Shared) → v.heap ≡ u.heap → v.graph ≡ u.graph → IsFront u.log v.log → GoesOnFrom u v
+rests u v cells nodes log = record { cells = Follows-same u.heap v.heap cells; nodes = front_same u.graph v.graph nodes; log = log }
 
 pub stays : (u v : Shared) → v ≡ u → GoesOnFrom u v
-stays u v e = rests u v (ap (λ (s : Shared). s.heap) e) (ap (λ (s : Shared). s.graph) e)
+stays u v e = rests u v (ap (λ (s : Shared). s.heap) e) (ap (λ (s : Shared). s.graph) e) (front_same u.log v.log (ap (λ (s : Shared). s.log) e))
 
 pub goes_further : (u v w : Shared) → GoesOnFrom u v → GoesOnFrom v w → GoesOnFrom u w
-goes_further u v w h k = record { cells = Follows-trans u.heap v.heap w.heap h.cells k.cells; nodes = front_on u.graph v.graph w.graph h.nodes k.nodes }
+goes_further u v w h k = record { cells = Follows-trans u.heap v.heap w.heap h.cells k.cells; nodes = front_on u.graph v.graph w.graph h.nodes k.nodes; log = front_on u.log v.log w.log h.log k.log }
 
--- from where cells and flow nodes are the same
-pub but_for : (u v w : Shared) → v.heap ≡ u.heap → v.graph ≡ u.graph → GoesOnFrom v w → GoesOnFrom u w
-but_for u v w cells nodes h = goes_further u v w (rests u v cells nodes) h
+-- from where cells, flow nodes and the log are the same
+pub but_for : (u v w : Shared) → v.heap ≡ u.heap → v.graph ≡ u.graph → v.log ≡ u.log → GoesOnFrom v w → GoesOnFrom u w
+but_for u v w cells nodes log h = goes_further u v w (rests u v cells nodes (front_same u.log v.log log)) h
 
 -- all turns of an event
 pub settled_from : {T : Type 0} (seated : T → ℕ → Option ℕ → T) (head : T → ℕ) (turns : T → Shared → Answer → Stop T → T → Shared → Type 0) →
     ((t : T) (u : Shared) (x : Answer) (k : Stop T) (t' : T) (u' : Shared) → turns t u x k t' u' → GoesOnFrom u u') →
     (n : ℕ) (g : G.Threads T) (u : Shared) (out : Settled) (g' : G.Threads T) (u' : Shared) → Settles W.run_limits.threads seated head turns n g u out g' u' → GoesOnFrom u u'
 settled_from seated head turns turn n g u out g' u' order =
-    settles_by W.run_limits.threads seated head turns GoesOnFrom (λ v. record { cells = Follows-refl v.heap; nodes = front_itself v.graph }) goes_further turn n g u out g' u' order
+    settles_by W.run_limits.threads seated head turns GoesOnFrom (λ v. stays v v refl) goes_further turn n g u out g' u' order
 
--- a flow node is put behind
-pub node_from : (u v : Shared) (node : FlowNode) → v.heap ≡ u.heap → v.graph ≡ u.graph ++ node ∷ [] → GoesOnFrom u v
-node_from u v node cells nodes = record { cells = Follows-same u.heap v.heap cells; nodes = (node ∷ [], nodes) }
+-- an end node and the last lines are put behind
+pub end_from : (u v : Shared) (node : FlowNode) (causes : List (List ℕ)) (result : BuildResult) → v.heap ≡ u.heap → v.graph ≡ u.graph ++ node ∷ [] → v.log ≡ ended_log causes result u.log → GoesOnFrom u v
+end_from u v node causes result cells nodes log = record { cells = Follows-same u.heap v.heap cells; nodes = (node ∷ [], nodes); log = front_with u.log log (front_ended causes result u.log) }
+
+-- a line is put behind, and all goes on from there
+pub line_from : (u v w : Shared) (text : List ℕ) → v.heap ≡ u.heap → v.graph ≡ u.graph → v.log ≡ line text u.log → GoesOnFrom v w → GoesOnFrom u w
+line_from u v w text cells nodes log h = goes_further u v w (rests u v cells nodes (front_with u.log log (front_line text u.log))) h
 
 -- a build keeps what it keeps, whatever is marked
 pub marked_sound : {T : Type 0} (number : T → ℕ) (parent : T → Option ℕ) (branch : T → Bool) (fits : List (Seated T) → Shared → Type 0) → ((xs : List (Seated T)) (u : Shared) → fits xs u → fits xs (marked u)) →

@@ -87,7 +87,7 @@ impl<R: ScriptThread + Drop> Build<R> {
     /// not open or begins the build a second time, `WrongPlace` where output does not go on where the stream was left, and
     /// else `Accepted`. Only `Accepted` changes anything: the thread that the event answers is ready, and threads go on until
     /// each waits or the build is over. What is unmarked behind it is as it was: of the cells each that is new or was written
-    /// is marked, and flow nodes are added alone.
+    /// is marked, and flow nodes and bytes of the log are added alone.
     ///
     /// # Errors
     ///

@@ -169,7 +169,7 @@ impl ScriptThread for MachineThread {
 
     ghost turned = { λ t u x stopped t' u' turns. turns.1 };
 
-    ghost marks = { λ t u x stopped t' u' turns. record { cells = turns.0.runs.onward.beside.heap; nodes = turns.0.runs.leaves.follows.later.nodes } };
+    ghost marks = { λ t u x stopped t' u' turns. record { cells = turns.0.runs.onward.beside.heap; nodes = turns.0.runs.leaves.follows.later.nodes; log = turns.0.runs.leaves.follows.log } };
 
     ghost room_is = { λ u. refl };
 

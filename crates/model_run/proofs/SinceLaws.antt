@@ -25,18 +25,18 @@ pub shared_on : (u v w : Common) → Later u v → Later v w → Later u w
 shared_on u v w h k = record { cells = later_on u.cells v.cells w.cells h.cells k.cells; nodes = front_on u.nodes v.nodes w.nodes h.nodes k.nodes }
 
 pub follows_itself : (u : Common) → Follows u u
-follows_itself u = record { later = shared_itself u; asks = asks_nothing u u refl refl; held = keeps_same u.held u.held refl }
+follows_itself u = record { later = shared_itself u; log = front_itself u.log; asks = asks_nothing u u refl refl; held = keeps_same u.held u.held refl }
 
 pub follows_on : (u v w : Common) → Follows u v → Follows v w → Follows u w
-follows_on u v w h k = record { later = shared_on u v w h.later k.later; asks = asks_on u v w h.asks k.asks; held = keeps_on u.held v.held w.held h.held k.held }
+follows_on u v w h k = record { later = shared_on u v w h.later k.later; log = front_on u.log v.log w.log h.log k.log; asks = asks_on u v w h.asks k.asks; held = keeps_on u.held v.held w.held h.held k.held }
 
 -- every change of a world but a call's beginning and end, which leave the shared state
 pub keeps_follows : (w w' : World) → Keeps w w' → Follows w.shared w'.shared
-keeps_follows w w' k = record { later = record { cells = k.cells; nodes = k.nodes }; asks = asks_nothing w.shared w'.shared k.next k.requests; held = k.held }
+keeps_follows w w' k = record { later = record { cells = k.cells; nodes = k.nodes }; log = k.log; asks = asks_nothing w.shared w'.shared k.next k.requests; held = k.held }
 
 -- and a request that is opened
 pub asks_follows : (r : Request) (w : World) → Follows w.shared (with_request r w).shared
-asks_follows r w = record { later = record { cells = later_itself w.shared.cells; nodes = front_itself w.shared.nodes }; asks = asks_one r w; held = keeps_same w.shared.held w.shared.held refl }
+asks_follows r w = record { later = record { cells = later_itself w.shared.cells; nodes = front_itself w.shared.nodes }; log = front_itself w.shared.log; asks = asks_one r w; held = keeps_same w.shared.held w.shared.held refl }
 
 since_here : (u : Common) (rs : List Reply) (s : State) → s.replies ≡ rs → Follows u s.world.shared → Since u rs s
 since_here u [] s e l = (e, l)
@@ -121,8 +121,8 @@ ev_since root (suc n) e t env s u rs q =
     (λ t good i kept env s s' q. ev_since root n (Turn i kept) t env s u rs q) (λ c args env s s' q. ev_since root n (Body args) (term_at root c) env s u rs q)
     (λ k f ps good x at m. tt) e t tt env s s q
 
--- where a thread stands its shared state follows that of its last answer: cells only grow and each stays what it is, flow nodes are
--- only added, and new requests stand behind those that were open
+-- where a thread stands its shared state follows that of its last answer: cells only grow and each stays what it is, flow nodes and
+-- the log are only added to, and new requests stand behind those that were open
 pub stands_since : (setting : Setting) (runs : Runs) (own : Own) (first : Reply) (rs : List Reply) → StopsSince first.shared rs (stands_from setting runs own (first ∷ rs))
 stands_since setting Script own first rs = ev_since setting.script _ First setting.script [] _ first.shared rs (since_here first.shared rs _ refl (follows_itself first.shared))
 stands_since setting (Closure k env start) own first rs = ev_since setting.script _ (Branched start) (term_at setting.script k) env _ first.shared rs (since_here first.shared rs _ refl (follows_itself first.shared))

@@ -4,11 +4,12 @@ use Rattle.cell_heap.specs.Follows.{Follows}
 use Rattle.model_run.specs.FlowNodes.{IsFront}
 use Rattle.cps_frames.specs.declared.shared.Shared.{Shared}
 
--- What threads share has come from u to v: cells and flow nodes are added alone, and a cell that is unmarked in v was unmarked in u and is
--- the same.
+-- What threads share has come from u to v: cells, flow nodes and bytes of the log are added alone, and a cell that is unmarked in v was
+-- unmarked in u and is the same.
 pub record GoesOnFrom (u v : Shared) : Type 0 where
   pub cells : Follows u.heap v.heap
   pub nodes : IsFront u.graph v.graph
+  pub log : IsFront u.log v.log
 
 -- the same of what threads share, with no cell marked
 abbrev pub marked : Shared → Shared

@@ -19,8 +19,8 @@ use Rattle.model_run.specs.FlowNodes.{line_limit, with_line, logging, noted, not
 use Rattle.model_run.specs.Forms.{after}
 use Rattle.model_run.specs.State.{Setting, World, Reply, State, Env, Result, Ended, changed, operating, seeing}
 use Rattle.model_run.specs.Steps.{run_body}
-use Rattle.model_run.proofs.Relation.{KeepsAll, kept}
-use Rattle.model_run.proofs.Room.{keeps_node}
+use Rattle.model_run.proofs.Relation.{KeepsAll}
+use Rattle.model_run.proofs.Room.{keeps_line, keeps_node}
 use Rattle.cps_frames.specs.Standing.{Standing, state, shape_at, room_of}
 use Rattle.cps_frames.specs.Changes.{Passed, Passes, changed_by}
 use Rattle.cps_frames.specs.Moves.{ComesTo}
@@ -35,7 +35,7 @@ use Rattle.step_library.specs.Saying.{Logged, Logs, LogsOnly, with_log}
 
 -- behind a line, and where it was refused
 pub to_line : (k r : ℕ) (text : List ℕ) (go : Saying) (u u' : Standing) (result : Outcome Move Halt) (v : Standing) → Passed (line_limit text) (with_line text) u u' → ComesTo k r go u' result v → ComesTo k r (λ sh a. logging text (go sh a)) u result v
-to_line k r text = to_passed k r (line_limit text) (with_line text) (λ w. kept refl refl refl refl refl refl refl refl refl)
+to_line k r text = to_passed k r (line_limit text) (with_line text) (keeps_line text)
 
 pub no_line : (k r : ℕ) (text : List ℕ) (go : Saying) (h : Halt) (u v : Standing) → Passes (line_limit text) (with_line text) u (Err h) v → 0 < r → ComesTo k r (λ sh a. logging text (go sh a)) u (Err h) v
 no_line k r text = to_refused k r (line_limit text) (with_line text)

@@ -51,4 +51,4 @@ returns-clause-steps g c =
     (Done (to_z w32 (of_z w32 c.args.code)) c.take_output-out.result) (answer_is c.take_output-out.result c.args.code (to_z w32 (of_z w32 c.args.code)) u.requests c.args.task c.close-closed.result code_is c.close-closed.ensures.closed c.take_output-out.ensures) u2 same p _ _ k)
 
 pub returns-clause-marks : goal.returns-clause-marks
-returns-clause-marks g c = map_ok c.answer.result c.answer.ensures.marks (λ p k. but_for c.args.shared.now (record c.args.shared.now { requests = c.close-closed.new.requests; count = 0 }) _ refl refl k)
+returns-clause-marks g c = map_ok c.answer.result c.answer.ensures.marks (λ p k. but_for c.args.shared.now (record c.args.shared.now { requests = c.close-closed.new.requests; count = 0 }) _ refl refl refl k)

@@ -44,4 +44,4 @@ returns-clause-steps g c =
     c.close-closed.result.thread (thread_is c.args.request u.requests c.close-closed.result c.close-closed.ensures.closed) _ refl u2 same p _ _ k)
 
 pub returns-clause-marks : goal.returns-clause-marks
-returns-clause-marks g c = map_ok c.answer.result c.answer.ensures.marks (λ p k. but_for c.args.shared.now (record c.args.shared.now { requests = c.close-closed.new.requests; held = c.hold_executor.new.held; count = 0 }) _ refl refl k)
+returns-clause-marks g c = map_ok c.answer.result c.answer.ensures.marks (λ p k. but_for c.args.shared.now (record c.args.shared.now { requests = c.close-closed.new.requests; held = c.hold_executor.new.held; count = 0 }) _ refl refl refl k)

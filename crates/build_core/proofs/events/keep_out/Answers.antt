@@ -4,6 +4,7 @@ use Rattle.model_run.specs.declared.result.BuildResult.TheVariants.{Failure}
 use Rattle.model_run.specs.Results.{worse}
 use Rattle.model_values.specs.declared.limit.LimitKind.TheVariants.{TextLength}
 use Rattle.model_run.specs.Taking.{request_of}
+use Rattle.model_run.proofs.Front.{front_itself}
 use Rattle.model_run.specs.World as W
 use Rattle.cps_frames.specs.declared.shared.Shared.{Shared}
 use Rattle.cps_frames.specs.Standing.{setting_of, common_of}
@@ -72,7 +73,7 @@ returns-then-saturating_add-gt-MAX_TEXT-clause-steps g c =
     (λ p o from. steps_limited g.R.ScriptThread.stance g.R.Runner.seated g.R.Runner.head g.R.Runner.turns g.R.Runner.room (OutputEvent c.args.task OutStream from c.args.bytes.now) c.args.group.now u TextLength (λ few. omega (arith, few, many)) (λ j passes. passes.0) u0 refl refl p _ _ o)
 
 pub returns-then-saturating_add-gt-MAX_TEXT-clause-marks : goal.returns-then-saturating_add-gt-MAX_TEXT-clause-marks
-returns-then-saturating_add-gt-MAX_TEXT-clause-marks g c = map_ok c.end_by_limit.result c.end_by_limit.ensures.marks (λ p k. but_for c.args.shared.now (record c.args.shared.now { count = 0 }) _ refl refl k)
+returns-then-saturating_add-gt-MAX_TEXT-clause-marks g c = map_ok c.end_by_limit.result c.end_by_limit.ensures.marks (λ p k. but_for c.args.shared.now (record c.args.shared.now { count = 0 }) _ refl refl refl k)
 
 pub returns-clause-marks : goal.returns-clause-marks
-returns-clause-marks g c = rests c.args.shared.now (record c.args.shared.now { requests = c.keep_output.new.requests; count = 0 }) refl refl
+returns-clause-marks g c = rests c.args.shared.now (record c.args.shared.now { requests = c.keep_output.new.requests; count = 0 }) refl refl (front_itself c.args.shared.now.log)

@@ -84,7 +84,7 @@ returns-in-Err-LogLimit-clause-steps g c =
     u0 (ap (λ l. record (common_of u) { log = l; count = 0 }) c.in-Err-LogLimit.ensures.unchanged) refl p _ _ o)
 
 pub returns-in-Err-LogLimit-clause-marks : goal.returns-in-Err-LogLimit-clause-marks
-returns-in-Err-LogLimit-clause-marks g c = map_ok c.end_by_limit.result c.end_by_limit.ensures.marks (λ p k. but_for c.args.shared.now (record c.args.shared.now { log = c.raw.new.self; count = 0 }) _ refl refl k)
+returns-in-Err-LogLimit-clause-marks g c = map_ok c.end_by_limit.result c.end_by_limit.ensures.marks (λ p k. but_for c.args.shared.now (record c.args.shared.now { log = c.raw.new.self; count = 0 }) _ refl refl c.in-Err-LogLimit.ensures.unchanged k)
 
 pub returns-clause-marks : goal.returns-clause-marks
-returns-clause-marks g c = rests c.args.shared.now (record c.args.shared.now { log = c.raw.new.self; requests = c.count_taken.new.requests; count = 0 }) refl refl
+returns-clause-marks g c = rests c.args.shared.now (record c.args.shared.now { log = c.raw.new.self; requests = c.count_taken.new.requests; count = 0 }) refl refl (c.args.bytes.now, c.in-Ok.ensures.written)
