@@ -3,6 +3,10 @@ use Rattle.std.proofs.Common.{◌≡◌, ℕ, true, false, List, [], ◌∷◌, 
 use Rattle.std.specs.Option.{option_map}
 use Rattle.model_values.specs.declared.value.Value.TheVariants.{Null, Bool as Boolean}
 use Rattle.model_values.specs.declared.cell.Cell.TheVariants.{Variable}
+use Rattle.model_values.specs.declared.cell.Cell.TheVariants as holds
+use Rattle.model_values.specs.declared.key.Key.{Key}
+use Rattle.model_values.specs.declared.key.Key.TheVariants as key
+use Rattle.model_values.specs.declared.value.Value.{Value}
 use Rattle.model_values.specs.declared.cell.Binding.{Binding}
 use Rattle.model_run.specs.declared.result.BuildResult.TheVariants.{Success}
 use Rattle.model_run.specs.declared.flow.NodeKind.TheVariants.{Start, Atom}
@@ -16,6 +20,8 @@ use Rattle.image_form.specs.declared.image.ImageThread.{ImageThread}
 use Rattle.delta_form.specs.After.{after}
 use Rattle.delta_form.specs.declared.delta.Delta.{Delta}
 use Rattle.delta_form.specs.declared.delta.NumberedCell.{NumberedCell}
+use Rattle.delta_form.specs.declared.delta.WrittenCell.{WrittenCell}
+use Rattle.delta_form.specs.declared.delta.WrittenCell.TheVariants.{Whole, GrownList, GrownMap}
 use Rattle.delta_form.specs.declared.delta.WrittenRequest.TheVariants as written
 use Rattle.delta_form.specs.declared.delta.WrittenThread.{WrittenThread}
 
@@ -73,8 +79,18 @@ nothing = record {
 abbrev kept : ℕ → ℕ → WrittenThread
 kept number many = record { number = number; parent = None; head = 2; wait = wait.Request 2; context = nowhere; kept = many; frames = frame 3 ∷ [] }
 
+abbrev changed : ℕ → WrittenCell → NumberedCell
+changed number cell = record { number = number; cell = cell }
+
 abbrev cell : ℕ → NumberedCell
-cell number = record { number = number; cell = Variable (Boolean true) }
+cell number = changed number (Whole (Variable (Boolean true)))
+
+-- an image with a list of one value as its cell 0, and a map of one entry as its cell 1
+abbrev entry : ℕ → Key × Value
+entry letter = (key.Text (letter ∷ []), Null)
+
+abbrev gathered : Image
+gathered = record image { cells = holds.List (Null ∷ []) ∷ holds.Map (entry 97 ∷ []) ∷ [] }
 
 -- where nothing changed the image stays
 same : after image nothing ≡ Some image
@@ -93,6 +109,24 @@ cells = refl
 
 gap : after image (record nothing { cells = cell 5 ∷ [] }) ≡ None
 gap = refl
+
+-- the list and the map have grown
+longer : option_map (λ i. i.cells) (after gathered (record nothing { cells = changed 0 (GrownList (Boolean true ∷ Null ∷ [])) ∷ changed 1 (GrownMap (entry 98 ∷ [])) ∷ [] }))
+    ≡ Some (holds.List (Null ∷ Boolean true ∷ Null ∷ []) ∷ holds.Map (entry 97 ∷ entry 98 ∷ []) ∷ [])
+longer = refl
+
+-- no list grows where a map or no cell stood, no map where a list stood, and no key stands twice
+no_list : after gathered (record nothing { cells = changed 1 (GrownList (Null ∷ [])) ∷ [] }) ≡ None
+no_list = refl
+
+no_cell : after gathered (record nothing { cells = changed 2 (GrownList (Null ∷ [])) ∷ [] }) ≡ None
+no_cell = refl
+
+no_map : after gathered (record nothing { cells = changed 0 (GrownMap (entry 98 ∷ [])) ∷ [] }) ≡ None
+no_map = refl
+
+key_twice : after gathered (record nothing { cells = changed 1 (GrownMap (entry 98 ∷ entry 97 ∷ [])) ∷ [] }) ≡ None
+key_twice = refl
 
 -- a new flow node has the next number
 numbered : option_map (λ i. i.nodes) (after image (record nothing { nodes = record { kind = Atom; name = []; start = 0; parents = 2 ∷ [] } ∷ [] }))

@@ -1,13 +1,17 @@
 -- The image that a delta makes of an image (this product's own; docs/FORMATS.md, "Records of changes"). Each part of the
 -- image is replaced, or changed at some of its keys, or gets more behind it; where a part is undefined, so is the whole.
-use Rattle.std.specs.Prelude.{◌+◌, ℕ, Bool, not, ◌&&◌, nat_eq, nat_le, nat_lt, if◌then◌else◌, List, [], ◌∷◌, ◌++◌, length, map, take, Option, Some, None, slice_set}
+use Rattle.std.specs.Prelude.{◌+◌, ℕ, Bool, not, ◌&&◌, nat_eq, nat_le, nat_lt, if◌then◌else◌, List, [], ◌∷◌, ◌++◌, length, map, take, Option, Some, None, slice_get, slice_set}
 use Rattle.std.specs.List.{list_all, list_any}
 use Rattle.std.specs.Option.{option_map}
 use Rattle.std.specs.Ordering.{nat_cmp, on}
 use Rattle.std.specs.Cmp.Lexicographic.{slice_cmp}
 use Rattle.field_form.specs.Flow.{with_id}
+use Rattle.field_form.specs.Rules.{is_new}
 use Rattle.model_values.specs.declared.cell.Binding.{Binding}
 use Rattle.model_values.specs.declared.cell.Cell.{Cell}
+use Rattle.model_values.specs.declared.cell.Cell.TheVariants as cell
+use Rattle.model_values.specs.declared.key.Key.{Key}
+use Rattle.model_values.specs.declared.value.Value.{Value}
 use Rattle.model_run.specs.declared.flow.FlowNode.{FlowNode}
 use Rattle.model_run.specs.declared.request.Request.{Request}
 use Rattle.model_run.specs.declared.request.Request.TheVariants as request
@@ -21,6 +25,8 @@ use Rattle.delta_form.specs.Deltas.{new_node_parts}
 use Rattle.delta_form.specs.Numbers.{written_number}
 use Rattle.delta_form.specs.declared.delta.NumberedCell.{NumberedCell}
 use Rattle.delta_form.specs.declared.delta.NewNode.{NewNode}
+use Rattle.delta_form.specs.declared.delta.WrittenCell.{WrittenCell}
+use Rattle.delta_form.specs.declared.delta.WrittenCell.TheVariants as now
 use Rattle.delta_form.specs.declared.delta.WrittenRequest.{WrittenRequest}
 use Rattle.delta_form.specs.declared.delta.WrittenRequest.TheVariants as written
 use Rattle.delta_form.specs.declared.delta.WrittenThread.{WrittenThread}
@@ -38,11 +44,33 @@ binding_changes = record {
   made = new_binding;
 }
 
+-- An entry is put behind those of a map where none of them has its key.
+abbrev pub put_entry : Key × Value → List (Key × Value) → Option (List (Key × Value))
+put_entry e entries = if is_new entries e.0 then Some (entries ++ e ∷ []) else None
+
+-- A list, or a map, that stood and has these behind; of anything else there is none.
+abbrev pub grown_list : List Value → Cell → Option Cell
+grown_list values (cell.List had) = Some (cell.List (had ++ values))
+grown_list values c = None
+
+abbrev pub grown_map : List (Key × Value) → Cell → Option Cell
+grown_map entries (cell.Map had) = option_map (λ all. cell.Map all) (in_turn put_entry entries had)
+grown_map entries c = None
+
+-- A written cell is the whole cell, or a list or a map that stood and has grown.
+abbrev pub written_cell : WrittenCell → Option Cell → Option Cell
+written_cell (now.Whole c) stood = Some c
+written_cell (now.GrownList values) stood = stood >>= grown_list values
+written_cell (now.GrownMap entries) stood = stood >>= grown_map entries
+
 -- A cell replaces the one with its number, or is put behind where it has the next number. There is no gap.
+abbrev pub put_at : ℕ → Cell → List Cell → Option (List Cell)
+put_at number cell cells =
+    if nat_lt number (length cells) then Some (slice_set cells number cell)
+    else if nat_eq number (length cells) then Some (cells ++ cell ∷ []) else None
+
 abbrev pub put_cell : NumberedCell → List Cell → Option (List Cell)
-put_cell c cells =
-    if nat_lt c.number (length cells) then Some (slice_set cells c.number c.cell)
-    else if nat_eq c.number (length cells) then Some (cells ++ c.cell ∷ []) else None
+put_cell c cells = written_cell c.cell (slice_get cells c.number) >>= λ cell. put_at c.number cell cells
 
 -- A new flow node is put behind, and its number is the next. There is no number of 4294967296.
 abbrev pub put_node : NewNode → List FlowNode → Option (List FlowNode)

@@ -5,21 +5,21 @@ use Rattle.std.proofs.Common.{inl, inr}
 use Rattle.field_form.specs.Forms.{Form, Lawful, last, ◌or◌, kinds, of_parts, that_needs, pair, u32_form, u64_form, bytes_form, bool_form, list_of, many, optional}
 use Rattle.field_form.specs.FieldLaws.{u32_lawful, u64_lawful, bytes_lawful}
 use Rattle.field_form.specs.FormLaws.{last_lawful, or_lawful, kinds_lawful, of_parts_lawful, that_needs_lawful, pair_lawful, list_lawful, many_lawful, optional_lawful, bool_lawful}
-use Rattle.field_form.specs.Cells.{cell_form, cell_lawful}
 use Rattle.field_form.specs.Flow.{NodeParts, parts_form, node_kind_lawful}
 use Rattle.field_form.specs.Requests.{request_form, request_lawful, open_of, open_parts, held_behind, held_behind_lawful}
 use Rattle.field_form.specs.Waits.{wait_form, wait_lawful, context_form, context_lawful}
 use Rattle.image_form.specs.Images.{binding_behind, binding_behind_lawful, frame_form, frame_lawful, result_form, result_lawful}
 use Rattle.image_form.specs.declared.image.ImageFrame.{ImageFrame}
 use Rattle.model_values.specs.declared.cell.Binding.{Binding}
-use Rattle.model_values.specs.declared.cell.Cell.{Cell}
 use Rattle.model_run.specs.declared.result.BuildResult.{BuildResult}
 use Rattle.model_run.specs.declared.request.Request.{Request}
 use Rattle.model_run.specs.declared.held.Held.{Held}
 use Rattle.model_run.specs.declared.wait.Wait.{Wait}
 use Rattle.model_run.specs.declared.context.Context.{Context}
 use Rattle.delta_form.specs.Numbers.{rising_number, rising_number_lawful, written_number}
+use Rattle.delta_form.specs.WrittenCells.{written_cell_form, written_cell_lawful}
 use Rattle.delta_form.specs.declared.delta.NumberedCell.{NumberedCell}
+use Rattle.delta_form.specs.declared.delta.WrittenCell.{WrittenCell}
 use Rattle.delta_form.specs.declared.delta.NewNode.{NewNode}
 use Rattle.delta_form.specs.declared.delta.WrittenRequest.{WrittenRequest}
 use Rattle.delta_form.specs.declared.delta.WrittenRequest.TheVariants as written
@@ -33,18 +33,18 @@ number_behind before = rising_number (λ n. n) before
 pub number_behind_lawful : (before : List ℕ) → Lawful (number_behind before)
 number_behind_lawful before = rising_number_lawful (λ n. n) before
 
--- Cells by rising numbers: number, cell.
-abbrev pub numbered_of : ℕ × Cell → NumberedCell
+-- Written cells by rising numbers: number, written cell.
+abbrev pub numbered_of : ℕ × WrittenCell → NumberedCell
 numbered_of p = record { number = p.0; cell = p.1 }
 
-abbrev pub numbered_parts : NumberedCell → ℕ × Cell
+abbrev pub numbered_parts : NumberedCell → ℕ × WrittenCell
 numbered_parts c = (c.number, c.cell)
 
 abbrev pub cell_behind : List NumberedCell → Form NumberedCell
-cell_behind before = of_parts numbered_of numbered_parts (pair (rising_number (λ c. c.number) before) cell_form)
+cell_behind before = of_parts numbered_of numbered_parts (pair (rising_number (λ c. c.number) before) written_cell_form)
 
 pub cell_behind_lawful : (before : List NumberedCell) → Lawful (cell_behind before)
-cell_behind_lawful before = of_parts_lawful numbered_of numbered_parts _ (λ x. refl) (λ c. refl) (pair_lawful _ _ (rising_number_lawful (λ (c : NumberedCell). c.number) before) cell_lawful)
+cell_behind_lawful before = of_parts_lawful numbered_of numbered_parts _ (λ x. refl) (λ c. refl) (pair_lawful _ _ (rising_number_lawful (λ (c : NumberedCell). c.number) before) written_cell_lawful)
 
 -- Flow nodes without their numbers: kind, name, start, list of parents.
 abbrev pub new_node_of : NodeParts → NewNode

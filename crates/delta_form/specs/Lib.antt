@@ -1,4 +1,5 @@
 pub mod Numbers
+pub mod WrittenCells
 pub mod Deltas
 pub mod Applying
 pub mod Changes

@@ -1,15 +1,26 @@
 use image_form::ImageFrame;
 use model_run::{BuildResult, Context, HeldExecutors, NodeKind, OpenRequest, Wait};
 use model_text::{Bytes, Ids, Sequence, Text};
-use model_values::{Binding, Cell};
+use model_values::{Binding, Cell, Entries, Values};
+
+/// What a cell is now.
+#[derive(Drop)]
+pub enum WrittenCell {
+    /// All of it.
+    Whole(Cell),
+    /// A list, with these values behind those that it had.
+    GrownList(Values),
+    /// A map, with these entries behind those that it had, none of which has a key of theirs.
+    GrownMap(Entries),
+}
 
 /// A cell that is new or was changed.
 #[derive(Drop)]
 pub struct NumberedCell {
     /// Its number; the first cell has 0.
     pub number: u32,
-    /// The cell as it is now.
-    pub cell: Cell,
+    /// What it is now.
+    pub cell: WrittenCell,
 }
 
 /// Cells by rising numbers.

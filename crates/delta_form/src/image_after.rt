@@ -17,7 +17,8 @@ use std::alloc::Global;
 /// - a variable with the name of a new one stood before;
 /// - a cell lies behind a gap, or a flow node would get the number 4,294,967,296;
 /// - a request is both closed and written, or a thread both ended and written;
-/// - a number that is to stand does not, or what grew is no task;
+/// - a number that is to stand does not, or what grew is no task, no list or no map;
+/// - a map that grew has one of the keys already;
 /// - a thread keeps more frames than it had.
 pub fn apply(alloc: Global, image: Image, delta: Delta) -> Result<Image, DeltaRefusal>
     ensures { Applies result (after image delta) }

@@ -3,13 +3,12 @@
 ghost use Rattle.delta_form.specs.Deltas.{cell_behind, cell_behind_lawful, new_node_form, new_node_lawful, number_behind, number_behind_lawful, request_behind, request_behind_lawful, written_behind, written_behind_lawful};
 
 use crate::numbered::take_number;
-use crate::{NewNode, NumberedCell, WrittenRequest, WrittenThread};
+use crate::{NewNode, NumberedCell, WrittenCell, WrittenRequest, WrittenThread};
 use byte_form::{Memory, put_u8, take_u8};
 use field_form::{Field, FormRefusal, Listing};
 use image_form::ImageFrame;
 use model_run::{Context, NodeKind, OpenRequest, Request, Wait};
 use model_text::{Bytes, Ids, Sequence, Text};
-use model_values::Cell;
 use std::alloc::Global;
 
 /// Numbers that rise.
@@ -58,7 +57,7 @@ impl Listing<NumberedCell> for ByCell {
         at: u64,
     ) -> Result<(NumberedCell, u64), FormRefusal> {
         let (number, behind) = take_number(before, bytes, at)?;
-        let (cell, behind) = Cell::read(alloc, bytes, behind)?;
+        let (cell, behind) = WrittenCell::read(alloc, bytes, behind)?;
         Ok((NumberedCell { number, cell }, behind))
     }
 }

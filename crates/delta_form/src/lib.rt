@@ -13,6 +13,7 @@
 #![tactic(auto)]
 
 mod apart;
+mod cells;
 mod change;
 mod delta;
 mod image_after;
@@ -27,8 +28,8 @@ mod sizes;
 mod wholes;
 
 pub use delta::{
-    Delta, NewNode, NewNodes, NumberedCell, NumberedCells, WrittenRequest, WrittenRequests,
-    WrittenThread, WrittenThreads,
+    Delta, NewNode, NewNodes, NumberedCell, NumberedCells, WrittenCell, WrittenRequest,
+    WrittenRequests, WrittenThread, WrittenThreads,
 };
 pub use field_form::FormRefusal;
 pub use image_after::apply;

@@ -4,11 +4,13 @@ ghost use Rattle.std.specs.Prelude.{◌≡◌, ◌++◌, IfOk, List, Option};
 ghost use Rattle.delta_form.specs.Applying.{Applies, in_turn};
 ghost use Rattle.delta_form.specs.After.{put_cell, put_node};
 
+use crate::cells::cell_now;
 use crate::{DeltaRefusal, NewNode, NumberedCell};
 use model_run::FlowNode;
 use model_text::Sequence;
-use model_values::Cell;
+use model_values::{Cell, Value};
 use std::alloc::AllocError;
+use std::mem::replace;
 
 /// Both lists, one behind the other. `AllocError` where the memory was refused.
 pub(crate) fn appended<T: Drop>(
@@ -52,16 +54,20 @@ impl Put<Cell> for NumberedCell {
     fn put(self, items: Sequence<Cell>) -> Result<Sequence<Cell>, DeltaRefusal>
         ensures { Applies result (put_cell self items) }
     {
-        let mut cells = items;
+        let mut cells = items.into_vec();
         let place = self.number as usize;
         if place < cells.len() {
-            cells.set(place, self.cell);
-        } else if place == cells.len() {
-            cells.push(self.cell)?;
-        } else {
+            let stood = replace(&mut cells[place], Cell::Variable(Value::Null));
+            let cell = cell_now(Some(stood), self.cell)?;
+            let mut cells = Sequence::from_vec(cells);
+            cells.set(place, cell);
+            return Ok(cells);
+        }
+        if place > cells.len() {
             return Err(DeltaRefusal::Fault);
         }
-        Ok(cells)
+        cells.push(cell_now(None, self.cell)?)?;
+        Ok(Sequence::from_vec(cells))
     }
 }
 

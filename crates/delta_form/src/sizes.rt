@@ -6,7 +6,7 @@ ghost use Rattle.record_form.specs.Sizes.{size_in};
 ghost use Rattle.delta_form.specs.Deltas.{delta_parts, first_form, other_form};
 
 use crate::{
-    ByCell, ByWrittenRequest, ByWrittenThread, Delta, NewNode, NumberedCell, Rising,
+    ByCell, ByWrittenRequest, ByWrittenThread, Delta, NewNode, NumberedCell, Rising, WrittenCell,
     WrittenRequest, WrittenThread,
 };
 use field_form::ByExecutor;
@@ -18,6 +18,16 @@ use record_form::{Measured, Sizing, list_size};
 impl Sizing<u32> for Rising {
     fn size(_before: &[u32], _number: &u32) -> u64 {
         4
+    }
+}
+
+impl Measured for WrittenCell {
+    fn size(&self) -> u64 {
+        match self {
+            WrittenCell::Whole(cell) => cell.size(),
+            WrittenCell::GrownList(values) => values.size().saturating_add(1),
+            WrittenCell::GrownMap(entries) => entries.size().saturating_add(1),
+        }
     }
 }
 

@@ -1,5 +1,5 @@
 -- Small journals, worked out.
-use Rattle.std.proofs.Common.{◌≡◌, ℕ, true, false, List, [], ◌∷◌, Some, None, refl}
+use Rattle.std.proofs.Common.{◌≡◌, ℕ, false, List, [], ◌∷◌, length, Some, None, refl}
 use Rattle.std.specs.Prelude.{pos}
 use Rattle.std.specs.Option.{option_map}
 use Rattle.model_values.specs.declared.value.Value.TheVariants.{Null}
@@ -10,8 +10,8 @@ use Rattle.model_run.specs.declared.result.BuildResult.TheVariants.{Success}
 use Rattle.image_form.specs.declared.image.Image.{Image}
 use Rattle.delta_form.specs.declared.delta.Delta.{Delta}
 use Rattle.delta_form.specs.declared.delta.NumberedCell.{NumberedCell}
-use Rattle.delta_records.specs.Payloads.{image_of_last}
-use Rattle.delta_records.specs.Weights.{bytes_of, is_whole_due}
+use Rattle.delta_form.specs.declared.delta.WrittenCell.TheVariants as written
+use Rattle.delta_records.specs.Payloads.{image_of_last, payload_form}
 use Rattle.delta_records.specs.declared.payload.Payload.{Payload}
 use Rattle.delta_records.specs.declared.payload.Payload.TheVariants.{Whole, Changed}
 
@@ -36,26 +36,13 @@ abbrev logged : Payload
 logged = Changed event (delta [] (7 ∷ []))
 
 abbrev with_a_gap : Payload
-with_a_gap = Changed event (delta (record { number = 5; cell = Variable Null } ∷ []) [])
+with_a_gap = Changed event (delta (record { number = 5; cell = written.Whole (Variable Null) } ∷ []) [])
+
+abbrev bytes_of : Payload → ℕ
+bytes_of p = length (payload_form.spelling p)
 
 sizes : (bytes_of whole ≡ 48) × (bytes_of longer ≡ 58) × (bytes_of logged ≡ 57)
 sizes = (refl, refl, refl)
-
--- The first payload holds a whole image, and so does one behind changes that have as many bytes as the last whole image.
-first : is_whole_due [] ≡ true
-first = refl
-
-second : is_whole_due (whole ∷ []) ≡ false
-second = refl
-
-third : is_whole_due (whole ∷ logged ∷ []) ≡ true
-third = refl
-
-not_yet : is_whole_due (whole ∷ logged ∷ longer ∷ logged ∷ []) ≡ false
-not_yet = refl
-
-again : is_whole_due (whole ∷ logged ∷ longer ∷ logged ∷ logged ∷ []) ≡ true
-again = refl
 
 -- Each change is one of the image before it; changes that do not fit it have no image, until a whole one comes.
 both : option_map (λ i. i.log) (image_of_last (whole ∷ logged ∷ logged ∷ [])) ≡ Some (7 ∷ 7 ∷ [])

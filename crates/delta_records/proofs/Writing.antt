@@ -1,5 +1,6 @@
 -- A kind and what stands behind it were written.
-use Rattle.std.proofs.Common.{◌≡◌, ◌∙◌, ℕ, List, [], ◌∷◌, ◌++◌, sym, ap, subst, append_assoc, arith}
+use Rattle.std.proofs.Common.{◌≡◌, ◌∙◌, ℕ, List, [], ◌∷◌, ◌++◌, refl, sym, ap, subst, append_assoc, arith}
+use Rattle.record_form.specs.Records.{record_form, record_of}
 use Rattle.field_form.specs.Events.{event_form}
 use Rattle.field_form.specs.Forms.{Written, pair}
 use Rattle.model_run.specs.declared.event.Event.{Event}
@@ -26,3 +27,7 @@ changed_written p event delta old mid new is kind w =
       fits = (omega arith, w.fits);
       spelled = w.spelled ∙ ap (λ (l : List ℕ). l ++ behind) kind ∙ append_assoc old (2 ∷ []) behind;
     })
+
+-- a whole payload is spelled as the record of an event is
+pub same_record : (event : Event) (image : Image) → payload_form.spelling (payload.Whole event image) ≡ record_form.spelling (record_of event image)
+same_record event image = refl

@@ -22,6 +22,18 @@ def cell(number, value):
     return u32(number) + u8(0) + value
 
 
+def entry(key, value):
+    return u8(1) + text(key) + value
+
+
+def grown_list(number, *values):
+    return u32(number) + u8(6) + rows(*values)
+
+
+def grown_map(number, *entries):
+    return u32(number) + u8(7) + rows(*entries)
+
+
 def node(kind, word, *parents, start=0):
     return u8(kind) + text(word) + u32(start) + rows(*map(u32, parents))
 
@@ -57,8 +69,20 @@ GROWN = delta(3, log=b"+ true", requests=[grown(2, 6, b"ok")], held=[u32(0, 9, 1
 # The build ends.
 OVER = delta(3, 1, 4, 1, nodes=[node(6, b"", 4)], closed=[2], ended_threads=[0])
 
+# A list of one value and a map of one entry are new, and then have more behind them.
+GATHERED = delta(cells=[u32(2) + u8(2) + rows(NULL), u32(3) + u8(3) + rows(entry(b"k", TRUE))])
+LONGER = delta(cells=[grown_list(2, TRUE, whole(5)), grown_map(3, entry(b"l", NULL))])
+
+# What does not fit the image INPUT with these: a list and a map that stand as a map and a list, and a key that stands.
+NOT_LONGER = {
+    "A_MAP": delta(cells=[grown_list(3, NULL)]),
+    "A_LIST": delta(cells=[grown_map(2, entry(b"l", NULL))]),
+    "KEY_AGAIN": delta(cells=[grown_map(3, entry(b"l", NULL), entry(b"k", TRUE))]),
+}
+
 # What does not fit the image INPUT: cell 5 alone, a second variable `a`, an input closed and written, an input that grew,
-# a request closed that is not open, three frames kept of two, a new thread that keeps one, a thread ended and written.
+# a request closed that is not open, three frames kept of two, a new thread that keeps one, a thread ended and written, a
+# variable that grew as a list, and a list that grew and did not stand.
 MISFITS = {
     "A_GAP": delta(cells=[cell(5, NULL)]),
     "TWICE": delta(bindings=[name(b"a", 0)]),
@@ -68,6 +92,8 @@ MISFITS = {
     "THREE_KEPT": delta(threads=[thread(0, 3, 1, 3)]),
     "NEW_KEEPS": delta(threads=[thread(1, 3, 1, 1)]),
     "ENDED_AND_WRITTEN": delta(ended_threads=[0], threads=[thread(0, 3, 1, 0)]),
+    "A_VARIABLE": delta(cells=[grown_list(0, NULL)]),
+    "NO_CELL": delta(cells=[grown_list(2, NULL)]),
 }
 
 # Lists that do not rise, each cut off behind the number or name that tells so.
@@ -83,6 +109,13 @@ UNRISEN = {
                 + thread(1, 3, 1, 0) + u32(0)),
 }
 
+# One cell, cut off behind what is wrong: a kind that no written cell has, and a key that stands twice, told at its place.
+CELL = FRONT + rows() + u32(1) + u32(2)
+WRONG_CELLS = {
+    "KIND": CELL + u8(8),
+    "KEY": CELL + u8(7) + u32(2) + entry(b"k", NULL) + u8(1) + text(b"k"),
+}
+
 # One thread, cut off behind what is wrong: a wait of kind 2, a list of held requests that ends early, and a frame with a
 # value of kind 9. The last byte tells the first and the third, and the second one is told behind all of it.
 THREAD = FRONT + rows() + rows() + rows() + text(b"") + rows() * 4 + u32(1) + u32(0) + NONE + u32(3)
@@ -93,7 +126,8 @@ WRONG = {
 }
 
 if __name__ == "__main__":
-    ROWS = {"NOTHING": NOTHING, "DECIDED": DECIDED, "GROWN": GROWN, "OVER": OVER, **MISFITS, **UNRISEN, **WRONG}
+    ROWS = {"NOTHING": NOTHING, "DECIDED": DECIDED, "GROWN": GROWN, "OVER": OVER, "GATHERED": GATHERED, "LONGER": LONGER,
+            **NOT_LONGER, **MISFITS, **UNRISEN, **WRONG_CELLS, **WRONG}
     for word, row in ROWS.items():
         print(f'const {word}: &[u8] = b"\\')
         for start in range(0, len(row), 25):
@@ -101,5 +135,7 @@ if __name__ == "__main__":
         print('";\n')
     for word, row in UNRISEN.items():
         print(f"({word}, {len(row) - (5 if word == 'NAMES' else 4)}),")
+    for word, row in WRONG_CELLS.items():
+        print(f"({word}, {len(row) - (6 if word == 'KEY' else 1)}),")
     for word, row in WRONG.items():
         print(f"({word}, {len(row) - (0 if word == 'CONTEXT' else 1)}),")

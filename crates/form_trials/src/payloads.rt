@@ -3,7 +3,7 @@
 use crate::deltas::{A_GAP, DECIDED, GROWN};
 use crate::images::INPUT;
 use delta_records::{
-    DeltaRefusal, FormRefusal, Weights, next_image, payload_size, read_payload, write_payload,
+    DeltaRefusal, FormRefusal, next_image, payload_size, read_payload, write_payload,
 };
 use image_form::Image;
 use std::alloc::{AllocError, Global};
@@ -89,13 +89,4 @@ fn changes_are_made_on_the_image_before_them(rt: HostRuntime) -> Result<(), Fail
     let alone = behind(alloc, None, &decided).and_then(|r| r.err());
     assert_eq!(rt; alone, Some(DeltaRefusal::Fault));
     Ok(())
-}
-
-#[test]
-fn a_whole_image_is_due_behind_as_many_bytes(rt: HostRuntime) {
-    assert!(rt; Weights::none().is_whole_due());
-    for (whole, behind, is_due) in [(48, 0, false), (48, 47, false), (48, 48, true)] {
-        let weights = Weights { whole, behind };
-        assert_eq!(rt; weights.is_whole_due(), is_due);
-    }
 }

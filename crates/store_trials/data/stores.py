@@ -3,14 +3,15 @@
 `> store ..` for each trial of them, and the places that the others tell. What the images hold was worked out by hand
 from docs/LANGUAGE.md and WORLD.md."""
 import os
+import struct
 import sys
 
 sys.dont_write_bytecode = True
 CRATES = f"{os.path.dirname(os.path.realpath(__file__))}/../.."
 sys.path += [f"{CRATES}/form_trials/data", f"{CRATES}/script_trials/data"]
-from deltas import delta, grown  # noqa: E402
+from deltas import delta, grown, grown_list, grown_map  # noqa: E402
 from image_trials import ASKED, BEGUN, INPUT, OUTSIDE, a_text, an_input, node  # noqa: E402
-from images import FALSE, NONE, NULL, context, frame, image, in_cell, name, rows, text, thread, u8, u32, whole  # noqa: E402
+from images import FALSE, NONE, NULL, TRUE, context, frame, image, in_cell, name, rows, text, thread, u8, u32, whole  # noqa: E402
 
 AGENTS = b'{"job":"demo","agents":[{"name":"m","root":"/w","executors":1}]}'
 INPUT_SCRIPT = b"input 'go?'\n"
@@ -238,6 +239,50 @@ def kept(*records):
 ROUND = kept((ROUND_BEGIN, None), *((record(yes(k), round_image(k + 1)), changes(yes(k), round_delta(k + 1)))
                                     for k in (1, 2)), (ROUND_OVER, ROUND_END))
 
+# GROWING_SCRIPT puts one value behind a list, and one entry behind a map, between its questions. The nodes of the script:
+# 1 and 2 the declaration of `all` and its list, 3 and 4 that of `by` and its map, 5, 6 and 7 the first question, its call
+# and its argument; 8, 9 and 10 the call of `f`, 11 to 14 that of `g`, and so on. The cells: the list, `all`, the map, `by`
+# and `a?`; then `l`, `m`, `k` and the next question, each time.
+GROWING_SCRIPT = b"""def all = []
+def by = [:]
+input 'a?'
+f(all)
+g(by, 5)
+input 'b?'
+f(all)
+g(by, 6)
+input 'c?'
+def f(l) { l.add(1) }
+def g(m, k) { m.put(k, true) }
+"""
+GATHERS = [name(b"by", 3), name(b"all", 1)]
+
+
+def gathering(number):
+    """The thread that asks for the time of this number."""
+    return [frame(0, 0, 3 * number - 1, GATHERS, []), frame(43, 10 * number - 4, 1, GATHERS, [])]
+
+
+def growth(number):
+    """What changes up to the question of this number, from the one before."""
+    first = 4 * number - 3
+    return changes(yes(number - 1),
+                   delta(number + 1,
+                         cells=[grown_list(0, whole(1)), grown_map(2, u8(0) + struct.pack(">i", number + 3) + TRUE),
+                                u32(first) + u8(0) + in_cell(0), u32(first + 1) + u8(0) + in_cell(2),
+                                u32(first + 2) + u8(0) + whole(number + 3), u32(first + 3) + a_text(WORDS[number - 1])],
+                         nodes=[node(1, b"input", number + 1)], log=b"Approved by ann\n" + asked(WORDS[number - 1]),
+                         closed=[number - 1], requests=[u8(0) + an_input(number)],
+                         threads=[u32(0) + NONE + u32(number + 2) + u8(0) + u32(number) + OUTSIDE + u32(0)
+                                  + rows(*gathering(number))]))
+
+
+GROWING = store(record(start(GROWING_SCRIPT),
+                       image(2, 1, 0, 0, [], [u8(2) + rows(), u8(0) + in_cell(0), u8(3) + rows(), u8(0) + in_cell(2),
+                                              a_text(b"a?")],
+                             round_nodes(1), round_log(1), [an_input(1)], [],
+                             [thread(0, NONE, 3, u8(0) + u32(1), OUTSIDE, gathering(1))])), growth(2), growth(3))
+
 BEGIN = record(start(INPUT_SCRIPT), INPUT)
 # It waits again, as its log does not tell.
 WAITS = record(decided(1, 1, b"ann"), asked_image(0))
@@ -279,6 +324,7 @@ STORES = [
     ("a build of which some records hold what changed", ROUND),
     ("shell steps of which records hold what changed",
      kept((record(start(STEPS_SCRIPT), DUE), None), STEPS_GRANTED, takes(0), STEPS_NEXT, takes(1), STEPS_OVER)),
+    ("a list and a map of which records hold what came to them", GROWING),
     ("a build of which records hold all, as they did in earlier programs",
      store(ROUND_BEGIN, *(record(yes(k), round_image(k + 1)) for k in (1, 2)))),
     ("the same, one question later", store(ROUND_BEGIN, *(record(yes(k), round_image(k + 1)) for k in (1, 2)), ROUND_END)),
