@@ -12,7 +12,7 @@ use Rattle.image_form.specs.declared.image.Image.{Image}
 use Rattle.image_check.specs.Standings.{Stands, shared_in}
 use Rattle.thread_fits.specs.Seats.{as_seat}
 use Rattle.saved_thread.specs.Saving.{thread_told}
-use Rattle.build_core.specs.Builds.{Parts}
+use Rattle.build_core.specs.Builds.{Parts, StandsFor, setting_in}
 use Rattle.build_core.specs.Phases.{has_ended}
 use Rattle.build_core.specs.declared.phase.Phase.{Phase}
 use Rattle.build_core.specs.declared.phase.Phase.TheVariants.{Running, Ended}
@@ -65,3 +65,9 @@ pub record IsOrdered (setting : Setting) (i : Image) : Type 0 where
   pub shared : SharedFits setting i.ended (shared_in i)
   pub numbers : Rise 0 i.next_thread (map (λ t. t.number) i.threads)
   pub rests : AllAre (λ t. NotReady t.wait) i.threads
+
+-- The build has an image: it is ordered and whole, and it is that of each build of the definitions that the build stands for.
+pub record HasImage {T : Type 0} (stance : T → Stance) (b : Parts T) : Type 0 where
+  pub world : (w : W.Build) → StandsFor stance b w → image_in stance b ≡ world_image (setting_in b) w
+  pub ordered : IsOrdered (setting_in b) (image_in stance b)
+  pub whole : IsWhole (setting_in b) (image_in stance b)

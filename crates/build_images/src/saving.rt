@@ -8,9 +8,9 @@ ghost use Rattle.image_check.specs.Images.{first_fault};
 ghost use Rattle.thread_fits.specs.Seats.{as_seat};
 ghost use Rattle.saved_thread.specs.Saving.{AtNodes, thread_told};
 ghost use Rattle.build_core.specs.Builds.{StandsFor, setting_in};
-ghost use Rattle.build_core.specs.Phases.{SoundIn, has_begun};
+ghost use Rattle.build_core.specs.Phases.{has_begun};
 ghost use Rattle.build_core.specs.declared.phase.Phase.TheVariants.{Stopped};
-ghost use Rattle.build_images.specs.Images.{IsOrdered, IsWhole, image_in, world_image};
+ghost use Rattle.build_images.specs.Images.{HasImage, IsOrdered, IsWhole, image_in, world_image};
 
 use build_core::{Build, Phase};
 use cell_heap::Heap;
@@ -35,24 +35,56 @@ pub fn image_of<R: SavedThread + Drop>(build: &Build<R>) -> Result<Image, AllocE
     ensures world { IfOk result (λ image. (w : W.Build) → StandsFor R.stance build.now w → image ≡ world_image (setting_in build.now) w) }
     ensures ordered { IfOk result (IsOrdered (setting_in build.now)) }
     ensures whole { IfOk result (IsWhole (setting_in build.now)) }
+    ensures image { OnOk result (HasImage R.stance build.now) }
     ensures passes { IfOk result (λ image. first_fault (script_of build.now.shared.code) build.now.shared.site image ≡ None) }
+    ensures goes_on { OnOk result (build.now.phase ≡ Stopped → ⊥) }
+{
+    let threads = threads_in(build)?;
+    let image = image_with(build, threads)?;
+    Ok(image)
+}
+
+/// What the image of a build that has begun has of its threads, whether the build has ended or not. It takes the time of the
+/// threads alone: what else an image has stands in the build as it is.
+///
+/// # Errors
+///
+/// `AllocError` where the memory was refused, in this call or while the build took an event.
+pub fn threads_in<R: SavedThread + Drop>(build: &Build<R>) -> Result<ImageThreads, AllocError>
+    requires begun { has_begun build.now.phase ≡ true }
+    ensures here { IfOk result (λ threads. threads ≡ (image_in R.stance build.now).threads) }
+    ensures image { OnOk result (HasImage R.stance build.now) }
     ensures goes_on { OnOk result (build.now.phase ≡ Stopped → ⊥) }
 {
     if build.phase() == Phase::Stopped {
         return Err(AllocError);
     }
-    let image = whole_of(build)?;
-    Ok(image)
+    let threads = threads_told(build)?;
+    Ok(threads)
 }
 
-/// The image of a build that goes on or has ended. `AllocError` where the memory was refused.
-fn whole_of<R: SavedThread + Drop>(build: &Build<R>) -> Result<Image, AllocError>
+/// What the image of a build that goes on or has ended has of its threads. `AllocError` where the memory was refused.
+fn threads_told<R: SavedThread + Drop>(build: &Build<R>) -> Result<ImageThreads, AllocError>
     requires begun { has_begun build.now.phase ≡ true }
     requires goes_on { build.now.phase ≡ Stopped → ⊥ }
-    ensures here { IfOk result (λ image. image ≡ image_in R.stance build.now) }
+    ensures here { IfOk result (λ threads. threads ≡ (image_in R.stance build.now).threads) }
+    ensures image { OnOk result (HasImage R.stance build.now) }
     ensures on { OnOk result (build.now.phase ≡ Stopped → ⊥) }
+{
+    let shared = build.shared();
+    let group = build.group();
+    let threads = threads_of::<R>(shared.alloc(), &shared.code, group.threads())?;
+    Ok(threads)
+}
+
+/// The image of a build, which has these threads. `AllocError` where the memory was refused.
+fn image_with<R: SavedThread + Drop>(
+    build: &Build<R>,
+    threads: ImageThreads,
+) -> Result<Image, AllocError>
+    requires { threads ≡ (image_in R.stance build.now).threads }
+    ensures here { IfOk result (λ image. image ≡ image_in R.stance build.now) }
     ensures script { OnOk result (IsScript (script_of build.now.shared.code)) }
-    ensures sound { OnOk result (SoundIn R.number R.parent R.branch R.fits build.now.phase build.now.group build.now.shared) }
 {
     let shared = build.shared();
     let group = build.group();
@@ -70,7 +102,7 @@ fn whole_of<R: SavedThread + Drop>(build: &Build<R>) -> Result<Image, AllocError
         log: Bytes::from_slice(alloc, shared.log.bytes())?,
         requests: copied_requests(&shared.requests)?,
         held: HeldExecutors::from_slice(alloc, shared.held.as_slice())?,
-        threads: threads_of::<R>(alloc, &shared.code, group.threads())?,
+        threads,
     })
 }
 

@@ -8,6 +8,7 @@ use Rattle.field_form.specs.Forms.{Spells}
 use Rattle.record_form.specs.Records.{record_of}
 use Rattle.record_form.specs.Sizes.{size_in}
 use Rattle.image_form.specs.declared.image.Image.{Image}
+use Rattle.delta_form.specs.After.{after}
 use Rattle.delta_form.specs.Applying.{◌>>=◌}
 use Rattle.delta_form.specs.declared.delta.Delta.{Delta}
 use Rattle.delta_records.specs.Payloads.{payload_form}
@@ -27,6 +28,11 @@ use Rattle.durable_build.proofs.KindLemmas.{weights_push}
 pub due_is : (w : Weights) (before : Option Image) (e : Event) (image : Image) (delta : Option Delta) → IsDueDelta w before image delta → IsDue w before e image (payload_of e image delta)
 due_is w before e image None due = record { tells = refl; kind = due; least = tt }
 due_is w before e image (Some delta) due = record { tells = ap (option_map (record_of e)) due.1; kind = due.0; least = due.2 }
+
+-- changes that are due lead from the image before
+pub due_leads : (w : Weights) (before : Option Image) (image : Image) (d : Delta) → IsDueDelta w before image (Some d) → (i : Image) × (after i d ≡ Some image)
+due_leads w None image d due = let bad : None ≡ Some image = due.1 in absurd (cc)
+due_leads w (Some i) image d due = (i, due.1)
 
 -- a payload that has room in a journal, and one that has none
 pub room_refused : (len size : ℕ) (q : Payload) (f : TakeFault) → size ≡ size_in payload_form q → HasRoom len size (Err f) → SpellsDue len q (Err f)

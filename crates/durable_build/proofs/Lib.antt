@@ -7,6 +7,7 @@ pub mod ShortChanges
 pub mod AddLemmas
 pub mod LoadLemmas
 pub mod TakeLemmas
+pub mod MarkLemmas
 pub mod OpenLemmas
 pub mod Cleared
 pub mod Whole

@@ -12,7 +12,7 @@ use Rattle.byte_form.specs.Fields.{u32_spelling, u64_spelling}
 use Rattle.field_form.specs.Forms.{u8_form, u32_form, u64_form, i32_form, bool_form, bytes_form, mark, optional, AllBehind, spelled, list_of, many}
 use Rattle.field_form.specs.Rules.{rises}
 use Rattle.field_form.specs.Values.{value_form, value_of, value_parts, outcome_form, outcome_of, outcome_parts, key_form, key_of, key_parts, binding_form, binding_of, env_form}
-use Rattle.field_form.specs.Cells.{class_form, cell_form, cell_of, cell_parts, entry_form, entry_behind, entries_form}
+use Rattle.field_form.specs.Cells.{class_form, entry_form, entry_behind, entries_form}
 use Rattle.field_form.specs.Flow.{parts_form, node_kind_form}
 use Rattle.field_form.specs.Requests.{texts_form, place_form, streams_form, request_form, request_of, request_parts, held_behind, lower_executor}
 use Rattle.field_form.specs.Waits.{end_form, end_of, end_parts, join_form, join_of, wait_form, NeedsWait, context_form, context_of}
@@ -43,6 +43,7 @@ use Rattle.delta_form.specs.Changes.{EachBelow, Parted, by_number, changed, merg
 use Rattle.delta_form.specs.ChangeLaws.{threads_keyed}
 use Rattle.delta_form.specs.Deltas.{CanBeWritten, RestOfThread, cell_behind, delta_form, delta_parts, first_form, new_node_form, new_node_of, new_node_parts, number_behind, other_form, request_behind, rest_of_thread, written_behind}
 use Rattle.delta_form.specs.Numbers.{has_lower, written_number}
+use Rattle.delta_form.specs.WrittenCells.{written_cell_form, written_cell_of, written_cell_parts}
 use Rattle.delta_form.specs.declared.delta.Delta.{Delta}
 use Rattle.delta_form.specs.declared.delta.NumberedCell.{NumberedCell}
 use Rattle.delta_form.specs.declared.delta.WrittenRequest.{WrittenRequest}
@@ -123,13 +124,12 @@ short_entries = record {
 short_class : Plain class_form
 short_class = free class_form (λ v. tt)
 
-short_cell : Plain cell_form
-short_cell = plain_parts cell_of cell_parts _ (plain_kinds _
+-- whole ones, and lists and maps that have grown
+short_written_cell : Plain written_cell_form
+short_written_cell = plain_parts written_cell_of written_cell_parts _ (plain_kinds _
     (plain_or _ _ short_value (plain_or _ _ short_bytes (plain_or _ _ short_values (plain_or _ _ short_entries
-    (plain_or _ _ (plain_pair _ _ short_u32 short_env) (plain_last _ (plain_pair _ _ short_class (plain_optional _ short_bytes)))))))))
-
-short_cells : Plain (many cell_form)
-short_cells = plain_many cell_form (λ c. omega arith) short_cell
+    (plain_or _ _ (plain_pair _ _ short_u32 short_env) (plain_or _ _ (plain_pair _ _ short_class (plain_optional _ short_bytes))
+    (plain_or _ _ short_values (plain_last _ short_entries)))))))))
 
 -- ---- requests and events
 
@@ -239,10 +239,10 @@ short_numbers : Short (list_of number_behind) (λ ns. AllBehind (NumberAsked (λ
 short_numbers = short_list number_behind (NumberAsked (λ n. n)) (λ before n. omega arith) short_number
 
 short_numbered : (before : List NumberedCell) → Short (cell_behind before) (NumberAsked (λ c. c.number) before)
-short_numbered before = record { needs = λ c asked lt. ((asked, tt), short_cell.needs c.cell tt (omega (arith, length-append (u32_spelling c.number) (cell_form.spelling c.cell), lt))) }
+short_numbered before = record { needs = λ c asked lt. ((asked, tt), short_written_cell.needs c.cell tt (omega (arith, length-append (u32_spelling c.number) (written_cell_form.spelling c.cell), lt))) }
 
 short_numbered_cells : Short (list_of cell_behind) (λ cs. AllBehind (NumberAsked (λ c. c.number)) [] cs)
-short_numbered_cells = short_list cell_behind (NumberAsked (λ c. c.number)) (λ before c. some_number c.number (cell_form.spelling c.cell)) short_numbered
+short_numbered_cells = short_list cell_behind (NumberAsked (λ c. c.number)) (λ before c. some_number c.number (written_cell_form.spelling c.cell)) short_numbered
 
 short_bindings : Short (list_of binding_behind) (λ bs. AllBehind NameAsked [] bs)
 short_bindings = short_list binding_behind NameAsked name_bytes short_name

@@ -13,6 +13,13 @@ use Rattle.delta_records.specs.declared.payload.Payload.{Payload}
 use Rattle.delta_records.specs.declared.payload.Payload.TheVariants as payload
 use Rattle.delta_records.specs.declared.weights.Weights.{Weights}
 use Rattle.image_changes.specs.Least.{IsLeast}
+use Rattle.image_changes.specs.Seen.{KeepsUnmarked}
+use Rattle.model_run.specs.FlowNodes.{IsFront}
+use Rattle.model_run.specs.World.{Build}
+use Rattle.settle_laws.specs.Stances.{Stance}
+use Rattle.cps_frames.specs.declared.shared.Shared.{Shared}
+use Rattle.build_core.specs.Builds.{Parts, StandsFor, setting_in}
+use Rattle.build_images.specs.Images.{image_in}
 use Rattle.model_run.specs.declared.event.Event.{Event}
 use Rattle.agent_worker.specs.declared.fault.TakeFault.{TakeFault}
 use Rattle.agent_worker.specs.declared.fault.TakeFault.TheVariants.{Memory, Disk, Full, Stopped}
@@ -20,9 +27,19 @@ use Rattle.store_laws.specs.Store.{last_image}
 use Rattle.durable_build.specs.Kinds.{is_whole_due, weights_of, weights_with}
 use Rattle.durable_build.specs.Taking.{HasNoChanges, IsDue, Puts, added}
 
--- these changes lead to the image
-abbrev pub IsDeltaTo : Delta → Image → Type 0
-IsDeltaTo delta image = (before : Image) × (after before delta ≡ Some image)
+-- The marks of the cells tell what changed since the image before: each unmarked cell stands as it stood in it, and its flow nodes and
+-- its log are the beginning of those now.
+pub record MarksChanges (before : Image) (now : Shared) : Type 0 where
+  pub cells : KeepsUnmarked before.cells now.heap
+  pub nodes : IsFront before.nodes now.graph
+  pub log : IsFront before.log now.log
+
+-- The build is the same but for the marks of its cells, which nothing else hangs on.
+pub record IsSameButMarks {T : Type 0} (stance : T → Stance) (old new : Parts T) : Type 0 where
+  pub setting : setting_in new ≡ setting_in old
+  pub phase : new.phase ≡ old.phase
+  pub image : image_in stance new ≡ image_in stance old
+  pub stands : (w : Build) → StandsFor stance old w → StandsFor stance new w
 
 -- the changes that the next record is to hold, or that it is to hold a whole image
 abbrev pub IsDueDelta : Weights → Option Image → Image → Option Delta → Type 0

@@ -7,7 +7,7 @@ abbrev pub is_whole : List ℕ → Bool
 is_whole [] = false
 is_whole (kind ∷ bytes) = nat_eq kind 1
 
--- The bytes of the last record of a whole image, and those of the records behind it together, with one record more. They are
+-- The bytes of the last payload with a whole image, and those of the payloads behind it together, with one payload more. They are
 -- the greatest number of 64 bits where they are more; a journal is never so long.
 abbrev pub weights_with : Weights → List ℕ → Weights
 weights_with w payload =
@@ -21,7 +21,7 @@ weights_from w (payload ∷ payloads) = weights_from (weights_with w payload) pa
 abbrev pub weights_of : List (List ℕ) → Weights
 weights_of payloads = weights_from (record { whole = 0; behind = 0 }) payloads
 
--- The next record is to hold a whole image where there is none yet, or the records behind the last whole one have together at
--- least as many bytes as that one.
+-- The next record is to hold a whole image where there is none yet, or the payloads behind the last one with a whole image have
+-- together at least as many bytes as that one.
 abbrev pub is_whole_due : Weights → Bool
 is_whole_due w = nat_le w.whole w.behind

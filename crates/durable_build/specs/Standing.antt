@@ -53,8 +53,8 @@ image_before stance b = if has_begun b.phase then Some (image_in stance b) else 
 abbrev pub world_before : Setting → Build → Option Image
 world_before setting w = if w.started then Some (world_image setting w) else None
 
--- What contracts see of a build over a disk: its journal, the build, the bytes of its `Start`, how many bytes the last record of a
--- whole image has and those behind it, how many records there are, and whether a fault stopped it.
+-- What contracts see of a build over a disk: its journal, the build, the bytes of its `Start`, how many bytes the last payload with
+-- a whole image has and those behind it, how many records there are, and whether a fault stopped it.
 pub record Kept (D T : Type 0) : Type 0 where
   pub journal : State D
   pub build : Parts T

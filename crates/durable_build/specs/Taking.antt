@@ -103,8 +103,8 @@ TakeLeaves stance old new e (Err Disk) = (new.stopped ≡ true) × (new.journal.
 TakeLeaves stance old new e (Err (Full len add)) = (new.stopped ≡ true) × (new.journal ≡ old.journal) × SameCounts old new
 TakeLeaves stance old new e (Err Stopped) = new ≡ old
 
--- The image after an accepted event is whole for the build's setting, whether its record was added or not: `open` goes on from a
--- store that ends with it.
+-- The image after an accepted event is whole for the build's setting, whether its record was added, refused or failed: `open` goes on
+-- from a store that ends with it.
 abbrev pub LeavesWhole : {T : Type 0} → (T → Stance) → Setting → Parts T → Result Taken TakeFault → Type 0
 LeavesWhole stance setting b (Ok Accepted) = IsWhole setting (image_in stance b)
 LeavesWhole stance setting b (Err Disk) = IsWhole setting (image_in stance b)

@@ -164,16 +164,16 @@ impl<D: Disk, R: SavedThread + Drop> DurableBuild<D, R> {
 
     /// Takes an event, and answers as the build does. At `Accepted` the event is durable, with the image of the build after it:
     /// each crash from then on leaves both. A crash during the call leaves the events from before, or these and the new one.
-    /// The record holds what changed alone of the image before, where the records behind the last whole image have together
-    /// fewer bytes than that one and changes lead from it; else the image.
+    /// The record holds what changed alone, where the payloads behind the last one with a whole image have together fewer bytes
+    /// than that one, and changes lead from the image before; else the whole image.
     /// The script and the agents file are those of the accepted `Start`; nothing else changes them.
     ///
     /// # Errors
     ///
     /// After each of them every later call answers `Stopped`, and what the build is then is open. `Stopped` comes nowhere else,
     /// but behind [`DurableBuild::stop`]. `Full` exactly where an accepted event's record does not fit into the journal, with the
-    /// journal's length and what the record adds, 5 and its bytes (`u64::MAX` where it adds more); nothing was spelled for it,
-    /// and the event not copied.
+    /// journal's length and what the record adds, 5 and its bytes (`u64::MAX` where it adds more); nothing was spelled for it.
+    /// Of an event only the script and the agents file of a `Start` were copied then, which the build is to keep.
     /// `Disk` only of an accepted event whose record fits, and only where the disk's count of faults rose, which it does at no
     /// other answer. `Memory` where the memory was refused. Only `Disk` leaves it open whether the event is on the disk; at the
     /// others nothing was written.
@@ -204,7 +204,13 @@ impl<D: Disk, R: SavedThread + Drop> DurableBuild<D, R> {
             self.stopped = true;
             return Err(TakeFault::Memory);
         };
-        if let Err(fault) = add(&mut self.journal, alloc, &self.build, event, &mut self.last) {
+        if let Err(fault) = add(
+            &mut self.journal,
+            alloc,
+            &mut self.build,
+            event,
+            &mut self.last,
+        ) {
             self.stopped = true;
             return Err(fault);
         }

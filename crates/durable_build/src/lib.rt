@@ -16,6 +16,7 @@
 //! ```
 #![tactic(auto)]
 
+mod changes;
 mod durable;
 mod faults;
 mod load;

@@ -14,17 +14,18 @@ ghost use Rattle.delta_records.specs.Payloads.{CanBeWritten, payload_form};
 ghost use Rattle.delta_records.specs.declared.payload.Payload.TheVariants as payload;
 ghost use Rattle.record_form.specs.Ordered.{IsInOrder};
 ghost use Rattle.record_form.specs.Sizes.{size_in};
-ghost use Rattle.build_images.specs.Images.{IsWhole, world_image, image_in};
+ghost use Rattle.script_thread.specs.Marks.{GoesOnFrom};
+ghost use Rattle.build_images.specs.Images.{HasImage, image_in};
 ghost use Rattle.durable_build.specs.Kinds.{is_whole, weights_of, weights_with};
-ghost use Rattle.durable_build.specs.Adding.{AddDone, AddLeaves, HasRoom, IsDeltaTo, IsDueDelta, SpellsDue, payload_of};
+ghost use Rattle.durable_build.specs.Adding.{AddDone, AddLeaves, HasRoom, IsDueDelta, IsSameButMarks, MarksChanges, SpellsDue};
 ghost use Rattle.durable_build.specs.Taking.{IsSource, kept_script, kept_agents};
 
+use crate::changes::due_changes;
 use agent_worker::TakeFault;
 use build_core::Build;
 use build_images::image_of;
 use delta_form::Delta;
-use delta_records::{Payload, Weights, write_payload};
-use image_changes::changes_between;
+use delta_records::{Payload, Weights, next_image, write_payload};
 use image_form::Image;
 use journal_core::{AppendFault, Journal};
 use jp_disk::Disk;
@@ -48,6 +49,7 @@ pub fn take_event<R: SavedThread + Drop>(
     ensures taken { IfOk result (λ answer. answer ≡ taken (standing_of build.old) event.now) }
     ensures unchanged { IfOk result (λ answer. (answer ≡ Accepted → ⊥) → build.new ≡ build.old) }
     ensures begun { IfOk result (λ answer. answer ≡ Accepted → has_begun build.new.phase ≡ true) }
+    ensures marks { OnOk result (GoesOnFrom build.old.shared build.new.shared) }
     ensures stands { OnOk result ((w : W.Build) → StandsFor R.stance build.old w → StandsFor R.stance build.new (W.after_one (setting_in build.old) w event.now)) }
     ensures setting { OnOk result (setting_in build.new ≡ setting_in build.old) }
 {
@@ -146,8 +148,32 @@ pub fn is_whole(payload: &[u8]) -> bool
     }
 }
 
-/// Adds the record of an event that the build has just taken, and keeps it as the last.
+/// Adds the record of an event that the build has just taken, and keeps its image as the last. From then on no cell of the build
+/// is marked: what is marked behind the next event was changed by it.
 pub fn add<D: Disk, R: SavedThread + Drop>(
+    journal: &mut Journal<D>,
+    alloc: Global,
+    build: &mut Build<R>,
+    event: &Event,
+    last: &mut Last,
+) -> Result<(), TakeFault>
+    requires running { journal.old.stopped ≡ false }
+    requires begun { has_begun build.old.phase ≡ true }
+    requires order { IfSome last.old.image IsInOrder }
+    requires marks { IfSome last.old.image (λ before. MarksChanges before build.old.shared) }
+    ensures adds { AddDone D.reads D.may_leave D.clock D.may_have_left_since last.old.weights last.old.image event.now (image_in R.stance build.new) journal.old journal.new last.new.weights result }
+    ensures last { OnOk result ((last.new.image ≡ Some (image_in R.stance build.new)) × IsInOrder (image_in R.stance build.new)) }
+    ensures image { ¬ (IsErrOf result TakeFault.Memory) → HasImage R.stance build.new }
+    ensures same { IsSameButMarks R.stance build.old build.new }
+    ensures cause { CountsFault (D.faults journal.old.disk) (D.faults journal.new.disk) (IsErrOf result TakeFault.Disk) }
+{
+    add_record(journal, alloc, build, event, last)?;
+    build.mark();
+    Ok(())
+}
+
+/// Adds the record of an event that the build has just taken, of what it changed or of the whole image after it.
+fn add_record<D: Disk, R: SavedThread + Drop>(
     journal: &mut Journal<D>,
     alloc: Global,
     build: &Build<R>,
@@ -157,92 +183,83 @@ pub fn add<D: Disk, R: SavedThread + Drop>(
     requires running { journal.old.stopped ≡ false }
     requires begun { has_begun build.now.phase ≡ true }
     requires order { IfSome last.old.image IsInOrder }
-    ensures world { ¬ (IsErrOf result TakeFault.Memory) → (w : W.Build) → StandsFor R.stance build.now w → image_in R.stance build.now ≡ world_image (setting_in build.now) w }
+    requires marks { IfSome last.old.image (λ before. MarksChanges before build.now.shared) }
     ensures adds { AddDone D.reads D.may_leave D.clock D.may_have_left_since last.old.weights last.old.image event.now (image_in R.stance build.now) journal.old journal.new last.new.weights result }
-    ensures last { OnOk result ((last.new.image ≡ Some (image_in R.stance build.now)) × IsInOrder (image_in R.stance build.now)) }
-    ensures whole { ¬ (IsErrOf result TakeFault.Memory) → IsWhole (setting_in build.now) (image_in R.stance build.now) }
+    ensures last { OnOk result (last.new.image ≡ Some (image_in R.stance build.now)) }
+    ensures image { ¬ (IsErrOf result TakeFault.Memory) → HasImage R.stance build.now }
     ensures cause { CountsFault (D.faults journal.old.disk) (D.faults journal.new.disk) (IsErrOf result TakeFault.Disk) }
 {
-    match image_of(build) {
-        Ok(image) => {
-            add_record(
-                journal,
-                alloc,
-                event,
-                &last.image,
-                &mut last.weights,
-                &image,
-            )?;
-            last.image = Some(image);
-            Ok(())
-        }
-        Err(_) => Err(TakeFault::Memory),
+    let changes = due_changes(alloc, build, last)?;
+    match changes {
+        Some(changes) => add_changes(journal, alloc, event, last, changes),
+        None => add_whole(journal, alloc, build, event, last),
     }
 }
 
-/// Adds the record of an event and of the image after it.
-fn add_record<D: Disk>(
+/// Adds the record of an event and of what it changed. The kept image is moved on by the changes, in place. They fit it, so
+/// that only want of memory stands against it; that comes before anything is written.
+fn add_changes<D: Disk>(
     journal: &mut Journal<D>,
     alloc: Global,
     event: &Event,
-    before: &Option<Image>,
-    weights: &mut Weights,
-    image: &Image,
+    last: &mut Last,
+    changes: Delta,
 ) -> Result<(), TakeFault>
     requires running { journal.old.stopped ≡ false }
-    requires before { IfSome before.now IsInOrder }
-    requires order { IsInOrder image.now }
-    ensures adds { AddDone D.reads D.may_leave D.clock D.may_have_left_since weights.old before.now event.now image.now journal.old journal.new weights.new result }
+    requires due { (image : AnyImage) × IsInOrder image × IsDueDelta last.old.weights last.old.image image (Some changes) }
+    ensures adds { (image : AnyImage) → IsDueDelta last.old.weights last.old.image image (Some changes)
+        → AddDone D.reads D.may_leave D.clock D.may_have_left_since last.old.weights last.old.image event.now image journal.old journal.new last.new.weights result }
+    ensures last { (image : AnyImage) → IsDueDelta last.old.weights last.old.image image (Some changes) → OnOk result (last.new.image ≡ Some image) }
     ensures cause { CountsFault (D.faults journal.old.disk) (D.faults journal.new.disk) (IsErrOf result TakeFault.Disk) }
 {
-    let delta = due_changes(alloc, *weights, before, image)?;
-    let payload = spelled(alloc, journal.len(), event, image, delta)?;
-    append(journal, alloc, payload.as_slice())?;
-    *weights = weights_with(*weights, payload.as_slice());
+    if let Err(fault) = check_room(journal.len(), changes_size(event, &changes)) {
+        return Err(fault);
+    }
+    let Ok(event) = copied(event) else {
+        return Err(TakeFault::Memory);
+    };
+    let payload = Payload::Changed {
+        event,
+        delta: changes,
+    };
+    let Ok(bytes) = write_payload(alloc, &payload) else {
+        return Err(TakeFault::Memory);
+    };
+    let Ok(image) = next_image(alloc, last.image.take(), payload) else {
+        return Err(TakeFault::Memory);
+    };
+    append(journal, alloc, bytes.as_slice())?;
+    last.image = Some(image);
+    last.weights = weights_with(last.weights, bytes.as_slice());
     Ok(())
 }
 
-/// What changed from the image before, where the next record is to hold that alone.
-fn due_changes(
+/// Adds the record of an event and of the whole image after it, which is kept in the place of the one before.
+fn add_whole<D: Disk, R: SavedThread + Drop>(
+    journal: &mut Journal<D>,
     alloc: Global,
-    weights: Weights,
-    before: &Option<Image>,
-    image: &Image,
-) -> Result<Option<Delta>, TakeFault>
-    requires before { IfSome before.now IsInOrder }
-    requires order { IsInOrder image.now }
-    ensures due { IfOk result (IsDueDelta weights before.now image.now) }
-    ensures fault { IfErr result (λ e. e ≡ TakeFault.Memory) }
-{
-    if weights.whole <= weights.behind {
-        return Ok(None);
-    }
-    match before {
-        None => Ok(None),
-        Some(before) => match changes_between(alloc, before, image) {
-            Ok(delta) => Ok(delta),
-            Err(_) => Err(TakeFault::Memory),
-        },
-    }
-}
-
-/// The payload of an event, with the changes where there are some, or with the whole image after it. `Full` where a record of it
-/// has no room in a journal of this length.
-fn spelled(
-    alloc: Global,
-    len: u64,
+    build: &Build<R>,
     event: &Event,
-    image: &Image,
-    delta: Option<Delta>,
-) -> Result<Bytes, TakeFault>
-    requires order { IsInOrder image.now }
-    requires leads { IfSome delta (λ d. IsDeltaTo d image.now) }
-    ensures { SpellsDue len (payload_of event.now image.now delta) result }
+    last: &mut Last,
+) -> Result<(), TakeFault>
+    requires running { journal.old.stopped ≡ false }
+    requires begun { has_begun build.now.phase ≡ true }
+    requires due { IsDueDelta last.old.weights last.old.image (image_in R.stance build.now) None }
+    ensures adds { AddDone D.reads D.may_leave D.clock D.may_have_left_since last.old.weights last.old.image event.now (image_in R.stance build.now) journal.old journal.new last.new.weights result }
+    ensures last { OnOk result (last.new.image ≡ Some (image_in R.stance build.now)) }
+    ensures image { ¬ (IsErrOf result TakeFault.Memory) → HasImage R.stance build.now }
+    ensures cause { CountsFault (D.faults journal.old.disk) (D.faults journal.new.disk) (IsErrOf result TakeFault.Disk) }
 {
-    match delta {
-        Some(delta) => spelled_changes(alloc, len, event, delta),
-        None => spelled_whole(alloc, len, event, image),
-    }
+    // the image before is no longer asked for, and its memory is free for the new one
+    last.image = None;
+    let Ok(image) = image_of(build) else {
+        return Err(TakeFault::Memory);
+    };
+    let payload = spelled_whole(alloc, journal.len(), event, &image)?;
+    append(journal, alloc, payload.as_slice())?;
+    last.image = Some(image);
+    last.weights = weights_with(last.weights, payload.as_slice());
+    Ok(())
 }
 
 /// The payload of an event and of the whole image after it.
@@ -254,23 +271,6 @@ fn spelled_whole(alloc: Global, len: u64, event: &Event, image: &Image) -> Resul
         return Err(fault);
     }
     match write_record(alloc, event, image) {
-        Ok(payload) => Ok(payload),
-        Err(_) => Err(TakeFault::Memory),
-    }
-}
-
-/// The payload of an event and of what it changed. The event is copied only where there is room.
-fn spelled_changes(alloc: Global, len: u64, event: &Event, delta: Delta) -> Result<Bytes, TakeFault>
-    requires { (image : AnyImage) × IsInOrder image × IsDeltaTo delta image }
-    ensures { SpellsDue len (payload.Changed event.now delta) result }
-{
-    if let Err(fault) = check_room(len, changes_size(event, &delta)) {
-        return Err(fault);
-    }
-    let Ok(event) = copied(event) else {
-        return Err(TakeFault::Memory);
-    };
-    match write_payload(alloc, &Payload::Changed { event, delta }) {
         Ok(payload) => Ok(payload),
         Err(_) => Err(TakeFault::Memory),
     }

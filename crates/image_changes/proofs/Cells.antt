@@ -1,57 +1,52 @@
 -- Cells that are put among others, or behind them, one place after the other; and flow nodes that are put behind.
-use Rattle.std.proofs.Common.{◌≡◌, ◌∙◌, ◌<◌, ◌≤◌, ◌+◌, ◌^◌, ℕ, suc, Bool, true, false, List, [], ◌∷◌, ◌++◌, length, map, set, Option, Some, None, refl, sym, ap, subst, append_assoc, arith, length-append}
-use Rattle.std.specs.Prelude.{if◌then◌else◌, nat_eq, nat_lt, slice_set}
+use Rattle.std.proofs.Common.{◌≡◌, ◌∙◌, ◌<◌, ◌≤◌, ◌+◌, ◌^◌, ℕ, suc, Bool, List, [], ◌∷◌, ◌++◌, length, map, set, slice_get, Option, Some, None, refl, sym, ap, subst, append_assoc, arith, length-append}
+use Rattle.std.specs.Prelude.{if◌then◌else◌}
 use Rattle.std.specs.List.{AllByRecursion as AllAre}
 use Rattle.std.specs.Ordering.{nat_cmp, on}
 use Rattle.std.specs.declared.cmp.Ordering.TheVariants.{Less}
 use Rattle.std.proofs.Math.Seq.{set-append_seam}
-use Rattle.std.proofs.lemmas.Bool.{lt-ltb, ltb-false, ltb-true, eqb-false}
+use Rattle.std.proofs.lemmas.Bool.{lt-ltb}
 use Rattle.std.proofs.lemmas.List.{append-nil}
 use Rattle.field_form.specs.Flow.{with_id}
 use Rattle.model_values.specs.declared.cell.Cell.{Cell}
 use Rattle.model_run.specs.declared.flow.FlowNode.{FlowNode}
 use Rattle.model_run.specs.Fitting.{NodesFit}
 use Rattle.delta_form.specs.Applying.{◌>>=◌, in_turn}
-use Rattle.delta_form.specs.After.{put_cell, put_node}
+use Rattle.delta_form.specs.After.{put_cell, put_node, written_cell}
 use Rattle.delta_form.specs.Deltas.{new_node_parts}
 use Rattle.delta_form.specs.declared.delta.NumberedCell.{NumberedCell}
+use Rattle.delta_form.specs.declared.delta.WrittenCell.{WrittenCell}
 use Rattle.delta_form.proofs.Orders.{all_to}
+use Rattle.delta_form.proofs.PutCells.{put_behind, put_inside}
 use Rattle.image_changes.specs.Parts.{as_new}
 use Rattle.image_changes.specs.Walks.{PutsFrom}
 use Rattle.image_changes.proofs.Turns.{less_is, rises_with}
 
-abbrev pub numbered : ℕ → Cell → NumberedCell
-numbered place cell = record { number = place; cell = cell }
+abbrev pub numbered : ℕ → WrittenCell → NumberedCell
+numbered place w = record { number = place; cell = w }
 
 one_longer : (front : List Cell) (cell : Cell) (place : ℕ) → length front ≡ place → length (front ++ cell ∷ []) ≡ suc place
 one_longer front cell place is = omega (arith, is, length-append front (cell ∷ []))
 
 -- the cell at a place, in a list that is longer
-replaced : (front bs : List Cell) (b n : Cell) (place : ℕ) → length front ≡ place → put_cell (numbered place n) (front ++ b ∷ bs) ≡ Some (front ++ n ∷ bs)
-replaced front bs b n place is = go (nat_lt place (length (front ++ b ∷ bs))) refl
-  where
-    go : (t : Bool) → nat_lt place (length (front ++ b ∷ bs)) ≡ t
-        → (if t then Some (slice_set (front ++ b ∷ bs) place n) else if nat_eq place (length (front ++ b ∷ bs)) then Some ((front ++ b ∷ bs) ++ n ∷ []) else None) ≡ Some (front ++ n ∷ bs)
-    go true e = ap (λ (k : ℕ). Some (set (front ++ b ∷ bs) k n)) (sym is) ∙ ap (λ (l : List Cell). Some l) (set-append_seam front b bs n)
-    go false e = let no = ltb-false place (length (front ++ b ∷ bs)) e in absurd (omega (arith, no, is, length-append front (b ∷ bs)))
+seam : (front bs : List Cell) (b : Cell) → slice_get (front ++ b ∷ bs) (length front) ≡ Some b
+seam [] bs b = refl
+seam (f ∷ front) bs b = seam front bs b
+
+replaced : (front bs : List Cell) (b n : Cell) (w : WrittenCell) (place : ℕ) → length front ≡ place → written_cell w (Some b) ≡ Some n → put_cell (numbered place w) (front ++ b ∷ bs) ≡ Some (front ++ n ∷ bs)
+replaced front bs b n w place is makes =
+    put_inside (numbered place w) (front ++ b ∷ bs) b n (omega (arith, is, length-append front (b ∷ bs))) (subst (λ (k : ℕ). slice_get (front ++ b ∷ bs) k ≡ Some b) is (seam front bs b)) makes
+    ∙ ap (λ (k : ℕ). Some (set (front ++ b ∷ bs) k n)) (sym is) ∙ ap (λ (l : List Cell). Some l) (set-append_seam front b bs n)
 
 -- the cell behind all
-behind : (front : List Cell) (n : Cell) (place : ℕ) → length front ≡ place → put_cell (numbered place n) front ≡ Some (front ++ n ∷ [])
-behind front n place is = go (nat_lt place (length front)) refl
-  where
-    next : (t : Bool) → nat_eq place (length front) ≡ t → (if t then Some (front ++ n ∷ []) else None) ≡ Some (front ++ n ∷ [])
-    next true e = refl
-    next false e = let no = eqb-false place (length front) e in absurd (no (sym is))
-
-    go : (t : Bool) → nat_lt place (length front) ≡ t → (if t then Some (slice_set front place n) else if nat_eq place (length front) then Some (front ++ n ∷ []) else None) ≡ Some (front ++ n ∷ [])
-    go true e = let yes = ltb-true place (length front) e in absurd (omega (arith, yes, is))
-    go false e = next (nat_eq place (length front)) refl
+behind : (front : List Cell) (n : Cell) (w : WrittenCell) (place : ℕ) → length front ≡ place → written_cell w None ≡ Some n → put_cell (numbered place w) front ≡ Some (front ++ n ∷ [])
+behind front n w place is makes = put_behind (numbered place w) front n (sym is) makes
 
 abbrev from_behind : (place : ℕ) (cells : List NumberedCell) → AllAre (λ c. suc place ≤ c.number) cells → AllAre (λ c. place ≤ c.number) cells
 from_behind place cells all = all_to (λ c. suc place ≤ c.number) (λ c. place ≤ c.number) (λ c le. omega (arith, le)) cells all
 
-below_cells : (place : ℕ) (n : Cell) (cells : List NumberedCell) → AllAre (λ c. suc place ≤ c.number) cells → AllAre (λ c. nat_cmp place c.number ≡ Less) cells
-below_cells place n cells all = all_to (λ c. suc place ≤ c.number) (λ c. nat_cmp place c.number ≡ Less) (λ c le. less_is place c.number (omega (arith, le))) cells all
+below_cells : (place : ℕ) (cells : List NumberedCell) → AllAre (λ c. suc place ≤ c.number) cells → AllAre (λ c. nat_cmp place c.number ≡ Less) cells
+below_cells place cells all = all_to (λ c. suc place ≤ c.number) (λ c. nat_cmp place c.number ≡ Less) (λ c le. less_is place c.number (omega (arith, le))) cells all
 
 module _ (place : ℕ) (bs ns : List Cell) (cells : List NumberedCell) (puts : PutsFrom (suc place) bs ns cells) where
   pub cell_stays : (b : Cell) → PutsFrom place (b ∷ bs) (b ∷ ns) cells
@@ -63,26 +58,26 @@ module _ (place : ℕ) (bs ns : List Cell) (cells : List NumberedCell) (puts : P
     rise = puts.rise;
   }
 
-  pub cell_changed : (b n : Cell) → PutsFrom place (b ∷ bs) (n ∷ ns) (numbered place n ∷ cells)
-  cell_changed b n = record {
+  pub cell_changed : (b n : Cell) (w : WrittenCell) → written_cell w (Some b) ≡ Some n → PutsFrom place (b ∷ bs) (n ∷ ns) (numbered place w ∷ cells)
+  cell_changed b n w makes = record {
     made = λ front is.
-        ap (λ (o : Option (List Cell)). o >>= in_turn put_cell cells) (replaced front bs b n place is)
+        ap (λ (o : Option (List Cell)). o >>= in_turn put_cell cells) (replaced front bs b n w place is makes)
         ∙ ap (in_turn put_cell cells) (sym (append_assoc front (n ∷ []) bs)) ∙ puts.made (front ++ n ∷ []) (one_longer front n place is)
         ∙ ap (λ (l : List Cell). Some l) (append_assoc front (n ∷ []) ns);
     from = (omega arith, from_behind place cells puts.from);
-    rise = rises_with (on (λ (c : NumberedCell). c.number) nat_cmp) (numbered place n) cells (below_cells place n cells puts.from) puts.rise;
+    rise = rises_with (on (λ (c : NumberedCell). c.number) nat_cmp) (numbered place w) cells (below_cells place cells puts.from) puts.rise;
   }
 
 -- behind the last cell from before
-pub cell_added : (place : ℕ) (ns : List Cell) (cells : List NumberedCell) (n : Cell) → PutsFrom (suc place) [] ns cells → PutsFrom place [] (n ∷ ns) (numbered place n ∷ cells)
-cell_added place ns cells n puts = record {
+pub cell_added : (place : ℕ) (ns : List Cell) (cells : List NumberedCell) (n : Cell) (w : WrittenCell) → written_cell w None ≡ Some n → PutsFrom (suc place) [] ns cells → PutsFrom place [] (n ∷ ns) (numbered place w ∷ cells)
+cell_added place ns cells n w makes puts = record {
   made = λ front is.
-      ap (λ (l : List Cell). in_turn put_cell (numbered place n ∷ cells) l) (append-nil front)
-      ∙ ap (λ (o : Option (List Cell)). o >>= in_turn put_cell cells) (behind front n place is)
+      ap (λ (l : List Cell). in_turn put_cell (numbered place w ∷ cells) l) (append-nil front)
+      ∙ ap (λ (o : Option (List Cell)). o >>= in_turn put_cell cells) (behind front n w place is makes)
       ∙ ap (in_turn put_cell cells) (sym (append-nil (front ++ n ∷ []))) ∙ puts.made (front ++ n ∷ []) (one_longer front n place is)
       ∙ ap (λ (l : List Cell). Some l) (append_assoc front (n ∷ []) ns);
   from = (omega arith, from_behind place cells puts.from);
-  rise = rises_with (on (λ (c : NumberedCell). c.number) nat_cmp) (numbered place n) cells (below_cells place n cells puts.from) puts.rise;
+  rise = rises_with (on (λ (c : NumberedCell). c.number) nat_cmp) (numbered place w) cells (below_cells place cells puts.from) puts.rise;
 }
 
 pub no_cells : (place : ℕ) → PutsFrom place [] [] []

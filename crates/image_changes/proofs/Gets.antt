@@ -1,8 +1,10 @@
 -- When lists are the same.
-use Rattle.std.proofs.Common.{◌≡◌, ◌∙◌, ◌<◌, ◌≤◌, ℕ, zero, suc, List, [], ◌∷◌, ◌++◌, length, slice_get, take, drop, get_or, Some, None, refl, sym, ap, subst, arith}
+use Rattle.std.proofs.Common.{◌≡◌, ◌∙◌, ◌<◌, ◌≤◌, ℕ, zero, suc, List, [], ◌∷◌, ◌++◌, ◌-◌, length, slice_get, take, drop, get_or, Some, None, refl, sym, ap, subst, arith, length-append, length-drop}
 use Rattle.std.specs.Prelude.{map}
 use Rattle.std.specs.List.{AllByRecursion as AllAre}
-use Rattle.std.proofs.lemmas.List.{same_lists, drop_all}
+use Rattle.std.proofs.lemmas.List.{same_lists, drop_all, take_all}
+use Rattle.std.proofs.Math.Seq.{drop-append_seam}
+use Rattle.model_run.specs.FlowNodes.{IsFront}
 use Rattle.std.proofs.lemmas.Option.{slice_get-get_or, slice_get_past}
 
 -- items that are there, at each place
@@ -87,3 +89,24 @@ pub front_gets : {X : Type 0} (xs more : List X) (k : ℕ) → k < length xs →
 front_gets [] more k lt = absurd (omega (arith, lt))
 front_gets (x ∷ xs) more zero lt = refl
 front_gets (x ∷ xs) more (suc k) lt = front_gets xs more k (omega (arith, lt))
+
+-- a list begins with another that has the same items as far as it goes
+pub front_from_gets : {X : Type 0} (xs ys : List X) (n : ℕ) → length xs ≤ n → ((k : ℕ) → k < n → slice_get xs k ≡ slice_get ys k) → take (length xs) ys ≡ xs
+front_from_gets [] ys n all gets = refl
+front_from_gets (x ∷ xs) ys zero all gets = absurd (omega (arith, all))
+front_from_gets (x ∷ xs) [] (suc n) all gets = let no = gets 0 (omega arith) in absurd cc
+front_from_gets (x ∷ xs) (y ∷ ys) (suc n) all gets =
+    let first = gets 0 (omega arith) in
+    let same : y ≡ x = cc in
+    ap (λ (z : _). z ∷ take (length xs) ys) same ∙ ap (λ (l : List _). x ∷ l) (front_from_gets xs ys n (omega (arith, all)) (λ k lt. gets (suc k) (omega (arith, lt))))
+
+-- and is that other with what is behind it
+pub front_and_rest : {X : Type 0} (xs ys : List X) → take (length xs) ys ≡ xs → ys ≡ xs ++ drop (length xs) ys
+front_and_rest xs ys is = behind_front xs ys (length xs) (omega arith) (take_all (length xs) xs (omega arith) ∙ sym is)
+
+-- what stands behind its beginning
+pub rest_behind : {X : Type 0} (xs ys : List X) (front : IsFront xs ys) → take (length ys - length xs) (drop (length xs) ys) ≡ front.0
+rest_behind xs ys front = take_all (length ys - length xs) (drop (length xs) ys) (omega (arith, length-drop (length xs) ys)) ∙ ap (λ (l : List _). drop (length xs) l) front.1 ∙ drop-append_seam xs front.0
+
+pub front_within : {X : Type 0} (xs ys : List X) → take (length xs) ys ≡ xs → length xs ≤ length ys
+front_within xs ys is = let all = ap length (front_and_rest xs ys is) in omega (arith, all, length-append xs (drop (length xs) ys))

@@ -3,9 +3,11 @@ pub mod Turns
 pub mod Rising
 pub mod Steps
 pub mod Cells
+pub mod GrownCells
 pub mod Tasks
 pub mod KeptFrames
 pub mod Reaching
+pub mod Marked
 pub mod Leading
 pub mod Necessary
 pub mod Finding

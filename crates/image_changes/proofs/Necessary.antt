@@ -13,18 +13,18 @@ use Rattle.model_run.specs.declared.flow.FlowNode.{FlowNode}
 use Rattle.image_form.specs.declared.image.Image.{Image}
 use Rattle.delta_form.specs.Applying.{◌>>=◌, in_turn}
 use Rattle.delta_form.specs.Changes.{changed, changed_at, part_before, parted}
-use Rattle.delta_form.specs.After.{after, binding_changes, in_order, new_binding, put_cell, put_node, requests_after, threads_after, with_changes}
+use Rattle.delta_form.specs.After.{after, binding_changes, in_order, new_binding, put_at, put_cell, put_node, requests_after, threads_after, with_changes, written_cell}
 use Rattle.delta_form.specs.Deltas.{new_node_parts}
 use Rattle.delta_form.specs.declared.delta.Delta.{Delta}
 use Rattle.delta_form.specs.declared.delta.NewNode.{NewNode}
 use Rattle.delta_form.specs.declared.delta.NumberedCell.{NumberedCell}
-use Rattle.image_changes.specs.Parts.{FrontOf, LeadsTo, PutsBindings, PutsCells, PutsNodes}
+use Rattle.image_changes.specs.Parts.{LeadsTo, PutsBindings, PutsCells, PutsNodes}
 use Rattle.image_changes.specs.Walks.{AreAmong, NotesBinding}
 use Rattle.image_changes.proofs.Gets.{from_end, from_item}
 
 -- ---- what is defined was defined step by step
 
-bound : {A B : Type 0} (o : Option A) (f : A → Option B) (b : B) → (o >>= f) ≡ Some b → (a : A) × (o ≡ Some a) × (f a ≡ Some b)
+pub bound : {A B : Type 0} (o : Option A) (f : A → Option B) (b : B) → (o >>= f) ≡ Some b → (a : A) × (o ≡ Some a) × (f a ≡ Some b)
 bound None f b e = absurd cc
 bound (Some a) f b e = (a, refl, e)
 
@@ -96,9 +96,6 @@ makes before now d e =
 -- ---- where a part now cannot be made, the image now cannot
 
 module _ (before now : Image) where
-  pub no_log : FrontOf before.log now.log None → LeadsTo before now None
-  no_log none = inl λ d e. none d.log (makes before now d e).log
-
   pub no_nodes : PutsNodes before.nodes now.nodes None → LeadsTo before now None
   no_nodes none = inl λ d e. none d.nodes (makes before now d e).nodes
 
@@ -112,12 +109,14 @@ module _ (before now : Image) where
 -- ---- cells and flow nodes
 
 no_shorter : (c : NumberedCell) (v w : List Cell) → put_cell c v ≡ Some w → length v ≤ length w
-no_shorter c v w = within (nat_lt c.number (length v)) (nat_eq c.number (length v))
+no_shorter c v w e =
+    let now = bound (written_cell c.cell (slice_get v c.number)) (λ cell. put_at c.number cell v) w e in
+    within now.0 (nat_lt c.number (length v)) (nat_eq c.number (length v)) now.2
   where
-    within : (inside next : Bool) → (if inside then Some (slice_set v c.number c.cell) else if next then Some (v ++ c.cell ∷ []) else None) ≡ Some w → length v ≤ length w
-    within true next e = let is : slice_set v c.number c.cell ≡ w = cc in subst (λ (l : List Cell). length v ≤ length l) is (omega (arith, length-set v c.number c.cell))
-    within false true e = let is : v ++ c.cell ∷ [] ≡ w = cc in subst (λ (l : List Cell). length v ≤ length l) is (omega (arith, length-append v (c.cell ∷ [])))
-    within false false e = absurd cc
+    within : (cell : Cell) (inside next : Bool) → (if inside then Some (slice_set v c.number cell) else if next then Some (v ++ cell ∷ []) else None) ≡ Some w → length v ≤ length w
+    within cell true next e = let is : slice_set v c.number cell ≡ w = cc in subst (λ (l : List Cell). length v ≤ length l) is (omega (arith, length-set v c.number cell))
+    within cell false true e = let is : v ++ cell ∷ [] ≡ w = cc in subst (λ (l : List Cell). length v ≤ length l) is (omega (arith, length-append v (cell ∷ [])))
+    within cell false false e = absurd cc
 
 pub cells_no_fewer : (cells : List NumberedCell) (before now : List Cell) → in_turn put_cell cells before ≡ Some now → length before ≤ length now
 cells_no_fewer cells before now e = in_turn_keeps put_cell (λ v w. length v ≤ length w) (λ v. omega arith) (λ u v w p q. omega (arith, p, q)) no_shorter cells before now e

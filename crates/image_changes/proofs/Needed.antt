@@ -9,7 +9,7 @@ use Rattle.model_values.specs.declared.cell.Cell.{Cell}
 use Rattle.model_run.specs.Fitting.{Rises}
 use Rattle.delta_form.specs.declared.delta.NumberedCell.{NumberedCell}
 use Rattle.delta_form.proofs.Orders.{all_to}
-use Rattle.image_changes.specs.Least.{AllNeeded, CellsDiffer}
+use Rattle.image_changes.specs.Least.{AllNeeded, CellDiffers, CellsDiffer}
 use Rattle.image_changes.specs.Walks.{Above, Adds, Changes, Goes, NotesCell, Passed, Stays}
 use Rattle.image_changes.specs.declared.walk.Walk.{Walk}
 use Rattle.image_changes.proofs.Finding.{differs}
@@ -28,8 +28,9 @@ all_halves P (suc n) (x ∷ xs) front rest = (front.0, all_halves P n xs front.1
 
 pub cell_differs : (before : List Cell) (place : ℕ) (cell : Cell) (old new : List NumberedCell) → NotesCell before place cell old new → CellsDiffer before old → CellsDiffer before new
 cell_differs before place cell old new (inl same) all = subst (CellsDiffer before) (sym same.1) all
-cell_differs before place cell old new (inr put) all =
-    subst (CellsDiffer before) (sym put.1) (all_append (λ c. ¬ (slice_get before c.number ≡ Some c.cell)) old (record { number = place; cell = cell } ∷ []) all (put.0, tt))
+cell_differs before place cell old new (inr (unlike, (w, writes, is))) all =
+    subst (CellsDiffer before) (sym is)
+    (all_append (λ c. CellDiffers (slice_get before c.number) c.cell) old (record { number = place; cell = w } ∷ []) all ((λ stays. unlike (sym stays ∙ writes.0), writes.1), tt))
 
 -- ---- items by numbers
 

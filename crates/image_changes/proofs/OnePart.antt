@@ -15,14 +15,17 @@ use Rattle.model_values.specs.declared.cell.Cell.{Cell}
 use Rattle.model_run.specs.declared.flow.FlowNode.{FlowNode}
 use Rattle.delta_form.specs.Applying.{◌>>=◌, in_turn}
 use Rattle.delta_form.specs.Changes.{changed}
-use Rattle.delta_form.specs.After.{binding_changes, new_binding, put_cell, put_node}
+use Rattle.delta_form.specs.After.{binding_changes, new_binding, put_at, put_cell, put_node, written_cell}
 use Rattle.delta_form.specs.Deltas.{new_node_parts}
 use Rattle.delta_form.specs.declared.delta.NewNode.{NewNode}
 use Rattle.delta_form.specs.declared.delta.NumberedCell.{NumberedCell}
+use Rattle.delta_form.specs.declared.delta.WrittenCell.{WrittenCell}
 use Rattle.delta_form.proofs.Orders.{all_to}
-use Rattle.image_changes.specs.Least.{CellsDiffer}
+use Rattle.image_changes.specs.Least.{CellDiffers, CellsDiffer, IsShortCell}
 use Rattle.image_changes.specs.Parts.{as_new}
 use Rattle.image_changes.proofs.Finding.{Finds, NoneAt, Sorted, at, both_all, finds}
+use Rattle.image_changes.proofs.GrownCells.{one_way}
+use Rattle.image_changes.proofs.Necessary.{bound}
 use Rattle.image_changes.proofs.OneList.{Within, above_none, one_list}
 
 -- ---- cells
@@ -49,56 +52,79 @@ last_else [] (suc k) cell unlike = refl
 last_else (c ∷ cells) zero cell unlike = refl
 last_else (c ∷ cells) (suc k) cell unlike = last_else cells k cell (λ same. unlike (ap suc same))
 
--- The cell stands at its number, and all others stand as they stood.
+-- The written cell makes what stands at its number of what stood there.
+abbrev Stands : List Cell → List Cell → NumberedCell → Type 0
+Stands v w c = (cell : Cell) × (slice_get w c.number ≡ Some cell) × (written_cell c.cell (slice_get v c.number) ≡ Some cell)
+
+-- It does, and all others stand as they stood.
 abbrev Puts : NumberedCell → List Cell → List Cell → Type 0
-Puts c v w = (slice_get w c.number ≡ Some c.cell) × ((k : ℕ) → ¬ (c.number ≡ k) → slice_get w k ≡ slice_get v k)
+Puts c v w = Stands v w c × ((k : ℕ) → ¬ (c.number ≡ k) → slice_get w k ≡ slice_get v k)
+
+-- this cell stands at its number, and all others stand as they stood
+abbrev Lies : NumberedCell → List Cell → Cell → List Cell → Type 0
+Lies c v cell w = (slice_get w c.number ≡ Some cell) × ((k : ℕ) → ¬ (c.number ≡ k) → slice_get w k ≡ slice_get v k)
 
 put_one : (c : NumberedCell) (v w : List Cell) → put_cell c v ≡ Some w → Puts c v w
-put_one c v w e = go (nat_lt c.number (length v)) (nat_eq c.number (length v)) refl refl e
+put_one c v w e =
+    let now = bound (written_cell c.cell (slice_get v c.number)) (λ cell. put_at c.number cell v) w e in
+    let put = go now.0 (nat_lt c.number (length v)) (nat_eq c.number (length v)) refl refl now.2 in
+    ((now.0, put.0, now.1), put.1)
   where
-    go : (inside next : Bool) → nat_lt c.number (length v) ≡ inside → nat_eq c.number (length v) ≡ next
-        → (if inside then Some (slice_set v c.number c.cell) else if next then Some (v ++ c.cell ∷ []) else None) ≡ Some w → Puts c v w
-    go true next is is_next e =
-        let same : slice_set v c.number c.cell ≡ w = cc in
-        subst (Puts c v) same (set_here v c.number c.cell (ltb-true c.number (length v) is), λ k unlike. set_else v c.number k c.cell unlike)
-    go false true is is_next e =
-        let same : v ++ c.cell ∷ [] ≡ w = cc in
+    go : (cell : Cell) (inside next : Bool) → nat_lt c.number (length v) ≡ inside → nat_eq c.number (length v) ≡ next
+        → (if inside then Some (slice_set v c.number cell) else if next then Some (v ++ cell ∷ []) else None) ≡ Some w → Lies c v cell w
+    go cell true next is is_next e =
+        let same : slice_set v c.number cell ≡ w = cc in
+        subst (Lies c v cell) same (set_here v c.number cell (ltb-true c.number (length v) is), λ k unlike. set_else v c.number k cell unlike)
+    go cell false true is is_next e =
+        let same : v ++ cell ∷ [] ≡ w = cc in
         let number = eqb-true c.number (length v) is_next in
-        subst (Puts c v) same
-        (subst (λ (n : ℕ). slice_get (v ++ c.cell ∷ []) n ≡ Some c.cell) (sym number) (last_here v c.cell), λ k unlike. last_else v k c.cell (λ is_k. unlike (number ∙ is_k)))
-    go false false is is_next e = absurd cc
+        subst (Lies c v cell) same
+        (subst (λ (n : ℕ). slice_get (v ++ cell ∷ []) n ≡ Some cell) (sym number) (last_here v cell), λ k unlike. last_else v k cell (λ is_k. unlike (number ∙ is_k)))
+    go cell false false is is_next e = absurd cc
 
-puts_all : (cells : List NumberedCell) (v w : List Cell) → Sorted nat_cmp (λ c. c.number) cells → in_turn put_cell cells v ≡ Some w
-    → AllAre (λ c. slice_get w c.number ≡ Some c.cell) cells × ((k : ℕ) → NoneAt (λ c. c.number) k cells → slice_get w k ≡ slice_get v k)
+abbrev PutsAll : List NumberedCell → List Cell → List Cell → Type 0
+PutsAll cells v w = AllAre (Stands v w) cells × ((k : ℕ) → NoneAt (λ c. c.number) k cells → slice_get w k ≡ slice_get v k)
+
+puts_all : (cells : List NumberedCell) (v w : List Cell) → Sorted nat_cmp (λ c. c.number) cells → in_turn put_cell cells v ≡ Some w → PutsAll cells v w
 puts_all [] v w rise e = let same : v ≡ w = cc in (tt, λ k none. ap (λ (l : List Cell). slice_get l k) (sym same))
 puts_all (c ∷ cells) v w rise e = go (λ u. puts_all cells u w rise.1) (put_cell c v) refl e
   where
-    go : ((u : List Cell) → in_turn put_cell cells u ≡ Some w → AllAre (λ c. slice_get w c.number ≡ Some c.cell) cells × ((k : ℕ) → NoneAt (λ c. c.number) k cells → slice_get w k ≡ slice_get u k))
-        → (o : Option (List Cell)) → put_cell c v ≡ o → (o >>= in_turn put_cell cells) ≡ Some w
-        → AllAre (λ c. slice_get w c.number ≡ Some c.cell) (c ∷ cells) × ((k : ℕ) → NoneAt (λ c. c.number) k (c ∷ cells) → slice_get w k ≡ slice_get v k)
+    -- what stands at a later number stood so before this cell was put
+    still : (u : List Cell) (d : NumberedCell) → ¬ (c.number ≡ d.number) → Puts c v u → Stands u w d → Stands v w d
+    still u d unlike one (cell, at, makes) = (cell, at, subst (λ (o : Option Cell). written_cell d.cell o ≡ Some cell) (one.1 d.number unlike) makes)
+
+    go : ((u : List Cell) → in_turn put_cell cells u ≡ Some w → PutsAll cells u w) → (o : Option (List Cell)) → put_cell c v ≡ o → (o >>= in_turn put_cell cells) ≡ Some w → PutsAll (c ∷ cells) v w
     go next None is e = absurd cc
     go next (Some u) is e =
         let rest = next u e in
         let one = put_one c v u is in
         let none = above_none nat_cmp nat_cmp_total exact_unsigned (λ (d : NumberedCell). d.number) c.number cells rise.0 in
-        ((rest.1 c.number none ∙ one.0, rest.0), λ k none_k. rest.1 k none_k.1 ∙ one.1 k none_k.0)
+        let later = both_all (λ d. ¬ (d.number ≡ c.number)) (Stands u w) cells none rest.0 in (
+          (
+            (one.0.0, rest.1 c.number none ∙ one.0.1, one.0.2),
+            all_to (λ d. ¬ (d.number ≡ c.number) × Stands u w d) (Stands v w) (λ d both. still u d (λ same. both.0 (sym same)) one both.1) cells later,
+          ),
+          λ k none_k. rest.1 k none_k.1 ∙ one.1 k none_k.0,
+        )
 
 module _ (before now : List Cell) where
   abbrev IsChanged : NumberedCell → Type 0
-  IsChanged c = (slice_get now c.number ≡ Some c.cell) × ¬ (slice_get before c.number ≡ Some c.cell)
+  IsChanged c = Stands before now c × CellDiffers (slice_get before c.number) c.cell
 
   same_cell : (c d : NumberedCell) → c.number ≡ d.number → IsChanged c → IsChanged d → c ≡ d
-  same_cell c d same first second =
-      let both : Some c.cell ≡ Some d.cell = sym first.0 ∙ ap (slice_get now) same ∙ second.0 in
-      let cells : c.cell ≡ d.cell = cc in
-      ap (λ (n : ℕ). record c { number = n }) same ∙ ap (λ (x : Cell). record d { cell = x }) cells
+  same_cell c d same ((cell, at, makes), differs) ((other, at_too, makes_too), differs_too) =
+      let both : Some cell ≡ Some other = sym at ∙ ap (slice_get now) same ∙ at_too in
+      let stood = ap (slice_get before) same in
+      let written = one_way c.cell d.cell (slice_get before d.number) other (ap (written_cell c.cell) (sym stood) ∙ makes ∙ both) makes_too (subst (IsShortCell c.cell) stood differs.1) differs_too.1 in
+      ap (λ (n : ℕ). record c { number = n }) same ∙ ap (λ (x : WrittenCell). record d { cell = x }) written
 
   cells_within : (cs ds : List NumberedCell) → AllAre IsChanged cs → ((k : ℕ) → NoneAt (λ c. c.number) k ds → slice_get now k ≡ slice_get before k) → Within (λ c. c.number) cs ds
   cells_within cs ds changes others = λ k none.
-      all_to IsChanged (λ c. ¬ (c.number ≡ k)) (λ c change its. change.1 (sym (subst (λ (m : ℕ). slice_get now m ≡ slice_get before m) (sym its) (others k none)) ∙ change.0)) cs changes
+      all_to IsChanged (λ c. ¬ (c.number ≡ k))
+      (λ c change its. change.1.0 (change.0.2 ∙ sym change.0.1 ∙ subst (λ (m : ℕ). slice_get now m ≡ slice_get before m) (sym its) (others k none))) cs changes
 
-  changed_all : (cs : List NumberedCell) → AllAre (λ c. slice_get now c.number ≡ Some c.cell) cs → CellsDiffer before cs → AllAre IsChanged cs
-  changed_all cs stands differ = both_all (λ c. slice_get now c.number ≡ Some c.cell) (λ c. ¬ (slice_get before c.number ≡ Some c.cell)) cs stands differ
+  changed_all : (cs : List NumberedCell) → AllAre (Stands before now) cs → CellsDiffer before cs → AllAre IsChanged cs
+  changed_all cs stands differ = both_all (Stands before now) (λ c. CellDiffers (slice_get before c.number) c.cell) cs stands differ
 
   pub one_cells : (cs ds : List NumberedCell) → Sorted nat_cmp (λ c. c.number) cs → Sorted nat_cmp (λ c. c.number) ds → in_turn put_cell cs before ≡ Some now → in_turn put_cell ds before ≡ Some now
       → CellsDiffer before cs → CellsDiffer before ds → cs ≡ ds

@@ -10,8 +10,9 @@ use Rattle.model_values.specs.declared.cell.Cell.{Cell}
 use Rattle.model_run.specs.Fitting.{NamesRise, Rises}
 use Rattle.delta_form.specs.Applying.{◌>>=◌}
 use Rattle.delta_form.specs.Changes.{by_number, changed}
-use Rattle.delta_form.specs.After.{gone}
+use Rattle.delta_form.specs.After.{gone, written_cell}
 use Rattle.delta_form.specs.declared.delta.NumberedCell.{NumberedCell}
+use Rattle.delta_form.specs.declared.delta.WrittenCell.{WrittenCell}
 use Rattle.image_changes.specs.Parts.{PutsBindings, PutsCells, Renews}
 use Rattle.image_changes.specs.Walks.{Above, Adds, Binds, BindingsReach, CellsReach, Leads, NotesBinding, NotesCell, PutsFrom, Reaches, Stays}
 use Rattle.image_changes.specs.declared.walk.Walk.{Walk}
@@ -29,18 +30,19 @@ cells_begin before now = λ more puts. puts
 one_before : {A : Type 0} (found more : List A) (x : A) → (found ++ x ∷ []) ++ more ≡ found ++ x ∷ more
 one_before found more x = append_assoc found (x ∷ []) more
 
-found_before : (before now : List Cell) (place : ℕ) (cell : Cell) (more : List NumberedCell) → slice_get now place ≡ Some cell → PutsFrom (suc place) (drop (suc place) before) (drop (suc place) now) more → PutsFrom place (drop place before) (drop place now) (numbered place cell ∷ more)
-found_before before now place cell more at puts = go (slice_get before place) refl
+found_before : (before now : List Cell) (place : ℕ) (cell : Cell) (w : WrittenCell) (more : List NumberedCell) → slice_get now place ≡ Some cell → written_cell w (slice_get before place) ≡ Some cell
+    → PutsFrom (suc place) (drop (suc place) before) (drop (suc place) now) more → PutsFrom place (drop place before) (drop place now) (numbered place w ∷ more)
+found_before before now place cell w more at makes puts = go (slice_get before place) refl
   where
-    go : (o : Option Cell) → slice_get before place ≡ o → PutsFrom place (drop place before) (drop place now) (numbered place cell ∷ more)
+    go : (o : Option Cell) → slice_get before place ≡ o → PutsFrom place (drop place before) (drop place now) (numbered place w ∷ more)
     go (Some b) is =
-        subst (λ (bs : List Cell). PutsFrom place bs (drop place now) (numbered place cell ∷ more)) (sym (from_item before place b is))
-        (subst (λ (ns : List Cell). PutsFrom place (b ∷ drop (suc place) before) ns (numbered place cell ∷ more)) (sym (from_item now place cell at))
-        (cell_changed place (drop (suc place) before) (drop (suc place) now) more puts b cell))
+        subst (λ (bs : List Cell). PutsFrom place bs (drop place now) (numbered place w ∷ more)) (sym (from_item before place b is))
+        (subst (λ (ns : List Cell). PutsFrom place (b ∷ drop (suc place) before) ns (numbered place w ∷ more)) (sym (from_item now place cell at))
+        (cell_changed place (drop (suc place) before) (drop (suc place) now) more puts b cell w (subst (λ (o : Option Cell). written_cell w o ≡ Some cell) is makes)))
     go None is =
-        subst (λ (bs : List Cell). PutsFrom place bs (drop place now) (numbered place cell ∷ more)) (sym (from_end before place is))
-        (subst (λ (ns : List Cell). PutsFrom place [] ns (numbered place cell ∷ more)) (sym (from_item now place cell at))
-        (cell_added place (drop (suc place) now) more cell (subst (λ (bs : List Cell). PutsFrom (suc place) bs (drop (suc place) now) more) (past_end before place is) puts)))
+        subst (λ (bs : List Cell). PutsFrom place bs (drop place now) (numbered place w ∷ more)) (sym (from_end before place is))
+        (subst (λ (ns : List Cell). PutsFrom place [] ns (numbered place w ∷ more)) (sym (from_item now place cell at))
+        (cell_added place (drop (suc place) now) more cell w (subst (λ (o : Option Cell). written_cell w o ≡ Some cell) is makes) (subst (λ (bs : List Cell). PutsFrom (suc place) bs (drop (suc place) now) more) (past_end before place is) puts)))
 
 pub cell_noted : (before now : List Cell) (place : ℕ) (cell : Cell) (old new : List NumberedCell) → slice_get now place ≡ Some cell → NotesCell before place cell old new → CellsReach before now place old → CellsReach before now (suc place) new
 cell_noted before now place cell old new at (inl same) reach = λ more puts.
@@ -49,10 +51,10 @@ cell_noted before now place cell old new at (inl same) reach = λ more puts.
     (subst (λ (bs : List Cell). PutsFrom place bs (drop place now) more) (sym (from_item before place cell same.0))
     (subst (λ (ns : List Cell). PutsFrom place (cell ∷ drop (suc place) before) ns more) (sym (from_item now place cell at))
     (cell_stays place (drop (suc place) before) (drop (suc place) now) more puts cell))))
-cell_noted before now place cell old new at (inr put) reach = λ more puts.
-    subst (λ (l : List NumberedCell). PutsFrom 0 before now (l ++ more)) (sym put.1)
-    (subst (λ (l : List NumberedCell). PutsFrom 0 before now l) (sym (one_before old more (numbered place cell)))
-    (reach (numbered place cell ∷ more) (found_before before now place cell more at puts)))
+cell_noted before now place cell old new at (inr (unlike, (w, writes, is))) reach = λ more puts.
+    subst (λ (l : List NumberedCell). PutsFrom 0 before now (l ++ more)) (sym is)
+    (subst (λ (l : List NumberedCell). PutsFrom 0 before now l) (sym (one_before old more (numbered place w)))
+    (reach (numbered place w ∷ more) (found_before before now place cell w more at writes.0 puts)))
 
 pub cells_end : (before now : List Cell) (place : ℕ) (found : List NumberedCell) → length before ≤ length now → length now ≤ place → CellsReach before now place found → PutsCells before now (Some found)
 cells_end before now place found longer all reach =

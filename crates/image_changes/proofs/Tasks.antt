@@ -1,12 +1,11 @@
 -- Tasks that have grown.
-use Rattle.std.proofs.Common.{◌≡◌, ◌∙◌, ℕ, List, [], ◌++◌, Option, Some, None, refl, sym, ap}
+use Rattle.std.proofs.Common.{◌≡◌, ◌∙◌, ℕ, List, [], ◌++◌, Option, Some, None, sym, ap}
 use Rattle.std.specs.Option.{option_map}
 use Rattle.model_run.specs.declared.request.Request.{Request}
 use Rattle.model_run.specs.declared.request.Request.TheVariants as request
 use Rattle.model_run.specs.declared.request.OpenRequest.{OpenRequest}
 use Rattle.delta_form.specs.After.{grown}
-use Rattle.image_changes.specs.Least.{CannotGrow}
-use Rattle.image_changes.specs.Growing.{IsSameTask, TaskGrows}
+use Rattle.image_changes.specs.Growing.{IsSameTask}
 
 abbrev pub taken_of : Request → ℕ
 taken_of (request.Task executor workspace folder env script status keep_out taken out) = taken
@@ -39,9 +38,3 @@ growth stood item taken added None is made = absurd cc
 growth stood item taken added (Some q) is made =
     let same : record stood { request = q } ≡ item = cc in
     (ap (λ (r : OpenRequest). r.thread) same, is ∙ ap (λ (r : OpenRequest). Some r.request) same)
-
-pub of_another_thread : (stood item : OpenRequest) → ¬ (stood.thread ≡ item.thread) → CannotGrow stood item
-of_another_thread stood item differs = λ number taken added made. differs (growth stood item taken added (grown taken added stood.request) refl made).0
-
-pub not_grown : (stood item : OpenRequest) → TaskGrows stood.request item.request None → CannotGrow stood item
-not_grown stood item none = λ number taken added made. none taken added (growth stood item taken added (grown taken added stood.request) refl made).1

@@ -1,14 +1,16 @@
--- What alone differs of requests and threads that are written short (this product's own).
+-- What alone differs of cells, requests and threads that are written short (this product's own).
 use Rattle.std.specs.Prelude.{◌≡◌, ℕ, List, drop, Option, Some, None}
+use Rattle.model_values.specs.declared.cell.Cell.{Cell}
 use Rattle.model_run.specs.declared.request.Request.{Request}
 use Rattle.model_run.specs.declared.request.Request.TheVariants as request
 use Rattle.model_run.specs.declared.request.OpenRequest.{OpenRequest}
 use Rattle.image_form.specs.declared.image.ImageThread.{ImageThread}
-use Rattle.delta_form.specs.After.{grown, written_request}
+use Rattle.delta_form.specs.After.{grown, written_cell, written_request}
 use Rattle.delta_form.specs.Numbers.{written_number}
+use Rattle.delta_form.specs.declared.delta.WrittenCell.{WrittenCell}
 use Rattle.delta_form.specs.declared.delta.WrittenRequest.{WrittenRequest}
 use Rattle.delta_form.specs.declared.delta.WrittenThread.{WrittenThread}
-use Rattle.image_changes.specs.Least.{CannotGrow, IsShort}
+use Rattle.image_changes.specs.Least.{CannotGrow, CannotGrowTo, IsShort, IsShortCell}
 use Rattle.image_changes.specs.declared.requests.Growth.{Growth}
 
 -- both are tasks of the same executor, workspace, folder and environment
@@ -35,6 +37,15 @@ TaskGrows stood item (Some g) = grown g.taken g.out stood ≡ Some item
 abbrev pub Grows : OpenRequest → OpenRequest → Option WrittenRequest → Type 0
 Grows stood item None = CannotGrow stood item
 Grows stood item (Some w) = (written_number w ≡ item.number) × (written_request w (Some stood) ≡ Some (Some item)) × IsShort w stood
+
+-- It makes the cell of what stood, and is the shortest that does.
+abbrev pub WritesCell : Option Cell → Cell → WrittenCell → Type 0
+WritesCell stood cell w = (written_cell w stood ≡ Some cell) × IsShortCell w stood
+
+-- What stood grows so to the cell; or nothing behind it makes the cell.
+abbrev pub CellGrows : Option Cell → Cell → Option WrittenCell → Type 0
+CellGrows stood cell None = CannotGrowTo stood cell
+CellGrows stood cell (Some w) = WritesCell stood cell w
 
 -- two threads differ at most in their frames
 abbrev pub HasSameNumbers : ImageThread → ImageThread → Type 0

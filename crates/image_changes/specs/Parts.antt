@@ -19,11 +19,6 @@ abbrev pub LeadsTo : Image → Image → Option Delta → Type 0
 LeadsTo before now None = ((d : Delta) → ¬ (after before d ≡ Some now)) ⊎ (2 ^ 32 < length now.cells)
 LeadsTo before now (Some d) = after before d ≡ Some now
 
--- the list now is the list before and these behind it
-abbrev pub FrontOf : {V : Type 0} → List V → List V → Option (List V) → Type 0
-FrontOf before now None = (more : List _) → ¬ (now ≡ before ++ more)
-FrontOf before now (Some more) = now ≡ before ++ more
-
 -- a flow node without its number
 abbrev pub as_new : FlowNode → NewNode
 as_new n = record { kind = n.kind; name = n.name; start = n.start; parents = n.parents }

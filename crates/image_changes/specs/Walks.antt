@@ -11,7 +11,9 @@ use Rattle.delta_form.specs.Applying.{in_turn}
 use Rattle.delta_form.specs.Changes.{by_number, changed, rising}
 use Rattle.delta_form.specs.After.{are_apart, binding_changes, gone, put_cell}
 use Rattle.delta_form.specs.declared.delta.NumberedCell.{NumberedCell}
+use Rattle.delta_form.specs.declared.delta.WrittenCell.{WrittenCell}
 use Rattle.image_changes.specs.Least.{AllNeeded}
+use Rattle.image_changes.specs.Growing.{WritesCell}
 use Rattle.image_changes.specs.declared.walk.Walk.{Walk}
 
 -- all items have keys above this one
@@ -91,12 +93,25 @@ pub record Goes {C X : Type 0} (by : X → ℕ) (number : C → ℕ) (made : C �
   pub passed : Passed by before now walk
   pub needed : AllNeeded by number made shortest before walk.written
 
+-- what makes the cell of what stood was put behind the changed ones
+abbrev pub PutsCell : List Cell → ℕ → Cell → List NumberedCell → List NumberedCell → Type 0
+PutsCell before place cell old new = (w : WrittenCell) × WritesCell (slice_get before place) cell w × (new ≡ old ++ record { number = place; cell = w } ∷ [])
+
 -- a cell stood so at its place, or it was put behind the changed ones
 abbrev pub NotesCell : List Cell → ℕ → Cell → List NumberedCell → List NumberedCell → Type 0
 NotesCell before place cell old new =
-    ((slice_get before place ≡ Some cell) × (new ≡ old)) ⊎ (¬ (slice_get before place ≡ Some cell) × (new ≡ old ++ record { number = place; cell = cell } ∷ []))
+    ((slice_get before place ≡ Some cell) × (new ≡ old)) ⊎ (¬ (slice_get before place ≡ Some cell) × PutsCell before place cell old new)
 
 -- a variable stood so at the place, which is passed, or it was put behind the new ones
 abbrev pub NotesBinding : List Binding → ℕ → Binding → List Binding → List Binding → ℕ → Type 0
 NotesBinding before place binding old new next =
     ((slice_get before place ≡ Some binding) × (next ≡ place + 1) × (new ≡ old)) ⊎ (¬ (slice_get before place ≡ Some binding) × (next ≡ place) × (new ≡ old ++ binding ∷ []))
+
+-- these cells are compared one after the other, from what was put behind to what is put behind then
+abbrev pub NotesAll : List Cell → List Cell → List ℕ → List NumberedCell → List NumberedCell → Type 0
+NotesAll before now [] old new = new ≡ old
+NotesAll before now (id ∷ ids) old new = (cell : Cell) × (mid : List NumberedCell) × (slice_get now id ≡ Some cell) × NotesCell before id cell old mid × NotesAll before now ids mid new
+
+-- the cells that were found of the first so many, and what the rest finds, are what all find
+abbrev pub NotesReach : List Cell → List Cell → List ℕ → ℕ → List NumberedCell → Type 0
+NotesReach before now ids count found = (all : List NumberedCell) → NotesAll before now (drop count ids) found all → NotesAll before now ids [] all

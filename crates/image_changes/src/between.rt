@@ -1,4 +1,4 @@
-//! The changes from one image to another.
+//! The changes from an image to what stands in the build now.
 
 ghost use Rattle.std.specs.Prelude.{◌≡◌, IfOk, IfSome, Some};
 ghost use Rattle.record_form.specs.Ordered.{IsInOrder};
@@ -6,9 +6,12 @@ ghost use Rattle.delta_form.specs.After.{after};
 ghost use Rattle.image_form.specs.declared.image.Image.{Image as AnyImage};
 ghost use Rattle.image_changes.specs.Least.{IsLeast};
 ghost use Rattle.image_changes.specs.Parts.{LeadsTo};
+ghost use Rattle.image_changes.specs.Seen.{KeepsUnmarked, image_seen};
 ghost use Rattle.image_changes.specs.Whole.{AreLeast, PartsLead};
+ghost use Rattle.model_run.specs.FlowNodes.{IsFront};
 
 use crate::lists::{added_log, changed_cells, new_bindings, new_nodes};
+use crate::now::Now;
 use crate::walk::{Walk, renewal};
 use delta_form::{Delta, NewNodes, NumberedCells, WrittenRequest, WrittenThread};
 use image_form::Image;
@@ -17,21 +20,28 @@ use model_text::{Bytes, Sequence};
 use model_values::Binding;
 use std::alloc::{AllocError, Global};
 
-/// What leads from the image before to the image now, or `None` where a variable, a cell, a flow node or what was logged
-/// before does not stand there now, or there are more than 4,294,967,296 cells. `AllocError` where the memory was
-/// refused.
+/// What leads from the image before to the build now, or `None` where a variable from before does not stand there now.
+/// `AllocError` where the memory was refused.
 ///
-/// It holds what changed alone, so there is one such delta: cells, requests and threads that did not change are not
+/// Each cell that is not marked has to stand in the image before, and the flow nodes and the log before have to be the
+/// beginning of those now, as behind an event of which the image before is that in front of it: these are not compared. It
+/// takes the time of what is compared, the marked cells, the variables, the open requests and the threads, and of what is
+/// copied, the new flow nodes and what was logged behind the log from before.
+///
+/// The delta holds what changed alone, so there is one such delta: cells, requests and threads that did not change are not
 /// listed, a thread keeps all its frames in front that are the same, and a task that differs in what was taken and in
 /// what came to its output alone is written short.
 pub fn changes_between(
     alloc: Global,
     before: &Image,
-    now: &Image,
+    now: &Now<'_>,
 ) -> Result<Option<Delta>, AllocError>
     requires before { IsInOrder before.now }
-    requires now { IsInOrder now.now }
-    ensures leads { IfOk result (LeadsTo before.now now.now) }
+    requires now { IsInOrder (image_seen now.now) }
+    requires cells { KeepsUnmarked before.now.cells now.now.cells.now }
+    requires nodes { IsFront before.now.nodes now.now.nodes.now }
+    requires log { IsFront before.now.log now.now.log.now }
+    ensures leads { IfOk result (LeadsTo before.now (image_seen now.now)) }
     ensures least { IfOk result (λ changes. IfSome changes (IsLeast before.now)) }
 {
     match parts_between(alloc, before, now)? {
@@ -52,44 +62,34 @@ pub(crate) struct Parts {
     pub threads: Walk<WrittenThread>,
 }
 
-/// What leads from the image before to the image now, part by part.
-fn parts_between(alloc: Global, before: &Image, now: &Image) -> Result<Option<Parts>, AllocError>
+/// What leads from the image before to the build now, part by part.
+fn parts_between(alloc: Global, before: &Image, now: &Now<'_>) -> Result<Option<Parts>, AllocError>
     requires before { IsInOrder before.now }
-    requires now { IsInOrder now.now }
-    ensures leads { IfOk result (PartsLead before.now now.now) }
+    requires now { IsInOrder (image_seen now.now) }
+    requires cells { KeepsUnmarked before.now.cells now.now.cells.now }
+    requires nodes { IsFront before.now.nodes now.now.nodes.now }
+    requires log { IsFront before.now.log now.now.log.now }
+    ensures leads { IfOk result (PartsLead before.now (image_seen now.now)) }
     ensures least { IfOk result (λ parts. IfSome parts (AreLeast before.now)) }
 {
-    let Some(log) = added_log(alloc, before.log.as_slice(), now.log.as_slice())? else {
+    let Some(bindings) = new_bindings(alloc, before.bindings.as_slice(), now.bindings)? else {
         return Ok(None);
     };
-    let Some(nodes) = new_nodes(alloc, before.nodes.as_slice(), now.nodes.as_slice())? else {
-        return Ok(None);
-    };
-    let Some(cells) = changed_cells(alloc, before.cells.as_slice(), now.cells.as_slice())? else {
-        return Ok(None);
-    };
-    let Some(bindings) = new_bindings(alloc, before.bindings.as_slice(), now.bindings.as_slice())?
-    else {
-        return Ok(None);
-    };
-    let requests = renewal(alloc, before.requests.as_slice(), now.requests.as_slice())?;
-    let held = copied_held(&now.held)?;
-    let threads = renewal(alloc, before.threads.as_slice(), now.threads.as_slice())?;
     Ok(Some(Parts {
         bindings,
-        cells,
-        nodes,
-        log,
-        requests,
-        held,
-        threads,
+        cells: changed_cells(alloc, before.cells.as_slice(), now.cells)?,
+        nodes: new_nodes(alloc, before.nodes.as_slice(), now.nodes)?,
+        log: added_log(alloc, before.log.as_slice(), now.log)?,
+        requests: renewal(alloc, before.requests.as_slice(), now.requests)?,
+        held: HeldExecutors::from_slice(alloc, now.held)?,
+        threads: renewal(alloc, before.threads.as_slice(), now.threads)?,
     }))
 }
 
 /// The delta of these parts.
-fn delta_of(now: &Image, parts: Parts) -> Delta
-    requires { IsInOrder now.now }
-    ensures leads { (before : AnyImage) → PartsLead before now.now (Some parts) → after before result ≡ Some now.now }
+fn delta_of(now: &Now<'_>, parts: Parts) -> Delta
+    requires { IsInOrder (image_seen now.now) }
+    ensures leads { (before : AnyImage) → PartsLead before (image_seen now.now) (Some parts) → after before result ≡ Some (image_seen now.now) }
     ensures least { (before : AnyImage) → AreLeast before parts → IsLeast before result }
 {
     let Parts {
@@ -116,12 +116,4 @@ fn delta_of(now: &Image, parts: Parts) -> Delta
         ended_threads: threads.gone,
         threads: threads.written,
     }
-}
-
-/// The same held executors once more.
-fn copied_held(held: &HeldExecutors) -> Result<HeldExecutors, AllocError>
-    ensures { IfOk result (λ copy. copy ≡ held.now) }
-{
-    let copy = held.clone()?;
-    Ok(copy)
 }

@@ -1,46 +1,45 @@
 //! Lists that only get more behind them, or whose items are replaced in their places.
 
-ghost use Rattle.std.specs.Prelude.{◌≡◌, ◌<◌, ◌^◌, IfOk, IfSome, OnOk, map};
+ghost use Rattle.std.specs.Prelude.{◌≡◌, ◌<◌, ◌^◌, ◌++◌, IfOk, OnOk, length, map};
 ghost use Rattle.std.specs.List.{AllByRecursion as AllAre};
 ghost use Rattle.model_run.specs.Fitting.{NamesRise, NodesFit};
 ghost use Rattle.image_changes.specs.Least.{CellsDiffer};
-ghost use Rattle.image_changes.specs.Parts.{FrontOf, PutsBindings, PutsCells, PutsNodes, as_new};
+ghost use Rattle.model_run.specs.FlowNodes.{IsFront};
+ghost use Rattle.cell_heap.specs.Marks.{places};
+ghost use Rattle.image_changes.specs.Seen.{KeepsUnmarked};
+ghost use Rattle.image_changes.specs.Parts.{PutsBindings, PutsCells, PutsNodes, as_new};
 ghost use Rattle.image_changes.specs.Walks.{NotesBinding, NotesCell};
 
-use crate::same::{behind, is_at};
+use crate::same::is_at;
+use crate::written::written_cell;
+use cell_heap::Heap;
 use delta_form::{NewNode, NewNodes, NumberedCell, NumberedCells};
 use model_run::FlowNode;
 use model_text::{Bytes, Sequence};
 use model_values::{Binding, Cell};
 use std::alloc::{AllocError, Global};
 
-/// What was logged behind the log from before, where that is the beginning of the log now.
-pub(crate) fn added_log(
-    alloc: Global,
-    before: &[u8],
-    now: &[u8],
-) -> Result<Option<Bytes>, AllocError>
-    ensures { IfOk result (FrontOf before.now now.now) }
+/// What was logged behind the log from before, which is the beginning of the log now.
+pub(crate) fn added_log(alloc: Global, before: &[u8], now: &[u8]) -> Result<Bytes, AllocError>
+    requires front { IsFront before.now now.now }
+    ensures { IfOk result (λ added. now.now ≡ before.now ++ added) }
 {
-    match now.strip_prefix(before) {
-        Some(added) => Ok(Some(Sequence::from_slice(alloc, added)?)),
-        None => Ok(None),
-    }
+    let added = Sequence::from_slice(alloc, &now[before.len()..])?;
+    Ok(added)
 }
 
-/// The new flow nodes, where those from before are the first ones now.
+/// The new flow nodes: those from before are the first ones now.
 pub(crate) fn new_nodes(
     alloc: Global,
     before: &[FlowNode],
     now: &[FlowNode],
-) -> Result<Option<NewNodes>, AllocError>
-    requires { NodesFit 2 now.now }
-    ensures { IfOk result (PutsNodes before.now now.now) }
+) -> Result<NewNodes, AllocError>
+    requires fit { NodesFit 2 now.now }
+    requires front { IsFront before.now now.now }
+    ensures { IfOk result (λ news. PutsNodes before.now now.now (Some news)) }
 {
-    match behind(before, now) {
-        Some(added) => Ok(Some(nodes_as_new(alloc, added)?)),
-        None => Ok(None),
-    }
+    let news = nodes_as_new(alloc, &now[before.len()..])?;
+    Ok(news)
 }
 
 /// The same nodes, without their numbers.
@@ -69,27 +68,44 @@ fn as_new(node: &FlowNode) -> Result<NewNode, AllocError>
     })
 }
 
-/// The cells that are new or were changed, by their numbers, where none has gone.
+/// The cells that are new or were changed, by their numbers. Each of them is marked.
 pub(crate) fn changed_cells(
     alloc: Global,
     before: &[Cell],
-    now: &[Cell],
-) -> Result<Option<NumberedCells>, AllocError>
-    ensures puts { IfOk result (PutsCells before.now now.now) }
-    ensures differ { IfOk result (λ cells. IfSome cells (CellsDiffer before.now)) }
+    now: &Heap,
+) -> Result<NumberedCells, AllocError>
+    requires { KeepsUnmarked before.now now.now }
+    ensures puts { IfOk result (λ cells. PutsCells before.now now.now.cells (Some cells)) }
+    ensures differ { IfOk result (CellsDiffer before.now) }
 {
-    if now.len() < before.len() || now.len() > 4_294_967_296 {
-        return Ok(None);
-    }
+    let marked = now.changed_since()?;
+    let changed = changed_among(alloc, before, now, marked.as_slice())?;
+    Ok(changed)
+}
+
+/// Those of the marked cells that are new or were changed. The marked ones have these numbers.
+fn changed_among(
+    alloc: Global,
+    before: &[Cell],
+    now: &Heap,
+    marked: &[u32],
+) -> Result<NumberedCells, AllocError>
+    requires keeps { KeepsUnmarked before.now now.now }
+    requires marked { marked.now ≡ places now.now.changed }
+    requires each { length now.now.changed ≡ length now.now.cells }
+    ensures puts { IfOk result (λ cells. PutsCells before.now now.now.cells (Some cells)) }
+    ensures differ { IfOk result (CellsDiffer before.now) }
+{
     let mut changed = Sequence::new(alloc);
-    for (place, cell) in now.iter().enumerate() {
-        note_cell(&mut changed, before, place as u32, cell)?;
+    for id in marked {
+        note_cell(alloc, &mut changed, before, *id, now.get(*id))?;
     }
-    Ok(Some(changed))
+    Ok(changed)
 }
 
 /// Puts a cell behind the changed ones, unless it stood so at its place.
 fn note_cell(
+    alloc: Global,
     changed: &mut NumberedCells,
     before: &[Cell],
     place: u32,
@@ -98,17 +114,13 @@ fn note_cell(
     ensures { OnOk result (NotesCell before.now place cell.now changed.old changed.new) }
 {
     if !is_at(before, place as usize, cell) {
-        changed.push(numbered(place, cell)?)?;
+        let written = written_cell(alloc, before.get(place as usize), cell)?;
+        changed.push(NumberedCell {
+            number: place,
+            cell: written,
+        })?;
     }
     Ok(())
-}
-
-/// The same cell once more, with this number.
-fn numbered(number: u32, cell: &Cell) -> Result<NumberedCell, AllocError>
-    ensures { IfOk result (λ c. c ≡ record { number = number; cell = cell.now }) }
-{
-    let cell = cell.clone()?;
-    Ok(NumberedCell { number, cell })
 }
 
 /// The new variables, where each from before stands now as it stood.

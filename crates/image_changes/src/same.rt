@@ -4,7 +4,6 @@ ghost use Rattle.std.specs.Prelude.{◌≡◌, ◌↔◌, ◌<◌, ◌≤◌, �
 ghost use Rattle.std.specs.Map.Iter.{deref_pair};
 
 use image_form::ImageFrame;
-use model_run::FlowNode;
 use model_text::{Pair, Sequence, Text};
 use model_values::{Binding, Cell, Entries, Env, Key, Value};
 
@@ -47,12 +46,6 @@ impl Same for Pair {
 
 impl Same for Binding {
     fn is_same(&self, other: &Binding) -> bool {
-        self == other
-    }
-}
-
-impl Same for FlowNode {
-    fn is_same(&self, other: &FlowNode) -> bool {
         self == other
     }
 }
@@ -112,16 +105,20 @@ impl Same for Cell {
 
 impl Same for Entries {
     fn is_same(&self, other: &Entries) -> bool {
-        if self.len() != other.len() {
+        self.len() == other.len() && begins_with(other, self)
+    }
+}
+
+/// Whether the first entries of a map are those of another, which has no others.
+pub(crate) fn begins_with(entries: &Entries, front: &Entries) -> bool
+    ensures { IsTrue result ↔ (take (length front.now) entries.now ≡ front.now) }
+{
+    for place in 0..front.len() {
+        if !is_same_entry(front.entry_at(place), entries.entry_at(place)) {
             return false;
         }
-        for place in 0..self.len() {
-            if !is_same_entry(self.entry_at(place), other.entry_at(place)) {
-                return false;
-            }
-        }
-        true
     }
+    true
 }
 
 /// Whether both entries are the same.

@@ -1,10 +1,11 @@
 use Rattle.std.proofs.Common.{refl}
+use Rattle.image_changes.specs.Seen.{image_seen}
 use Rattle.image_changes.proofs.Leading.{leads}
 use Rattle.image_changes.proofs.between.delta_of.Goals as goal
 
 pub returns-clause-leads : goal.returns-clause-leads
 returns-clause-leads c = λ before parts.
-    let now = c.args.now.now in
+    let now = image_seen c.args.now.now in
     let p = c.args.parts in
     leads before now (record {
       next_request = now.next_request;

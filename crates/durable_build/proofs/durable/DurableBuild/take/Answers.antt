@@ -3,7 +3,9 @@ use Rattle.model_run.specs.declared.taken.Taken.{Taken}
 use Rattle.model_run.specs.declared.taken.Taken.TheVariants.{Accepted}
 use Rattle.model_run.specs.Taking.{taken}
 use Rattle.model_run.specs.State.{Setting}
+use Rattle.model_run.specs.World as W
 use Rattle.build_core.specs.Builds.{setting_in, standing_of}
+use Rattle.build_core.specs.Phases.{has_begun}
 use Rattle.build_images.specs.Images.{IsWhole, image_in}
 use Rattle.durable_build.specs.Standing.{Kept, Keeps}
 use Rattle.durable_build.specs.Taking.{Adds, IsSized, LeavesWhole, MayStart, TakeAnswers, TakeKeeps, TakeLeaves, TakeSources}
@@ -16,14 +18,14 @@ returns-in-Err-clause-keeps g c = λ ps keeps.
     let stance = g.R.ScriptThread.stance in
     let i = c.self.inside in
     let old : Kept g.row.D.Denot g.row.R.Denot = record { journal = i.journal; build = i.build; script = i.script; agents = i.agents; weights = i.last.weights; records = i.records; stopped = i.stopped } in
-    let new : Kept g.row.D.Denot g.row.R.Denot = record { journal = c.add.new.journal; build = c.take_event.new.build; script = i.script; agents = i.agents; weights = c.add.new.last.weights; records = i.records; stopped = true } in
+    let new : Kept g.row.D.Denot g.row.R.Denot = record { journal = c.add.new.journal; build = c.add.new.build; script = i.script; agents = i.agents; weights = c.add.new.last.weights; records = i.records; stopped = true } in
     let e = c.args.event.now in
     let accepted : c.in-Ok.answer ≡ Accepted = search rules in
     let running : i.stopped ≡ false = search rules in
     let here : Keeps D.reads D.may_leave stance old ps = subst (λ (k : Kept g.row.D.Denot g.row.R.Denot). Keeps D.reads D.may_leave stance k ps) (sym c.self.view_is) keeps in
     subst (λ (k : Kept g.row.D.Denot g.row.R.Denot). TakeKeeps D.reads D.may_leave D.clock D.may_have_left_since stance k new e ps (Err c.in-Err.fault)) c.self.view_is
-    (take_failed D.reads D.may_leave D.clock D.may_have_left_since stance old new e running (sym c.in-Ok.ensures.taken ∙ accepted) i.last.image (c.self.invariant.1 running) c.in-Ok.ensures.setting c.in-Ok.ensures.stands c.in-Err.fault ps
-    c.in-Err.ensures.adds here c.in-Err.ensures.world)
+    (take_failed D.reads D.may_leave D.clock D.may_have_left_since stance old new e running (sym c.in-Ok.ensures.taken ∙ accepted) i.last.image (c.self.invariant.1 running) (c.in-Err.ensures.same.setting ∙ c.in-Ok.ensures.setting) (λ w st. c.in-Err.ensures.same.stands (W.after_one (setting_in i.build) w e) (c.in-Ok.ensures.stands w st)) c.in-Err.fault ps
+    c.in-Err.ensures.adds here (λ no. (c.in-Err.ensures.image no).world))
 
 pub returns-clause-keeps : goal.returns-clause-keeps
 returns-clause-keeps g c = λ ps keeps.
@@ -31,7 +33,7 @@ returns-clause-keeps g c = λ ps keeps.
     let stance = g.R.ScriptThread.stance in
     let i = c.self.inside in
     let old : Kept g.row.D.Denot g.row.R.Denot = record { journal = i.journal; build = i.build; script = i.script; agents = i.agents; weights = i.last.weights; records = i.records; stopped = i.stopped } in
-    let new : Kept g.row.D.Denot g.row.R.Denot = record { journal = c.add.new.journal; build = c.take_event.new.build; script = c.keep_sources.new.script; agents = c.keep_sources.new.agents; weights = c.add.new.last.weights; records = i.records + 1; stopped = i.stopped } in
+    let new : Kept g.row.D.Denot g.row.R.Denot = record { journal = c.add.new.journal; build = c.add.new.build; script = c.keep_sources.new.script; agents = c.keep_sources.new.agents; weights = c.add.new.last.weights; records = i.records + 1; stopped = i.stopped } in
     let e = c.args.event.now in
     let accepted : c.in-Ok.answer ≡ Accepted = search rules in
     let running : i.stopped ≡ false = search rules in
@@ -42,8 +44,8 @@ returns-clause-keeps g c = λ ps keeps.
     let put = puts_of D.reads D.may_leave D.clock D.may_have_left_since stance old new e running answered i.last.image (c.self.invariant.1 running) (Ok c.in_default-add.field-0) ps c.in_default-add.ensures.adds here in
     subst (λ (t : Taken). TakeKeeps D.reads D.may_leave D.clock D.may_have_left_since stance c.args.self.now new e ps (Ok t)) (sym accepted)
     (subst (λ (k : Kept g.row.D.Denot g.row.R.Denot). Adds D.reads D.may_leave D.clock D.may_have_left_since stance k new e ps) c.self.view_is
-    (adds D.reads D.may_leave D.clock D.may_have_left_since stance old new e answered c.in-Ok.ensures.setting c.in-Ok.ensures.stands (c.in_default-add.ensures.world (λ is. cc)) ps
-    c.in-Ok-sources_of.sources here may c.in-Ok-sources_of.ensures (c.in-Ok.ensures.begun accepted) c.keep_sources.ensures.0 c.keep_sources.ensures.1 put.0 put.1 put.2 refl))
+    (adds D.reads D.may_leave D.clock D.may_have_left_since stance old new e answered (c.in_default-add.ensures.same.setting ∙ c.in-Ok.ensures.setting) (λ w st. c.in_default-add.ensures.same.stands (W.after_one (setting_in i.build) w e) (c.in-Ok.ensures.stands w st)) (c.in_default-add.ensures.image (λ is. cc)).world ps
+    c.in-Ok-sources_of.sources here may c.in-Ok-sources_of.ensures (ap has_begun c.in_default-add.ensures.same.phase ∙ c.in-Ok.ensures.begun accepted) c.keep_sources.ensures.0 c.keep_sources.ensures.1 put.0 put.1 put.2 refl))
 
 pub returns-in-Err-clause-size : goal.returns-in-Err-clause-size
 returns-in-Err-clause-size g c =
@@ -51,12 +53,12 @@ returns-in-Err-clause-size g c =
     let stance = g.R.ScriptThread.stance in
     let i = c.self.inside in
     let old : Kept g.row.D.Denot g.row.R.Denot = record { journal = i.journal; build = i.build; script = i.script; agents = i.agents; weights = i.last.weights; records = i.records; stopped = i.stopped } in
-    let new : Kept g.row.D.Denot g.row.R.Denot = record { journal = c.add.new.journal; build = c.take_event.new.build; script = i.script; agents = i.agents; weights = c.add.new.last.weights; records = i.records; stopped = true } in
+    let new : Kept g.row.D.Denot g.row.R.Denot = record { journal = c.add.new.journal; build = c.add.new.build; script = i.script; agents = i.agents; weights = c.add.new.last.weights; records = i.records; stopped = true } in
     let e = c.args.event.now in
     let accepted : c.in-Ok.answer ≡ Accepted = search rules in
     let running : i.stopped ≡ false = search rules in
     subst (λ (k : Kept g.row.D.Denot g.row.R.Denot). IsSized stance k new e (Err c.in-Err.fault)) c.self.view_is
-    (take_sized D.reads D.may_leave D.clock D.may_have_left_since stance old new e running (sym c.in-Ok.ensures.taken ∙ accepted) i.last.image (c.self.invariant.1 running) c.in-Ok.ensures.setting c.in-Ok.ensures.stands c.in-Err.fault c.in-Err.ensures.world)
+    (take_sized D.reads D.may_leave D.clock D.may_have_left_since stance old new e running (sym c.in-Ok.ensures.taken ∙ accepted) i.last.image (c.self.invariant.1 running) (c.in-Err.ensures.same.setting ∙ c.in-Ok.ensures.setting) (λ w st. c.in-Err.ensures.same.stands (W.after_one (setting_in i.build) w e) (c.in-Ok.ensures.stands w st)) c.in-Err.fault (λ no. (c.in-Err.ensures.image no).world))
 
 pub returns-in-Err-clause-answers : goal.returns-in-Err-clause-answers
 returns-in-Err-clause-answers g c =
@@ -64,7 +66,7 @@ returns-in-Err-clause-answers g c =
     let stance = g.R.ScriptThread.stance in
     let i = c.self.inside in
     let old : Kept g.row.D.Denot g.row.R.Denot = record { journal = i.journal; build = i.build; script = i.script; agents = i.agents; weights = i.last.weights; records = i.records; stopped = i.stopped } in
-    let new : Kept g.row.D.Denot g.row.R.Denot = record { journal = c.add.new.journal; build = c.take_event.new.build; script = i.script; agents = i.agents; weights = c.add.new.last.weights; records = i.records; stopped = true } in
+    let new : Kept g.row.D.Denot g.row.R.Denot = record { journal = c.add.new.journal; build = c.add.new.build; script = i.script; agents = i.agents; weights = c.add.new.last.weights; records = i.records; stopped = true } in
     let e = c.args.event.now in
     let accepted : c.in-Ok.answer ≡ Accepted = search rules in
     let running : i.stopped ≡ false = search rules in
@@ -77,7 +79,7 @@ returns-in-Err-clause-leaves g c =
     let stance = g.R.ScriptThread.stance in
     let i = c.self.inside in
     let old : Kept g.row.D.Denot g.row.R.Denot = record { journal = i.journal; build = i.build; script = i.script; agents = i.agents; weights = i.last.weights; records = i.records; stopped = i.stopped } in
-    let new : Kept g.row.D.Denot g.row.R.Denot = record { journal = c.add.new.journal; build = c.take_event.new.build; script = i.script; agents = i.agents; weights = c.add.new.last.weights; records = i.records; stopped = true } in
+    let new : Kept g.row.D.Denot g.row.R.Denot = record { journal = c.add.new.journal; build = c.add.new.build; script = i.script; agents = i.agents; weights = c.add.new.last.weights; records = i.records; stopped = true } in
     let e = c.args.event.now in
     let accepted : c.in-Ok.answer ≡ Accepted = search rules in
     let running : i.stopped ≡ false = search rules in
@@ -90,18 +92,18 @@ returns-clause-leaves g c =
     let stance = g.R.ScriptThread.stance in
     let i = c.self.inside in
     let old : Kept g.row.D.Denot g.row.R.Denot = record { journal = i.journal; build = i.build; script = i.script; agents = i.agents; weights = i.last.weights; records = i.records; stopped = i.stopped } in
-    let new : Kept g.row.D.Denot g.row.R.Denot = record { journal = c.add.new.journal; build = c.take_event.new.build; script = c.keep_sources.new.script; agents = c.keep_sources.new.agents; weights = c.add.new.last.weights; records = i.records + 1; stopped = i.stopped } in
+    let new : Kept g.row.D.Denot g.row.R.Denot = record { journal = c.add.new.journal; build = c.add.new.build; script = c.keep_sources.new.script; agents = c.keep_sources.new.agents; weights = c.add.new.last.weights; records = i.records + 1; stopped = i.stopped } in
     let e = c.args.event.now in
     let accepted : c.in-Ok.answer ≡ Accepted = search rules in
     let running : i.stopped ≡ false = search rules in
     subst (λ (t : Taken). TakeLeaves stance c.args.self.now new e (Ok t)) (sym accepted)
     (subst (λ (k : Kept g.row.D.Denot g.row.R.Denot). TakeLeaves stance k new e (Ok Accepted)) c.self.view_is
-    (added_left D.reads D.may_leave D.clock D.may_have_left_since stance old new e running (sym c.in-Ok.ensures.taken ∙ accepted) i.last.image (c.self.invariant.1 running) tt running (c.in-Ok.ensures.begun accepted) refl c.in_default-add.ensures.adds))
+    (added_left D.reads D.may_leave D.clock D.may_have_left_since stance old new e running (sym c.in-Ok.ensures.taken ∙ accepted) i.last.image (c.self.invariant.1 running) tt running (ap has_begun c.in_default-add.ensures.same.phase ∙ c.in-Ok.ensures.begun accepted) refl c.in_default-add.ensures.adds))
 
 pub returns-clause-sources : goal.returns-clause-sources
 returns-clause-sources g c =
     let i = c.self.inside in
-    let new : Kept g.row.D.Denot g.row.R.Denot = record { journal = c.add.new.journal; build = c.take_event.new.build; script = c.keep_sources.new.script; agents = c.keep_sources.new.agents; weights = c.add.new.last.weights; records = i.records + 1; stopped = i.stopped } in
+    let new : Kept g.row.D.Denot g.row.R.Denot = record { journal = c.add.new.journal; build = c.add.new.build; script = c.keep_sources.new.script; agents = c.keep_sources.new.agents; weights = c.add.new.last.weights; records = i.records + 1; stopped = i.stopped } in
     let e = c.args.event.now in
     let accepted : c.in-Ok.answer ≡ Accepted = search rules in
     let after = kept_after e c.in-Ok-sources_of.sources i.script i.agents c.in-Ok-sources_of.ensures in
@@ -111,16 +113,16 @@ returns-clause-sources g c =
 pub returns-in-Err-clause-whole : goal.returns-in-Err-clause-whole
 returns-in-Err-clause-whole g c =
     let stance = g.R.ScriptThread.stance in
-    let b = c.take_event.new.build in
-    let same = c.in-Ok.ensures.setting ∙ ap (λ (k : Kept g.row.D.Denot g.row.R.Denot). setting_in k.build) c.self.view_is in
-    fault_whole stance (setting_in c.args.self.now.build) b c.in-Err.fault same c.in-Err.ensures.whole
+    let b = c.add.new.build in
+    let same = c.in-Err.ensures.same.setting ∙ c.in-Ok.ensures.setting ∙ ap (λ (k : Kept g.row.D.Denot g.row.R.Denot). setting_in k.build) c.self.view_is in
+    fault_whole stance (setting_in c.args.self.now.build) b c.in-Err.fault same (λ no. (c.in-Err.ensures.image no).whole)
 
 pub returns-clause-whole : goal.returns-clause-whole
 returns-clause-whole g c =
     let stance = g.R.ScriptThread.stance in
-    let b = c.take_event.new.build in
+    let b = c.add.new.build in
     let setting = setting_in c.args.self.now.build in
     let accepted : c.in-Ok.answer ≡ Accepted = search rules in
-    let same = c.in-Ok.ensures.setting ∙ ap (λ (k : Kept g.row.D.Denot g.row.R.Denot). setting_in k.build) c.self.view_is in
+    let same = c.in_default-add.ensures.same.setting ∙ c.in-Ok.ensures.setting ∙ ap (λ (k : Kept g.row.D.Denot g.row.R.Denot). setting_in k.build) c.self.view_is in
     subst (λ (t : Taken). LeavesWhole stance setting b (Ok t)) (sym accepted)
-    (subst (λ (s : Setting). IsWhole s (image_in stance b)) same (c.in_default-add.ensures.whole (λ is. cc)))
+    (subst (λ (s : Setting). IsWhole s (image_in stance b)) same (c.in_default-add.ensures.image (λ is. cc)).whole)

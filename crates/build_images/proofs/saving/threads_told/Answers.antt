@@ -2,11 +2,11 @@ use Rattle.std.proofs.Common.{◌≡◌, ◌∙◌, List, ap, sym, subst}
 use Rattle.std.specs.List.{AllByRecursion as AllAre}
 use Rattle.green_threads.specs.declared.runner.Seated.{Seated}
 use Rattle.green_threads.specs.Threads.{Threads}
-use Rattle.cps_code.specs.Script.{IsScript, script_of}
+use Rattle.cps_code.specs.Script.{script_of}
 use Rattle.cps_frames.specs.declared.shared.Shared.{Shared}
 use Rattle.saved_thread.specs.Saving.{AtNodes}
-use Rattle.build_images.proofs.SavedBuilds.{at_nodes}
-use Rattle.build_images.proofs.saving.whole_of.Goals as goal
+use Rattle.build_images.proofs.SavedBuilds.{at_nodes, image_is, ordered, threads_ready, whole}
+use Rattle.build_images.proofs.saving.threads_told.Goals as goal
 
 pub threads_of-requires : goal.threads_of-requires
 threads_of-requires g c =
@@ -18,5 +18,14 @@ threads_of-requires g c =
           c.args.build.now.phase c.args.build.now.group c.args.build.now.shared c.requires.begun c.requires.goes_on c.shared-shared.ensures.sound));
     }
 
-pub returns-clause-script : goal.returns-clause-script
-returns-clause-script g c = subst (λ (u : Shared). IsScript (script_of u.code)) c.shared-shared.ensures.shared c.len-nodes.ensures.script
+pub returns-clause-image : goal.returns-clause-image
+returns-clause-image g c =
+    let b = c.args.build.now in
+    let on = c.requires.goes_on in
+    record {
+      world = λ w st. image_is g.R.ScriptThread.stance b w c.requires.begun
+          (threads_ready g.R.ScriptThread.stance g.R.Runner.number g.R.Runner.parent g.R.Runner.branch g.R.Runner.fits g.met.R.SavedThread.storable g.met.R.ScriptThread.shared_fits
+          b.phase b.group b.shared c.requires.begun on c.shared-shared.ensures.sound) st;
+      ordered = ordered g.R.ScriptThread.stance g.R.Runner.number g.R.Runner.parent g.R.Runner.branch g.R.Runner.fits g.met.R.SavedThread.storable g.met.R.ScriptThread.shared_fits b c.requires.begun on c.shared-shared.ensures.sound;
+      whole = whole g.R.ScriptThread.stance g.R.Runner.number g.R.Runner.parent g.R.Runner.branch g.R.Runner.fits g.met.R.SavedThread.storable g.met.R.ScriptThread.shared_fits g.met.R.SavedThread.fit_rested b c.requires.begun on c.shared-shared.ensures.sound;
+    }

@@ -1,0 +1,87 @@
+//! What an event changed of a build.
+ghost use Rattle.std.specs.Prelude.{◌≡◌, true, IfSome, IfOk, IfErr};
+ghost use Rattle.record_form.specs.Ordered.{IsInOrder};
+ghost use Rattle.image_changes.specs.Least.{IsLeast};
+ghost use Rattle.image_changes.specs.Parts.{LeadsTo};
+ghost use Rattle.image_changes.specs.Seen.{image_seen};
+ghost use Rattle.build_core.specs.Phases.{has_begun};
+ghost use Rattle.build_images.specs.Images.{HasImage, image_in};
+ghost use Rattle.durable_build.specs.Adding.{IsDueDelta, MarksChanges};
+
+use crate::store::Last;
+use agent_worker::TakeFault;
+use build_core::Build;
+use build_images::threads_in;
+use delta_form::Delta;
+use image_changes::{Now, changes_between};
+use image_form::{Image, ImageThreads};
+use saved_thread::SavedThread;
+use std::alloc::{AllocError, Global};
+
+/// What changed from the image of the last record, where the next record is to hold that alone.
+pub fn due_changes<R: SavedThread + Drop>(
+    alloc: Global,
+    build: &Build<R>,
+    last: &Last,
+) -> Result<Option<Delta>, TakeFault>
+    requires begun { has_begun build.now.phase ≡ true }
+    requires order { IfSome last.now.image IsInOrder }
+    requires marks { IfSome last.now.image (λ before. MarksChanges before build.now.shared) }
+    ensures due { IfOk result (IsDueDelta last.now.weights last.now.image (image_in R.stance build.now)) }
+    ensures image { IfOk result (λ changes. IfSome changes (λ _. HasImage R.stance build.now)) }
+    ensures fault { IfErr result (λ e. e ≡ TakeFault.Memory) }
+{
+    if last.weights.whole <= last.weights.behind {
+        return Ok(None);
+    }
+    match &last.image {
+        None => Ok(None),
+        Some(before) => match changes_from(alloc, before, build) {
+            Ok(changes) => Ok(changes),
+            Err(_) => Err(TakeFault::Memory),
+        },
+    }
+}
+
+/// What changed from this image. Cells that are not marked, flow nodes that stood and what was logged before are not looked at.
+/// `AllocError` where the memory was refused.
+fn changes_from<R: SavedThread + Drop>(
+    alloc: Global,
+    before: &Image,
+    build: &Build<R>,
+) -> Result<Option<Delta>, AllocError>
+    requires begun { has_begun build.now.phase ≡ true }
+    requires order { IsInOrder before.now }
+    requires marks { MarksChanges before.now build.now.shared }
+    ensures leads { IfOk result (LeadsTo before.now (image_in R.stance build.now)) }
+    ensures least { IfOk result (λ changes. IfSome changes (IsLeast before.now)) }
+    ensures image { IfOk result (λ _. HasImage R.stance build.now) }
+{
+    let threads = threads_in(build)?;
+    let changes = changes_between(alloc, before, &seen(build, &threads))?;
+    Ok(changes)
+}
+
+/// The parts of a build as they stand now, with what its image has of the threads.
+fn seen<'a, R: SavedThread + Drop>(build: &'a Build<R>, threads: &'a ImageThreads) -> Now<'a>
+    requires { threads.now ≡ (image_in R.stance build.now).threads }
+    ensures image { image_seen result ≡ image_in R.stance build.now }
+    ensures cells { result.cells.now ≡ build.now.shared.heap }
+    ensures nodes { result.nodes.now ≡ build.now.shared.graph }
+    ensures log { result.log.now ≡ build.now.shared.log }
+{
+    let shared = build.shared();
+    Now {
+        next_request: shared.next_request,
+        next_thread: build.group().next(),
+        result: shared.result,
+        ended: build.has_ended(),
+        bindings: &shared.binding,
+        cells: &shared.heap,
+        nodes: shared.graph.nodes(),
+        log: shared.log.bytes(),
+        requests: shared.requests.as_slice(),
+        held: shared.held.as_slice(),
+        threads: threads.as_slice(),
+    }
+}

@@ -1,0 +1,35 @@
+//! The parts of a build as they stand now.
+
+use cell_heap::Heap;
+use image_form::ImageThread;
+use model_run::{BuildResult, FlowNode, Held, OpenRequest};
+use model_values::Binding;
+
+/// The parts of a build as they stand now, borrowed: what an image of it holds, without a copy.
+///
+/// A contract says `image_seen` of it: the image that holds these parts.
+#[derive(Drop)]
+pub struct Now<'a> {
+    /// The number that the next request gets.
+    pub next_request: u32,
+    /// The number that the next green thread gets.
+    pub next_thread: u32,
+    /// The result so far.
+    pub result: BuildResult,
+    /// Whether the build has ended.
+    pub ended: bool,
+    /// The variables of the script's binding.
+    pub bindings: &'a [Binding],
+    /// The cells, with the marks of those that are new or were written.
+    pub cells: &'a Heap,
+    /// The flow nodes.
+    pub nodes: &'a [FlowNode],
+    /// The bytes of the log.
+    pub log: &'a [u8],
+    /// The open requests.
+    pub requests: &'a [OpenRequest],
+    /// The held executors.
+    pub held: &'a [Held],
+    /// The green threads.
+    pub threads: &'a [ImageThread],
+}
