@@ -2,15 +2,17 @@
 ghost use Rattle.std.specs.Prelude.{All, length};
 ghost use Rattle.cell_heap.specs.Soundness.{ValueBelow};
 
-use crate::cells::{nth, read_text};
+use crate::cells::{nested, nth, read_text};
+use crate::throws::{exception, throws};
+use crate::views::{end_of_walk, view};
 use cell_heap::Heap;
 use model_values::{Cell, Class, Entries, Op, Value, Values};
 use std::alloc::Global;
 use value_operators::{apply, decremented, get_property, incremented, set_at, set_property};
 use value_view::OpRefusal;
 
-/// What a row gives: the value of a call, of an operator or of a property, a new cell, or its first value. `None` where the
-/// receiver of a call has no such method.
+/// What a row gives: the value of a call, of an operator or of a property, a new cell, what a view reads or a walk gives, or
+/// its first value. `None` where the receiver of a call has no such method.
 pub fn answer(
     alloc: Global,
     heap: &mut Heap,
@@ -25,6 +27,13 @@ pub fn answer(
             Ok(Some(touch(alloc, heap, order, name, values)?))
         }
         "list" | "map" | "throwable" => Ok(Some(make(alloc, heap, order, name)?)),
+        "nested" => Ok(Some(nested(alloc, heap, name)?)),
+        "truth" | "equal" | "compared" => Ok(Some(view(heap, order, name, values)?)),
+        "unknown_name" | "unknown_step" | "no_number" => {
+            Ok(Some(throws(alloc, heap, order, name)?))
+        }
+        "new_exception" | "throw" => Ok(Some(exception(alloc, heap, order, values)?)),
+        "walk_end" => end_of_walk(alloc, heap, name, values),
         _ => Ok(Some(nth(heap, values, 0))),
     }
 }

@@ -4,7 +4,7 @@ ghost use Rattle.cell_heap.specs.Soundness.{ValueBelow};
 
 use cell_heap::Heap;
 use model_text::Text;
-use model_values::{Cell, Value};
+use model_values::{Cell, Value, Values};
 use std::alloc::{AllocError, Global};
 use value_view::OpRefusal;
 
@@ -55,6 +55,17 @@ fn read_value(alloc: Global, heap: &mut Heap, word: &str) -> Result<Value, OpRef
         "false" => Value::Bool(false),
         _ => Value::Int(word.parse::<i32>().unwrap_or(0)),
     })
+}
+
+/// So many lists inside each other, the innermost of which has one number.
+pub fn nested(alloc: Global, heap: &mut Heap, depth: &str) -> Result<Value, OpRefusal> {
+    let mut value = Value::Int(7);
+    for _ in 0..depth.parse::<u32>().unwrap_or(0) {
+        let mut values = Values::new(alloc);
+        values.push(there(heap, value))?;
+        value = Value::Cell(heap.new_cell(Cell::List(values))?);
+    }
+    Ok(value)
 }
 
 /// Reads a text in which `\s`, `\t`, `\n` and `\r` stand for blanks.

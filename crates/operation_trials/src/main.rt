@@ -8,8 +8,8 @@
 //! memory is shown too.
 //!
 //! A trial has a name and a heap of its own. In a row a text begins with `'` and has `\s`, `\t`, `\n` and `\r` for blanks;
-//! `#0` is the first cell of the heap. What is written begins with `'` where it is a text, and with `throws` where it was
-//! thrown.
+//! `#0` is the first cell of the heap. What is written begins with `'` where it is a text, with `throws` where it was thrown,
+//! and with `limit` where a limit was met.
 //!
 //! ```text
 //! op Plus 'ab 7                'ab7
@@ -20,6 +20,8 @@
 mod answers;
 mod cells;
 mod rows;
+mod throws;
+mod views;
 
 use crate::rows::run_trial;
 use std::alloc::Global;

@@ -3,6 +3,7 @@
 use crate::answers::answer;
 use crate::cells::{read_values, there};
 use cell_heap::Heap;
+use model_text::Text;
 use model_values::{Cell, Value};
 use std::alloc::{AllocError, Global};
 use value_view::{OpRefusal, text_of};
@@ -13,10 +14,8 @@ pub fn run_trial(alloc: Global, text: &str) -> Result<Vec<u8>, AllocError> {
     let mut out = Vec::new(alloc);
     for row in text.lines().skip(1) {
         let given = run_row(alloc, &mut heap, row);
-        match shown(alloc, &heap, given, &mut out) {
-            Ok(()) => out.push(b'\n')?,
-            Err(_) => return Err(AllocError),
-        }
+        show(alloc, &heap, given, &mut out)?;
+        out.push(b'\n')?;
     }
     Ok(out)
 }
@@ -29,28 +28,37 @@ fn run_row(alloc: Global, heap: &mut Heap, row: &str) -> Result<Option<Value>, O
     answer(alloc, heap, order, name, &values)
 }
 
-/// Writes what was given or thrown, or the limit that was met. `Memory` where the memory was refused.
-fn shown(
+/// Writes what was given or thrown, or the limit that was met. `AllocError` where the memory was refused.
+fn show(
     alloc: Global,
     heap: &Heap,
     given: Result<Option<Value>, OpRefusal>,
     out: &mut Vec<u8>,
-) -> Result<(), OpRefusal> {
-    match given {
-        Ok(Some(value)) => {
-            out.extend_from_slice(mark(heap, value).as_bytes())?;
-            write_text(alloc, heap, value, out)
-        }
-        Ok(None) => Ok(out.extend_from_slice(b"no such method")?),
-        Err(OpRefusal::Thrown(cell)) => {
-            out.extend_from_slice(b"throws ")?;
-            write_text(alloc, heap, Value::Cell(cell), out)
+) -> Result<(), AllocError> {
+    match worded(alloc, heap, given) {
+        Ok((mark, text)) => {
+            out.extend_from_slice(mark.as_bytes())?;
+            out.extend_from_slice(text.as_slice())
         }
         Err(OpRefusal::Limit(kind)) => {
             let line = format!(in alloc; "limit {kind:?}")?;
-            Ok(out.extend_from_slice(line.as_bytes())?)
+            out.extend_from_slice(line.as_bytes())
         }
-        Err(OpRefusal::Memory) => Err(OpRefusal::Memory),
+        Err(_) => Err(AllocError),
+    }
+}
+
+/// The words for what was given or thrown: a mark, and a text.
+fn worded(
+    alloc: Global,
+    heap: &Heap,
+    given: Result<Option<Value>, OpRefusal>,
+) -> Result<(&'static str, Text), OpRefusal> {
+    match given {
+        Ok(Some(value)) => Ok((mark(heap, value), text(alloc, heap, value)?)),
+        Ok(None) => Ok(("no such method", Text::new(alloc))),
+        Err(OpRefusal::Thrown(cell)) => Ok(("throws ", text(alloc, heap, Value::Cell(cell))?)),
+        Err(refusal) => Err(refusal),
     }
 }
 
@@ -65,13 +73,7 @@ fn mark(heap: &Heap, value: Value) -> &'static str {
     }
 }
 
-/// Writes the text of a value.
-fn write_text(
-    alloc: Global,
-    heap: &Heap,
-    value: Value,
-    out: &mut Vec<u8>,
-) -> Result<(), OpRefusal> {
-    let text = text_of(alloc, heap, &there(heap, value))?;
-    Ok(out.extend_from_slice(text.as_slice())?)
+/// The text of a value.
+fn text(alloc: Global, heap: &Heap, value: Value) -> Result<Text, OpRefusal> {
+    text_of(alloc, heap, &there(heap, value))
 }

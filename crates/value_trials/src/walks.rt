@@ -2,13 +2,10 @@ ghost use Rattle.std.specs.Prelude.{IfOk, length};
 ghost use Rattle.cell_heap.specs.Soundness.{ValueBelow};
 
 use cell_heap::Heap;
-use method_names::Method;
 use model_text::Text;
-use model_values::{Cell, Entries, Key, Value, Values};
-use std::alloc::Global;
+use model_values::{Cell, Entries, Key, Value};
 use std::test::Fail;
-use value_view::text_of;
-use value_walks::{LoopPlace, Parts, Turn, Walk, has_loop_turn, loop_turn, walk_turn};
+use value_walks::{LoopPlace, Parts, Turn, has_loop_turn, loop_turn, walk_turn};
 
 /// The value, where its cell is there.
 fn there(heap: &Heap, value: Value) -> Result<Value, Fail>
@@ -37,32 +34,6 @@ fn a_closure_of_two_parameters_gets_key_and_value(rt: HostRuntime) -> Result<(),
         assert_eq!(rt; turn, Some(Turn { arguments, element }));
         let past = walk_turn(alloc, &mut heap, &map, takes_two, 1)?;
         assert_eq!(rt; past, None);
-    }
-    Ok(())
-}
-
-#[test]
-fn a_walk_that_went_past_the_end(rt: HostRuntime) -> Result<(), Fail> {
-    let alloc = rt.alloc();
-    for (method, want) in [
-        (Method::Each, "[7]"),
-        (Method::Collect, "[]"),
-        (Method::Find, "null"),
-        (Method::FindAll, "[]"),
-        (Method::Any, "false"),
-        (Method::Every, "true"),
-        (Method::Times, "null"),
-    ] {
-        let mut heap = Heap::new(alloc);
-        let mut values = Values::new(alloc);
-        values.push(Value::Int(7))?;
-        heap.new_cell(Cell::List(values))?;
-        let list = there(&heap, Value::Cell(0))?;
-        if let Some(walk) = Walk::begun(alloc, method) {
-            let value = walk.at_end(alloc, &mut heap, &list)?;
-            let text = text_of(alloc, &heap, &value)?;
-            assert_eq!(rt; text.as_slice(), want.as_bytes());
-        }
     }
     Ok(())
 }
