@@ -109,7 +109,7 @@ module _ {D H A : Type 0} (v : Devices D H A) where
     pub has_build : c.status ≡ 9 → Tells has_build_text c × ((file : List ℕ) → v.reads c.disk ≡ Some file → IsStarted file × (v.reads c.now ≡ Some file) × IsOnlyImage file (v.may_leave c.now))
     pub finds_build : AreRead c → (file : List ℕ) → v.reads c.disk ≡ Some file → IsStarted file
         → OfFiles c.script c.agents (λ script agents. HasSite agents → ¬ (IsRefused script) → (c.status ≡ 9) ⊎ (c.status ≡ 8) ⊎ (c.status ≡ 5))
-    -- where a log was shown, whole or its beginning, the disk counted no fault
+    -- where a log was shown, or of `gen` its six lines, whole or the beginning, the disk counted no fault
     pub calm : HasRun c.status → v.faults c.now ≡ v.faults c.disk
     -- a build was not begun, or went on until it had ended, or nobody or nothing let it go on
     pub went_on : LeavesAll c ⊎ WithFiles c (λ script agents. Unbegun c script agents ⊎ ∥ RunWentOn c script agents ∥₁)

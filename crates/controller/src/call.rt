@@ -21,24 +21,24 @@ use task_host::Host;
 ///
 /// The words are a command exactly where there are three of them, and the second is `run`, `resume`, `log`, `graph` or `check` with a
 /// third, the folder, that is not empty and does not begin with `-`; or the second is `gen`, and the third is a number N from 1 to 2000 in
-/// decimal. `run` begins the build of a script and `resume` goes on with that of
-/// a store; both let its hosts work until it has ended or nobody can go on, and write its log. `gen` is `run` on a script of N stages and
-/// an agents file that it makes, and writes six lines with the numbers of its build in place of the log. `log` and `graph` write what the build of a store
-/// has come to, and change no byte of it. `check` looks for faults of a script and its agents file, and does not call the disk.
+/// decimal. `run` begins the build of a script and `resume` goes on with that of a store; both let its hosts work until it has ended or
+/// nobody can go on, and write its log. `gen` is `run` on a script of N stages and an agents file that it makes, and writes six lines with
+/// the numbers of its build in place of the log. `log` and `graph` write what the build of a store has come to, and change no byte of it.
+/// `check` looks for faults of a script and its agents file, and does not call the disk.
 ///
 /// | status | comes | text |
 /// |---|---|---|
 /// | 2 | exactly where the words are no command | how to use the program |
-/// | 6 | of `run` and `check`, where the source of a file counted a fault; of `run` and `resume`, only where that of the answers did while an input was open | `controller: read failed` |
-/// | 13 | of `run` and `check`, exactly where the agents file has a fault | its path and kind |
-/// | 4 | of `run` and `check`, exactly where the script has a fault or is too long | the place of its first fault |
-/// | 9 | of `run`, exactly where it finds a record, or the beginning of one | `program.dat: already has a build` |
+/// | 6 | of `run` and `check`, where the source of a file counted a fault; of `run`, `resume` and `gen`, only where that of the answers did while an input was open | `controller: read failed` |
+/// | 13 | of `run`, `check` and `gen`, exactly where the agents file has a fault | its path and kind |
+/// | 4 | of `run`, `check` and `gen`, exactly where the script has a fault or is too long | the place of its first fault |
+/// | 9 | of `run` and `gen`, exactly where they find a record, or the beginning of one | `program.dat: already has a build` |
 /// | 9 | of `resume`, `log` and `graph`, exactly where they find no record, or a damaged one | `program.dat: no build`, or the place of the damage |
 /// | 14 | only where the record that is due for the next event does not fit into the store | the length of its journal, and what the record would add |
 /// | 5 | only where the disk counted a fault | `controller: disk failed` |
 /// | 7 | only where the sink counted a fault | a part of the text, from its beginning |
 /// | 0, 1, 10, 11, 12 | 0 alone for `log`, `graph` and `check`; else only where the build has ended so | the log, or the command's text |
-/// | 3 | only where no grant is due, no task is open, and no input is open or the answers were read to their end | the log so far |
+/// | 3 | only where no grant is due, no task is open, and no input is open or the answers were read to their end | the log so far, or of `gen` its six lines |
 /// | 8 | want of memory | `controller: out of memory` |
 ///
 /// Each status yields to those above it, 9 and 14 also to a 5 that ended the call first, and all but 2 and the 6 of a file to want of

@@ -150,7 +150,7 @@ fn hosts_of<'a, R: Files + Env + AllocGlobal + Eprint + Clock + Processes>(
     Ok(hosts)
 }
 
-/// Hosts in memory, on each of which a task writes its number and ends.
+/// Hosts in memory, on each of which a task writes `out` and its number, and ends.
 fn echoing_hosts(alloc: Global) -> Result<Vec<MemoryHost>, AllocError>
     ensures hosts { IfOk result (λ hosts. length hosts.items ≡ 64) }
 {

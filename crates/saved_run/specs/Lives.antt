@@ -75,7 +75,7 @@ pub record IsBegun {D T : Type 0} (stance : T → Stance) (setting : Setting) (s
   pub has_script : kept.script ≡ script
   pub has_agents : kept.agents ≡ agents
 
--- What the fault of a life tells, on each disk: `Full` is that of the record that is due for some event, by what the kept records weigh, with the image that the build
+-- What the fault of a life tells, on each disk: `Full` is that of the record that is due for some event, by what the kept payloads weigh, with the image that the build
 -- has now, and behind some image. `Stopped` is none.
 abbrev pub TellsFault : {D T : Type 0} → (T → Stance) → Kept D T → TakeFault → Type 0
 TellsFault stance kept Memory = Unit {0}

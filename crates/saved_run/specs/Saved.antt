@@ -32,7 +32,7 @@ pub record Stores (setting : Setting) (events : List Event) (file : List ℕ) : 
 abbrev pub journal_length : List ℕ → ℕ
 journal_length file = length (framed (records file).payloads) + 1
 
--- How many bytes the last record of a whole image has in a file, and those behind it.
+-- How many bytes the last payload with a whole image has in a file, and those behind it.
 abbrev pub journal_weights : List ℕ → Weights
 journal_weights file = weights_of (records file).payloads
 

@@ -40,8 +40,8 @@ pub record RecordAdds {T : Type 0} (stance : T → Stance) (b : Parts T) (e : Ev
   pub is_before : (w : W.Build) → StandsFor stance b w → before ≡ world_before (setting_in b) w
   pub is_after : (w : W.Build) → StandsFor stance b w → image ≡ world_image (setting_in b) (W.after_one (setting_in b) w e)
 
--- An event that was not taken with this fault: it is accepted, but for want of memory; `Full` says what was too much: the length of a
--- journal, and what the record of the event adds.
+-- An event that was not taken with this fault: it is accepted, but for want of memory; `Full` says what was too much: some length,
+-- and what the record of the event adds.
 abbrev pub MayFail : {T : Type 0} → (T → Stance) → Parts T → Event → TakeFault → Type 0
 MayFail stance b e Memory = Unit {0}
 MayFail stance b e Disk = answer_of b e ≡ Accepted
