@@ -2,7 +2,9 @@
 """Time, memory and stored bytes of builds that `gen` makes. README.md beside this file says what is measured."""
 import argparse
 import os
+import shutil
 import struct
+import subprocess
 import sys
 import tempfile
 
@@ -16,6 +18,7 @@ SIZES = (200, 2_000)
 MOST_TIMES_LONGER = 12
 MOST_TIMES_THE_BYTES = 11
 MOST_TIMES_THE_READING = 3
+MOST_TIMES_THE_STATE = 4
 # What a build's log takes, and what a read of it gives at most.
 LOG, READ = 16_777_216, 65_536
 OUTPUTS = 10_000
@@ -26,8 +29,12 @@ def shortest(runs, words, given=b"", status=0):
     results = [measure(words, given) for _ in range(runs)]
     for _, _, ended, said in results:
         if ended != status:
-            sys.exit(f"bench: {' '.join(words)} ended with status {ended}: {said[-300:].decode(errors='replace').strip()}")
+            refuse(words, ended, said)
     return min(r[0] for r in results), max(r[1] for r in results), results[-1][3]
+
+
+def refuse(words, ended, said):
+    sys.exit(f"bench: {' '.join(words)} ended with status {ended}: {said[-300:].decode(errors='replace').strip()}")
 
 
 def task(number, times, log):
@@ -45,7 +52,7 @@ def generated(stages):
     return trial("", tasks, f"words controller gen {stages}")
 
 
-def chatty(outputs):
+def many_outputs(outputs):
     """A build of so many steps, each of which gives an output of so many bytes that all together nearly fill the log."""
     lines = LOG * 9 // 10 // outputs // 64
     tasks = "".join(task(2 + k, lines, "x" * 63 + "\\n") for k in range(outputs))
@@ -97,27 +104,68 @@ def timed(given, sizes):
             sys.exit(f"bench: gen {stages} wrote other lines: {said.decode(errors='replace')}")
         taken.append(seconds)
         print(f"gen {stages}: {seconds:.3f} s of a processor, {peak / KIB:.1f} MiB at the peak; {', '.join(said.decode().splitlines())}", flush=True)
-    return told("the time", taken, MOST_TIMES_LONGER)
+    return told("the time of the larger", taken, MOST_TIMES_LONGER)
 
 
-def told(what, two, most):
+def told(what, two, most, of="that of the smaller"):
     times = two[1] / two[0]
-    print(f"  {what} of the larger: {times:.1f} times that of the smaller (at most {most})", flush=True)
+    print(f"  {what}: {times:.1f} times {of} (at most {most})", flush=True)
     return times <= most
 
 
-def reopened(given, store):
-    """What `resume` of a build that has ended takes, beside reading the file of its store."""
+def reopened(given, at, stages):
+    """What `resume` of a build that has ended takes, and reading the file of its store."""
+    read, _, _ = shortest(given.runs, ["sh", "-c", f"cat {at}/program.dat > /dev/null"])
+    seconds, peak, said = shortest(given.runs, [given.program, "resume", at])
+    print(f"resume of the store of gen {stages}: {seconds:.3f} s of a processor, {peak / KIB:.1f} MiB at the peak, {len(said):,} bytes of the log; "
+          f"cat of the file: {read:.3f} s", flush=True)
+    return read, seconds
+
+
+class Allocated:
+    """What the program has allocated right before it writes its text, and the most before that, in MiB, as memory.c counts."""
+
+    def __init__(self, library, at, words):
+        list_at = f"{at}/memory"
+        _, _, ended, said = measure(["env", f"LD_PRELOAD={library}", f"MEMORY_LIST={list_at}", *words])
+        if ended != 0:
+            refuse(words, ended, said)
+        with open(list_at, encoding="utf-8") as file:
+            numbers = file.read().split()
+        os.remove(list_at)
+        if len(numbers) != 2:
+            sys.exit(f"bench: memory.c sees no call of {words[0]}: is it linked to the C library as a whole?")
+        self.then, self.most = (int(number) / KIB / KIB for number in numbers)
+
+
+def held(given, at, stages):
+    """The most that `gen` has allocated, its disk in memory too, beside what the build takes that `resume` of its store holds."""
+    if shutil.which("cc") is None:
+        print("  no C compiler is here: what is allocated is not counted")
+        return True
+    library = f"{at}/memory.so"
+    subprocess.run(["cc", "-O1", "-shared", "-fPIC", "-o", library, f"{TOP}/bench/memory.c"], check=True)
+    made = Allocated(library, at, [given.program, "gen", str(stages)])
+    opened = Allocated(library, at, [given.program, "resume", at])
+    print(f"allocated by gen {stages}: {made.most:.1f} MiB at most, {made.then:.1f} at its end, with its disk in memory; by resume of its store: {opened.most:.1f} MiB at most, "
+          f"{opened.then:.1f} when the build is open", flush=True)
+    return told("the most of gen", (opened.then, made.most), MOST_TIMES_THE_STATE, "what the open build has")
+
+
+def stored_again(given, few, many):
+    """What the stores of both take when they are opened, and what is allocated then."""
+    taken = []
     with tempfile.TemporaryDirectory(prefix="controller-gen-") as at:
-        with open(f"{at}/program.dat", "wb") as file:
-            file.write(store)
-        read, _, _ = shortest(given.runs, ["sh", "-c", f"cat {at}/program.dat > /dev/null"])
-        seconds, peak, said = shortest(given.runs, [given.program, "resume", at])
-        print(f"resume of its store: {seconds:.3f} s of a processor, {peak / KIB:.1f} MiB at the peak, {len(said):,} bytes of the log; cat of the file: {read:.3f} s")
-        return told("the time", (read, seconds), MOST_TIMES_THE_READING)
+        for stages, stored in zip(given.sizes, (few, many)):
+            with open(f"{at}/program.dat", "wb") as file:
+                file.write(stored.bytes)
+            taken.append(reopened(given, at, stages))
+        fits = told("the time of resume of the larger", (taken[0][1], taken[1][1]), MOST_TIMES_LONGER)
+        fits = told("the time of resume", taken[1], MOST_TIMES_THE_READING, "that of cat") and fits
+        return held(given, at, given.sizes[1]) and fits
 
 
-def poured(given):
+def until_full(given):
     """A step whose outputs of 64 KiB would be 10,000, in a real folder: the log is full at the 256th of them."""
     with tempfile.TemporaryDirectory(prefix="controller-gen-") as at:
         with open(f"{at}/Jenkinsfile", "w", encoding="utf-8") as file:
@@ -136,7 +184,7 @@ def main():
     parser.add_argument("--program", default=PROGRAM)
     parser.add_argument("--trials", default=TRIALS, help="the program store_trials")
     parser.add_argument("--sizes", type=int, nargs=2, default=SIZES, metavar=("FEW", "MANY"), help="the two numbers of stages (default: 200 2000)")
-    parser.add_argument("--outputs", type=int, default=OUTPUTS, help="how many outputs the chatty build has (default: 10,000; none: 0)")
+    parser.add_argument("--outputs", type=int, default=OUTPUTS, help="how many outputs the build of many outputs has (default: 10,000; none: 0)")
     given = parser.parse_args()
     for program in (given.program, given.trials):
         if not os.access(program, os.X_OK):
@@ -145,11 +193,11 @@ def main():
     few, many = (Stored(given.trials, generated(stages)) for stages in given.sizes)
     for stages, stored in zip(given.sizes, (few, many)):
         stored.tell(f"the store of gen {stages}")
-    fits = told("the bytes", (len(few.bytes), len(many.bytes)), MOST_TIMES_THE_BYTES) and fits
-    fits = reopened(given, many.bytes) and fits
+    fits = told("the bytes of the larger", (len(few.bytes), len(many.bytes)), MOST_TIMES_THE_BYTES) and fits
+    fits = stored_again(given, few, many) and fits
     if given.outputs > 0:
-        poured(given)
-        stored = Stored(given.trials, chatty(given.outputs))
+        until_full(given)
+        stored = Stored(given.trials, many_outputs(given.outputs))
         stored.tell(f"{given.outputs:,} outputs in memory, {stored.seconds:.2f} s of a processor, {stored.peak / KIB:.1f} MiB at the peak; its store")
     return 0 if fits else 1
 

@@ -31,7 +31,7 @@ WORKS = [
     ("for over a text", lambda n: f"{doubled(n)}def n = 0\nfor (c in t) {{ n++ }}\n", lambda n: count_each("x" * n), (4_096, 65_536)),
     ("recursion, calls", lambda n: f"def f(n) {{ n == 1 ? 1 : f(n - 1) + 1 }}\n{n // 1024}.times {{ f(1023) }}\n", lambda n: recur(n // 1024), (5_120, 51_200)),
     ("text with an expression", lambda n: f"for (i in 1..{n}) {{ \"a${{i}}b\" }}\n", lambda n: [f"a{i}b" for i in range(1, n + 1)], (4_096, 65_536)),
-    ("text and text", lambda n: f"def t = ''\nfor (i in 1..{n}) {{ t = t + 'x' }}\n", None, (2_000, 20_000)),
+    ("text and text", lambda n: f"def t = ''\nfor (i in 1..{n}) {{ t = t + 'x' }}\n", lambda n: lengthen(n), (2_000, 20_000)),
     ("functions at the top", functions, None, (1_000, 10_000)),
     ("steps at the top", lambda n: "".join(f"println {i}\n" for i in range(n)), None, (1_000, 10_000)),
     ("names in scope", lambda n: "".join(f"def x{i} = {i}\n" for i in range(n)) + "for (i in 1..10000) { x0 }\n", None, (1_000, 10_000)),
@@ -59,6 +59,12 @@ def each(n):
 
     for x in range(1, n + 1):
         add(x)
+
+
+def lengthen(n):
+    text = ""
+    for _ in range(n):
+        text = text + "x"
 
 
 def recur(times):
