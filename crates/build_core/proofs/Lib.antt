@@ -7,3 +7,4 @@ pub mod Answering
 pub mod Granting
 pub mod Stepping
 pub mod Marks
+pub mod Frames

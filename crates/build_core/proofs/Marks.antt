@@ -1,5 +1,5 @@
 -- What an event leaves unmarked is as it was.
-use Rattle.std.proofs.Common.{◌≡◌, ◌∙◌, ℕ, Bool, false, List, [], ◌∷◌, ◌++◌, length, replicate, Option, ap, refl}
+use Rattle.std.proofs.Common.{◌≡◌, ◌∙◌, ◌≤◌, ℕ, Bool, false, List, [], ◌∷◌, ◌++◌, length, map, replicate, Option, ap, refl, subst, sym}
 use Rattle.cell_heap.specs.Region.{Region}
 use Rattle.cell_heap.proofs.FollowsLemmas.{Follows-same, Follows-trans}
 use Rattle.model_run.specs.declared.flow.FlowNode.{FlowNode}
@@ -13,7 +13,10 @@ use Rattle.green_threads.specs.declared.runner.Seated.{Seated}
 use Rattle.green_threads.specs.declared.runner.Stop.{Stop}
 use Rattle.green_threads.specs.declared.settled.Settled.{Settled}
 use Rattle.green_threads.specs.Order.{Settles, all_wait, next_turn, ends, limit_met, too_many}
+use Rattle.green_threads.specs.Resuming.{IsSameSeat}
+use Rattle.green_threads.specs.Threads.{marked_group, marked_in}
 use Rattle.green_threads.specs.Threads as G
+use Rattle.green_threads.proofs.Marked.{grouped_marked, ready_marked}
 use Rattle.cps_frames.specs.declared.shared.Shared.{Shared}
 use Rattle.script_thread.specs.Marks.{GoesOnFrom, marked}
 use Rattle.script_thread.specs.Names.{Answer}
@@ -65,9 +68,14 @@ pub line_from : (u v w : Shared) (text : List ℕ) → v.heap ≡ u.heap → v.g
 line_from u v w text cells nodes log h = goes_further u v w (rests u v cells nodes (front_with u.log log (front_line text u.log))) h
 
 -- a build keeps what it keeps, whatever is marked
-pub marked_sound : {T : Type 0} (number : T → ℕ) (parent : T → Option ℕ) (branch : T → Bool) (fits : List (Seated T) → Shared → Type 0) → ((xs : List (Seated T)) (u : Shared) → fits xs u → fits xs (marked u)) →
-    (p : Phase) (g : G.Threads T) (u : Shared) → SoundIn number parent branch fits p g u → SoundIn number parent branch fits p g (marked u)
-marked_sound number parent branch fits marked_fits Unbegun g u h = record { threads = h.threads; shared = h.shared; heap = ap (λ (r : Region). record r { changed = replicate (length r.cells) false }) h.heap }
-marked_sound number parent branch fits marked_fits Running g u h = record { grouped = h.grouped; fit = marked_fits g.seats u h.fit; few_threads = h.few_threads; few = h.few }
-marked_sound number parent branch fits marked_fits Ended g u h = record { threads = h.threads; requests = h.requests; held = h.held; sound = h.sound; few_threads = h.few_threads }
-marked_sound number parent branch fits marked_fits Stopped g u h = tt
+pub marked_sound : {T : Type 0} (number : T → ℕ) (parent : T → Option ℕ) (branch : T → Bool) (fits : List (Seated T) → Shared → Type 0) (marks : T → T) → ((t : T) → IsSameSeat number parent branch t (marks t)) →
+    ((xs : List (Seated T)) (u : Shared) → fits xs u → fits (map (marked_in marks) xs) (marked u)) → (p : Phase) (g : G.Threads T) (u : Shared) → SoundIn number parent branch fits p g u → SoundIn number parent branch fits p (marked_group marks g) (marked u)
+marked_sound number parent branch fits marks same marked_fits Unbegun g u h = record { threads = ap (marked_group marks) h.threads; shared = h.shared; heap = ap (λ (r : Region). record r { changed = replicate (length r.cells) false }) h.heap }
+marked_sound number parent branch fits marks same marked_fits Running g u h = record {
+  grouped = grouped_marked marks number parent branch same 0 g.seats g.next h.grouped;
+  fit = marked_fits g.seats u h.fit;
+  few_threads = h.few_threads;
+  few = subst (λ n. n ≤ 0) (sym (ready_marked marks g.seats)) h.few;
+}
+marked_sound number parent branch fits marks same marked_fits Ended g u h = record { threads = ap (map (marked_in marks)) h.threads; requests = h.requests; held = h.held; sound = h.sound; few_threads = h.few_threads }
+marked_sound number parent branch fits marks same marked_fits Stopped g u h = tt

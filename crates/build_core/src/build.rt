@@ -7,7 +7,8 @@ ghost use Rattle.model_run.specs.GraphText.{graph_text};
 ghost use Rattle.model_run.specs.Taking.{taken};
 ghost use Rattle.model_run.specs.World as W;
 ghost use Rattle.cps_code.specs.Script.{script_of};
-ghost use Rattle.script_thread.specs.Marks.{GoesOnFrom, marked};
+ghost use Rattle.green_threads.specs.Threads.{marked_group};
+ghost use Rattle.script_thread.specs.Marks.{FramesStay, GoesOnFrom, marked};
 ghost use Rattle.build_requests.specs.Waiting.{waiting_inputs, open_tasks, input_of};
 ghost use Rattle.build_core.specs.declared.phase.Phase.TheVariants.{Running, Ended, Stopped};
 ghost use Rattle.build_core.specs.Phases.{SoundIn, has_begun, has_ended};
@@ -86,8 +87,9 @@ impl<R: ScriptThread + Drop> Build<R> {
     /// The answer is that of the definitions: `Finished` where the build has ended, `NotOpen` where the event names what is
     /// not open or begins the build a second time, `WrongPlace` where output does not go on where the stream was left, and
     /// else `Accepted`. Only `Accepted` changes anything: the thread that the event answers is ready, and threads go on until
-    /// each waits or the build is over. What is unmarked behind it is as it was: of the cells each that is new or was written
-    /// is marked, and flow nodes and bytes of the log are added alone.
+    /// each waits or the build is over. Where it answers, what is unmarked behind it is as it was: of the cells each that is
+    /// new or was written is marked, flow nodes and bytes of the log are added alone, and of the frames of a thread those are
+    /// the same, from the outermost on, that count as untouched.
     ///
     /// # Errors
     ///
@@ -100,6 +102,7 @@ impl<R: ScriptThread + Drop> Build<R> {
         ensures stands { OnOk result ((w : W.Build) → StandsFor R.stance self.old w → StandsFor R.stance self.new (W.after_one (setting_in self.old) w event.now)) }
         ensures steps { OnOk result (self.old.phase ≡ Running → taken (standing_of self.old) event.now ≡ Accepted → StepsOn R.stance R.seated R.head R.turns R.room event.now self.old.group self.old.shared self.new.phase self.new.group self.new.shared) }
         ensures marks { OnOk result (GoesOnFrom self.old.shared self.new.shared) }
+        ensures frames { OnOk result (FramesStay R.low R.stance self.old.group.seats self.new.group.seats) }
         ensures setting { OnOk result (setting_in self.new ≡ setting_in self.old) }
         ensures ended { self.old.phase ≡ Ended → result ≡ Ok Finished }
         ensures memory { OnErr result (MayWant self.old.phase (standing_of self.old) event.now) }
@@ -124,11 +127,12 @@ impl<R: ScriptThread + Drop> Build<R> {
         Ok(answer)
     }
 
-    /// From now on no cell is marked, so that the marked cells are those that are new or were written since. Nothing else
-    /// changes. It takes no memory, and the time of the number of the marked cells.
+    /// From now on no cell is marked, so that the marked cells are those that are new or were written since; and each thread
+    /// is marked. Nothing else changes. It takes no memory, and the time of the number of the marked cells and of the threads.
     pub fn mark(&mut self)
-        ensures { self.new ≡ record self.old { shared = marked self.old.shared } }
+        ensures { self.new ≡ record self.old { group = marked_group R.marked self.old.group; shared = marked self.old.shared } }
     {
+        self.group.mark();
         self.shared.heap.mark();
     }
 

@@ -1,3 +1,4 @@
+pub mod Lower
 pub mod Parts
 pub mod Seats
 pub mod Worlds
@@ -5,3 +6,5 @@ pub mod Uncounted
 pub mod Whole
 pub mod SavedBuilds
 pub mod RestoredBuilds
+pub mod MarkedBuilds
+pub mod FrontLaws

@@ -22,7 +22,7 @@ use Rattle.green_threads.specs.declared.runner.Seated.{Seated}
 use Rattle.green_threads.specs.Grouping.{Grouped, IsSeated, one_ready, ready_count}
 use Rattle.settle_laws.specs.Stances.{Stance}
 use Rattle.settle_laws.specs.Standing.{Rising}
-use Rattle.thread_fits.specs.Seats.{as_seat}
+use Rattle.saved_thread.specs.Lower.thread_fits.Seats.{as_seat}
 
 -- cells that name what is there
 all_from : {A : Type 0} (P : A → Type 0) (xs : List A) → AllAre P xs → All P xs

@@ -14,14 +14,14 @@ use Rattle.green_threads.specs.Grouping.{Grouped, IsSeated}
 use Rattle.settle_laws.specs.Stances.{Stance}
 use Rattle.settle_laws.specs.Standing.{OnlyScript}
 use Rattle.cps_code.specs.Script.{IsScript, script_of}
-use Rattle.cps_frames.specs.declared.shared.Shared.{Shared}
-use Rattle.cps_frames.specs.Standing.{common_of, setting_of}
+use Rattle.saved_thread.specs.Lower.cps_frames.declared.shared.Shared.{Shared}
+use Rattle.saved_thread.specs.Lower.cps_frames.Standing.{common_of, setting_of}
 use Rattle.image_form.specs.declared.image.Image.{Image}
 use Rattle.image_form.specs.declared.image.ImageFrame.{ImageFrame}
 use Rattle.image_form.specs.declared.image.ImageThread.{ImageThread}
 use Rattle.image_check.specs.Standings.{shared_in}
-use Rattle.image_frames.specs.Standings.{IsTold, frame_in}
-use Rattle.thread_fits.specs.Seats.{as_seat}
+use Rattle.saved_thread.specs.Lower.image_frames.Standings.{IsTold, frame_in}
+use Rattle.saved_thread.specs.Lower.thread_fits.Seats.{as_seat}
 use Rattle.saved_thread.specs.Saving.{Begun, seat_in, thread_told}
 use Rattle.saved_thread.proofs.FrameLaws.{all_told_again}
 use Rattle.build_core.specs.Builds.{Parts, StandsFor}

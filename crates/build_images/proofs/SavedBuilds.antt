@@ -13,10 +13,10 @@ use Rattle.green_threads.specs.declared.runner.Seated.{Seated}
 use Rattle.green_threads.specs.Threads.{Threads}
 use Rattle.settle_laws.specs.Stances.{Stance}
 use Rattle.cps_code.specs.Script.{script_of}
-use Rattle.cps_frames.specs.declared.shared.Shared.{Shared}
-use Rattle.cps_frames.specs.Standing.{common_of, setting_of}
+use Rattle.saved_thread.specs.Lower.cps_frames.declared.shared.Shared.{Shared}
+use Rattle.saved_thread.specs.Lower.cps_frames.Standing.{common_of, setting_of}
 use Rattle.image_form.specs.declared.image.ImageThread.{ImageThread}
-use Rattle.thread_fits.specs.Seats.{HasBegun, as_seat, closure_of}
+use Rattle.saved_thread.specs.Lower.thread_fits.Seats.{HasBegun, as_seat, closure_of}
 use Rattle.saved_thread.specs.Saving.{AtNodes, Storable, thread_told}
 use Rattle.build_core.specs.declared.phase.Phase.{Phase}
 use Rattle.build_core.specs.declared.phase.Phase.TheVariants.{Unbegun, Running, Ended, Stopped}

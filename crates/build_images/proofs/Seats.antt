@@ -14,9 +14,9 @@ use Rattle.green_threads.specs.declared.runner.Seated.{Seated}
 use Rattle.settle_laws.specs.Stances.{Stance, StandsAt}
 use Rattle.settle_laws.specs.Standing.{Matches, Same}
 use Rattle.image_form.specs.declared.image.ImageThread.{ImageThread}
-use Rattle.frame_rows.specs.Places.{left_at}
-use Rattle.image_frames.specs.Standings.{frame_in}
-use Rattle.thread_fits.specs.Seats.{as_seat, closure_of}
+use Rattle.saved_thread.specs.Lower.frame_rows.Places.{left_at}
+use Rattle.saved_thread.specs.Lower.image_frames.Standings.{frame_in}
+use Rattle.saved_thread.specs.Lower.thread_fits.Seats.{as_seat, closure_of}
 use Rattle.saved_thread.specs.Saving.{Begun, frame_told, thread_told}
 use Rattle.saved_thread.proofs.FrameLaws.{found_again, left_again}
 

@@ -8,10 +8,10 @@ use Rattle.model_run.specs.Nesting.{row_at}
 use Rattle.model_run.specs.State.{Common, Setting}
 use Rattle.model_run.specs.Terms.{Term}
 use Rattle.cps_code.specs.Script.{IsScript}
-use Rattle.frame_rows.specs.Kinds.{kinds, kind_found, kind_number}
+use Rattle.saved_thread.specs.Lower.frame_rows.Kinds.{kinds, kind_found, kind_number}
 use Rattle.image_form.specs.declared.image.Image.{Image}
 use Rattle.image_form.specs.declared.image.ImageThread.{ImageThread}
-use Rattle.image_frames.specs.Standings.{IsTold, frame_in}
+use Rattle.saved_thread.specs.Lower.image_frames.Standings.{IsTold, frame_in}
 use Rattle.image_check.specs.declared.finding.Finding.{Finding}
 use Rattle.image_check.specs.Images.{first_fault}
 use Rattle.image_check.specs.Standings.{Stands, seat_in}

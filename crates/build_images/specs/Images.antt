@@ -7,10 +7,10 @@ use Rattle.model_run.specs.Terms.{Term}
 use Rattle.model_run.specs.World as W
 use Rattle.settle_laws.specs.Stances.{Stance}
 use Rattle.cps_code.specs.Script.{script_of}
-use Rattle.cps_frames.specs.Standing.{common_of}
+use Rattle.saved_thread.specs.Lower.cps_frames.Standing.{common_of}
 use Rattle.image_form.specs.declared.image.Image.{Image}
 use Rattle.image_check.specs.Standings.{Stands, shared_in}
-use Rattle.thread_fits.specs.Seats.{as_seat}
+use Rattle.saved_thread.specs.Lower.thread_fits.Seats.{as_seat}
 use Rattle.saved_thread.specs.Saving.{thread_told}
 use Rattle.build_core.specs.Builds.{Parts, StandsFor, setting_in}
 use Rattle.build_core.specs.Phases.{has_ended}

@@ -1,1 +1,3 @@
+pub mod Lower
 pub mod Images
+pub mod Fronts

@@ -1,8 +1,8 @@
 //! The image of a build, and a build from its image.
 //!
 //! [`image_of`] puts all of a build into an image, and is proved to give the image of each build of the definitions that the
-//! build stands for (`specs/Images`), and one that passes `check` of `image_check`. [`threads_in`] makes anew only what such an
-//! image has of the threads, for whoever looks at the rest where it stands. [`restored`] gives the build back: of an
+//! build stands for (`specs/Images`), and one that passes `check` of `image_check`. [`threads_now`] makes anew all of
+//! the threads but the frames that count as untouched, for whoever looks at the rest where it stands. [`restored`] gives the build back: of an
 //! image that passes a sound build that has this image, and that stands for the build that any list of events makes, where
 //! that one has it too.
 //!
@@ -13,10 +13,17 @@
 //! ```
 #![tactic(auto)]
 
+mod fronts;
 mod refusal;
 mod restoring;
 mod saving;
 
+pub use build_core;
+pub use fronts::threads_now;
+pub use image_changes;
+pub use image_check;
 pub use refusal::RestoreRefusal;
 pub use restoring::restored;
-pub use saving::{image_of, threads_in};
+pub use saved_thread;
+pub use saved_thread::script_thread;
+pub use saving::image_of;

@@ -8,8 +8,8 @@ ghost use Rattle.model_run.specs.World as W;
 ghost use Rattle.green_threads.specs.Grouping.{FewBranches, IsSeated};
 ghost use Rattle.cps_code.specs.Script.{script_of};
 ghost use Rattle.image_check.specs.Standings.{shared_in};
-ghost use Rattle.image_frames.specs.Standings.{IsTold};
-ghost use Rattle.thread_fits.specs.Seats.{as_seat};
+ghost use Rattle.saved_thread.specs.Lower.image_frames.Standings.{IsTold};
+ghost use Rattle.saved_thread.specs.Lower.thread_fits.Seats.{as_seat};
 ghost use Rattle.saved_thread.specs.Saving.{Begun, seat_in};
 ghost use Rattle.build_core.specs.Builds.{StandsFor, setting_in};
 ghost use Rattle.build_images.specs.Images.{has_remains, image_in, is_none, phase_of, world_image};
@@ -20,12 +20,12 @@ use build_core::{Build, Phase};
 use build_log::Log;
 use cell_heap::Heap;
 use cps_code::Code;
-use cps_frames::Shared;
 use flow_graph::Graph;
 use green_threads::{Group, Seated};
 use image_form::{Image, ImageThread, ImageThreads};
 use model_run::{Site, Wait};
 use saved_thread::SavedThread;
+use saved_thread::cps_frames::Shared;
 use std::alloc::{AllocError, Global};
 
 /// The build of a script on the executors of a site of which this is the image. The image has to be one that passes the check

@@ -5,7 +5,7 @@ ghost use Rattle.model_run.specs.World as W;
 ghost use Rattle.green_threads.specs.declared.runner.Seated.{Seated as Seat};
 ghost use Rattle.cps_code.specs.Script.{IsScript, script_of};
 ghost use Rattle.image_check.specs.Images.{first_fault};
-ghost use Rattle.thread_fits.specs.Seats.{as_seat};
+ghost use Rattle.saved_thread.specs.Lower.thread_fits.Seats.{as_seat};
 ghost use Rattle.saved_thread.specs.Saving.{AtNodes, thread_told};
 ghost use Rattle.build_core.specs.Builds.{StandsFor, setting_in};
 ghost use Rattle.build_core.specs.Phases.{has_begun};
@@ -44,13 +44,9 @@ pub fn image_of<R: SavedThread + Drop>(build: &Build<R>) -> Result<Image, AllocE
     Ok(image)
 }
 
-/// What the image of a build that has begun has of its threads, whether the build has ended or not. It takes the time of the
-/// threads alone: what else an image has stands in the build as it is.
-///
-/// # Errors
-///
-/// `AllocError` where the memory was refused, in this call or while the build took an event.
-pub fn threads_in<R: SavedThread + Drop>(build: &Build<R>) -> Result<ImageThreads, AllocError>
+/// What the image of a build that has begun has of its threads, whether the build has ended or not. `AllocError` where the
+/// memory was refused, in this call or while the build took an event.
+fn threads_in<R: SavedThread + Drop>(build: &Build<R>) -> Result<ImageThreads, AllocError>
     requires begun { has_begun build.now.phase ≡ true }
     ensures here { IfOk result (λ threads. threads ≡ (image_in R.stance build.now).threads) }
     ensures image { OnOk result (HasImage R.stance build.now) }
@@ -139,7 +135,7 @@ fn threads_of<R: SavedThread>(
 {
     let mut threads = ImageThreads::new(alloc);
     for seat in seats {
-        threads.push(R::saved(alloc, code, seat)?)?;
+        threads.push(R::saved(alloc, code, seat, 0)?)?;
     }
     Ok(threads)
 }

@@ -1,5 +1,5 @@
 -- The build of an empty script, which ends with its first turn: what the definitions see of its thread (for the tests).
-use Rattle.std.specs.Prelude.{◌≡◌, ℕ, zero, suc, Bool, true, false, List, [], ◌∷◌, Option, Some, None, is_some, length, replicate, refl}
+use Rattle.std.specs.Prelude.{◌≡◌, ℕ, zero, suc, Bool, true, false, List, [], ◌∷◌, Option, Some, None, is_some, length, map, replicate, refl}
 use Rattle.std.proofs.Common.{lit<, lit≤, ap, sym, subst}
 use Rattle.cell_heap.specs.Region.{Region}
 use Rattle.model_run.specs.Fitting.{IsFlowNode, SharedFits}
@@ -9,7 +9,7 @@ use Rattle.model_run.specs.World as W
 use Rattle.model_run.specs.Threads.{Runs, Script}
 use Rattle.green_threads.specs.declared.runner.Seated.{Seated}
 use Rattle.green_threads.specs.Grouping.{ready_count}
-use Rattle.green_threads.specs.Threads.{waits_for_request}
+use Rattle.green_threads.specs.Threads.{marked_in, waits_for_request}
 use Rattle.cps_frames.specs.declared.shared.Shared.{Shared}
 use Rattle.cps_frames.specs.Standing.{setting_of, common_of}
 use Rattle.settle_laws.specs.Stances.{Stance, seated_as, script_stance}
@@ -49,10 +49,10 @@ module _ {T : Type 0} where
   begins make n p true u e b = absurd (subst (λ (x : Stance). IsNone x.runs) e tt)
   begins make n p false u e b = record { begun = b; threads = refl }
 
-  pub begun_marked : (t : T) (xs : List (Seated T)) (u : Shared) → AsBegun t xs u → AsBegun t xs (marked u)
+  pub begun_marked : (t : T) (xs : List (Seated T)) (u : Shared) → AsBegun t xs u → AsBegun t (map (marked_in (λ x. x)) xs) (marked u)
   begun_marked t xs u a = record {
     begun = record { script = a.begun.script; shared = a.begun.shared; heap = ap (λ (h : Region). record h { changed = replicate (length h.cells) false }) a.begun.heap };
-    threads = a.threads;
+    threads = ap (map (marked_in (λ x. x))) a.threads;
   }
 
   pub begun_sound : (t : T) (xs : List (Seated T)) (u : Shared) → AsBegun t xs u → SharedFits (setting_of u) false (common_of u)

@@ -17,7 +17,7 @@ pub struct EmptyScript {
 }
 
 impl Runner for EmptyScript {
-    ghost use Rattle.std.specs.Prelude.{◌≡◌, ◌-◌, length, None, false};
+    ghost use Rattle.std.specs.Prelude.{◌≡◌, ◌-◌, length, None, false, refl};
     ghost use Rattle.model_run.specs.World.{run_limits};
     ghost use Rattle.cps_frames.specs.Standing.{setting_of, common_of};
     ghost use Rattle.settle_laws.specs.Stances.{Turns};
@@ -35,6 +35,8 @@ impl Runner for EmptyScript {
 
     ghost seated = { λ t n p. record { number = n; parent = p; has_begun = t.has_begun } };
 
+    ghost marked = { λ t. t };
+
     ghost room = { λ u. run_limits.flow_nodes - length u.graph };
 
     ghost fits = { AsBegun (record { number = 0; parent = None; has_begun = false }) };
@@ -50,6 +52,10 @@ impl Runner for EmptyScript {
         self.number = at;
         self.parent = under;
     }
+
+    fn mark(&mut self) {}
+
+    ghost marked_seat = { λ t. record { number_same = refl; parent_same = refl; branch_same = refl } };
 
     fn resume(
         &mut self,
@@ -69,11 +75,18 @@ impl Runner for EmptyScript {
 }
 
 impl ScriptThread for EmptyScript {
-    ghost use Rattle.std.specs.Prelude.{None, refl};
+    ghost use Rattle.std.specs.Prelude.{[], None, refl};
+    ghost use Rattle.script_thread.proofs.Stays.{stays_itself};
     ghost use Rattle.build_core.proofs.Marks.{stays};
     ghost use Rattle.build_trials.specs.EmptyScripts.{stance_of, begun_sound, begun_marked, heads_begun, none_open, never_rests, begins};
 
     ghost stance = { λ t. stance_of t.number t.parent t.has_begun };
+
+    ghost low = { λ t. 0 };
+
+    fn low(&self) -> usize {
+        0
+    }
 
     fn script(_alloc: Global) -> Result<EmptyScript, AllocError> {
         Ok(EmptyScript {
@@ -90,6 +103,10 @@ impl ScriptThread for EmptyScript {
     ghost turned = { λ t u x stopped t' u' so. so.1 };
 
     ghost marks = { λ t u x stopped t' u' so. stays u u' so.0 };
+
+    ghost stays = { λ t u x stopped t' u' so. stays_itself 0 [] };
+
+    ghost marked_is = { λ t. refl };
 
     ghost room_is = { λ u. refl };
 

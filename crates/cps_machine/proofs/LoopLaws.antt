@@ -37,6 +37,8 @@ use Rattle.cps_frames.proofs.Weights.{ends_lower, enters_lower}
 use Rattle.cps_calls.specs.Turns.{GoesOn as GoesOnBy, TurnsOn}
 use Rattle.run_laws.specs.Soundness.{SoundWorld}
 use Rattle.run_laws.proofs.Evaluation.{ScriptFacts}
+use Rattle.script_thread.specs.Marks.{StaysBelow}
+use Rattle.script_thread.proofs.Stays.{stays_front, stays_further, stays_pushed}
 use Rattle.cps_machine.specs.Stops.{Begins, IsEnd, Leaves, MayRun, Stops, made_for, nodes_left}
 use Rattle.cps_machine.specs.Turns.{HasPart, WaitsSo}
 use Rattle.cps_machine.specs.declared.machine.Stopped.TheVariants as stopped
@@ -304,6 +306,16 @@ module _ (u : Standing) (first : Move) (script : IsScript u.world.setting.script
         let one = frame_lower v fs f e h at_top (Enter (Turn t.at t.kept) f.node f.env) (with_stack fs v) t.again in
         let two = entry_lower (with_stack fs v) (Turn t.at t.kept) f.node f.env (at_again m w t) m w t.turn in
         omega (arith, one, two)
+
+-- The frames of what goes on stand on those that were left, and so do those of what is entered.
+pub gone_onto : (f : Frame) (e : Ending) (u : Standing) (m : Move) (w : Standing) → GoesOnBy f e u m w → (gs : List Frame) × (w.stack ≡ u.stack ++ gs)
+gone_onto f e u m w (inl c) = (c.frames, c.pushed)
+gone_onto f e u m w (inr t) = ((t.turn).frames, (t.turn).pushed)
+
+-- The frames that count as untouched: where the innermost one was taken off, no more than are left.
+pub stays_gone : (n : ℕ) (xs : List Frame) (l m : ℕ) (stack fs : List Frame) (f : Frame) (new : List Frame) → StaysBelow n xs l stack → stack ≡ fs ++ f ∷ [] → m ≤ l → m ≤ length fs → (gs : List Frame) × (new ≡ fs ++ gs) → StaysBelow n xs m new
+stays_gone n xs l m stack fs f new h top fewer within onto =
+    stays_further n xs m fs m new (stays_further n xs l stack m fs h (stays_front l m fs (f ∷ []) stack top fewer within)) (stays_pushed m fs onto.0 new onto.1 within)
 
 -- the move that a result is
 pub the_move : (P : Move → Type 0) (o : Option Move) (m : Move) → o ≡ Some m → IfSome o P → P m

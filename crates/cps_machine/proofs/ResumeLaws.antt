@@ -49,6 +49,7 @@ use Rattle.cps_frames.proofs.Beginnings.{branch_poised, thread_with}
 use Rattle.cps_machine.specs.Resuming.{BeginsAs, ResumesAs, stopping}
 use Rattle.thread_fits.specs.Seats.{Family, Fits, HasBegun, IsAlone, IsGranted, IsReady, SeatStands, StartStands, WaitStands, as_seat, first_of, nodes_left, waiting_move}
 use Rattle.cps_machine.specs.Stops.{Begins as May_begin, MayRun, Stops}
+use Rattle.script_thread.specs.Marks.{StaysBelow}
 use Rattle.cps_machine.specs.Threads.{Beginning, IsStop, IsTurn, branch_by, first_move, is_branch, runs_of, seated, seen, stance_of, to_begin}
 use Rattle.cps_machine.specs.Turns.{IsAsked}
 use Rattle.cps_machine.specs.declared.machine.Stopped.{Stopped}
@@ -469,12 +470,13 @@ turn_runs t u a may =
     ((may.3).script, (above stance_of may.0 (may.1).parent, outermost (may.1).parent, b, first_begins (stance_of t).runs a))
 
 pub turn_made : (t t1 : MachineThread) (u u' : Shared) (a : Answer) (first : Move) (s : Stopped) (st : ThreadState) (stops : Stop MachineThread) → t1 ≡ record t { start = None } → first ≡ first_move t a → Stops (standing u t1.state) first s (standing u' st) → IsStop s stops st.context
-    → IsTurn t u a stops (record t1 { state = st }) u'
-turn_made t t1 u u' a first s st stops e is runs stop = record {
+    → (low : ℕ) → StaysBelow t1.low t1.state.stack.items low st.stack.items → IsTurn t u a stops (record t1 { state = st; low = low }) u'
+turn_made t t1 u u' a first s st stops e is runs stop low stays = record {
   stopped_so = s;
   stop = stop;
   runs = subst (λ (m : Move). Stops (standing u t.state) m s (standing u' st)) is (subst (λ (y : MachineThread). Stops (standing u y.state) first s (standing u' st)) e runs);
   begun = ap (λ (y : MachineThread). y.start) e;
+  stays = subst (λ (y : MachineThread). StaysBelow y.low y.state.stack.items low st.stack.items) e stays;
 }
 
 -- A turn is one of direct evaluation: of a thread that goes on, of the script, and of a branch.

@@ -1,5 +1,5 @@
 -- A green thread that runs a script, or a branch: what it does first with an answer, and how it stops.
-use Rattle.std.specs.Prelude.{◌≡◌, ℕ, false, true, List, [], map, Option, Some, None, Bool, is_some}
+use Rattle.std.specs.Prelude.{◌≡◌, ℕ, false, true, List, [], length, map, Option, Some, None, Bool, is_some}
 use Rattle.model_run.specs.declared.context.Context.{Context}
 use Rattle.model_run.specs.declared.ending.Asked.TheVariants.{ForBranches, ForRequest}
 use Rattle.model_run.specs.declared.ending.Branch.{Branch}
@@ -14,6 +14,7 @@ use Rattle.settle_laws.specs.Stances.{Stance}
 use Rattle.cps_frames.specs.Standing.{own_of, standing}
 use Rattle.cps_frames.specs.declared.shared.Shared.{Shared}
 use Rattle.cps_frames.specs.declared.thread.Move.{Move}
+use Rattle.script_thread.specs.Marks.{StaysBelow}
 use Rattle.thread_fits.specs.Seats.{first_of}
 use Rattle.cps_machine.specs.Stops.{Stops}
 use Rattle.cps_machine.specs.declared.machine.Stopped.{Stopped}
@@ -47,6 +48,10 @@ is_branch t = branch_by t.start t.state.parent
 -- the thread with this number and parent
 abbrev pub seated : MachineThread → ℕ → Option ℕ → MachineThread
 seated t n p = record t { state = record t.state { number = n; parent = p } }
+
+-- the thread whose frames all count as untouched
+abbrev pub marked : MachineThread → MachineThread
+marked t = record t { low = length t.state.stack.items }
 
 -- what the definitions see of a branch that is to begin
 pub record Beginning : Type 0 where
@@ -83,9 +88,11 @@ IsStop (stopped.Waits (ForRequest r)) (stop.Waits q) context = q ≡ r
 IsStop (stopped.Waits (ForBranches bs)) (stop.Forks ts) context = map seen ts ≡ map (to_begin context) bs
 IsStop s t context = ⊥
 
--- A turn: the machine runs from what the thread does first with the answer, and so stops.
+-- A turn: the machine runs from what the thread does first with the answer, and so stops. Of its frames no more count as untouched than
+-- did before, and those are the same.
 pub record IsTurn (t : MachineThread) (u : Shared) (x : Answer) (stops : Stop MachineThread) (t' : MachineThread) (u' : Shared) : Type 0 where
   pub stopped_so : Stopped
   pub stop : IsStop stopped_so stops t'.state.context
   pub runs : Stops (standing u t.state) (first_move t x) stopped_so (standing u' t'.state)
   pub begun : t'.start ≡ None
+  pub stays : StaysBelow t.low t.state.stack.items t'.low t'.state.stack.items

@@ -1,13 +1,13 @@
 //! What an image has of a thread, and the thread that it tells of.
 
-ghost use Rattle.std.specs.Prelude.{◌≡◌, IfOk};
+ghost use Rattle.std.specs.Prelude.{◌≡◌, ◌≤◌, IfOk, drop, length};
 
 use crate::thread::{MachineThread, copied};
 use cps_code::Code;
 use cps_frames::ThreadState;
 use green_threads::Seated;
 use image_form::ImageThread;
-use model_run::Wait;
+use model_run::{Frame, Wait};
 use saved_thread::{SavedThread, frames_in, frames_told, open_calls};
 use std::alloc::{AllocError, Global};
 
@@ -19,15 +19,17 @@ impl SavedThread for MachineThread {
         alloc: Global,
         code: &Code,
         seat: &Seated<MachineThread>,
+        first: usize,
     ) -> Result<ImageThread, AllocError> {
         let state = seat.thread.state();
+        let frames = frames_from(state.stack.as_slice(), first);
         Ok(ImageThread {
             number: seat.number,
             parent: seat.parent,
             head: state.head,
             wait: same_wait(&seat.wait)?,
             context: copied(&state.context)?,
-            frames: frames_told(alloc, code, state.stack.as_slice())?,
+            frames: frames_told(alloc, code, frames)?,
         })
     }
 
@@ -67,6 +69,14 @@ impl SavedThread for MachineThread {
     ghost rested_fit = { rested_fit stance_of };
 
     ghost fit_rested = { fit_rested stance_of };
+}
+
+/// The frames from this one on.
+fn frames_from(frames: &[Frame], first: usize) -> &[Frame]
+    requires within { first ≤ length frames.now }
+    ensures { result.now ≡ drop first frames.now }
+{
+    &frames[first..]
 }
 
 /// The same wait once more. `AllocError` where the memory was refused.

@@ -1,10 +1,10 @@
 //! A green thread that runs a script, or a branch of a `parallel`.
 
-ghost use Rattle.std.specs.Prelude.{◌≡◌, ℕ, List, None, map, IfOk};
+ghost use Rattle.std.specs.Prelude.{◌≡◌, ℕ, List, None, length, map, IfOk};
 ghost use Rattle.model_run.specs.World.{outcome_of};
 ghost use Rattle.cps_machine.specs.Threads.{IsStop, beginning, first_move, seen, to_begin};
 
-use crate::machine::{Stopped, run};
+use crate::machine::{Stopped, lowest, run};
 use cps_frames::{Move, Shared, ThreadState};
 use green_threads::{NewBranch, Runner, Stop};
 use model_run::{Answer, Asked, Branch, Branches, Callee, Context, Ending, Entry, Outcome};
@@ -31,6 +31,9 @@ pub struct MachineThread {
     state: ThreadState,
     /// What it runs, where it has not begun.
     start: Option<Start>,
+    /// How many of its frames, from the outermost on, of those that it had then, no move has taken off since it was marked,
+    /// began or was restored, or more than there are.
+    low: usize,
 }
 
 impl MachineThread {
@@ -48,14 +51,20 @@ impl MachineThread {
                 stack: Vec::new(alloc),
             },
             start: Some(start),
+            low: 0,
         }
     }
 
     /// The thread that waits inside these frames.
     pub fn restore(state: ThreadState) -> MachineThread
-        ensures { result ≡ record { state = state; start = None } }
+        ensures { result ≡ record { state = state; start = None; low = length state.stack.items } }
     {
-        MachineThread { state, start: None }
+        let low = state.stack.len();
+        MachineThread {
+            state,
+            start: None,
+            low,
+        }
     }
 
     /// What it has between two turns.
@@ -99,7 +108,8 @@ impl Runner for MachineThread {
     ghost use Rattle.settle_laws.specs.Stances.{Turns};
     ghost use Rattle.cps_frames.specs.Standing.{common_of, setting_of};
     ghost use Rattle.thread_fits.specs.Seats.{Fits, nodes_left};
-    ghost use Rattle.cps_machine.specs.Threads.{IsTurn, is_branch, seated, stance_of};
+    ghost use Rattle.std.specs.Prelude.{refl};
+    ghost use Rattle.cps_machine.specs.Threads.{IsTurn, is_branch, marked, seated, stance_of};
 
     type Shared = Shared;
 
@@ -112,6 +122,8 @@ impl Runner for MachineThread {
     ghost head = { λ t. t.state.head };
 
     ghost seated = { seated };
+
+    ghost marked = { marked };
 
     ghost room = { nodes_left };
 
@@ -130,6 +142,12 @@ impl Runner for MachineThread {
         self.state.parent = under;
     }
 
+    fn mark(&mut self) {
+        self.low = self.state.stack.len();
+    }
+
+    ghost marked_seat = { λ t. record { number_same = refl; parent_same = refl; branch_same = refl } };
+
     fn resume(
         &mut self,
         shared: &mut Shared,
@@ -137,22 +155,30 @@ impl Runner for MachineThread {
     ) -> Result<Stop<MachineThread>, AllocError> {
         let alloc = shared.alloc();
         let first = self.first_move(alloc, answer);
-        let stopped = run(&mut self.state, shared, first)?;
+        self.low = lowest(&self.state, self.low);
+        let stopped = run(&mut self.state, &mut self.low, shared, first)?;
         let stop = self.stop(alloc, stopped)?;
         Ok(stop)
     }
 }
 
 impl ScriptThread for MachineThread {
-    ghost use Rattle.std.specs.Prelude.{refl};
+    ghost use Rattle.std.specs.Prelude.{map, refl};
+    ghost use Rattle.green_threads.specs.Threads.{marked_in};
     ghost use Rattle.thread_fits.specs.Seats.{Fits};
     ghost use Rattle.thread_fits.proofs.BeginLaws.{script_fits};
     ghost use Rattle.thread_fits.proofs.EventLaws.{awaited_there, event_fits};
-    ghost use Rattle.thread_fits.proofs.MarkLaws.{marked_fits};
+    ghost use Rattle.thread_fits.proofs.MarkLaws.{marked_fits, marked_threads_fit};
     ghost use Rattle.thread_fits.proofs.SeatLaws.{heads_stand};
-    ghost use Rattle.cps_machine.specs.Threads.{seated, stance_of};
+    ghost use Rattle.cps_machine.specs.Threads.{marked, seated, stance_of};
 
     ghost stance = { stance_of };
+
+    ghost low = { λ t. t.low };
+
+    fn low(&self) -> usize {
+        self.low
+    }
 
     fn script(alloc: Global) -> Result<MachineThread, AllocError> {
         let outside = Context {
@@ -171,11 +197,15 @@ impl ScriptThread for MachineThread {
 
     ghost marks = { λ t u x stopped t' u' turns. record { cells = turns.0.runs.onward.beside.heap; nodes = turns.0.runs.leaves.follows.later.nodes; log = turns.0.runs.leaves.follows.log } };
 
+    ghost stays = { λ t u x stopped t' u' turns. turns.0.stays };
+
+    ghost marked_is = { λ t. refl };
+
     ghost room_is = { λ u. refl };
 
     ghost begun_fits = { λ t u e alone begun. script_fits stance_of (seated t 0 None) u e begun };
 
-    ghost marked_fits = { marked_fits stance_of };
+    ghost marked_fits = { λ xs u fit. marked_fits stance_of (map (marked_in marked) xs) u (marked_threads_fit stance_of marked xs u fit) };
 
     ghost shared_fits = { λ xs u fit. fit.shared };
 

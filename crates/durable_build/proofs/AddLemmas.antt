@@ -5,12 +5,12 @@ use Rattle.jp_disk.specs.Moments.{AtEachMoment}
 use Rattle.journal_core.specs.Records.{HasWithOrWithout}
 use Rattle.journal_core.specs.State.{State, Holds}
 use Rattle.field_form.specs.Forms.{Spells}
-use Rattle.record_form.specs.Records.{record_of}
-use Rattle.record_form.specs.Sizes.{size_in}
+use Rattle.delta_records.specs.Lower.record_form.Records.{record_of}
+use Rattle.delta_records.specs.Lower.record_form.Sizes.{size_in}
 use Rattle.image_form.specs.declared.image.Image.{Image}
-use Rattle.delta_form.specs.After.{after}
-use Rattle.delta_form.specs.Applying.{◌>>=◌}
-use Rattle.delta_form.specs.declared.delta.Delta.{Delta}
+use Rattle.delta_records.specs.Lower.delta_form.After.{after}
+use Rattle.delta_records.specs.Lower.delta_form.Applying.{◌>>=◌}
+use Rattle.delta_records.specs.Lower.delta_form.declared.delta.Delta.{Delta}
 use Rattle.delta_records.specs.Payloads.{payload_form}
 use Rattle.delta_records.specs.declared.payload.Payload.{Payload}
 use Rattle.delta_records.specs.declared.weights.Weights.{Weights}

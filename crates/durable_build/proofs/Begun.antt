@@ -16,16 +16,16 @@ use Rattle.green_threads.specs.declared.runner.Seated.{Seated}
 use Rattle.green_threads.specs.declared.settled.Settled.{Settled}
 use Rattle.green_threads.specs.declared.settled.Settled.TheVariants.{AllWait, Ended as ScriptEnded, Limit as LimitMet}
 use Rattle.green_threads.specs.Threads.{Threads}
-use Rattle.cps_frames.specs.declared.shared.Shared.{Shared}
-use Rattle.cps_frames.specs.Standing.{setting_of}
+use Rattle.build_images.specs.Lower.cps_frames.declared.shared.Shared.{Shared}
+use Rattle.build_images.specs.Lower.cps_frames.Standing.{setting_of}
 use Rattle.settle_laws.specs.Stances.{Stance}
 use Rattle.settle_laws.specs.Standing.{Matches, OnlyScript, Rising}
 use Rattle.script_run.proofs.Begun.{starts_begun}
-use Rattle.build_core.specs.Builds.{Parts, StandsFor, setting_in, standing_of}
-use Rattle.build_core.specs.Phases.{IsEmpty, SoundIn, StandsIn, has_begun, recounted}
-use Rattle.build_core.specs.Taking.{EndsAs, StepsOn}
-use Rattle.build_core.specs.declared.phase.Phase.{Phase}
-use Rattle.build_core.specs.declared.phase.Phase.TheVariants.{Unbegun, Running, Ended, Stopped}
+use Rattle.build_images.specs.Lower.build_core.Builds.{Parts, StandsFor, setting_in, standing_of}
+use Rattle.build_images.specs.Lower.build_core.Phases.{IsEmpty, SoundIn, StandsIn, has_begun, recounted}
+use Rattle.build_images.specs.Lower.build_core.Taking.{EndsAs, StepsOn}
+use Rattle.build_images.specs.Lower.build_core.declared.phase.Phase.{Phase}
+use Rattle.build_images.specs.Lower.build_core.declared.phase.Phase.TheVariants.{Unbegun, Running, Ended, Stopped}
 use Rattle.store_laws.proofs.Starts.{only_start}
 use Rattle.store_laws.proofs.Stories.{IsStart}
 

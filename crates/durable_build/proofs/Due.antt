@@ -6,14 +6,14 @@ use Rattle.model_run.specs.declared.event.Event.{Event}
 use Rattle.model_run.specs.State.{Setting}
 use Rattle.settle_laws.specs.Stances.{Stance}
 use Rattle.image_form.specs.declared.image.Image.{Image}
-use Rattle.record_form.specs.Records.{record_of}
-use Rattle.record_form.specs.declared.record.EventRecord.{EventRecord}
-use Rattle.delta_form.specs.After.{after}
-use Rattle.delta_form.specs.declared.delta.Delta.{Delta}
+use Rattle.delta_records.specs.Lower.record_form.Records.{record_of}
+use Rattle.delta_records.specs.Lower.record_form.declared.record.EventRecord.{EventRecord}
+use Rattle.delta_records.specs.Lower.delta_form.After.{after}
+use Rattle.delta_records.specs.Lower.delta_form.declared.delta.Delta.{Delta}
 use Rattle.delta_records.specs.declared.payload.Payload.{Payload}
 use Rattle.delta_records.specs.declared.payload.Payload.TheVariants as payload
 use Rattle.delta_records.specs.declared.weights.Weights.{Weights}
-use Rattle.image_changes.proofs.Least.{least_is_one}
+use Rattle.build_images.proofs.Lower.image_changes.Least.{least_is_one}
 use Rattle.store_laws.specs.Store.{last_image}
 use Rattle.durable_build.specs.Kinds.{is_whole_due, weights_of}
 use Rattle.durable_build.specs.Standing.{IsWhole, Keeps, Kept, image_before}

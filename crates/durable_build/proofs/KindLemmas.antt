@@ -9,11 +9,11 @@ use Rattle.field_form.specs.Reading.{Read}
 use Rattle.field_form.specs.Events.{event_form}
 use Rattle.image_form.specs.Images.{image_form}
 use Rattle.image_form.specs.declared.image.Image.{Image}
-use Rattle.record_form.specs.declared.record.EventRecord.{EventRecord}
-use Rattle.delta_form.specs.Deltas.{delta_form}
-use Rattle.delta_form.specs.declared.delta.Delta.{Delta}
+use Rattle.delta_records.specs.Lower.record_form.declared.record.EventRecord.{EventRecord}
+use Rattle.delta_records.specs.Lower.delta_form.Deltas.{delta_form}
+use Rattle.delta_records.specs.Lower.delta_form.declared.delta.Delta.{Delta}
 use Rattle.model_run.specs.declared.event.Event.{Event}
-use Rattle.delta_form.specs.Applying.{◌>>=◌ as ◌>>◌}
+use Rattle.delta_records.specs.Lower.delta_form.Applying.{◌>>=◌ as ◌>>◌}
 use Rattle.delta_records.specs.Gaps.{gap}
 use Rattle.delta_records.specs.Payloads.{PayloadParts, next_image, payload_form, payload_of}
 use Rattle.delta_records.specs.declared.payload.Payload.{Payload}

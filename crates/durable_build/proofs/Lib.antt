@@ -1,3 +1,4 @@
+pub mod Lower
 pub mod CountLemmas
 pub mod Begun
 pub mod OrderLemmas

@@ -13,14 +13,14 @@ use Rattle.field_form.specs.Forms.{whole_of}
 use Rattle.field_form.specs.Reading.{Refuses}
 use Rattle.field_form.specs.declared.refusal.FormRefusal.{FormRefusal}
 use Rattle.field_form.specs.declared.refusal.FormRefusal.TheVariants.{Fault}
-use Rattle.record_form.specs.Records.{record_of}
-use Rattle.delta_form.specs.Applying.{◌>>=◌}
-use Rattle.delta_form.specs.declared.delta.Delta.{Delta}
+use Rattle.delta_records.specs.Lower.record_form.Records.{record_of}
+use Rattle.delta_records.specs.Lower.delta_form.Applying.{◌>>=◌}
+use Rattle.delta_records.specs.Lower.delta_form.declared.delta.Delta.{Delta}
 use Rattle.delta_records.specs.Payloads.{next_image, payload_form}
 use Rattle.delta_records.specs.declared.payload.Payload.{Payload}
 use Rattle.delta_records.specs.declared.payload.Payload.TheVariants as payload
 use Rattle.delta_records.specs.declared.weights.Weights.{Weights}
-use Rattle.record_form.specs.declared.record.EventRecord.{EventRecord}
+use Rattle.delta_records.specs.Lower.record_form.declared.record.EventRecord.{EventRecord}
 use Rattle.image_form.specs.declared.image.Image.{Image}
 use Rattle.model_run.specs.declared.event.Event.{Event}
 use Rattle.model_run.specs.declared.event.Event.TheVariants as event
@@ -31,7 +31,7 @@ use Rattle.model_run.specs.AgentsFile.{agents_file, Means}
 use Rattle.model_run.specs.declared.site.Site.{Site}
 use Rattle.cps_code.specs.declared.row.Row.{Row}
 use Rattle.settle_laws.specs.Stances.{Stance}
-use Rattle.build_core.specs.Builds.{Parts}
+use Rattle.build_images.specs.Lower.build_core.Builds.{Parts}
 use Rattle.store_laws.specs.Store.{Mean, image_at, last_image, payload_in, record_at, record_with, script_limit}
 use Rattle.store_laws.proofs.Payloads.{payload_refused}
 use Rattle.store_laws.proofs.Tellings.{one_record}

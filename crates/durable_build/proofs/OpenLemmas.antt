@@ -1,7 +1,7 @@
 -- An opened build is that of its records, where they are those of one build.
 use Rattle.std.proofs.Common.{◌≡◌, ◌<◌, ℕ, true, List, [], ◌∷◌, ◌++◌, length, Option, Some, None, sym, ap, ◌∙◌, subst, arith, append-nil, append_assoc}
 use Rattle.std.specs.Prelude.{fold}
-use Rattle.record_form.specs.declared.record.EventRecord.{EventRecord}
+use Rattle.delta_records.specs.Lower.record_form.declared.record.EventRecord.{EventRecord}
 use Rattle.image_form.specs.declared.image.Image.{Image}
 use Rattle.model_run.specs.declared.event.Event.{Event}
 use Rattle.model_run.specs.declared.event.Event.TheVariants as event
@@ -9,7 +9,7 @@ use Rattle.model_run.specs.State.{Setting}
 use Rattle.model_run.specs.World as W
 use Rattle.settle_laws.specs.Stances.{Stance}
 use Rattle.script_run.proofs.Begun.{stays_begun}
-use Rattle.build_core.specs.Builds.{Parts, setting_in}
+use Rattle.build_images.specs.Lower.build_core.Builds.{Parts, setting_in}
 use Rattle.store_laws.specs.Store.{Starts, Follows, Told, events_of}
 use Rattle.store_laws.proofs.Payloads.{image_of_last, told_last}
 use Rattle.store_laws.proofs.Stories.{IsStart}

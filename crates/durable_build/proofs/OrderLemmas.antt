@@ -7,8 +7,8 @@ use Rattle.model_run.specs.Terms.{Term}
 use Rattle.model_run.specs.declared.request.OpenRequest.{OpenRequest}
 use Rattle.image_form.specs.declared.image.Image.{Image}
 use Rattle.image_form.specs.declared.image.ImageThread.{ImageThread}
-use Rattle.image_check.specs.Standings.{seat_in}
-use Rattle.record_form.specs.Ordered.{IsInOrder}
+use Rattle.build_images.specs.Lower.image_check.Standings.{seat_in}
+use Rattle.delta_records.specs.Lower.record_form.Ordered.{IsInOrder}
 use Rattle.build_images.specs.Images.{IsOrdered, IsWhole}
 
 rises_on : (k m : ℕ) (ns : List ℕ) → Rise (suc k) m ns → Rises (k ∷ ns)

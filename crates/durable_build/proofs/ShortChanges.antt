@@ -33,26 +33,26 @@ use Rattle.model_run.specs.declared.wait.Join.{Join}
 use Rattle.model_run.specs.declared.wait.Wait.{Wait}
 use Rattle.model_run.specs.declared.wait.Wait.TheVariants as wait
 use Rattle.model_run.specs.Fitting.{NotReady}
-use Rattle.record_form.specs.Ordered.{IsInOrder}
-use Rattle.record_form.proofs.Short.{Short, Nothing, Plain, free, short_bytes, short_pair, plain_pair, plain_parts, plain_last, plain_or, plain_kinds, plain_nothing, plain_optional, items_few, short_list, plain_many}
-use Rattle.record_form.proofs.ShortImages.{short_event}
-use Rattle.record_form.proofs.Rising.{EachBelow as EachLower, all_rise, below_numbers, all_both, all_items}
-use Rattle.delta_form.specs.After.{IsInOrder as IsDeltaInOrder, after, are_apart, binding_changes, gone, frames_of, in_order, put_cell, put_node, requests_after, thread_changes, thread_with, threads_after, with_changes, written_thread}
-use Rattle.delta_form.specs.Applying.{◌>>=◌, in_turn}
-use Rattle.delta_form.specs.Changes.{EachBelow, Parted, by_number, changed, merged, parted, rising}
-use Rattle.delta_form.specs.ChangeLaws.{threads_keyed}
-use Rattle.delta_form.specs.Deltas.{CanBeWritten, RestOfThread, cell_behind, delta_form, delta_parts, first_form, new_node_form, new_node_of, new_node_parts, number_behind, other_form, request_behind, rest_of_thread, written_behind}
-use Rattle.delta_form.specs.Numbers.{has_lower, written_number}
-use Rattle.delta_form.specs.WrittenCells.{written_cell_form, written_cell_of, written_cell_parts}
-use Rattle.delta_form.specs.declared.delta.Delta.{Delta}
-use Rattle.delta_form.specs.declared.delta.NumberedCell.{NumberedCell}
-use Rattle.delta_form.specs.declared.delta.WrittenRequest.{WrittenRequest}
-use Rattle.delta_form.specs.declared.delta.WrittenRequest.TheVariants as written
-use Rattle.delta_form.specs.declared.delta.WrittenThread.{WrittenThread}
-use Rattle.delta_form.specs.declared.refusal.DeltaRefusal.TheVariants.{Fault}
-use Rattle.delta_form.proofs.InOrder.{is_in_order}
-use Rattle.delta_form.proofs.Orders.{less}
-use Rattle.delta_form.proofs.Walks.{walk_ends, walk_refused}
+use Rattle.delta_records.specs.Lower.record_form.Ordered.{IsInOrder}
+use Rattle.delta_records.proofs.Lower.record_form.Short.{Short, Nothing, Plain, free, short_bytes, short_pair, plain_pair, plain_parts, plain_last, plain_or, plain_kinds, plain_nothing, plain_optional, items_few, short_list, plain_many}
+use Rattle.delta_records.proofs.Lower.record_form.ShortImages.{short_event}
+use Rattle.delta_records.proofs.Lower.record_form.Rising.{EachBelow as EachLower, all_rise, below_numbers, all_both, all_items}
+use Rattle.delta_records.specs.Lower.delta_form.After.{IsInOrder as IsDeltaInOrder, after, are_apart, binding_changes, gone, frames_of, in_order, put_cell, put_node, requests_after, thread_changes, thread_with, threads_after, with_changes, written_thread}
+use Rattle.delta_records.specs.Lower.delta_form.Applying.{◌>>=◌, in_turn}
+use Rattle.delta_records.specs.Lower.delta_form.Changes.{EachBelow, Parted, by_number, changed, merged, parted, rising}
+use Rattle.delta_records.specs.Lower.delta_form.ChangeLaws.{threads_keyed}
+use Rattle.delta_records.specs.Lower.delta_form.Deltas.{CanBeWritten, RestOfThread, cell_behind, delta_form, delta_parts, first_form, new_node_form, new_node_of, new_node_parts, number_behind, other_form, request_behind, rest_of_thread, written_behind}
+use Rattle.delta_records.specs.Lower.delta_form.Numbers.{has_lower, written_number}
+use Rattle.delta_records.specs.Lower.delta_form.WrittenCells.{written_cell_form, written_cell_of, written_cell_parts}
+use Rattle.delta_records.specs.Lower.delta_form.declared.delta.Delta.{Delta}
+use Rattle.delta_records.specs.Lower.delta_form.declared.delta.NumberedCell.{NumberedCell}
+use Rattle.delta_records.specs.Lower.delta_form.declared.delta.WrittenRequest.{WrittenRequest}
+use Rattle.delta_records.specs.Lower.delta_form.declared.delta.WrittenRequest.TheVariants as written
+use Rattle.delta_records.specs.Lower.delta_form.declared.delta.WrittenThread.{WrittenThread}
+use Rattle.delta_records.specs.Lower.delta_form.declared.refusal.DeltaRefusal.TheVariants.{Fault}
+use Rattle.delta_records.proofs.Lower.delta_form.InOrder.{is_in_order}
+use Rattle.delta_records.proofs.Lower.delta_form.Orders.{less}
+use Rattle.delta_records.proofs.Lower.delta_form.Walks.{walk_ends, walk_refused}
 use Rattle.delta_records.specs.Payloads.{CanBeWritten as PayloadCanBeWritten, payload_form}
 use Rattle.delta_records.specs.declared.payload.Payload.TheVariants as payload
 

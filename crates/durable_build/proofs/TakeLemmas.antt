@@ -2,11 +2,11 @@
 use Rattle.std.proofs.Common.{◌≡◌, ◌+◌, ◌^◌, ◌≤◌, ℕ, Bool, true, false, List, [], ◌∷◌, ◌++◌, Option, Some, None, Result, Ok, Err, refl, sym, ap, ◌∙◌, subst, arith, length-append}
 use Rattle.std.specs.Prelude.{IfSome, IsErrOf, if◌then◌else◌}
 use Rattle.journal_core.specs.State.{Holds}
-use Rattle.record_form.specs.Ordered.{IsInOrder}
-use Rattle.record_form.specs.Records.{record_of}
+use Rattle.delta_records.specs.Lower.record_form.Ordered.{IsInOrder}
+use Rattle.delta_records.specs.Lower.record_form.Records.{record_of}
 use Rattle.delta_records.specs.declared.payload.Payload.{Payload}
 use Rattle.delta_records.specs.declared.weights.Weights.{Weights}
-use Rattle.record_form.specs.declared.record.EventRecord.{EventRecord}
+use Rattle.delta_records.specs.Lower.record_form.declared.record.EventRecord.{EventRecord}
 use Rattle.image_form.specs.declared.image.Image.{Image}
 use Rattle.model_run.specs.declared.event.Event.{Event}
 use Rattle.model_run.specs.declared.event.Event.TheVariants as event
@@ -15,8 +15,8 @@ use Rattle.model_run.specs.State.{Setting}
 use Rattle.model_run.specs.Taking.{taken}
 use Rattle.model_run.specs.World as W
 use Rattle.settle_laws.specs.Stances.{Stance}
-use Rattle.build_core.specs.Builds.{Parts, StandsFor, setting_in, standing_of}
-use Rattle.build_core.specs.Phases.{has_begun}
+use Rattle.build_images.specs.Lower.build_core.Builds.{Parts, StandsFor, setting_in, standing_of}
+use Rattle.build_images.specs.Lower.build_core.Phases.{has_begun}
 use Rattle.store_laws.specs.Store.{IsStory, events_of, last_image, record_at}
 use Rattle.store_laws.proofs.Payloads.{told_image}
 use Rattle.store_laws.proofs.Tellings.{one_record}

@@ -1,7 +1,7 @@
 -- Opening a consistent store never tells of damage.
 use Rattle.std.proofs.Common.{◌≡◌, inl, inr, ℕ, true, false, List, [], ◌∷◌, Some, None, refl, sym, ap, ◌∙◌, subst}
 use Rattle.journal_core.specs.Records.{Walked}
-use Rattle.record_form.specs.declared.record.EventRecord.{EventRecord}
+use Rattle.delta_records.specs.Lower.record_form.declared.record.EventRecord.{EventRecord}
 use Rattle.image_form.specs.declared.image.Image.{Image}
 use Rattle.model_run.specs.declared.event.Event.{Event}
 use Rattle.model_run.specs.declared.event.Event.TheVariants as event

@@ -9,8 +9,8 @@ use Rattle.model_run.specs.Fitting.{WorldFits, seats_of}
 use Rattle.model_run.specs.State.{Setting}
 use Rattle.model_run.specs.Terms.{term}
 use Rattle.model_run.specs.World as W
-use Rattle.fit_laws.proofs.Joined.{world_fits}
-use Rattle.fit_laws.proofs.SharedStates.{limits_narrow}
+use Rattle.build_images.proofs.Lower.fit_laws.Joined.{world_fits}
+use Rattle.build_images.proofs.Lower.fit_laws.SharedStates.{limits_narrow}
 use Rattle.build_images.specs.Images.{IsWhole, world_image}
 use Rattle.build_images.proofs.Seats.{Clear}
 use Rattle.build_images.proofs.Whole.{whole_image}

@@ -2,23 +2,24 @@
 use Rattle.std.specs.Prelude.{◌≡◌, ◌⊎◌, ◌<◌, ◌≤◌, ◌+◌, ◌-◌, ◌^◌, ℕ, true, false, List, [], ◌∷◌, ◌++◌, length, min, Option, Some, None, IfSome, Result, Ok, Err}
 use Rattle.journal_core.specs.State.{State, Holds}
 use Rattle.field_form.specs.Forms.{Spells}
-use Rattle.record_form.specs.Records.{record_of}
-use Rattle.record_form.specs.declared.record.EventRecord.{EventRecord}
+use Rattle.delta_records.specs.Lower.record_form.Records.{record_of}
+use Rattle.delta_records.specs.Lower.record_form.declared.record.EventRecord.{EventRecord}
 use Rattle.image_form.specs.declared.image.Image.{Image}
-use Rattle.delta_form.specs.After.{after}
-use Rattle.delta_form.specs.Applying.{◌>>=◌}
-use Rattle.delta_form.specs.declared.delta.Delta.{Delta}
+use Rattle.delta_records.specs.Lower.delta_form.After.{after}
+use Rattle.delta_records.specs.Lower.delta_form.Applying.{◌>>=◌}
+use Rattle.delta_records.specs.Lower.delta_form.declared.delta.Delta.{Delta}
 use Rattle.delta_records.specs.Payloads.{payload_form}
 use Rattle.delta_records.specs.declared.payload.Payload.{Payload}
 use Rattle.delta_records.specs.declared.payload.Payload.TheVariants as payload
 use Rattle.delta_records.specs.declared.weights.Weights.{Weights}
-use Rattle.image_changes.specs.Least.{IsLeast}
-use Rattle.image_changes.specs.Seen.{KeepsUnmarked}
+use Rattle.build_images.specs.Lower.image_changes.Least.{IsLeast}
+use Rattle.build_images.specs.Lower.image_changes.Seen.{KeepsUnmarked}
 use Rattle.model_run.specs.FlowNodes.{IsFront}
 use Rattle.model_run.specs.World.{Build}
 use Rattle.settle_laws.specs.Stances.{Stance}
-use Rattle.cps_frames.specs.declared.shared.Shared.{Shared}
-use Rattle.build_core.specs.Builds.{Parts, StandsFor, setting_in}
+use Rattle.cps_code.specs.Script.{script_of}
+use Rattle.build_images.specs.Lower.build_core.Builds.{Parts, StandsFor, setting_in}
+use Rattle.build_images.specs.Fronts.{FramesStand}
 use Rattle.build_images.specs.Images.{image_in}
 use Rattle.model_run.specs.declared.event.Event.{Event}
 use Rattle.agent_worker.specs.declared.fault.TakeFault.{TakeFault}
@@ -27,14 +28,15 @@ use Rattle.store_laws.specs.Store.{last_image}
 use Rattle.durable_build.specs.Kinds.{is_whole_due, weights_of, weights_with}
 use Rattle.durable_build.specs.Taking.{HasNoChanges, IsDue, Puts, added}
 
--- The marks of the cells tell what changed since the image before: each unmarked cell stands as it stood in it, and its flow nodes and
--- its log are the beginning of those now.
-pub record MarksChanges (before : Image) (now : Shared) : Type 0 where
-  pub cells : KeepsUnmarked before.cells now.heap
-  pub nodes : IsFront before.nodes now.graph
-  pub log : IsFront before.log now.log
+-- The marks of the cells and of the threads tell what changed since the image before: each unmarked cell stands as it stood in it, its flow
+-- nodes and its log are the beginning of those now, and of a thread that it has the frames are the same that count as untouched.
+pub record MarksChanges {T : Type 0} (low : T → ℕ) (stance : T → Stance) (before : Image) (now : Parts T) : Type 0 where
+  pub cells : KeepsUnmarked before.cells now.shared.heap
+  pub nodes : IsFront before.nodes now.shared.graph
+  pub log : IsFront before.log now.shared.log
+  pub frames : FramesStand low stance (script_of now.shared.code) before.threads now.group.seats
 
--- The build is the same but for the marks of its cells, which nothing else hangs on.
+-- The build is the same but for the marks of its cells and of its threads, which nothing else hangs on.
 pub record IsSameButMarks {T : Type 0} (stance : T → Stance) (old new : Parts T) : Type 0 where
   pub setting : setting_in new ≡ setting_in old
   pub phase : new.phase ≡ old.phase

@@ -1,3 +1,4 @@
+pub mod Lower
 pub mod Kinds
 pub mod Standing
 pub mod Taking

@@ -16,8 +16,8 @@ use Rattle.image_form.specs.declared.image.Image.{Image}
 use Rattle.cps_code.specs.declared.row.Row.{Row}
 use Rattle.cps_code.specs.Script.{script_of}
 use Rattle.settle_laws.specs.Stances.{Stance}
-use Rattle.build_core.specs.Builds.{Parts, StandsFor, setting_in}
-use Rattle.build_core.specs.Phases.{has_begun}
+use Rattle.build_images.specs.Lower.build_core.Builds.{Parts, StandsFor, setting_in}
+use Rattle.build_images.specs.Lower.build_core.Phases.{has_begun}
 use Rattle.store_laws.specs.Store.{Mean, image_at, last_image, payload_in, script_limit}
 use Rattle.delta_records.specs.Payloads.{next_image}
 use Rattle.delta_records.specs.declared.payload.Payload.{Payload}

@@ -5,15 +5,15 @@ use Rattle.std.specs.List.{AllByRecursion as AllAre}
 use Rattle.journal_core.specs.Records.{framed}
 use Rattle.journal_core.specs.State.{State, Holds}
 use Rattle.delta_records.specs.declared.weights.Weights.{Weights}
-use Rattle.record_form.specs.Ordered.{IsInOrder}
-use Rattle.record_form.specs.declared.record.EventRecord.{EventRecord}
+use Rattle.delta_records.specs.Lower.record_form.Ordered.{IsInOrder}
+use Rattle.delta_records.specs.Lower.record_form.declared.record.EventRecord.{EventRecord}
 use Rattle.image_form.specs.declared.image.Image.{Image}
 use Rattle.model_run.specs.declared.event.Event.TheVariants as event
 use Rattle.model_run.specs.State.{Setting}
 use Rattle.model_run.specs.World.{Build, world_in}
 use Rattle.settle_laws.specs.Stances.{Stance}
-use Rattle.build_core.specs.Builds.{Parts, StandsFor, setting_in}
-use Rattle.build_core.specs.Phases.{has_begun}
+use Rattle.build_images.specs.Lower.build_core.Builds.{Parts, StandsFor, setting_in}
+use Rattle.build_images.specs.Lower.build_core.Phases.{has_begun}
 use Rattle.store_laws.specs.Store.{IsStory, Mean, Told, events_of, image_at, last_image, record_at}
 use Rattle.durable_build.specs.Kinds.{is_whole, weights_of}
 use Rattle.build_images.specs.Images.{world_image, image_in}

@@ -4,14 +4,14 @@ use Rattle.jp_disk.specs.Moments.{AtEachMoment}
 use Rattle.journal_core.specs.Records.{HasWithOrWithout}
 use Rattle.journal_core.specs.State.{State}
 use Rattle.field_form.specs.Forms.{Spells}
-use Rattle.record_form.specs.Records.{record_of}
+use Rattle.delta_records.specs.Lower.record_form.Records.{record_of}
 use Rattle.delta_records.specs.Payloads.{payload_form}
 use Rattle.delta_records.specs.declared.payload.Payload.{Payload}
 use Rattle.delta_records.specs.declared.payload.Payload.TheVariants as payload
 use Rattle.delta_records.specs.declared.weights.Weights.{Weights}
-use Rattle.image_changes.specs.Least.{IsLeast}
-use Rattle.image_changes.specs.Parts.{LeadsTo}
-use Rattle.record_form.specs.declared.record.EventRecord.{EventRecord}
+use Rattle.build_images.specs.Lower.image_changes.Least.{IsLeast}
+use Rattle.build_images.specs.Lower.image_changes.Parts.{LeadsTo}
+use Rattle.delta_records.specs.Lower.record_form.declared.record.EventRecord.{EventRecord}
 use Rattle.image_form.specs.declared.image.Image.{Image}
 use Rattle.model_run.specs.declared.event.Event.{Event}
 use Rattle.model_run.specs.declared.event.Event.TheVariants as event
@@ -21,8 +21,8 @@ use Rattle.model_run.specs.State.{Setting}
 use Rattle.model_run.specs.Taking.{taken}
 use Rattle.model_run.specs.World as W
 use Rattle.settle_laws.specs.Stances.{Stance}
-use Rattle.build_core.specs.Builds.{Parts, StandsFor, setting_in, standing_of}
-use Rattle.build_core.specs.Phases.{has_begun}
+use Rattle.build_images.specs.Lower.build_core.Builds.{Parts, StandsFor, setting_in, standing_of}
+use Rattle.build_images.specs.Lower.build_core.Phases.{has_begun}
 use Rattle.store_laws.specs.Store.{Mean, last_image, record_at, record_with}
 use Rattle.agent_worker.specs.declared.fault.TakeFault.{TakeFault}
 use Rattle.agent_worker.specs.declared.fault.TakeFault.TheVariants.{Memory, Disk, Full, Stopped}

@@ -1,21 +1,21 @@
 //! What an event changed of a build.
-ghost use Rattle.std.specs.Prelude.{◌≡◌, true, IfSome, IfOk, IfErr};
-ghost use Rattle.record_form.specs.Ordered.{IsInOrder};
-ghost use Rattle.image_changes.specs.Least.{IsLeast};
-ghost use Rattle.image_changes.specs.Parts.{LeadsTo};
-ghost use Rattle.image_changes.specs.Seen.{image_seen};
-ghost use Rattle.build_core.specs.Phases.{has_begun};
+ghost use Rattle.std.specs.Prelude.{◌≡◌, map, true, IfSome, IfOk, IfErr};
+ghost use Rattle.delta_records.specs.Lower.record_form.Ordered.{IsInOrder};
+ghost use Rattle.build_images.specs.Lower.image_changes.Least.{IsLeast};
+ghost use Rattle.build_images.specs.Lower.image_changes.Parts.{LeadsTo};
+ghost use Rattle.build_images.specs.Lower.image_changes.Seen.{image_seen, thread_seen};
+ghost use Rattle.build_images.specs.Lower.build_core.Phases.{has_begun};
 ghost use Rattle.build_images.specs.Images.{HasImage, image_in};
 ghost use Rattle.durable_build.specs.Adding.{IsDueDelta, MarksChanges};
 
 use crate::store::Last;
 use agent_worker::TakeFault;
-use build_core::Build;
-use build_images::threads_in;
-use delta_form::Delta;
-use image_changes::{Now, changes_between};
-use image_form::{Image, ImageThreads};
-use saved_thread::SavedThread;
+use build_images::build_core::Build;
+use build_images::image_changes::{Now, NowThread, changes_between};
+use build_images::saved_thread::SavedThread;
+use build_images::threads_now;
+use delta_records::delta_form::Delta;
+use image_form::Image;
 use std::alloc::{AllocError, Global};
 
 /// What changed from the image of the last record, where the next record is to hold that alone.
@@ -26,7 +26,7 @@ pub fn due_changes<R: SavedThread + Drop>(
 ) -> Result<Option<Delta>, TakeFault>
     requires begun { has_begun build.now.phase ≡ true }
     requires order { IfSome last.now.image IsInOrder }
-    requires marks { IfSome last.now.image (λ before. MarksChanges before build.now.shared) }
+    requires marks { IfSome last.now.image (λ before. MarksChanges R.low R.stance before build.now) }
     ensures due { IfOk result (IsDueDelta last.now.weights last.now.image (image_in R.stance build.now)) }
     ensures image { IfOk result (λ changes. IfSome changes (λ _. HasImage R.stance build.now)) }
     ensures fault { IfErr result (λ e. e ≡ TakeFault.Memory) }
@@ -52,22 +52,23 @@ fn changes_from<R: SavedThread + Drop>(
 ) -> Result<Option<Delta>, AllocError>
     requires begun { has_begun build.now.phase ≡ true }
     requires order { IsInOrder before.now }
-    requires marks { MarksChanges before.now build.now.shared }
+    requires marks { MarksChanges R.low R.stance before.now build.now }
     ensures leads { IfOk result (LeadsTo before.now (image_in R.stance build.now)) }
     ensures least { IfOk result (λ changes. IfSome changes (IsLeast before.now)) }
     ensures image { IfOk result (λ _. HasImage R.stance build.now) }
 {
-    let threads = threads_in(build)?;
+    let threads = threads_now(build, before.threads.as_slice())?;
     let changes = changes_between(alloc, before, &seen(build, &threads))?;
     Ok(changes)
 }
 
 /// The parts of a build as they stand now, with what its image has of the threads.
-fn seen<'a, R: SavedThread + Drop>(build: &'a Build<R>, threads: &'a ImageThreads) -> Now<'a>
-    requires { threads.now ≡ (image_in R.stance build.now).threads }
+fn seen<'a, R: SavedThread + Drop>(build: &'a Build<R>, threads: &'a [NowThread<'a>]) -> Now<'a>
+    requires { map thread_seen threads.now ≡ (image_in R.stance build.now).threads }
     ensures image { image_seen result ≡ image_in R.stance build.now }
     ensures cells { result.cells.now ≡ build.now.shared.heap }
     ensures nodes { result.nodes.now ≡ build.now.shared.graph }
+    ensures threads { result.threads.now ≡ threads.now }
     ensures log { result.log.now ≡ build.now.shared.log }
 {
     let shared = build.shared();
@@ -82,6 +83,6 @@ fn seen<'a, R: SavedThread + Drop>(build: &'a Build<R>, threads: &'a ImageThread
         log: shared.log.bytes(),
         requests: shared.requests.as_slice(),
         held: shared.held.as_slice(),
-        threads: threads.as_slice(),
+        threads,
     }
 }

@@ -6,8 +6,8 @@ ghost use Rattle.journal_core.specs.Records.{framed};
 ghost use Rattle.journal_core.specs.State.{Holds};
 ghost use Rattle.journal_core.specs.Moments.{OnlyReads};
 ghost use Rattle.journal_core.specs.Answers.{entries_of};
-ghost use Rattle.build_core.specs.Builds.{setting_in};
-ghost use Rattle.build_core.specs.Phases.{has_begun};
+ghost use Rattle.build_images.specs.Lower.build_core.Builds.{setting_in};
+ghost use Rattle.build_images.specs.Lower.build_core.Phases.{has_begun};
 ghost use Rattle.build_images.specs.Images.{image_in};
 ghost use Rattle.durable_build.specs.Kinds.{is_whole};
 ghost use Rattle.durable_build.specs.Standing.{IsWhole, Remembers};
@@ -16,14 +16,14 @@ ghost use Rattle.durable_build.specs.Opening.{FoundFrom, IsLastWhole, LastFound,
 use crate::faults::StoreFault;
 use crate::opening::{Source, build_from, image_at, opening_of};
 use crate::store::{Last, is_whole, no_weights, weights_with};
-use build_core::Build;
+use build_images::build_core::Build;
 use build_images::image_of;
+use build_images::saved_thread::SavedThread;
 use delta_records::Weights;
 use image_form::Image;
 use journal_core::{Journal, ReadFault, Record};
 use jp_disk::Disk;
 use model_text::Bytes;
-use saved_thread::SavedThread;
 use std::alloc::Global;
 
 /// The build of a store, and the bytes of its `Start`.

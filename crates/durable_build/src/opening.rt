@@ -1,25 +1,25 @@
 //! What the records of a store say that are read: the first, and those from the last whole image on.
 ghost use Rattle.std.specs.Prelude.{◌≡◌, List, ℕ, true, IfOk, IsErrOf};
-ghost use Rattle.build_core.specs.Builds.{setting_in};
-ghost use Rattle.image_check.specs.Standings.{Stands};
-ghost use Rattle.build_core.specs.Phases.{has_begun};
+ghost use Rattle.build_images.specs.Lower.build_core.Builds.{setting_in};
+ghost use Rattle.build_images.specs.Lower.image_check.Standings.{Stands};
+ghost use Rattle.build_images.specs.Lower.build_core.Phases.{has_begun};
 ghost use Rattle.build_images.specs.Images.{image_in};
 ghost use Rattle.durable_build.specs.Standing.{IsWhole};
 ghost use Rattle.durable_build.specs.Opening.{CodeOf, EventOpens, FindsImage, GoesOnFrom, HasPayload, MakesImage, OpensBy, SiteOf, SourceOf, StandsWhere, setting_with};
 
 use crate::faults::StoreFault;
 use agents_file::{AgentsRefusal, read_agents};
-use build_core::Build;
+use build_images::build_core::Build;
+use build_images::image_check::{ImageRefusal, check};
+use build_images::saved_thread::SavedThread;
 use build_images::{RestoreRefusal, restored};
 use cps_code::{Code, number};
 use delta_records::{DeltaRefusal, FormRefusal, Payload, next_image, read_payload};
 use groovy_parse::parse;
-use image_check::{ImageRefusal, check};
 use image_form::Image;
 use model_run::{Event, Site};
 use model_syntax::ScriptRefusal;
 use model_text::Bytes;
-use saved_thread::SavedThread;
 use std::alloc::Global;
 
 /// What a first record says: the bytes of a script and of an agents file, and what they mean.

@@ -7,14 +7,14 @@ ghost use Rattle.journal_core.specs.State.{Holds};
 ghost use Rattle.model_run.specs.World as W;
 ghost use Rattle.model_run.specs.declared.taken.Taken.TheVariants.{Accepted};
 ghost use Rattle.model_run.specs.Taking.{taken};
-ghost use Rattle.build_core.specs.Builds.{StandsFor, setting_in, standing_of};
-ghost use Rattle.build_core.specs.Phases.{has_begun};
+ghost use Rattle.build_images.specs.Lower.build_core.Builds.{StandsFor, setting_in, standing_of};
+ghost use Rattle.build_images.specs.Lower.build_core.Phases.{has_begun};
 ghost use Rattle.image_form.specs.declared.image.Image.{Image as AnyImage};
 ghost use Rattle.delta_records.specs.Payloads.{CanBeWritten, payload_form};
 ghost use Rattle.delta_records.specs.declared.payload.Payload.TheVariants as payload;
-ghost use Rattle.record_form.specs.Ordered.{IsInOrder};
-ghost use Rattle.record_form.specs.Sizes.{size_in};
-ghost use Rattle.script_thread.specs.Marks.{GoesOnFrom};
+ghost use Rattle.delta_records.specs.Lower.record_form.Ordered.{IsInOrder};
+ghost use Rattle.delta_records.specs.Lower.record_form.Sizes.{size_in};
+ghost use Rattle.build_images.specs.Lower.script_thread.Marks.{FramesStay, GoesOnFrom};
 ghost use Rattle.build_images.specs.Images.{HasImage, image_in};
 ghost use Rattle.durable_build.specs.Kinds.{is_whole, weights_of, weights_with};
 ghost use Rattle.durable_build.specs.Adding.{AddDone, AddLeaves, HasRoom, IsDueDelta, IsSameButMarks, MarksChanges, SpellsDue};
@@ -22,17 +22,17 @@ ghost use Rattle.durable_build.specs.Taking.{IsSource, kept_script, kept_agents}
 
 use crate::changes::due_changes;
 use agent_worker::TakeFault;
-use build_core::Build;
+use build_images::build_core::Build;
 use build_images::image_of;
-use delta_form::Delta;
+use build_images::saved_thread::SavedThread;
+use delta_records::delta_form::Delta;
+use delta_records::record_form::{Measured, record_size, write_record};
 use delta_records::{Payload, Weights, next_image, write_payload};
 use image_form::Image;
 use journal_core::{AppendFault, Journal};
 use jp_disk::Disk;
 use model_run::{Event, Taken};
 use model_text::{Bytes, Sequence};
-use record_form::{Measured, record_size, write_record};
-use saved_thread::SavedThread;
 use std::alloc::{AllocError, Global};
 
 /// The most bytes that a journal may have.
@@ -50,6 +50,7 @@ pub fn take_event<R: SavedThread + Drop>(
     ensures unchanged { IfOk result (λ answer. (answer ≡ Accepted → ⊥) → build.new ≡ build.old) }
     ensures begun { IfOk result (λ answer. answer ≡ Accepted → has_begun build.new.phase ≡ true) }
     ensures marks { OnOk result (GoesOnFrom build.old.shared build.new.shared) }
+    ensures frames { OnOk result (FramesStay R.low R.stance build.old.group.seats build.new.group.seats) }
     ensures stands { OnOk result ((w : W.Build) → StandsFor R.stance build.old w → StandsFor R.stance build.new (W.after_one (setting_in build.old) w event.now)) }
     ensures setting { OnOk result (setting_in build.new ≡ setting_in build.old) }
 {
@@ -149,7 +150,7 @@ pub fn is_whole(payload: &[u8]) -> bool
 }
 
 /// Adds the record of an event that the build has just taken, and keeps its image as the last. From then on no cell of the build
-/// is marked: what is marked behind the next event was changed by it.
+/// is marked and each thread is: the marks behind the next event tell what it changed.
 pub fn add<D: Disk, R: SavedThread + Drop>(
     journal: &mut Journal<D>,
     alloc: Global,
@@ -160,7 +161,7 @@ pub fn add<D: Disk, R: SavedThread + Drop>(
     requires running { journal.old.stopped ≡ false }
     requires begun { has_begun build.old.phase ≡ true }
     requires order { IfSome last.old.image IsInOrder }
-    requires marks { IfSome last.old.image (λ before. MarksChanges before build.old.shared) }
+    requires marks { IfSome last.old.image (λ before. MarksChanges R.low R.stance before build.old) }
     ensures adds { AddDone D.reads D.may_leave D.clock D.may_have_left_since last.old.weights last.old.image event.now (image_in R.stance build.new) journal.old journal.new last.new.weights result }
     ensures last { OnOk result ((last.new.image ≡ Some (image_in R.stance build.new)) × IsInOrder (image_in R.stance build.new)) }
     ensures image { ¬ (IsErrOf result TakeFault.Memory) → HasImage R.stance build.new }
@@ -183,7 +184,7 @@ fn add_record<D: Disk, R: SavedThread + Drop>(
     requires running { journal.old.stopped ≡ false }
     requires begun { has_begun build.now.phase ≡ true }
     requires order { IfSome last.old.image IsInOrder }
-    requires marks { IfSome last.old.image (λ before. MarksChanges before build.now.shared) }
+    requires marks { IfSome last.old.image (λ before. MarksChanges R.low R.stance before build.now) }
     ensures adds { AddDone D.reads D.may_leave D.clock D.may_have_left_since last.old.weights last.old.image event.now (image_in R.stance build.now) journal.old journal.new last.new.weights result }
     ensures last { OnOk result (last.new.image ≡ Some (image_in R.stance build.now)) }
     ensures image { ¬ (IsErrOf result TakeFault.Memory) → HasImage R.stance build.now }

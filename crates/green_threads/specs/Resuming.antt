@@ -41,3 +41,9 @@ abbrev pub Keeps : {T S : Type 0} → (T → ℕ → Option ℕ → T) → (T �
 Keeps {T} seated head fits t s a stopped t' s' =
     (g : Threads T) (x : Seated T) (i : ℕ) → fits g.seats s → AllBelow g.next g.seats → slice_get g.seats i ≡ Some x → x.thread ≡ t → x.wait ≡ Ready a → GoesOn x.parent stopped →
     fits (turned seated head g x stopped t').seats s'
+
+-- Both threads have the same number and the same parent, and are branches alike.
+pub record IsSameSeat {T : Type 0} (number : T → ℕ) (parent : T → Option ℕ) (branch : T → Bool) (t t' : T) : Type 0 where
+  pub number_same : number t' ≡ number t
+  pub parent_same : parent t' ≡ parent t
+  pub branch_same : branch t' ≡ branch t

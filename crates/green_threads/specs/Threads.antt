@@ -53,6 +53,13 @@ without_seat n xs = filter (λ x. not (nat_eq x.number n)) xs
 abbrev pub waits_as : {T : Type 0} → Wait → Seated T → Seated T
 waits_as w x = record { number = x.number; parent = x.parent; wait = w; thread = x.thread }
 
+-- the same thread in its seat, marked; and all threads of a group
+abbrev pub marked_in : {T : Type 0} → (T → T) → Seated T → Seated T
+marked_in marked x = record { number = x.number; parent = x.parent; wait = x.wait; thread = marked x.thread }
+
+abbrev pub marked_group : {T : Type 0} → (T → T) → Threads T → Threads T
+marked_group marked g = record { seats = map (marked_in marked) g.seats; next = g.next }
+
 -- the thread after its turn, which waits for this
 abbrev pub turned_seat : {T : Type 0} → Wait → T → Seated T → Seated T
 turned_seat w t x = record { number = x.number; parent = x.parent; wait = w; thread = t }

@@ -4,7 +4,7 @@ ghost use Rattle.green_threads.specs.WaitTypes.{Answer, Ready, Begin, BranchesWa
 ghost use Rattle.green_threads.specs.declared.runner.Seated.{Seated};
 ghost use Rattle.green_threads.specs.declared.settled.Settled.{Settled};
 ghost use Rattle.green_threads.specs.declared.refusal.SpawnRefusal.{SpawnRefusal};
-ghost use Rattle.green_threads.specs.Threads.{waits_for_request, is_request, with_seat, waits_as, ended_branch, new_joins, new_seats};
+ghost use Rattle.green_threads.specs.Threads.{waits_for_request, is_request, with_seat, waits_as, marked_group, ended_branch, new_joins, new_seats};
 ghost use Rattle.green_threads.specs.Resuming.{AllBranches, MayResume};
 ghost use Rattle.green_threads.specs.Grouping.{Grouped};
 ghost use Rattle.green_threads.specs.Order.{Settles, turns_left};
@@ -156,6 +156,15 @@ impl<R: Runner + Drop> Group<R> {
         }
         self.wait_at(place, Wait::Ready(answer));
         Ok(())
+    }
+
+    /// Marks each thread. It takes no memory.
+    pub fn mark(&mut self)
+        ensures { self.new ≡ marked_group R.marked self.old }
+    {
+        for seat in self.seats.iter_mut() {
+            seat.thread.mark();
+        }
     }
 
     /// The group of just these threads, under no limit; a new one gets the number `next`. It takes no memory.

@@ -4,7 +4,7 @@ ghost use Rattle.std.specs.Prelude.{◌≡◌, ℕ, List, Bool, Option, IfOk, is
 ghost use Rattle.green_threads.specs.WaitTypes.{Answer};
 ghost use Rattle.green_threads.specs.declared.runner.Stop.{Stop};
 ghost use Rattle.green_threads.specs.declared.runner.Seated.{Seated};
-ghost use Rattle.green_threads.specs.Resuming.{Lowers, Begins, MayResume, Keeps};
+ghost use Rattle.green_threads.specs.Resuming.{Lowers, Begins, MayResume, Keeps, IsSameSeat};
 
 use model_run::{Answer, Outcome, Wait};
 use model_text::{Sequence, Text};
@@ -68,6 +68,9 @@ pub trait Runner {
     /// The thread with this number and parent, and else as it was.
     ghost seated: { Self → ℕ → Option ℕ → Self };
 
+    /// The thread as `mark` leaves it.
+    ghost marked: { Self → Self };
+
     /// At least how many branches may still begin or end.
     ghost room: { Self.Shared → ℕ };
 
@@ -90,6 +93,14 @@ pub trait Runner {
         ensures number { number self.new ≡ at }
         ensures parent { parent self.new ≡ under }
         ensures branch { branch self.new ≡ branch self.old };
+
+    /// All that stands of the thread now counts as standing from before: what is changed is what its further turns change.
+    /// It takes no memory.
+    fn mark(&mut self)
+        ensures marked { self.new ≡ marked self.old };
+
+    /// A marked thread is the same one, in its seat.
+    ghost marked_seat: { (t : Self) → IsSameSeat number parent branch t (marked t) };
 
     /// Goes on with an answer up to the next stop. The thread has to be ready with this answer, among threads that fit
     /// the shared state; afterwards they still do. A turn keeps the thread's number and parent, never raises `room`, and

@@ -1,4 +1,5 @@
 pub mod Gets
+pub mod Fronts
 pub mod Turns
 pub mod Rising
 pub mod Steps

@@ -1,9 +1,10 @@
 -- What alone differs of cells, requests and threads that are written short (this product's own).
-use Rattle.std.specs.Prelude.{◌≡◌, ℕ, List, drop, Option, Some, None}
+use Rattle.std.specs.Prelude.{◌≡◌, ◌<◌, ◌≤◌, ◌+◌, ℕ, List, drop, length, slice_get, take, Option, Some, None}
 use Rattle.model_values.specs.declared.cell.Cell.{Cell}
 use Rattle.model_run.specs.declared.request.Request.{Request}
 use Rattle.model_run.specs.declared.request.Request.TheVariants as request
 use Rattle.model_run.specs.declared.request.OpenRequest.{OpenRequest}
+use Rattle.image_form.specs.declared.image.ImageFrame.{ImageFrame}
 use Rattle.image_form.specs.declared.image.ImageThread.{ImageThread}
 use Rattle.delta_form.specs.After.{grown, written_cell, written_request}
 use Rattle.delta_form.specs.Numbers.{written_number}
@@ -57,3 +58,19 @@ IsSameSeat t u = HasSameNumbers t u × (t.wait ≡ u.wait) × (t.context ≡ u.c
 -- the thread with so many of its frames kept, and the others written
 abbrev pub with_front : ImageThread → ℕ → WrittenThread
 with_front t kept = record { number = t.number; parent = t.parent; head = t.head; wait = t.wait; context = t.context; kept = kept; frames = drop kept t.frames }
+
+-- So many frames from the outermost on are the same, as far as a delta counts them, and at least so many are known to be.
+pub record IsCommon (had has : List ImageFrame) (known kept : ℕ) : Type 0 where
+  pub same : take kept had ≡ take kept has
+  pub within_had : kept ≤ length had
+  pub within_has : kept ≤ length has
+  pub from : known ≤ kept
+  pub few : kept ≤ 4294967295
+  pub most : kept < 4294967295 → kept < length had → ¬ (slice_get had kept ≡ slice_get has kept)
+
+-- so many and so many more, as far as a delta counts them
+pub record IsCounted (known more count : ℕ) : Type 0 where
+  pub from : known ≤ count
+  pub within : count ≤ known + more
+  pub few : count ≤ 4294967295
+  pub all : count < 4294967295 → count ≡ known + more

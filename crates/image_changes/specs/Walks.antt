@@ -83,6 +83,10 @@ Stays {C} by number made shortest old stood item new =
     ((stood ≡ item) × (new ≡ record old { had = old.had + 1; has = old.has + 1 }))
     ⊎ ((c : C) × Changes by number made shortest stood item c × (new ≡ record old { had = old.had + 1; has = old.has + 1; written = old.written ++ c ∷ [] }))
 
+-- of each item now, what is known of it and the one that stood at its number
+abbrev pub AllKnown : {X N : Type 0} → (X → ℕ) → (N → X) → (X → N → Type 0) → List X → List N → Type 0
+AllKnown {X} {N} by seen known before now = AllAre (λ (n : N). AllAre (λ (x : X). by x ≡ by (seen n) → known x n) before) now
+
 -- Each item before that was passed is below each item now that was not.
 abbrev pub Passed : {C X : Type 0} → (X → ℕ) → List X → List X → Walk C → Type 0
 Passed by before now walk = AllAre (λ b. Above nat_cmp by (by b) (drop walk.has now)) (take walk.had before)

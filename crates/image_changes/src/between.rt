@@ -1,12 +1,14 @@
 //! The changes from an image to what stands in the build now.
 
-ghost use Rattle.std.specs.Prelude.{◌≡◌, IfOk, IfSome, Some};
+ghost use Rattle.std.specs.Prelude.{◌≡◌, IfOk, IfSome, Some, map};
+ghost use Rattle.model_run.specs.Fitting.{Rises};
 ghost use Rattle.record_form.specs.Ordered.{IsInOrder};
-ghost use Rattle.delta_form.specs.After.{after};
+ghost use Rattle.delta_form.specs.After.{after, request_changes, written_request};
 ghost use Rattle.image_form.specs.declared.image.Image.{Image as AnyImage};
-ghost use Rattle.image_changes.specs.Least.{IsLeast};
-ghost use Rattle.image_changes.specs.Parts.{LeadsTo};
-ghost use Rattle.image_changes.specs.Seen.{KeepsUnmarked, image_seen};
+ghost use Rattle.delta_form.specs.Numbers.{written_number};
+ghost use Rattle.image_changes.specs.Least.{AllNeeded, IsLeast, IsShort};
+ghost use Rattle.image_changes.specs.Parts.{LeadsTo, Renews};
+ghost use Rattle.image_changes.specs.Seen.{KeepsFronts, KeepsUnmarked, image_seen};
 ghost use Rattle.image_changes.specs.Whole.{AreLeast, PartsLead};
 ghost use Rattle.model_run.specs.FlowNodes.{IsFront};
 
@@ -15,7 +17,7 @@ use crate::now::Now;
 use crate::walk::{Walk, renewal};
 use delta_form::{Delta, NewNodes, NumberedCells, WrittenRequest, WrittenThread};
 use image_form::Image;
-use model_run::HeldExecutors;
+use model_run::{HeldExecutors, OpenRequest};
 use model_text::{Bytes, Sequence};
 use model_values::Binding;
 use std::alloc::{AllocError, Global};
@@ -41,6 +43,7 @@ pub fn changes_between(
     requires cells { KeepsUnmarked before.now.cells now.now.cells.now }
     requires nodes { IsFront before.now.nodes now.now.nodes.now }
     requires log { IsFront before.now.log now.now.log.now }
+    requires threads { KeepsFronts before.now.threads now.now.threads.now }
     ensures leads { IfOk result (LeadsTo before.now (image_seen now.now)) }
     ensures least { IfOk result (λ changes. IfSome changes (IsLeast before.now)) }
 {
@@ -69,6 +72,7 @@ fn parts_between(alloc: Global, before: &Image, now: &Now<'_>) -> Result<Option<
     requires cells { KeepsUnmarked before.now.cells now.now.cells.now }
     requires nodes { IsFront before.now.nodes now.now.nodes.now }
     requires log { IsFront before.now.log now.now.log.now }
+    requires threads { KeepsFronts before.now.threads now.now.threads.now }
     ensures leads { IfOk result (PartsLead before.now (image_seen now.now)) }
     ensures least { IfOk result (λ parts. IfSome parts (AreLeast before.now)) }
 {
@@ -80,10 +84,24 @@ fn parts_between(alloc: Global, before: &Image, now: &Now<'_>) -> Result<Option<
         cells: changed_cells(alloc, before.cells.as_slice(), now.cells)?,
         nodes: new_nodes(alloc, before.nodes.as_slice(), now.nodes)?,
         log: added_log(alloc, before.log.as_slice(), now.log)?,
-        requests: renewal(alloc, before.requests.as_slice(), now.requests)?,
+        requests: renewed(alloc, before.requests.as_slice(), now.requests)?,
         held: HeldExecutors::from_slice(alloc, now.held)?,
         threads: renewal(alloc, before.threads.as_slice(), now.threads)?,
     }))
+}
+
+/// The walk that makes the open requests now of those before.
+fn renewed(
+    alloc: Global,
+    before: &[OpenRequest],
+    now: &[OpenRequest],
+) -> Result<Walk<WrittenRequest>, AllocError>
+    requires before { Rises (map (λ r. r.number) before.now) }
+    requires now { Rises (map (λ r. r.number) now.now) }
+    ensures renews { IfOk result (λ walk. Renews (λ r. r.number) written_number request_changes before.now now.now walk.gone walk.written) }
+    ensures needed { IfOk result (λ walk. AllNeeded (λ r. r.number) written_number written_request IsShort before.now walk.written) }
+{
+    renewal(alloc, before, now)
 }
 
 /// The delta of these parts.

@@ -1,7 +1,7 @@
 //! The parts of a build as they stand now.
 
 use cell_heap::Heap;
-use image_form::ImageThread;
+use image_form::{ImageFrame, ImageThread};
 use model_run::{BuildResult, FlowNode, Held, OpenRequest};
 use model_values::Binding;
 
@@ -31,5 +31,17 @@ pub struct Now<'a> {
     /// The held executors.
     pub held: &'a [Held],
     /// The green threads.
-    pub threads: &'a [ImageThread],
+    pub threads: &'a [NowThread<'a>],
+}
+
+/// A green thread as it stands now, of which the frames in front, from the outermost on, are those that stand in the image
+/// before.
+///
+/// A contract says `thread_seen` of it: the thread with all its frames.
+#[derive(Drop)]
+pub struct NowThread<'a> {
+    /// The frames in front, as the image before has them.
+    pub front: &'a [ImageFrame],
+    /// The thread, with the frames behind those alone.
+    pub thread: ImageThread,
 }

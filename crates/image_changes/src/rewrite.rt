@@ -2,21 +2,29 @@
 
 ghost use Rattle.std.specs.Prelude.{◌≡◌, ℕ, IfOk, Option, Some, None};
 ghost use Rattle.image_changes.specs.Least.{IsShort, KeepsMost};
+ghost use Rattle.image_changes.specs.Seen.{HasFront, thread_seen};
 ghost use Rattle.image_changes.specs.Walks.{Writes};
 ghost use Rattle.delta_form.specs.After.{written_request, written_thread};
 ghost use Rattle.delta_form.specs.Numbers.{written_number};
 
+use crate::now::NowThread;
 use crate::requests::{copied_request, written_short};
 use crate::same::Same;
-use crate::threads::{common, is_same_thread, written_with};
+use crate::threads::{all_frames, common, frames_from, is_same_thread, written_with};
 use delta_form::{WrittenRequest, WrittenThread};
 use image_form::ImageThread;
 use model_run::OpenRequest;
 use std::alloc::{AllocError, Global};
 
-/// An item as it is written.
-pub(crate) trait Rewrite<T>: Drop + Sized {
+/// An item as it is written: `T` as an image has it, and `N` as it stands now.
+pub(crate) trait Rewrite<T, N>: Drop + Sized {
     ghost by: { T → ℕ };
+
+    /// The item now as the image now has it.
+    ghost seen: { N → T };
+
+    /// What is known of an item that stood and the one now at its number.
+    ghost known: { T → N → Type 0 };
 
     ghost number: { Self → ℕ };
 
@@ -24,23 +32,32 @@ pub(crate) trait Rewrite<T>: Drop + Sized {
 
     ghost shortest: { Self → T → Type 0 };
 
-    /// The number of an item.
+    /// The number of an item that stood.
     fn number_of(item: &T) -> u32
         ensures { result ≡ by item.now };
 
+    /// The number of an item now.
+    fn number_now(item: &N) -> u32
+        ensures { result ≡ by (seen item.now) };
+
     /// A new item.
-    fn new_one(alloc: Global, item: &T) -> Result<Self, AllocError>
-        ensures number { IfOk result (λ c. number c ≡ by item.now) }
-        ensures made { IfOk result (λ c. made c None ≡ Some (Some item.now)) };
+    fn new_one(alloc: Global, item: &N) -> Result<Self, AllocError>
+        ensures number { IfOk result (λ c. number c ≡ by (seen item.now)) }
+        ensures made { IfOk result (λ c. made c None ≡ Some (Some (seen item.now))) };
 
     /// An item of which another stood at its number, as short as it can be written, or nothing where it stood so.
-    fn changed_one(alloc: Global, stood: &T, item: &T) -> Result<Option<Self>, AllocError>
-        requires { by stood.now ≡ by item.now }
-        ensures { IfOk result (Writes by number made shortest stood.now item.now) };
+    fn changed_one(alloc: Global, stood: &T, item: &N) -> Result<Option<Self>, AllocError>
+        requires same { by stood.now ≡ by (seen item.now) }
+        requires known { known stood.now item.now }
+        ensures { IfOk result (Writes by number made shortest stood.now (seen item.now)) };
 }
 
-impl Rewrite<OpenRequest> for WrittenRequest {
+impl Rewrite<OpenRequest, OpenRequest> for WrittenRequest {
     ghost by = { λ r. r.number };
+
+    ghost seen = { λ r. r };
+
+    ghost known = { λ r q. Unit {0} };
 
     ghost number = { written_number };
 
@@ -49,6 +66,10 @@ impl Rewrite<OpenRequest> for WrittenRequest {
     ghost shortest = { IsShort };
 
     fn number_of(item: &OpenRequest) -> u32 {
+        item.number
+    }
+
+    fn number_now(item: &OpenRequest) -> u32 {
         item.number
     }
 
@@ -71,8 +92,12 @@ impl Rewrite<OpenRequest> for WrittenRequest {
     }
 }
 
-impl Rewrite<ImageThread> for WrittenThread {
+impl<'a> Rewrite<ImageThread, NowThread<'a>> for WrittenThread {
     ghost by = { λ t. t.number };
+
+    ghost seen = { thread_seen };
+
+    ghost known = { HasFront };
 
     ghost number = { λ w. w.number };
 
@@ -80,23 +105,31 @@ impl Rewrite<ImageThread> for WrittenThread {
 
     ghost shortest = { KeepsMost };
 
-    fn number_of(item: &ImageThread) -> u32 {
+    fn number_of(item: &ImageThread) -> u32
+        ensures { result ≡ item.now.number }
+    {
         item.number
     }
 
-    fn new_one(alloc: Global, item: &ImageThread) -> Result<WrittenThread, AllocError> {
-        written_with(alloc, item, 0)
+    fn number_now(item: &NowThread<'a>) -> u32 {
+        item.thread.number
+    }
+
+    fn new_one(alloc: Global, item: &NowThread<'a>) -> Result<WrittenThread, AllocError> {
+        let frames = all_frames(alloc, item)?;
+        written_with(&item.thread, 0, frames)
     }
 
     fn changed_one(
         alloc: Global,
         stood: &ImageThread,
-        item: &ImageThread,
+        item: &NowThread<'a>,
     ) -> Result<Option<WrittenThread>, AllocError> {
         if is_same_thread(stood, item) {
             return Ok(None);
         }
-        let kept = common(stood.frames.as_slice(), item.frames.as_slice());
-        Ok(Some(written_with(alloc, item, kept)?))
+        let kept = common(stood, item);
+        let frames = frames_from(alloc, item, kept)?;
+        Ok(Some(written_with(&item.thread, kept, frames)?))
     }
 }

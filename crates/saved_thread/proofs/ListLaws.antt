@@ -1,5 +1,5 @@
 -- A loop that takes items from the front of one list and puts what it makes of them behind another.
-use Rattle.std.proofs.Common.{◌≡◌, ◌∙◌, ◌<◌, ℕ, List, [], ◌∷◌, ◌++◌, length, get_or, map, refl, ap, sym, subst}
+use Rattle.std.proofs.Common.{◌≡◌, ◌∙◌, ◌<◌, ℕ, zero, suc, List, [], ◌∷◌, ◌++◌, drop, length, get_or, map, refl, ap, sym, subst}
 use Rattle.std.specs.List.{AllByRecursion as AllAre}
 use Rattle.std.proofs.lemmas.Option.{slice_get_read}
 use Rattle.model_values.proofs.CellGrowth.{all_get}
@@ -37,3 +37,9 @@ and_last {A = A} P xs xs' x e h p = subst (AllAre P) (sym e) (go xs h)
     go : (ys : List A) → AllAre P ys → AllAre P (ys ++ x ∷ [])
     go [] k = (p, tt)
     go (y ∷ ys) k = (k.0, go ys k.1)
+
+-- and of each from one on
+pub all_from : {A : Type 0} (P : A → Type 0) (n : ℕ) (xs : List A) → AllAre P xs → AllAre P (drop n xs)
+all_from P zero xs h = h
+all_from P (suc n) [] h = tt
+all_from P (suc n) (x ∷ xs) h = all_from P n xs h.1

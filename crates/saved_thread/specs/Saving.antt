@@ -1,5 +1,5 @@
 -- What an image has of a thread, and the thread that an image tells of (this product's own).
-use Rattle.std.specs.Prelude.{◌≡◌, ◌<◌, List, length, map, None}
+use Rattle.std.specs.Prelude.{◌≡◌, ◌<◌, ℕ, List, drop, length, map, None}
 use Rattle.std.specs.List.{AllByRecursion as AllAre}
 use Rattle.model_run.specs.declared.frame.Frame.{Frame}
 use Rattle.model_run.specs.declared.wait.Wait.{Wait}
@@ -22,6 +22,10 @@ frame_told root f = record { kind = kind_number f.kind; node = f.node; at = (row
 -- a thread as an image has it
 abbrev pub thread_told : Term → Seat → ImageThread
 thread_told root t = record { number = t.number; parent = t.parent; head = t.head; wait = t.wait; context = t.context; frames = map (frame_told root) t.stack }
+
+-- the same with the frames from this one on alone
+abbrev pub told_from : ℕ → ImageThread → ImageThread
+told_from first t = record t { frames = drop first t.frames }
 
 -- and the thread that an image tells of; each has begun
 abbrev pub seat_in : Term → ImageThread → Seat

@@ -10,5 +10,7 @@
 mod frames;
 mod thread;
 
+pub use cps_frames;
 pub use frames::{frames_in, frames_told, open_calls};
+pub use script_thread;
 pub use thread::SavedThread;

@@ -9,7 +9,7 @@ ghost use Rattle.cps_code.specs.Script.{IsScript, script_of};
 ghost use Rattle.cps_frames.specs.declared.shared.Shared.{Shared};
 ghost use Rattle.cps_frames.specs.Standing.{setting_of, common_of};
 ghost use Rattle.thread_fits.specs.Seats.{as_seat};
-ghost use Rattle.saved_thread.specs.Saving.{AtNodes, Begun, Storable, seat_in, thread_told};
+ghost use Rattle.saved_thread.specs.Saving.{AtNodes, Begun, Storable, seat_in, thread_told, told_from};
 
 use cps_code::Code;
 use green_threads::Seated;
@@ -19,10 +19,17 @@ use std::alloc::{AllocError, Global};
 
 /// A green thread that runs a script, of which an image keeps what its further turns hang on.
 pub trait SavedThread: ScriptThread {
-    /// What an image has of a thread in its seat. `AllocError` where the memory was refused.
-    fn saved(alloc: Global, code: &Code, seat: &Seated<Self>) -> Result<ImageThread, AllocError>
+    /// What an image has of a thread in its seat, with the frames from this one on alone, the outermost being the first.
+    /// `AllocError` where the memory was refused.
+    fn saved(
+        alloc: Global,
+        code: &Code,
+        seat: &Seated<Self>,
+        first: usize,
+    ) -> Result<ImageThread, AllocError>
         requires nodes { AtNodes (script_of code.now) (Self.stance seat.now.thread).frames }
-        ensures { IfOk result (λ saved. saved ≡ thread_told (script_of code.now) (as_seat Self.stance seat.now)) };
+        requires first { first ≤ length (Self.stance seat.now.thread).frames }
+        ensures { IfOk result (λ saved. saved ≡ told_from first (thread_told (script_of code.now) (as_seat Self.stance seat.now))) };
 
     /// The thread of which an image has this, in its seat. `AllocError` where the memory was refused, or where more than
     /// 4,294,967,295 calls are open.

@@ -1,7 +1,11 @@
--- What the threads of a build leave as it was, as the marks of its cells tell (this product's own).
-use Rattle.std.specs.Prelude.{false, length, replicate}
+-- What the threads of a build leave as it was, as the marks of its cells and of its threads tell (this product's own).
+use Rattle.std.specs.Prelude.{◌≡◌, ◌≤◌, ℕ, false, List, length, replicate, take}
+use Rattle.std.specs.List.{AllByRecursion as AllAre}
 use Rattle.cell_heap.specs.Follows.{Follows}
 use Rattle.model_run.specs.FlowNodes.{IsFront}
+use Rattle.model_run.specs.declared.frame.Frame.{Frame}
+use Rattle.green_threads.specs.declared.runner.Seated.{Seated}
+use Rattle.settle_laws.specs.Stances.{Stance}
 use Rattle.cps_frames.specs.declared.shared.Shared.{Shared}
 
 -- What threads share has come from u to v: cells, flow nodes and bytes of the log are added alone, and a cell that is unmarked in v was
@@ -14,3 +18,16 @@ pub record GoesOnFrom (u v : Shared) : Type 0 where
 -- the same of what threads share, with no cell marked
 abbrev pub marked : Shared → Shared
 marked u = record u { heap = record u.heap { changed = replicate (length u.heap.cells) false } }
+
+-- Frames have come from xs to ys, of which the first n counted as untouched before and the first m do now: no more do, and these are the same.
+pub record StaysBelow (n : ℕ) (xs : List Frame) (m : ℕ) (ys : List Frame) : Type 0 where
+  pub fewer : m ≤ n
+  pub same : take m ys ≡ take m xs
+
+-- Between threads xs and ys: of a thread that stood before the frames are the same that count as untouched now.
+abbrev pub SameFront : {T : Type 0} → (T → ℕ) → (T → Stance) → T → T → Type 0
+SameFront low stance t t' = take (low t') (stance t').frames ≡ take (low t') (stance t).frames
+
+abbrev pub FramesStay : {T : Type 0} → (T → ℕ) → (T → Stance) → List (Seated T) → List (Seated T) → Type 0
+FramesStay {T} low stance xs ys =
+    AllAre (λ (y : Seated T). AllAre (λ (x : Seated T). x.number ≡ y.number → SameFront low stance x.thread y.thread) xs) ys

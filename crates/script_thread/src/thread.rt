@@ -1,5 +1,5 @@
 //! A green thread that runs a script.
-ghost use Rattle.std.specs.Prelude.{◌≡◌, ◌-◌, ℕ, [], ◌∷◌, List, length, Option, None, IfOk, true, false, is_some};
+ghost use Rattle.std.specs.Prelude.{◌≡◌, ◌-◌, ℕ, [], ◌∷◌, List, length, map, Option, None, IfOk, true, false, is_some};
 ghost use Rattle.model_run.specs.declared.event.Event.{Event};
 ghost use Rattle.model_run.specs.declared.taken.Taken.TheVariants.{Accepted};
 ghost use Rattle.model_run.specs.Fitting.{SharedFits};
@@ -9,14 +9,14 @@ ghost use Rattle.green_threads.specs.WaitTypes.{Answer};
 ghost use Rattle.green_threads.specs.declared.runner.Seated.{Seated};
 ghost use Rattle.green_threads.specs.declared.runner.Stop.{Stop};
 ghost use Rattle.green_threads.specs.Grouping.{ready_count};
-ghost use Rattle.green_threads.specs.Threads.{waits_for_request};
+ghost use Rattle.green_threads.specs.Threads.{marked_in, waits_for_request};
 ghost use Rattle.cps_frames.specs.declared.shared.Shared.{Shared};
 ghost use Rattle.cps_frames.specs.Standing.{setting_of, common_of};
 ghost use Rattle.settle_laws.specs.Stances.{Stance, seated_as, script_stance, Turns};
 ghost use Rattle.settle_laws.specs.Standing.{HeadsStand};
 ghost use Rattle.build_requests.specs.Standings.{standing_of};
 ghost use Rattle.script_thread.specs.Events.{EndsNot, seats_after, shared_after, IsBegun, first_seat};
-ghost use Rattle.script_thread.specs.Marks.{GoesOnFrom, marked};
+ghost use Rattle.script_thread.specs.Marks.{GoesOnFrom, StaysBelow, marked};
 
 use cps_frames::Shared;
 use green_threads::Runner;
@@ -27,6 +27,15 @@ use std::alloc::{AllocError, Global};
 pub trait ScriptThread: Runner<Shared = Shared> {
     /// What the definitions see of it.
     ghost stance: { Self → Stance };
+
+    /// How many of its frames, from the outermost on, are as they were when it was marked last, or began or was restored,
+    /// as far as it knows.
+    ghost low: { Self → ℕ };
+
+    /// How many of its frames, from the outermost on, are as they were when it was marked last, or began or was restored,
+    /// as far as it knows. It takes no memory.
+    fn low(&self) -> usize
+        ensures { result ≡ low self.now };
 
     /// The thread of the script, which has not begun, behind the start node. Its number and parent are open.
     /// `AllocError` where the memory was refused.
@@ -46,6 +55,12 @@ pub trait ScriptThread: Runner<Shared = Shared> {
     /// What a turn leaves unmarked is as it was.
     ghost marks: { (t : Self) (u : Shared) (x : Answer) (stopped : Stop Self) (t' : Self) (u' : Shared) → Self.turns t u x stopped t' u' → GoesOnFrom u u' };
 
+    /// A turn lets no more frames count as untouched, and those that do are the same.
+    ghost stays: { (t : Self) (u : Shared) (x : Answer) (stopped : Stop Self) (t' : Self) (u' : Shared) → Self.turns t u x stopped t' u' → StaysBelow (low t) (stance t).frames (low t') (stance t').frames };
+
+    /// The definitions see nothing of marks.
+    ghost marked_is: { (t : Self) → stance (Self.marked t) ≡ stance t };
+
     /// As many branches may still begin or end as flow nodes may be made.
     ghost room_is: { (u : Shared) → Self.room u ≡ run_limits.flow_nodes - length u.graph };
 
@@ -53,7 +68,7 @@ pub trait ScriptThread: Runner<Shared = Shared> {
     ghost begun_fits: { (t : Self) (u : Shared) → seated_as 0 None (stance t) ≡ script_stance → Self.branch t ≡ false → IsBegun u → Self.fits (first_seat (Self.seated t 0 None) ∷ []) u };
 
     /// Threads that fit do so whatever is marked.
-    ghost marked_fits: { (xs : List (Seated Self)) (u : Shared) → Self.fits xs u → Self.fits xs (marked u) };
+    ghost marked_fits: { (xs : List (Seated Self)) (u : Shared) → Self.fits xs u → Self.fits (map (marked_in Self.marked) xs) (marked u) };
 
     /// Threads that fit have a sound shared state.
     ghost shared_fits: { (xs : List (Seated Self)) (u : Shared) → Self.fits xs u → SharedFits (setting_of u) false (common_of u) };

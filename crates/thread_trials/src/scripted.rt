@@ -58,7 +58,7 @@ pub struct Scripted {
 }
 
 impl Runner for Scripted {
-    ghost use Rattle.std.specs.Prelude.{◌≡◌};
+    ghost use Rattle.std.specs.Prelude.{◌≡◌, refl};
 
     type Shared = Shared;
 
@@ -71,6 +71,8 @@ impl Runner for Scripted {
     ghost head = { λ t. t.head };
 
     ghost seated = { λ t n p. record { number = n; parent = p; is_branch = t.is_branch; head = t.head } };
+
+    ghost marked = { λ t. t };
 
     ghost room = { λ s. s.left };
 
@@ -86,6 +88,10 @@ impl Runner for Scripted {
         self.number = at;
         self.parent = under;
     }
+
+    fn mark(&mut self) {}
+
+    ghost marked_seat = { λ t. record { number_same = refl; parent_same = refl; branch_same = refl } };
 
     fn resume(
         &mut self,

@@ -8,11 +8,11 @@ use Rattle.cell_heap.specs.Soundness.{AreSound}
 use Rattle.flow_graph.specs.Numbers.{AreNumbered}
 use Rattle.cps_code.specs.Script.{script_of}
 use Rattle.cps_code.specs.declared.row.Row.{Row}
-use Rattle.cps_frames.specs.declared.shared.Shared.{Shared}
-use Rattle.cps_frames.specs.Standing.{common_of}
+use Rattle.saved_thread.specs.Lower.cps_frames.declared.shared.Shared.{Shared}
+use Rattle.saved_thread.specs.Lower.cps_frames.Standing.{common_of}
 use Rattle.image_check.specs.Standings.{shared_in}
-use Rattle.image_frames.specs.Standings.{IsTold}
-use Rattle.thread_fits.specs.Seats.{as_seat}
+use Rattle.saved_thread.specs.Lower.image_frames.Standings.{IsTold}
+use Rattle.saved_thread.specs.Lower.thread_fits.Seats.{as_seat}
 use Rattle.saved_thread.specs.Saving.{seat_in}
 use Rattle.build_core.specs.Builds.{StandsFor}
 use Rattle.build_core.specs.Phases.{SoundIn}

@@ -4,7 +4,7 @@ use Rattle.std.specs.Vec.Iter.{into_iter_items}
 use Rattle.model_run.specs.Terms.{nodes_of}
 use Rattle.green_threads.specs.Grouping.{IsSeated}
 use Rattle.cps_code.specs.Script.{script_of}
-use Rattle.thread_fits.specs.Seats.{as_seat}
+use Rattle.saved_thread.specs.Lower.thread_fits.Seats.{as_seat}
 use Rattle.saved_thread.specs.Saving.{Begun, seat_in}
 use Rattle.saved_thread.proofs.ListLaws.{and_last, first_of, one_more, others_of}
 use Rattle.build_images.proofs.restoring.seats_of.Goals as goal

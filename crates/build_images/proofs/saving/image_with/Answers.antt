@@ -1,6 +1,6 @@
 use Rattle.std.proofs.Common.{subst}
 use Rattle.cps_code.specs.Script.{IsScript, script_of}
-use Rattle.cps_frames.specs.declared.shared.Shared.{Shared}
+use Rattle.saved_thread.specs.Lower.cps_frames.declared.shared.Shared.{Shared}
 use Rattle.build_images.proofs.saving.image_with.Goals as goal
 
 pub returns-clause-script : goal.returns-clause-script

@@ -1,6 +1,6 @@
 use Rattle.std.proofs.Common.{◌≡◌, map, take}
 use Rattle.cps_code.specs.Script.{script_of}
-use Rattle.thread_fits.specs.Seats.{as_seat}
+use Rattle.saved_thread.specs.Lower.thread_fits.Seats.{as_seat}
 use Rattle.saved_thread.specs.Saving.{thread_told}
 use Rattle.build_images.proofs.saving.threads_of.Given as goal
 

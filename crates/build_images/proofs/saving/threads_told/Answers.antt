@@ -3,7 +3,7 @@ use Rattle.std.specs.List.{AllByRecursion as AllAre}
 use Rattle.green_threads.specs.declared.runner.Seated.{Seated}
 use Rattle.green_threads.specs.Threads.{Threads}
 use Rattle.cps_code.specs.Script.{script_of}
-use Rattle.cps_frames.specs.declared.shared.Shared.{Shared}
+use Rattle.saved_thread.specs.Lower.cps_frames.declared.shared.Shared.{Shared}
 use Rattle.saved_thread.specs.Saving.{AtNodes}
 use Rattle.build_images.proofs.SavedBuilds.{at_nodes, image_is, ordered, threads_ready, whole}
 use Rattle.build_images.proofs.saving.threads_told.Goals as goal

@@ -1,5 +1,5 @@
 use Rattle.std.proofs.Common.{refl}
-use Rattle.build_core.specs.Builds.{setting_in}
+use Rattle.build_images.specs.Lower.build_core.Builds.{setting_in}
 use Rattle.durable_build.proofs.OrderLemmas.{in_order}
 use Rattle.durable_build.proofs.TakeLemmas.{remembers_image}
 use Rattle.durable_build.proofs.load.kept_of.Goals as goal

@@ -1,6 +1,6 @@
 use Rattle.std.proofs.Common.{refl, subst}
 use Rattle.cps_code.specs.Script.{script_of}
-use Rattle.image_check.specs.Images.{FallsFor}
+use Rattle.build_images.specs.Lower.image_check.Images.{FallsFor}
 use Rattle.durable_build.specs.Opening.{setting_with}
 use Rattle.durable_build.proofs.opening.build_from.Goals as goal
 

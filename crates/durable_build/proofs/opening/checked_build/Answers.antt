@@ -1,7 +1,7 @@
 use Rattle.std.proofs.Common.{◌≡◌, ◌∙◌, true, sym, subst}
 use Rattle.model_run.specs.State.{Setting}
 use Rattle.model_run.specs.World as W
-use Rattle.build_core.specs.Builds.{StandsFor}
+use Rattle.build_images.specs.Lower.build_core.Builds.{StandsFor}
 use Rattle.build_images.specs.Images.{image_in, world_image}
 use Rattle.durable_build.proofs.opening.checked_build.Goals as goal
 

@@ -1,6 +1,6 @@
 use Rattle.std.proofs.Common.{◌≡◌, ◌∙◌, ◌<◌, ◌+◌, ◌^◌, ◌≤◌, ℕ, List, Option, Some, Ok, Err, length, refl, sym, ap, subst}
 use Rattle.field_form.specs.Forms.{Spells}
-use Rattle.record_form.specs.Sizes.{size_in}
+use Rattle.delta_records.specs.Lower.record_form.Sizes.{size_in}
 use Rattle.image_form.specs.declared.image.Image.{Image}
 use Rattle.model_run.specs.declared.event.Event.{Event}
 use Rattle.delta_records.specs.Payloads.{next_image, payload_form}

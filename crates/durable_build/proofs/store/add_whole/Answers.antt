@@ -2,7 +2,7 @@ use Rattle.std.proofs.Common.{◌≡◌, ◌∙◌, ℕ, List, None, Some, Ok, E
 use Rattle.image_form.specs.declared.image.Image.{Image}
 use Rattle.delta_records.specs.declared.payload.Payload.TheVariants as payload
 use Rattle.delta_records.specs.declared.weights.Weights.{Weights}
-use Rattle.build_core.specs.Builds.{setting_in}
+use Rattle.build_images.specs.Lower.build_core.Builds.{setting_in}
 use Rattle.build_images.specs.Images.{IsOrdered, IsWhole, image_in}
 use Rattle.durable_build.specs.Adding.{AddDone, IsDueDelta, SpellsDue}
 use Rattle.durable_build.specs.Kinds.{weights_with}

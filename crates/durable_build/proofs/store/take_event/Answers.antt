@@ -1,7 +1,7 @@
 use Rattle.std.proofs.Common.{◌≡◌, ◌∙◌, sym}
 use Rattle.model_run.specs.declared.taken.Taken.TheVariants.{Accepted}
 use Rattle.model_run.specs.Taking.{taken}
-use Rattle.build_core.specs.Builds.{standing_of}
+use Rattle.build_images.specs.Lower.build_core.Builds.{standing_of}
 use Rattle.durable_build.proofs.Begun.{accepted_begun}
 use Rattle.durable_build.proofs.store.take_event.Goals as goal
 

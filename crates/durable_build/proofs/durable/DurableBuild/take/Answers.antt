@@ -4,13 +4,20 @@ use Rattle.model_run.specs.declared.taken.Taken.TheVariants.{Accepted}
 use Rattle.model_run.specs.Taking.{taken}
 use Rattle.model_run.specs.State.{Setting}
 use Rattle.model_run.specs.World as W
-use Rattle.build_core.specs.Builds.{setting_in, standing_of}
-use Rattle.build_core.specs.Phases.{has_begun}
+use Rattle.build_images.specs.Lower.build_core.Builds.{setting_in, standing_of}
+use Rattle.build_images.specs.Lower.build_core.Phases.{has_begun}
 use Rattle.build_images.specs.Images.{IsWhole, image_in}
 use Rattle.durable_build.specs.Standing.{Kept, Keeps}
 use Rattle.durable_build.specs.Taking.{Adds, IsSized, LeavesWhole, MayStart, TakeAnswers, TakeKeeps, TakeLeaves, TakeSources}
+use Rattle.durable_build.proofs.MarkLemmas.{marks_changes}
 use Rattle.durable_build.proofs.TakeLemmas.{added_left, adds, fault_whole, kept_after, puts_of, take_answered, take_failed, take_left, take_sized}
 use Rattle.durable_build.proofs.durable.DurableBuild.take.Goals as goal
+
+pub add-requires-clause-marks : goal.add-requires-clause-marks
+add-requires-clause-marks g c =
+    let i = c.self.inside in
+    let running : i.stopped ≡ false = search rules in
+    marks_changes g.R.ScriptThread.low g.R.ScriptThread.stance i.build c.take_event.new.build i.last.image (c.self.invariant.1 running) c.in-Ok.ensures.setting c.in-Ok.ensures.marks c.in-Ok.ensures.frames
 
 pub returns-in-Err-clause-keeps : goal.returns-in-Err-clause-keeps
 returns-in-Err-clause-keeps g c = λ ps keeps.

@@ -3,7 +3,7 @@ use Rattle.model_run.specs.declared.request.OpenRequest.{OpenRequest}
 use Rattle.delta_form.specs.declared.delta.WrittenRequest.{WrittenRequest}
 use Rattle.image_changes.specs.Growing.{Grows}
 use Rattle.image_changes.specs.Least.{CannotGrow}
-use Rattle.image_changes.proofs.rewrite.WrittenRequestRewriteOpenRequest.changed_one.Goals as goal
+use Rattle.image_changes.proofs.rewrite.WrittenRequestRewriteOpenRequestOpenRequest.changed_one.Goals as goal
 
 pub returns-in_ok-copied_request-in-None : goal.returns-in_ok-copied_request-in-None
 returns-in_ok-copied_request-in-None c =

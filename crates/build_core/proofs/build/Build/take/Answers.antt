@@ -1,0 +1,43 @@
+use Rattle.std.proofs.Common.{rules, ◌≡◌, ◌∙◌, sym, ap, subst}
+use Rattle.model_run.specs.declared.taken.Taken.TheVariants.{Accepted}
+use Rattle.green_threads.specs.Threads.{Threads}
+use Rattle.script_thread.specs.Marks.{FramesStay}
+use Rattle.build_core.specs.Builds.{Parts}
+use Rattle.build_core.specs.Phases.{SoundIn}
+use Rattle.build_core.proofs.Frames.{stay_accepted, stay_refused}
+use Rattle.build_core.proofs.build.Build.take.Goals as goal
+
+pub returns-then-ne-clause-goes_on : goal.returns-then-ne-clause-goes_on
+returns-then-ne-clause-goes_on g c = search rules
+
+pub returns-then-ne-clause-frames : goal.returns-then-ne-clause-frames
+returns-then-ne-clause-frames g c =
+    let b = c.args.self.now in
+    let number = g.R.Runner.number in
+    let parent = g.R.Runner.parent in
+    let branch = g.R.Runner.branch in
+    let fits = g.R.Runner.fits in
+    let low = g.R.ScriptThread.low in
+    let stance = g.R.ScriptThread.stance in
+    subst (λ (k : Threads _). FramesStay low stance b.group.seats k.seats) (sym (ap (λ (k : Parts _). k.group) c.self.view_is))
+    (stay_refused low stance number parent branch fits b.phase b.group b.shared (subst (λ (k : Parts _). SoundIn number parent branch fits k.phase k.group k.shared) c.self.view_is c.self.invariant) (returns-then-ne-clause-goes_on g c))
+
+pub returns-clause-goes_on : goal.returns-clause-goes_on
+returns-clause-goes_on g c = search rules
+
+pub returns-clause-steps : goal.returns-clause-steps
+returns-clause-steps g c = search rules
+
+pub returns-clause-taken : goal.returns-clause-taken
+returns-clause-taken g c = search rules
+
+pub returns-clause-frames : goal.returns-clause-frames
+returns-clause-frames g c =
+    let b = c.args.self.now in
+    let number = g.R.Runner.number in
+    let parent = g.R.Runner.parent in
+    let branch = g.R.Runner.branch in
+    let fits = g.R.Runner.fits in
+    let accepted : c.in_ok-answer.answer ≡ Accepted = search rules in
+    stay_accepted g.R.ScriptThread.low g.R.ScriptThread.stance number parent branch g.R.Runner.seated g.R.Runner.head g.R.Runner.turns g.R.Runner.room fits g.met.R.ScriptThread.stays b.phase _ c.args.event.now b.group b.shared _ _
+    (subst (λ (k : Parts _). SoundIn number parent branch fits k.phase k.group k.shared) c.self.view_is c.self.invariant) (returns-clause-goes_on g c) (λ running. returns-clause-steps g c running (sym (returns-clause-taken g c) ∙ accepted))
