@@ -6,10 +6,10 @@ use Rattle.model_syntax.specs.declared.tree.Tree.{Tree}
 use Rattle.model_run.specs.declared.event.Event.{Event}
 use Rattle.model_run.specs.declared.site.Site.{Site}
 use Rattle.run_command.specs.Files.{Builds}
-use Rattle.saved_run.specs.declared.life.BeginFault.{BeginFault}
-use Rattle.saved_run.specs.declared.life.BeginFault.TheVariants as begin
-use Rattle.script_run.specs.Standing.{script_setting}
-use Rattle.store_laws.specs.Store.{Mean}
+use Rattle.site_run.specs.Lower.saved_run.declared.life.BeginFault.{BeginFault}
+use Rattle.site_run.specs.Lower.saved_run.declared.life.BeginFault.TheVariants as begin
+use Rattle.site_run.specs.Lower.script_run.Standing.{script_setting}
+use Rattle.site_run.specs.Lower.store_laws.Store.{Mean}
 use Rattle.build_commands.specs.declared.refusal.Refusal.{Refusal}
 use Rattle.build_commands.specs.declared.refusal.Refusal.TheVariants.{DiskFailed, HasBuild, OutOfMemory}
 use Rattle.build_commands.specs.Beginning.{BeginSays, has_build, disk_failed, full, no_memory}

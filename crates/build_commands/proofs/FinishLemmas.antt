@@ -16,19 +16,19 @@ use Rattle.model_run.specs.declared.taken.Taken.TheVariants.{Accepted, Finished 
 use Rattle.model_run.specs.Taking.{answered, answered_first}
 use Rattle.model_run.specs.World.{Build, answer_to, standing, world_in}
 use Rattle.settle_laws.specs.Stances.{Stance}
-use Rattle.build_core.specs.Builds.{Parts, StandsFor}
-use Rattle.build_images.specs.Images.{image_in}
+use Rattle.site_run.specs.Lower.build_core.Builds.{Parts, StandsFor}
+use Rattle.site_run.specs.Lower.build_images.Images.{image_in}
 use Rattle.image_form.specs.declared.image.Image.{Image}
-use Rattle.durable_build.specs.Standing.{Kept}
-use Rattle.script_run.specs.declared.rest.Rest.{Rest}
-use Rattle.script_run.specs.declared.rest.Rest.TheVariants.{Ended, Waits, AnswersFailed}
-use Rattle.saved_run.specs.Lives.{image_after, IsFull as IsFullOf, IsNext, Lasts, TellsFault}
-use Rattle.saved_run.specs.Saved.{Stores, Survives}
-use Rattle.saved_run.proofs.LifeLemmas.{saved_image}
-use Rattle.site_state.specs.declared.ask.Entry.{Entry}
-use Rattle.site_state.specs.Histories.{lines}
-use Rattle.site_life.specs.Lives.{LifeOf, any_reply}
-use Rattle.site_life.specs.Turns.{Turn}
+use Rattle.site_run.specs.Lower.durable_build.Standing.{Kept}
+use Rattle.site_run.specs.Lower.script_run.declared.rest.Rest.{Rest}
+use Rattle.site_run.specs.Lower.script_run.declared.rest.Rest.TheVariants.{Ended, Waits, AnswersFailed}
+use Rattle.site_run.specs.Lower.saved_run.Lives.{image_after, IsFull as IsFullOf, IsNext, Lasts, TellsFault}
+use Rattle.site_run.specs.Lower.saved_run.Saved.{Stores, Survives}
+use Rattle.site_run.proofs.Lower.saved_run.LifeLemmas.{saved_image}
+use Rattle.site_run.specs.Lower.site_state.declared.ask.Entry.{Entry}
+use Rattle.site_run.specs.Lower.site_state.Histories.{lines}
+use Rattle.site_run.specs.Lower.site_life.Lives.{LifeOf, any_reply}
+use Rattle.site_run.specs.Lower.site_life.Turns.{Turn}
 use Rattle.site_run.specs.Ending.{RestsWith}
 use Rattle.site_run.specs.Lives.{BreaksBehind, EndsBehind}
 use Rattle.site_run.specs.Serving.{AreServed}

@@ -5,11 +5,11 @@ use Rattle.std.specs.List.{AllByRecursion as AllAre}
 use Rattle.jp_disk.proofs.MomentLemmas.{starts}
 use Rattle.journal_core.specs.Records.{Has}
 use Rattle.journal_core.proofs.StepLemmas.{stores_has}
-use Rattle.record_form.specs.declared.record.EventRecord.{EventRecord}
+use Rattle.site_run.specs.Lower.record_form.declared.record.EventRecord.{EventRecord}
 use Rattle.image_form.specs.declared.image.Image.{Image}
-use Rattle.store_laws.specs.Store.{Told as TellsRecords, events_of, last_image}
-use Rattle.store_laws.proofs.Payloads.{image_behind_more, image_of_last, told_append, told_last}
-use Rattle.durable_build.proofs.TakeLemmas.{stands_last}
+use Rattle.site_run.specs.Lower.store_laws.Store.{Told as TellsRecords, events_of, last_image}
+use Rattle.site_run.proofs.Lower.store_laws.Payloads.{image_behind_more, image_of_last, told_append, told_last}
+use Rattle.site_run.proofs.Lower.durable_build.TakeLemmas.{stands_last}
 use Rattle.program_lock.specs.declared.program.Memory.{Memory as NoMemory}
 use Rattle.agent_worker.specs.declared.fault.TakeFault.{TakeFault}
 use Rattle.agent_worker.specs.declared.fault.TakeFault.TheVariants as take
@@ -20,24 +20,24 @@ use Rattle.model_run.specs.declared.result.BuildResult.TheVariants.{Success, Uns
 use Rattle.model_run.specs.State.{Setting}
 use Rattle.model_run.specs.World.{Build}
 use Rattle.settle_laws.specs.Stances.{Stance}
-use Rattle.build_core.specs.Builds.{Parts, StandsFor, setting_in}
-use Rattle.build_core.specs.Phases.{has_begun}
-use Rattle.build_images.specs.Images.{image_in}
-use Rattle.delta_records.specs.declared.weights.Weights.{Weights}
-use Rattle.durable_build.specs.Kinds.{weights_of}
-use Rattle.durable_build.specs.Standing.{Closing, IsWhole, Keeps, Kept, StandsBy}
-use Rattle.script_run.specs.declared.rest.Rest.{Rest}
-use Rattle.script_run.specs.declared.rest.Rest.TheVariants.{Ended, Waits, AnswersFailed}
+use Rattle.site_run.specs.Lower.build_core.Builds.{Parts, StandsFor, setting_in}
+use Rattle.site_run.specs.Lower.build_core.Phases.{has_begun}
+use Rattle.site_run.specs.Lower.build_images.Images.{image_in}
+use Rattle.site_run.specs.Lower.delta_records.declared.weights.Weights.{Weights}
+use Rattle.site_run.specs.Lower.durable_build.Kinds.{weights_of}
+use Rattle.site_run.specs.Lower.durable_build.Standing.{Closing, IsWhole, Keeps, Kept, StandsBy}
+use Rattle.site_run.specs.Lower.script_run.declared.rest.Rest.{Rest}
+use Rattle.site_run.specs.Lower.script_run.declared.rest.Rest.TheVariants.{Ended, Waits, AnswersFailed}
 use Rattle.run_command.specs.Statuses.{HasLog, result_status}
-use Rattle.site_state.specs.declared.ask.Entry.{Entry}
-use Rattle.site_state.specs.declared.ask.Entry.TheVariants.{Took, Claimed, Line, Failed}
-use Rattle.site_state.specs.declared.ask.Progress.{Progress}
-use Rattle.site_state.specs.Facts.{Facts, Grown, HasFront, IsFull, IsFullAt}
-use Rattle.site_state.specs.Grants.{Grants, OpenRefuses, granted, none_due, not_found, refused}
-use Rattle.site_state.specs.Histories.{kept_fault, pending, tooks}
-use Rattle.site_state.proofs.HistoryLaws.{kept_fault-append, no_fault, pending-append, tooks-append}
-use Rattle.site_gate.specs.Tales.{asked_for, is_grant, told_of}
-use Rattle.site_gate.proofs.TaleLemmas.{grants_silent}
+use Rattle.site_run.specs.Lower.site_state.declared.ask.Entry.{Entry}
+use Rattle.site_run.specs.Lower.site_state.declared.ask.Entry.TheVariants.{Took, Claimed, Line, Failed}
+use Rattle.site_run.specs.Lower.site_state.declared.ask.Progress.{Progress}
+use Rattle.site_run.specs.Lower.site_state.Facts.{Facts, Grown, HasFront, IsFull, IsFullAt}
+use Rattle.site_run.specs.Lower.site_state.Grants.{Grants, OpenRefuses, granted, none_due, not_found, refused}
+use Rattle.site_run.specs.Lower.site_state.Histories.{kept_fault, pending, tooks}
+use Rattle.site_run.proofs.Lower.site_state.HistoryLaws.{kept_fault-append, no_fault, pending-append, tooks-append}
+use Rattle.site_run.specs.Lower.site_gate.Tales.{asked_for, is_grant, told_of}
+use Rattle.site_run.proofs.Lower.site_gate.TaleLemmas.{grants_silent}
 use Rattle.site_run.specs.Ending.{ended_as}
 use Rattle.site_run.proofs.StoreLemmas.{no_payloads, no_records, told_take}
 use Rattle.site_run.proofs.WalkLemmas.{all_behind}

@@ -13,13 +13,13 @@ use Rattle.task_host.specs.declared.order.Stream.{Stream}
 use Rattle.agent_worker.specs.declared.member.Member.{Member}
 use Rattle.agent_worker.specs.declared.member.Member.TheVariants.{Executor, Operator}
 use Rattle.model_run.specs.declared.site.Executor.{Executor as SiteExecutor}
-use Rattle.site_state.specs.declared.ask.Ask.{Ask}
-use Rattle.site_state.specs.declared.ask.Entry.{Entry}
-use Rattle.site_state.specs.declared.ask.Progress.{Progress}
-use Rattle.site_state.specs.declared.ask.Reply.{Reply}
-use Rattle.site_life.specs.Lives.{EndsWith, Life}
-use Rattle.site_life.specs.Rounds.{AreTurnsOf, Round, RoundsFrom, turns_of}
-use Rattle.site_life.specs.Turns.{DidTurn, Launches, Turn, launches_of}
+use Rattle.site_run.specs.Lower.site_state.declared.ask.Ask.{Ask}
+use Rattle.site_run.specs.Lower.site_state.declared.ask.Entry.{Entry}
+use Rattle.site_run.specs.Lower.site_state.declared.ask.Progress.{Progress}
+use Rattle.site_run.specs.Lower.site_state.declared.ask.Reply.{Reply}
+use Rattle.site_run.specs.Lower.site_life.Lives.{EndsWith, Life}
+use Rattle.site_run.specs.Lower.site_life.Rounds.{AreTurnsOf, Round, RoundsFrom, turns_of}
+use Rattle.site_run.specs.Lower.site_life.Turns.{DidTurn, Launches, Turn, launches_of}
 use Rattle.site_crew.specs.Crews.{hosts_in, members_of, others_of}
 use Rattle.build_commands.specs.Launching.{LaunchedOnce, all_launched_since, launched_since}
 use Rattle.build_commands.proofs.LivingLemmas.{hosts_all}

@@ -1,3 +1,4 @@
+pub mod Lower
 mod RefusalLemmas
 pub mod StoreLemmas
 mod ShowLemmas

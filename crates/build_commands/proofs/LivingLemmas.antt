@@ -12,19 +12,19 @@ use Rattle.agent_worker.specs.declared.fault.TakeFault.{TakeFault}
 use Rattle.agent_worker.specs.declared.member.Member.{Member}
 use Rattle.agent_worker.specs.declared.member.Member.TheVariants.{Executor, Operator}
 use Rattle.agent_worker.specs.Gate.{Told, Claimed as ClaimedTask}
-use Rattle.durable_build.specs.Standing.{Kept}
+use Rattle.site_run.specs.Lower.durable_build.Standing.{Kept}
 use Rattle.model_syntax.specs.TreeNodes.{tree_node}
 use Rattle.model_run.specs.declared.event.Event.{Event}
 use Rattle.model_run.specs.declared.site.Executor.{Executor as SiteExecutor}
 use Rattle.model_run.specs.State.{Setting}
 use Rattle.model_run.specs.World.{world_in}
-use Rattle.script_run.specs.declared.rest.Rest.{Rest}
-use Rattle.script_run.specs.Standing.{IsProper}
+use Rattle.site_run.specs.Lower.script_run.declared.rest.Rest.{Rest}
+use Rattle.site_run.specs.Lower.script_run.Standing.{IsProper}
 use Rattle.settle_laws.specs.Stances.{Stance}
 use Rattle.launch_laws.proofs.LifeLaws.{all_fit_more}
-use Rattle.site_state.specs.declared.ask.Entry.{Entry}
-use Rattle.site_life.specs.Turns.{Turn}
-use Rattle.site_life.specs.Waiting.{operators}
+use Rattle.site_run.specs.Lower.site_state.declared.ask.Entry.{Entry}
+use Rattle.site_run.specs.Lower.site_life.Turns.{Turn}
+use Rattle.site_run.specs.Lower.site_life.Waiting.{operators}
 use Rattle.site_run.specs.Ending.{AllReadOut, any_failed}
 use Rattle.site_run.specs.Going.{begins}
 use Rattle.site_run.specs.Lives.{Ends, OpeningBreaks}

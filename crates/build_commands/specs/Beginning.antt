@@ -8,16 +8,16 @@ use Rattle.agent_worker.specs.declared.fault.TakeFault.TheVariants.{Disk, Full}
 use Rattle.model_syntax.specs.declared.tree.Tree.{Tree}
 use Rattle.model_run.specs.declared.event.Event.TheVariants.{Start as StartEvent}
 use Rattle.model_run.specs.declared.site.Site.{Site}
-use Rattle.script_run.specs.Standing.{script_setting}
+use Rattle.site_run.specs.Lower.script_run.Standing.{script_setting}
 use Rattle.settle_laws.specs.Stances.{Stance}
-use Rattle.saved_run.specs.declared.life.BeginFault.{BeginFault}
-use Rattle.saved_run.specs.declared.life.BeginFault.TheVariants.{HasBuild, Take}
-use Rattle.saved_run.specs.Lives.{BeginRefuses, TellsStart}
-use Rattle.saved_run.specs.Saved.{Survives}
+use Rattle.site_run.specs.Lower.saved_run.declared.life.BeginFault.{BeginFault}
+use Rattle.site_run.specs.Lower.saved_run.declared.life.BeginFault.TheVariants.{HasBuild, Take}
+use Rattle.site_run.specs.Lower.saved_run.Lives.{BeginRefuses, TellsStart}
+use Rattle.site_run.specs.Lower.saved_run.Saved.{Survives}
 use Rattle.run_command.specs.Inputs.{Input}
 use Rattle.task_host.specs.declared.call.Call.{Call}
 use Rattle.task_host.specs.declared.order.Stream.{Stream}
-use Rattle.site_state.specs.declared.ask.Entry.{Entry}
+use Rattle.site_run.specs.Lower.site_state.declared.ask.Entry.{Entry}
 use Rattle.build_commands.specs.declared.end_text.EndText.{EndText}
 use Rattle.build_commands.specs.Launching.{LaunchedOnce}
 use Rattle.build_commands.specs.Living.{Finished, HostsStay}

@@ -9,12 +9,12 @@ use Rattle.model_run.specs.State.{Setting}
 use Rattle.model_run.specs.World.{Build, world_in}
 use Rattle.run_command.specs.Statuses.{world_status, HasLog}
 use Rattle.run_command.specs.Texts.{read_failed_text}
-use Rattle.script_run.specs.declared.rest.Rest.{Rest}
-use Rattle.script_run.specs.declared.rest.Rest.TheVariants.{AnswersFailed}
-use Rattle.delta_records.specs.declared.weights.Weights.{Weights}
-use Rattle.durable_build.specs.Taking.{DueAdds}
-use Rattle.saved_run.specs.Lives.{image_after, IsNext}
-use Rattle.saved_run.specs.Saved.{Stores, Survives, journal_length, journal_weights}
+use Rattle.site_run.specs.Lower.script_run.declared.rest.Rest.{Rest}
+use Rattle.site_run.specs.Lower.script_run.declared.rest.Rest.TheVariants.{AnswersFailed}
+use Rattle.site_run.specs.Lower.delta_records.declared.weights.Weights.{Weights}
+use Rattle.site_run.specs.Lower.durable_build.Taking.{DueAdds}
+use Rattle.site_run.specs.Lower.saved_run.Lives.{image_after, IsNext}
+use Rattle.site_run.specs.Lower.saved_run.Saved.{Stores, Survives, journal_length, journal_weights}
 use Rattle.build_commands.specs.declared.refusal.Refusal.{Refusal}
 use Rattle.build_commands.specs.declared.end_text.EndText.{EndText}
 use Rattle.build_commands.specs.declared.end_text.EndText.TheVariants.{Log}

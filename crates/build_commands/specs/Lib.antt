@@ -1,3 +1,4 @@
+pub mod Lower
 pub mod Texts
 pub mod Writing
 pub mod Refusals

@@ -13,13 +13,13 @@ use Rattle.model_run.specs.State.{Setting}
 use Rattle.model_run.specs.World.{answer_to, world_in}
 use Rattle.launch_laws.specs.Fitting as fitting
 use Rattle.launch_laws.specs.Fitting.{ExecutorHost}
-use Rattle.script_run.specs.declared.rest.Rest.TheVariants.{AnswersFailed, Waits}
-use Rattle.site_state.specs.declared.ask.Entry.{Entry}
-use Rattle.site_state.specs.Histories.{lines, tooks}
-use Rattle.site_gate.specs.Tales.{is_grant}
-use Rattle.site_life.specs.Lives.{LifeOf, any_reply}
-use Rattle.site_life.specs.Turns.{Explains, HoldsOfOne, Turn}
-use Rattle.site_life.specs.Coming.{EachIs}
+use Rattle.site_run.specs.Lower.script_run.declared.rest.Rest.TheVariants.{AnswersFailed, Waits}
+use Rattle.site_run.specs.Lower.site_state.declared.ask.Entry.{Entry}
+use Rattle.site_run.specs.Lower.site_state.Histories.{lines, tooks}
+use Rattle.site_run.specs.Lower.site_gate.Tales.{is_grant}
+use Rattle.site_run.specs.Lower.site_life.Lives.{LifeOf, any_reply}
+use Rattle.site_run.specs.Lower.site_life.Turns.{Explains, HoldsOfOne, Turn}
+use Rattle.site_run.specs.Lower.site_life.Coming.{EachIs}
 use Rattle.site_run.specs.Ending.{RestsWith}
 use Rattle.site_run.specs.Going.{Comes, GoesBy, heard_in}
 use Rattle.site_run.specs.Replies.{replies}

@@ -6,10 +6,10 @@ use Rattle.build_commands.specs.Texts.{damaged_text, disk_failed_text, full_text
 use Rattle.agent_worker.specs.declared.fault.TakeFault.{TakeFault}
 use Rattle.agent_worker.specs.declared.fault.TakeFault.TheVariants as take
 use Rattle.run_command.specs.Texts.{read_failed_text, too_long_text}
-use Rattle.durable_build.specs.declared.faults.StoreFault.{StoreFault}
-use Rattle.durable_build.specs.declared.faults.StoreFault.TheVariants as fault
-use Rattle.saved_run.specs.declared.life.BeginFault.{BeginFault}
-use Rattle.saved_run.specs.declared.life.BeginFault.TheVariants as begin
+use Rattle.site_run.specs.Lower.durable_build.declared.faults.StoreFault.{StoreFault}
+use Rattle.site_run.specs.Lower.durable_build.declared.faults.StoreFault.TheVariants as fault
+use Rattle.site_run.specs.Lower.saved_run.declared.life.BeginFault.{BeginFault}
+use Rattle.site_run.specs.Lower.saved_run.declared.life.BeginFault.TheVariants as begin
 
 abbrev pub refusal_status : Refusal → ℕ
 refusal_status ReadFailed = 6

@@ -6,20 +6,20 @@ use Rattle.device_faults.specs.Faults.{Rose}
 use Rattle.jp_disk.specs.Moments.{AtEachMoment}
 use Rattle.journal_core.specs.Records.{Has, framed}
 use Rattle.image_form.specs.declared.image.Image.{Image}
-use Rattle.record_form.specs.declared.record.EventRecord.{EventRecord}
+use Rattle.site_run.specs.Lower.record_form.declared.record.EventRecord.{EventRecord}
 use Rattle.model_run.specs.declared.event.Event.{Event}
 use Rattle.model_run.specs.State.{Setting}
-use Rattle.store_laws.specs.Store.{Told, events_of, last_image}
+use Rattle.site_run.specs.Lower.store_laws.Store.{Told, events_of, last_image}
 use Rattle.agent_worker.specs.declared.fault.TakeFault.TheVariants.{Full}
-use Rattle.delta_records.specs.declared.weights.Weights.{Weights}
-use Rattle.durable_build.specs.Kinds.{weights_of}
-use Rattle.durable_build.specs.Standing.{Closing, IsWhole, Opening}
-use Rattle.durable_build.specs.Taking.{DueAdds}
-use Rattle.site_state.specs.declared.ask.Entry.{Entry}
-use Rattle.site_state.specs.declared.ask.Entry.TheVariants.{Failed}
-use Rattle.site_state.specs.Facts.{HasFront}
-use Rattle.site_state.specs.Histories.{pending, tooks}
-use Rattle.site_gate.specs.Tales.{is_grant}
+use Rattle.site_run.specs.Lower.delta_records.declared.weights.Weights.{Weights}
+use Rattle.site_run.specs.Lower.durable_build.Kinds.{weights_of}
+use Rattle.site_run.specs.Lower.durable_build.Standing.{Closing, IsWhole, Opening}
+use Rattle.site_run.specs.Lower.durable_build.Taking.{DueAdds}
+use Rattle.site_run.specs.Lower.site_state.declared.ask.Entry.{Entry}
+use Rattle.site_run.specs.Lower.site_state.declared.ask.Entry.TheVariants.{Failed}
+use Rattle.site_run.specs.Lower.site_state.Facts.{HasFront}
+use Rattle.site_run.specs.Lower.site_state.Histories.{pending, tooks}
+use Rattle.site_run.specs.Lower.site_gate.Tales.{is_grant}
 use Rattle.run_command.specs.Statuses.{HasLog, status_of}
 use Rattle.run_command.specs.Texts.{read_failed_text}
 use Rattle.build_commands.specs.Texts.{disk_failed_text, full_text, out_of_memory_text}

@@ -14,7 +14,7 @@ use generated_build::{GeneratedFiles, generated_files};
 use jp_disk::Disk;
 use jp_io::{Sink, Source};
 use run_command::Files;
-use saved_thread::SavedThread;
+use site_run::saved_thread::SavedThread;
 use std::alloc::{AllocError, Global};
 use std::sync::Wait;
 use std::thread::Threads;

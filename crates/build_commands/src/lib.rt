@@ -32,3 +32,4 @@ pub use refusal::{Refusal, tell, tell_text};
 pub use resuming::resume;
 pub use running::run;
 pub use show::{graph, log};
+pub use site_run::saved_thread;

@@ -4,10 +4,10 @@ ghost use Rattle.build_commands.specs.Refusals.{SaysBegin, SaysTake, TellsFault,
 ghost use Rattle.build_commands.specs.Writing as writing;
 ghost use Rattle.build_commands.specs.Writing.{Writes};
 
-use durable_build::{StoreFault, TakeFault};
 use jp_io::{Sink, write_all};
 use model_text::Text;
-use saved_run::BeginFault;
+use site_run::durable_build::{StoreFault, TakeFault};
+use site_run::saved_run::BeginFault;
 use std::alloc::Global;
 
 /// Why a command does not write what it is for.

@@ -1,18 +1,18 @@
 //! The commands that show the build of a store.
 ghost use Rattle.std.specs.Prelude.{◌≡◌, ◌⊎◌, List, ℕ, Some};
 ghost use Rattle.jp_disk.specs.Moments.{AtEachMoment};
-ghost use Rattle.build_core.specs.Builds.{StandsFor, nodes_of};
+ghost use Rattle.site_run.specs.Lower.build_core.Builds.{StandsFor, nodes_of};
 ghost use Rattle.model_run.specs.GraphText.{graph_text};
 ghost use Rattle.build_commands.specs.Showing.{Causes, Shows, ShowsLast, TellsOf};
 ghost use Rattle.build_commands.specs.Writing.{Writes};
 
 use crate::done::Done;
 use crate::refusal::{Refusal, tell, tell_text};
-use build_core::Build;
-use durable_build::DurableBuild;
 use jp_disk::Disk;
 use jp_io::Sink;
-use saved_thread::SavedThread;
+use site_run::build_core::Build;
+use site_run::durable_build::DurableBuild;
+use site_run::saved_thread::SavedThread;
 use std::alloc::{AllocError, Global};
 
 /// Writes the log of the build of a store. It changes no byte of it.

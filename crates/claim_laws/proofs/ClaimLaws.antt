@@ -4,8 +4,8 @@ use Rattle.std.specs.Prelude.{IsSome}
 use Rattle.std.proofs.Math.Logic.{∥∥₁_elim, ∥∥₁_map, ∥∥₁_prop}
 use Rattle.agent_worker.specs.declared.fault.TakeFault.{TakeFault}
 use Rattle.agent_worker.specs.declared.gate.Claim.TheVariants as claim
-use Rattle.build_core.specs.Builds.{Parts}
-use Rattle.durable_build.specs.Standing.{Kept}
+use Rattle.site_run.specs.Lower.build_core.Builds.{Parts}
+use Rattle.site_run.specs.Lower.durable_build.Standing.{Kept}
 use Rattle.journal_core.proofs.StepLemmas.{stores_has}
 use Rattle.model_run.specs.declared.event.Event.{Event}
 use Rattle.model_run.specs.declared.request.OpenRequest.{OpenRequest}
@@ -13,21 +13,21 @@ use Rattle.model_run.specs.Requests.{IsTaskOf, RunsOn}
 use Rattle.model_run.specs.Fitting.{Some_of}
 use Rattle.model_run.specs.State.{Setting}
 use Rattle.model_run.specs.World.{world_in}
-use Rattle.saved_run.specs.Lives.{Lasts}
-use Rattle.saved_run.specs.Saved.{IsTold, Stores}
+use Rattle.site_run.specs.Lower.saved_run.Lives.{Lasts}
+use Rattle.site_run.specs.Lower.saved_run.Saved.{IsTold, Stores}
 use Rattle.settle_laws.specs.Stances.{Stance}
-use Rattle.site_gate.proofs.ClaimLaws.{free_order}
+use Rattle.site_run.proofs.Lower.site_gate.ClaimLaws.{free_order}
 use Rattle.site_run.proofs.StoreLemmas.{lasts_on}
 use Rattle.site_run.proofs.WalkLemmas.{ShowsAll, found_task, requests_are, shows_shown}
-use Rattle.site_state.specs.Claims.{ClaimSays}
-use Rattle.site_state.specs.Facts.{Facts, IsSite}
-use Rattle.site_state.specs.Histories.{Quiet, kept_fault, tooks}
-use Rattle.site_state.specs.Says.{Answers, Says, SaysAt}
-use Rattle.site_state.specs.Showing.{IsShown}
-use Rattle.site_state.specs.declared.ask.Ask.TheVariants as ask
-use Rattle.site_state.specs.declared.ask.Entry.{Entry}
-use Rattle.site_state.specs.declared.ask.Reply.TheVariants as reply
-use Rattle.site_state.proofs.HistoryLaws.{kept_fault-append, tooks-append}
+use Rattle.site_run.specs.Lower.site_state.Claims.{ClaimSays}
+use Rattle.site_run.specs.Lower.site_state.Facts.{Facts, IsSite}
+use Rattle.site_run.specs.Lower.site_state.Histories.{Quiet, kept_fault, tooks}
+use Rattle.site_run.specs.Lower.site_state.Says.{Answers, Says, SaysAt}
+use Rattle.site_run.specs.Lower.site_state.Showing.{IsShown}
+use Rattle.site_run.specs.Lower.site_state.declared.ask.Ask.TheVariants as ask
+use Rattle.site_run.specs.Lower.site_state.declared.ask.Entry.{Entry}
+use Rattle.site_run.specs.Lower.site_state.declared.ask.Reply.TheVariants as reply
+use Rattle.site_run.proofs.Lower.site_state.HistoryLaws.{kept_fault-append, tooks-append}
 use Rattle.task_host.specs.declared.order.Order.{Order}
 use Rattle.claim_laws.specs.Tasks.{HasOpenTask}
 

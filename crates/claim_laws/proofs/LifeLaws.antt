@@ -3,24 +3,24 @@ use Rattle.std.proofs.Common.{◌≡◌, ◌⊎◌, ◌∙◌, inl, inr, ℕ, �
 use Rattle.std.specs.Prelude.{IsSome, IsSomeAnd}
 use Rattle.agent_worker.specs.declared.fault.TakeFault.{TakeFault}
 use Rattle.agent_worker.specs.declared.member.Member.{Member}
-use Rattle.durable_build.specs.Standing.{Kept}
-use Rattle.durable_build.proofs.OpenLemmas.{begun_all}
+use Rattle.site_run.specs.Lower.durable_build.Standing.{Kept}
+use Rattle.site_run.proofs.Lower.durable_build.OpenLemmas.{begun_all}
 use Rattle.journal_core.proofs.StepLemmas.{stores_has}
 use Rattle.model_run.specs.declared.event.Event.{Event}
 use Rattle.model_run.specs.Requests.{IsTaskOf}
 use Rattle.model_run.specs.State.{Setting}
 use Rattle.model_run.specs.World.{world_in}
-use Rattle.saved_run.specs.Saved.{IsTold, Stores}
-use Rattle.script_run.specs.declared.rest.Rest.{Rest}
+use Rattle.site_run.specs.Lower.saved_run.Saved.{IsTold, Stores}
+use Rattle.site_run.specs.Lower.script_run.declared.rest.Rest.{Rest}
 use Rattle.settle_laws.specs.Stances.{Stance}
-use Rattle.site_life.specs.Coming.{EachIs}
-use Rattle.site_life.specs.Turns.{Turn}
+use Rattle.site_run.specs.Lower.site_life.Coming.{EachIs}
+use Rattle.site_run.specs.Lower.site_life.Turns.{Turn}
 use Rattle.site_run.specs.Lives.{Ends, EndsBehind}
 use Rattle.site_run.specs.Telling.{ClaimedInTime}
-use Rattle.site_state.specs.Histories.{tooks}
-use Rattle.site_state.specs.declared.ask.Entry.{Entry}
-use Rattle.site_state.specs.declared.ask.Entry.TheVariants.{Took, Claimed, Line, Failed}
-use Rattle.site_state.proofs.HistoryLaws.{tooks-append}
+use Rattle.site_run.specs.Lower.site_state.Histories.{tooks}
+use Rattle.site_run.specs.Lower.site_state.declared.ask.Entry.{Entry}
+use Rattle.site_run.specs.Lower.site_state.declared.ask.Entry.TheVariants.{Took, Claimed, Line, Failed}
+use Rattle.site_run.proofs.Lower.site_state.HistoryLaws.{tooks-append}
 use Rattle.task_host.specs.declared.call.Call.{Call}
 use Rattle.task_host.specs.declared.order.Stream.{Stream}
 use Rattle.claim_laws.specs.Tasks.{AllClaimed, HadOpenTask}

@@ -14,12 +14,12 @@ use Rattle.model_run.specs.declared.site.Site.{Site}
 use Rattle.model_run.specs.declared.event.Event.{Event}
 use Rattle.model_run.specs.State.{Setting}
 use Rattle.model_run.specs.World.{Build}
-use Rattle.store_laws.specs.Store.{Mean}
-use Rattle.script_run.specs.Standing.{script_setting}
-use Rattle.run_command.specs.Files.{HasFault, HasSite, IsRefused, by_fault, by_length, OfFiles, Builds}
-use Rattle.run_command.specs.Statuses.{HasRun, result_status, world_status, HasLog}
-use Rattle.run_command.specs.Inputs.{Input}
-use Rattle.run_command.proofs.StatusLemmas.{ended_status, going_status}
+use Rattle.build_commands.specs.Lower.store_laws.Store.{Mean}
+use Rattle.build_commands.specs.Lower.script_run.Standing.{script_setting}
+use Rattle.build_commands.specs.Lower.run_command.Files.{HasFault, HasSite, IsRefused, by_fault, by_length, OfFiles, Builds}
+use Rattle.build_commands.specs.Lower.run_command.Statuses.{HasRun, result_status, world_status, HasLog}
+use Rattle.build_commands.specs.Lower.run_command.Inputs.{Input}
+use Rattle.build_commands.proofs.Lower.run_command.StatusLemmas.{ended_status, going_status}
 use Rattle.build_commands.specs.declared.end_text.EndText.{EndText}
 use Rattle.build_commands.specs.Living.{Finished}
 use Rattle.build_commands.specs.Plans.{Hold}

@@ -14,11 +14,11 @@ use Rattle.model_syntax.specs.declared.tree.Tree.{Tree}
 use Rattle.agent_worker.specs.declared.fault.TakeFault.TheVariants as take
 use Rattle.model_run.specs.declared.event.Event.TheVariants.{Start as StartEvent}
 use Rattle.model_run.specs.declared.site.Site.{Site}
-use Rattle.script_run.specs.Standing.{IsProper, script_setting}
-use Rattle.saved_run.specs.declared.life.BeginFault.{BeginFault}
-use Rattle.saved_run.specs.declared.life.BeginFault.TheVariants as fault
-use Rattle.saved_run.specs.Lives.{BeginRefuses}
-use Rattle.run_command.specs.Files.{Builds}
+use Rattle.build_commands.specs.Lower.script_run.Standing.{IsProper, script_setting}
+use Rattle.build_commands.specs.Lower.saved_run.declared.life.BeginFault.{BeginFault}
+use Rattle.build_commands.specs.Lower.saved_run.declared.life.BeginFault.TheVariants as fault
+use Rattle.build_commands.specs.Lower.saved_run.Lives.{BeginRefuses}
+use Rattle.build_commands.specs.Lower.run_command.Files.{Builds}
 use Rattle.build_commands.specs.declared.end_text.EndText.{EndText}
 use Rattle.build_commands.specs.declared.end_text.EndText.TheVariants as end
 use Rattle.build_commands.specs.Beginning as begin
@@ -34,9 +34,9 @@ use Rattle.model_run.specs.declared.event.Event.{Event}
 use Rattle.model_run.specs.State.{Setting}
 use Rattle.model_run.specs.World.{world_in}
 use Rattle.settle_laws.specs.Stances.{Stance}
-use Rattle.saved_run.specs.Saved.{Stores}
-use Rattle.saved_run.proofs.BeginLemmas.{mean_proper}
-use Rattle.site_run.proofs.ManyLemmas.{HasNow, all_once}
+use Rattle.build_commands.specs.Lower.saved_run.Saved.{Stores}
+use Rattle.build_commands.proofs.Lower.saved_run.BeginLemmas.{mean_proper}
+use Rattle.build_commands.proofs.Lower.site_run.ManyLemmas.{HasNow, all_once}
 use Rattle.build_commands.specs.Finishing.{ComesNext}
 use Rattle.build_commands.specs.Launching.{LaunchedOnce}
 use Rattle.build_commands.specs.Living.{HostsStay}

@@ -7,12 +7,12 @@ use Rattle.jp_disk.proofs.MomentLemmas.{if_told}
 use Rattle.model_run.specs.declared.event.Event.{Event}
 use Rattle.model_run.specs.State.{Setting}
 use Rattle.model_run.specs.World.{world_in}
-use Rattle.script_run.specs.declared.rest.Rest.TheVariants as why
-use Rattle.saved_run.specs.Saved.{Stores, Survives}
-use Rattle.site_run.specs.Ending.{RestsWith}
-use Rattle.site_run.specs.Going as life
-use Rattle.run_command.specs.Statuses.{HasRun, world_status}
-use Rattle.run_command.proofs.StatusLemmas.{going_status}
+use Rattle.build_commands.specs.Lower.script_run.declared.rest.Rest.TheVariants as why
+use Rattle.build_commands.specs.Lower.saved_run.Saved.{Stores, Survives}
+use Rattle.build_commands.specs.Lower.site_run.Ending.{RestsWith}
+use Rattle.build_commands.specs.Lower.site_run.Going as life
+use Rattle.build_commands.specs.Lower.run_command.Statuses.{HasRun, world_status}
+use Rattle.build_commands.proofs.Lower.run_command.StatusLemmas.{going_status}
 use Rattle.build_commands.specs.Finishing.{ComesNext, Made, Rests, Breaks, Finishes}
 use Rattle.build_commands.specs.Finishing as finish
 use Rattle.build_commands.specs.declared.end_text.EndText.{EndText}

@@ -14,25 +14,25 @@ use Rattle.model_run.specs.declared.event.Event.{Event}
 use Rattle.model_run.specs.declared.site.Executor.{Executor as SiteExecutor}
 use Rattle.model_run.specs.State.{Setting}
 use Rattle.model_run.specs.World.{world_in}
-use Rattle.delta_records.specs.declared.weights.Weights.{Weights}
-use Rattle.durable_build.specs.Taking.{DueAdds}
-use Rattle.saved_run.specs.Lives.{IsNext, image_after}
-use Rattle.saved_run.specs.Saved.{Stores, journal_length, journal_weights}
-use Rattle.store_laws.specs.Store.{last_image}
-use Rattle.site_gate.specs.Tales.{claimed_of}
-use Rattle.site_gate.specs.Turning.{tasks_of}
-use Rattle.site_life.specs.Coming.{EachIs}
-use Rattle.site_life.specs.Turns.{DidTurn}
-use Rattle.site_life.proofs.WayLaws.{LaunchesMore, MemberLaunches, launches_same, ways_launch}
-use Rattle.site_run.specs.Telling.{ClaimedInTime}
+use Rattle.build_commands.specs.Lower.delta_records.declared.weights.Weights.{Weights}
+use Rattle.build_commands.specs.Lower.durable_build.Taking.{DueAdds}
+use Rattle.build_commands.specs.Lower.saved_run.Lives.{IsNext, image_after}
+use Rattle.build_commands.specs.Lower.saved_run.Saved.{Stores, journal_length, journal_weights}
+use Rattle.build_commands.specs.Lower.store_laws.Store.{last_image}
+use Rattle.build_commands.specs.Lower.site_gate.Tales.{claimed_of}
+use Rattle.build_commands.specs.Lower.site_gate.Turning.{tasks_of}
+use Rattle.build_commands.specs.Lower.site_life.Coming.{EachIs}
+use Rattle.build_commands.specs.Lower.site_life.Turns.{DidTurn}
+use Rattle.build_commands.proofs.Lower.site_life.WayLaws.{LaunchesMore, MemberLaunches, launches_same, ways_launch}
+use Rattle.build_commands.specs.Lower.site_run.Telling.{ClaimedInTime}
 use Rattle.site_crew.specs.Crews.{hosts_in, members_of, others_of}
-use Rattle.run_command.specs.Statuses.{HasRun, world_status}
+use Rattle.build_commands.specs.Lower.run_command.Statuses.{HasRun, world_status}
 use Rattle.build_commands.specs.declared.end_text.EndText.TheVariants as end
 use Rattle.build_commands.specs.Living.{HostsStay}
 use Rattle.build_commands.specs.Reporting.{IsBroken, KeepsRecords, LeavesStore, ShowsEnd, StartsBy, TellTaken}
 use Rattle.jp_disk.specs.Moments.{AtEachMoment}
 use Rattle.jp_disk.proofs.MomentLemmas.{at_each_weaker}
-use Rattle.site_state.specs.Facts.{HasFront}
+use Rattle.build_commands.specs.Lower.site_state.Facts.{HasFront}
 use Rattle.build_commands.specs.Resuming.{IsUntouched}
 use Rattle.build_commands.specs.Showing.{HasBuild, HasNone}
 use Rattle.build_commands.specs.Texts.{full_text}

@@ -19,18 +19,18 @@ use Rattle.model_run.specs.declared.event.Event.TheVariants.{Start as StartEvent
 use Rattle.model_run.specs.declared.site.Site.{Site}
 use Rattle.model_run.specs.State.{Setting}
 use Rattle.settle_laws.specs.Stances.{Stance}
-use Rattle.script_run.specs.Standing.{script_setting}
-use Rattle.saved_run.specs.declared.life.BeginFault.{BeginFault}
-use Rattle.saved_run.specs.declared.life.BeginFault.TheVariants as fault
-use Rattle.record_form.specs.declared.record.EventRecord.{EventRecord}
-use Rattle.store_laws.specs.Store.{Mean, Told, events_of}
-use Rattle.durable_build.specs.Kinds.{weights_of}
-use Rattle.durable_build.proofs.Sizes.{start_adds}
-use Rattle.saved_run.specs.Lives.{BeginRefuses, StartFails, MayRisk, image_after, TellsStart}
-use Rattle.saved_run.specs.Saved.{Stores, Survives}
-use Rattle.run_command.specs.Files.{HasFault, HasSite, IsRefused, by_fault, by_length, OfFiles, Builds}
-use Rattle.run_command.specs.Statuses.{HasLog, HasRun}
-use Rattle.run_command.specs.Inputs.{HasFailed}
+use Rattle.build_commands.specs.Lower.script_run.Standing.{script_setting}
+use Rattle.build_commands.specs.Lower.saved_run.declared.life.BeginFault.{BeginFault}
+use Rattle.build_commands.specs.Lower.saved_run.declared.life.BeginFault.TheVariants as fault
+use Rattle.build_commands.specs.Lower.record_form.declared.record.EventRecord.{EventRecord}
+use Rattle.build_commands.specs.Lower.store_laws.Store.{Mean, Told, events_of}
+use Rattle.build_commands.specs.Lower.durable_build.Kinds.{weights_of}
+use Rattle.build_commands.proofs.Lower.durable_build.Sizes.{start_adds}
+use Rattle.build_commands.specs.Lower.saved_run.Lives.{BeginRefuses, StartFails, MayRisk, image_after, TellsStart}
+use Rattle.build_commands.specs.Lower.saved_run.Saved.{Stores, Survives}
+use Rattle.build_commands.specs.Lower.run_command.Files.{HasFault, HasSite, IsRefused, by_fault, by_length, OfFiles, Builds}
+use Rattle.build_commands.specs.Lower.run_command.Statuses.{HasLog, HasRun}
+use Rattle.build_commands.specs.Lower.run_command.Inputs.{HasFailed}
 use Rattle.build_commands.specs.declared.end_text.EndText.{EndText}
 use Rattle.build_commands.specs.Beginning.{BeginSays, BeginsOver}
 use Rattle.build_commands.specs.Beginning as begin

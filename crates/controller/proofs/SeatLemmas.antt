@@ -12,11 +12,11 @@ use Rattle.model_run.specs.declared.site.Executor.{Executor as SiteExecutor}
 use Rattle.model_run.specs.declared.taken.Taken.TheVariants.{Accepted}
 use Rattle.model_run.specs.State.{Setting}
 use Rattle.model_run.specs.World.{answer_to, world_in}
-use Rattle.script_run.specs.Standing.{IsProper}
+use Rattle.build_commands.specs.Lower.script_run.Standing.{IsProper}
 use Rattle.settle_laws.specs.Stances.{Stance}
-use Rattle.saved_run.specs.Saved.{Stores}
-use Rattle.site_run.specs.Serving.{AreHonest, AreServed, hosts_of}
-use Rattle.site_run.proofs.ManyLemmas.{HasNow, all_once, has_fits}
+use Rattle.build_commands.specs.Lower.saved_run.Saved.{Stores}
+use Rattle.build_commands.specs.Lower.site_run.Serving.{AreHonest, AreServed, hosts_of}
+use Rattle.build_commands.proofs.Lower.site_run.ManyLemmas.{HasNow, all_once, has_fits}
 use Rattle.site_crew.specs.Crews.{hosts_in, members_of, others_of}
 use Rattle.build_commands.proofs.LivingLemmas.{operator_alone}
 use Rattle.controller.specs.Call.{Call, Devices, Takes}

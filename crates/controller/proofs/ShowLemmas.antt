@@ -6,8 +6,8 @@ use Rattle.model_run.specs.declared.event.Event.{Event}
 use Rattle.model_run.specs.declared.result.BuildResult.TheVariants.{Success}
 use Rattle.model_run.specs.State.{Setting}
 use Rattle.model_run.specs.World.{Build, world_in}
-use Rattle.saved_run.specs.Saved.{Stores}
-use Rattle.run_command.specs.Statuses.{HasRun}
+use Rattle.build_commands.specs.Lower.saved_run.Saved.{Stores}
+use Rattle.build_commands.specs.Lower.run_command.Statuses.{HasRun}
 use Rattle.build_commands.specs.Showing.{ShowsBuild, Decides, NotTold}
 use Rattle.build_commands.specs.Showing as showing
 use Rattle.build_commands.specs.Writing as writing
@@ -18,8 +18,8 @@ use Rattle.controller.specs.Output.{Says, ShowsStore}
 use Rattle.controller.proofs.CallLemmas.{untold, unrun}
 use Rattle.std.specs.Prelude.{IfSome}
 use Rattle.journal_core.specs.Records.{Has}
-use Rattle.durable_build.specs.declared.faults.StoreFault.TheVariants.{Damaged}
-use Rattle.durable_build.specs.Opening.{OpenFails}
+use Rattle.build_commands.specs.Lower.durable_build.declared.faults.StoreFault.TheVariants.{Damaged}
+use Rattle.build_commands.specs.Lower.durable_build.Opening.{OpenFails}
 use Rattle.build_commands.specs.Texts.{damaged_text, no_build_text}
 use Rattle.controller.proofs.TextLemmas.{says_unrun, decides_says, written_run}
 

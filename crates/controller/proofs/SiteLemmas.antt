@@ -6,7 +6,7 @@ use Rattle.serde_json.specs.Data.{Data, Items, item, Members, no_items}
 use Rattle.serde_json.specs.Data as json
 use Rattle.serde_json.specs.Find.{get_member}
 use Rattle.serde_json.specs.Read.{read}
-use Rattle.record_form.specs.declared.record.EventRecord.{EventRecord}
+use Rattle.build_commands.specs.Lower.record_form.declared.record.EventRecord.{EventRecord}
 use Rattle.model_run.specs.AgentsFaults.{Fault, executor_count, fault, field_faults, file_faults, keys_faults, repeated_names, sum_faults}
 use Rattle.model_run.specs.AgentsFile.{agent_executors, agents_file, executors_from, judged, Means, of_json, Refused, site_of}
 use Rattle.model_run.specs.AgentsMembers.{items_of, number_at}
@@ -16,8 +16,8 @@ use Rattle.model_run.specs.declared.event.Event.TheVariants as event
 use Rattle.model_run.specs.declared.site.Executor.{Executor}
 use Rattle.model_run.specs.declared.site.Site.{Site}
 use Rattle.model_run.specs.State.{Setting}
-use Rattle.store_laws.specs.Store.{FirstStarts, Mean, Starts, events_of}
-use Rattle.saved_run.specs.Saved.{Stores}
+use Rattle.build_commands.specs.Lower.store_laws.Store.{FirstStarts, Mean, Starts, events_of}
+use Rattle.build_commands.specs.Lower.saved_run.Saved.{Stores}
 
 -- the numbers of these executors go up by one, from this one on
 abbrev pub Consecutive : ℕ → List Executor → Type 0

@@ -4,11 +4,11 @@ use Rattle.device_faults.specs.Faults.{Rose}
 use Rattle.model_run.specs.declared.event.Event.{Event}
 use Rattle.model_run.specs.State.{Setting}
 use Rattle.model_run.specs.World.{Build}
-use Rattle.saved_run.specs.Lives.{TellsStart}
-use Rattle.saved_run.specs.declared.life.BeginFault.{BeginFault}
-use Rattle.run_command.specs.Statuses.{HasRun, HasLog}
-use Rattle.run_command.specs.Inputs.{Input}
-use Rattle.run_command.specs.Texts as texts
+use Rattle.build_commands.specs.Lower.saved_run.Lives.{TellsStart}
+use Rattle.build_commands.specs.Lower.saved_run.declared.life.BeginFault.{BeginFault}
+use Rattle.build_commands.specs.Lower.run_command.Statuses.{HasRun, HasLog}
+use Rattle.build_commands.specs.Lower.run_command.Inputs.{Input}
+use Rattle.build_commands.specs.Lower.run_command.Texts as texts
 use Rattle.build_commands.specs.Beginning.{BeginSays}
 use Rattle.build_commands.specs.Beginning as begin
 use Rattle.build_commands.specs.Plans.{Faults, RefusesFiles}

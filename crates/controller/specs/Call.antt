@@ -9,10 +9,10 @@ use Rattle.task_host.specs.declared.order.Stream.{Stream}
 use Rattle.model_run.specs.declared.event.Event.{Event}
 use Rattle.model_run.specs.State.{Setting}
 use Rattle.model_run.specs.World.{next_grant, world_in}
-use Rattle.saved_run.specs.Saved.{Stores}
-use Rattle.site_state.specs.declared.ask.Entry.{Entry}
-use Rattle.site_state.specs.Histories.{lines}
-use Rattle.run_command.specs.Inputs.{Input, HasFailed, taken_from}
+use Rattle.build_commands.specs.Lower.saved_run.Saved.{Stores}
+use Rattle.build_commands.specs.Lower.site_state.declared.ask.Entry.{Entry}
+use Rattle.build_commands.specs.Lower.site_state.Histories.{lines}
+use Rattle.build_commands.specs.Lower.run_command.Inputs.{Input, HasFailed, taken_from}
 use Rattle.generated_build.specs.Files.{agents_of_any, script_of}
 use Rattle.build_commands.specs.Living.{ComesBy, HeardOf, IsRefused, Lived, LivedBy}
 use Rattle.build_commands.specs.Plans.{Hold, whole}

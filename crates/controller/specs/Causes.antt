@@ -11,14 +11,14 @@ use Rattle.model_run.specs.declared.event.Event.{Event}
 use Rattle.model_run.specs.declared.event.Event.TheVariants.{Start as StartEvent}
 use Rattle.model_run.specs.State.{Setting}
 use Rattle.model_run.specs.World.{world_in}
-use Rattle.store_laws.specs.Store.{Mean}
-use Rattle.delta_records.specs.declared.payload.Payload.TheVariants.{Whole}
-use Rattle.durable_build.specs.Taking.{added}
-use Rattle.saved_run.specs.Lives.{image_after}
-use Rattle.saved_run.specs.Saved.{Stores}
-use Rattle.run_command.specs.Files.{HasSite, IsRefused, OfFiles}
-use Rattle.run_command.specs.Inputs.{HasFailed}
-use Rattle.run_command.specs.Statuses.{HasLog, HasRun, world_status}
+use Rattle.build_commands.specs.Lower.store_laws.Store.{Mean}
+use Rattle.build_commands.specs.Lower.delta_records.declared.payload.Payload.TheVariants.{Whole}
+use Rattle.build_commands.specs.Lower.durable_build.Taking.{added}
+use Rattle.build_commands.specs.Lower.saved_run.Lives.{image_after}
+use Rattle.build_commands.specs.Lower.saved_run.Saved.{Stores}
+use Rattle.build_commands.specs.Lower.run_command.Files.{HasSite, IsRefused, OfFiles}
+use Rattle.build_commands.specs.Lower.run_command.Inputs.{HasFailed}
+use Rattle.build_commands.specs.Lower.run_command.Statuses.{HasLog, HasRun, world_status}
 use Rattle.build_commands.specs.Finishing.{ComesNext, IsFull}
 use Rattle.build_commands.specs.Plans.{AreCalm}
 use Rattle.build_commands.specs.Resuming.{IsUntouched}

@@ -13,9 +13,9 @@ use Rattle.model_run.specs.declared.event.Event.{Event}
 use Rattle.model_run.specs.declared.event.Event.TheVariants.{Start as StartEvent}
 use Rattle.model_run.specs.State.{Setting}
 use Rattle.model_run.specs.World.{world_in}
-use Rattle.store_laws.specs.Store.{Mean}
-use Rattle.saved_run.specs.Saved.{Stores, Survives}
-use Rattle.run_command.specs.Statuses.{HasRun, world_status}
+use Rattle.build_commands.specs.Lower.store_laws.Store.{Mean}
+use Rattle.build_commands.specs.Lower.saved_run.Saved.{Stores, Survives}
+use Rattle.build_commands.specs.Lower.run_command.Statuses.{HasRun, world_status}
 use Rattle.build_commands.specs.declared.end_text.EndText.{EndText}
 use Rattle.build_commands.specs.declared.end_text.EndText.TheVariants as end
 use Rattle.build_commands.specs.EndTexts.{world_text}

@@ -11,14 +11,14 @@ use Rattle.model_run.specs.GraphText.{graph_text}
 use Rattle.model_run.specs.State.{Setting}
 use Rattle.image_form.specs.declared.image.Image.{Image}
 use Rattle.model_run.specs.World.{Build, world_in}
-use Rattle.store_laws.specs.Store.{Mean}
+use Rattle.build_commands.specs.Lower.store_laws.Store.{Mean}
 use Rattle.journal_core.specs.Records.{Has}
-use Rattle.durable_build.specs.declared.faults.StoreFault.TheVariants.{Damaged}
-use Rattle.durable_build.specs.Opening.{OpenFails}
-use Rattle.saved_run.specs.Saved.{Stores}
-use Rattle.run_command.specs.Files.{HasSite, IsRefused}
-use Rattle.run_command.specs.Statuses.{HasRun, world_status}
-use Rattle.run_command.specs.Texts as run
+use Rattle.build_commands.specs.Lower.durable_build.declared.faults.StoreFault.TheVariants.{Damaged}
+use Rattle.build_commands.specs.Lower.durable_build.Opening.{OpenFails}
+use Rattle.build_commands.specs.Lower.saved_run.Saved.{Stores}
+use Rattle.build_commands.specs.Lower.run_command.Files.{HasSite, IsRefused}
+use Rattle.build_commands.specs.Lower.run_command.Statuses.{HasRun, world_status}
+use Rattle.build_commands.specs.Lower.run_command.Texts as run
 use Rattle.build_commands.specs.declared.end_text.EndText.{EndText}
 use Rattle.build_commands.specs.declared.end_text.EndText.TheVariants as end
 use Rattle.build_commands.specs.EndTexts.{world_text}

@@ -1,16 +1,16 @@
 //! The call that the program makes.
 ghost use Rattle.std.specs.Prelude.{◌≡◌, length, map, string_bytes};
-ghost use Rattle.run_command.specs.Inputs.{taken_from};
+ghost use Rattle.build_commands.specs.Lower.run_command.Inputs.{taken_from};
 ghost use Rattle.build_commands.specs.Writing as writing;
 ghost use Rattle.controller.specs.Call.{call_of, devices, usage_text};
 ghost use Rattle.controller.specs.Commands.{Does};
 ghost use Rattle.controller.specs.Promises.{Promises};
 
+use build_commands::saved_thread::SavedThread;
 use build_commands::{Done, Ended, check, generate, graph, log, resume, run};
 use command_words::{Command, command_in};
 use jp_disk::Disk;
 use jp_io::{Sink, Source, write_all};
-use saved_thread::SavedThread;
 use std::alloc::Global;
 use std::sync::Wait;
 use std::thread::Threads;

@@ -12,8 +12,8 @@ use Rattle.agent_worker.specs.declared.gate.GateCall.{GateCall}
 use Rattle.agent_worker.specs.Acts.{named}
 use Rattle.agent_worker.specs.Gate.{GateTells, Told, Claimed as ClaimedTask, told_at}
 use Rattle.agent_worker.specs.Working.{on_host}
-use Rattle.durable_build.specs.Standing.{Kept}
-use Rattle.durable_build.proofs.OpenLemmas.{begun_all}
+use Rattle.site_run.specs.Lower.durable_build.Standing.{Kept}
+use Rattle.site_run.proofs.Lower.durable_build.OpenLemmas.{begun_all}
 use Rattle.launch_laws.specs.Fitting.{AreApart, WasTask}
 use Rattle.launch_laws.specs.ManyTurns.{InLife}
 use Rattle.launch_laws.specs.Outputs.{AreOutputs, Delivered}
@@ -31,17 +31,17 @@ use Rattle.model_run.specs.Requests.{IsTaskOf}
 use Rattle.model_run.specs.State.{Setting}
 use Rattle.model_run.specs.Terms.{term}
 use Rattle.model_run.specs.World.{world_in}
-use Rattle.script_run.specs.declared.rest.Rest.{Rest}
-use Rattle.script_run.specs.Standing.{IsProper}
+use Rattle.site_run.specs.Lower.script_run.declared.rest.Rest.{Rest}
+use Rattle.site_run.specs.Lower.script_run.Standing.{IsProper}
 use Rattle.settle_laws.specs.Stances.{Stance}
 use Rattle.agent_worker.specs.declared.fault.TakeFault.{TakeFault}
-use Rattle.site_gate.specs.Tales.{claimed_of, is_grant, tells_of, told_of}
-use Rattle.site_gate.proofs.PartLemmas.{all_map}
-use Rattle.site_life.specs.Coming.{EachIs}
-use Rattle.site_life.specs.Lives.{EndsWith, Life}
-use Rattle.site_life.specs.Rounds.{turns_of}
-use Rattle.site_life.specs.Turns.{ComesFrom, DidTurn, Explains, HoldsOfOne, IsExplained, IsIn, MadeOf, Turn}
-use Rattle.site_life.proofs.MadeLemmas.{made_behind, made_join}
+use Rattle.site_run.specs.Lower.site_gate.Tales.{claimed_of, is_grant, tells_of, told_of}
+use Rattle.site_run.proofs.Lower.site_gate.PartLemmas.{all_map}
+use Rattle.site_run.specs.Lower.site_life.Coming.{EachIs}
+use Rattle.site_run.specs.Lower.site_life.Lives.{EndsWith, Life}
+use Rattle.site_run.specs.Lower.site_life.Rounds.{turns_of}
+use Rattle.site_run.specs.Lower.site_life.Turns.{ComesFrom, DidTurn, Explains, HoldsOfOne, IsExplained, IsIn, MadeOf, Turn}
+use Rattle.site_run.proofs.Lower.site_life.MadeLemmas.{made_behind, made_join}
 use Rattle.site_run.specs.Lives.{Ends}
 use Rattle.site_run.specs.Replies.{replies}
 use Rattle.site_run.specs.Serving.{AreHonest, hosts_of}
@@ -49,13 +49,13 @@ use Rattle.site_run.specs.Telling.{ClaimedInTime}
 use Rattle.site_run.proofs.FitLemmas.{made_says, told_taken}
 use Rattle.site_run.proofs.MemberLemmas.{SaysSo, Steps, rounds_steps, steps_of, steps_then}
 use Rattle.site_run.proofs.WalkLemmas.{of_tree, small}
-use Rattle.site_state.specs.Histories.{tooks}
-use Rattle.site_state.specs.declared.ask.Ask.{Ask}
-use Rattle.site_state.specs.declared.ask.Entry.{Entry}
-use Rattle.site_state.specs.declared.ask.Entry.TheVariants.{Took, Claimed, Line, Failed}
-use Rattle.site_state.specs.declared.ask.Progress.{Progress}
-use Rattle.site_state.specs.declared.ask.Reply.{Reply}
-use Rattle.site_state.proofs.HistoryLaws.{tooks-append}
+use Rattle.site_run.specs.Lower.site_state.Histories.{tooks}
+use Rattle.site_run.specs.Lower.site_state.declared.ask.Ask.{Ask}
+use Rattle.site_run.specs.Lower.site_state.declared.ask.Entry.{Entry}
+use Rattle.site_run.specs.Lower.site_state.declared.ask.Entry.TheVariants.{Took, Claimed, Line, Failed}
+use Rattle.site_run.specs.Lower.site_state.declared.ask.Progress.{Progress}
+use Rattle.site_run.specs.Lower.site_state.declared.ask.Reply.{Reply}
+use Rattle.site_run.proofs.Lower.site_state.HistoryLaws.{tooks-append}
 use Rattle.world_laws.proofs.Places.{some_behind}
 use Rattle.delivery_laws.specs.Members.{AllDelivered, AreShort}
 use Rattle.delivery_laws.proofs.Serves.{caused_by}

@@ -15,12 +15,12 @@ use Rattle.launch_laws.specs.Fitting.{Among}
 use Rattle.launch_laws.specs.ManyTurns.{Turns, none as no_turn, more as another_turn}
 use Rattle.launch_laws.proofs.Lists.{NoTwice}
 use Rattle.model_run.specs.Fitting.{Some_of}
-use Rattle.site_gate.specs.Tales.{claimed_of, told_of, tells_of}
-use Rattle.site_gate.specs.Turns.{Executed}
-use Rattle.site_gate.proofs.PartLemmas.{all_append, all_map}
-use Rattle.site_life.specs.Turns.{Turn, DidTurn, Work}
+use Rattle.site_run.specs.Lower.site_gate.Tales.{claimed_of, told_of, tells_of}
+use Rattle.site_run.specs.Lower.site_gate.Turns.{Executed}
+use Rattle.site_run.proofs.Lower.site_gate.PartLemmas.{all_append, all_map}
+use Rattle.site_run.specs.Lower.site_life.Turns.{Turn, DidTurn, Work}
 use Rattle.site_run.proofs.MemberLemmas.{Steps}
-use Rattle.site_state.specs.declared.ask.Entry.{Entry}
+use Rattle.site_run.specs.Lower.site_state.declared.ask.Entry.{Entry}
 use Rattle.world_laws.proofs.Places.{some_front, some_behind}
 
 module _ {H A : Type 0} where

@@ -17,8 +17,10 @@ mod image;
 mod payload;
 mod weights;
 
+pub use delta_form;
 pub use delta_form::DeltaRefusal;
 pub use field_form::FormRefusal;
 pub use image::next_image;
 pub use payload::{Payload, payload_size, read_payload, write_payload};
+pub use record_form;
 pub use weights::Weights;

@@ -12,8 +12,8 @@ use Rattle.journal_core.specs.Records.{Has, HasWithOrWithout, records, Walked}
 use Rattle.journal_core.specs.State.{State}
 use Rattle.journal_core.specs.declared.faults.CreateFault.{CreateFault}
 use Rattle.journal_core.specs.declared.faults.CreateFault.TheVariants.{Disk as CreateDisk, HasRecord}
-use Rattle.record_form.specs.Records.{record_of}
-use Rattle.record_form.specs.declared.record.EventRecord.{EventRecord}
+use Rattle.durable_build.specs.Lower.record_form.Records.{record_of}
+use Rattle.durable_build.specs.Lower.record_form.declared.record.EventRecord.{EventRecord}
 use Rattle.agent_worker.specs.declared.fault.TakeFault.{TakeFault}
 use Rattle.agent_worker.specs.declared.fault.TakeFault.TheVariants.{Memory, Disk, Full, Stopped}
 use Rattle.model_run.specs.declared.agents.AgentsKind.TheVariants as kind
@@ -29,12 +29,12 @@ use Rattle.model_run.specs.State.{Setting}
 use Rattle.model_run.specs.Taking.{taken, Standing}
 use Rattle.model_run.specs.World.{Build, unbegun, after_one, world_in}
 use Rattle.settle_laws.specs.Stances.{Stance}
-use Rattle.build_core.specs.Builds.{StandsFor, setting_in, standing_of}
-use Rattle.build_images.specs.Images.{image_in, world_image}
-use Rattle.script_run.proofs.Begun.{starts_begun}
-use Rattle.script_run.specs.Standing.{AreNumbered, IsProper}
-use Rattle.store_laws.specs.Store.{AllDue, IsStory, Mean, Starts, Told, events_of, record_at}
-use Rattle.store_laws.proofs.Tellings.{one_record, one_setting}
+use Rattle.durable_build.specs.Lower.build_core.Builds.{StandsFor, setting_in, standing_of}
+use Rattle.durable_build.specs.Lower.build_images.Images.{image_in, world_image}
+use Rattle.durable_build.proofs.Lower.script_run.Begun.{starts_begun}
+use Rattle.durable_build.specs.Lower.script_run.Standing.{AreNumbered, IsProper}
+use Rattle.durable_build.specs.Lower.store_laws.Store.{AllDue, IsStory, Mean, Starts, Told, events_of, record_at}
+use Rattle.durable_build.proofs.Lower.store_laws.Tellings.{one_record, one_setting}
 use Rattle.durable_build.specs.Standing.{Kept, Keeps, Opening, image_before}
 use Rattle.durable_build.specs.Kinds.{weights_of}
 use Rattle.durable_build.specs.Opening.{Opened}

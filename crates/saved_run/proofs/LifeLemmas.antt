@@ -7,7 +7,7 @@ use Rattle.journal_core.specs.Records.{HasWithOrWithout, Walked, framed}
 use Rattle.journal_core.specs.State.{State}
 use Rattle.journal_core.proofs.RecordLemmas.{has_framed}
 use Rattle.journal_core.proofs.StepLemmas.{stores_has}
-use Rattle.record_form.specs.Records.{record_of}
+use Rattle.durable_build.specs.Lower.record_form.Records.{record_of}
 use Rattle.agent_worker.specs.declared.fault.TakeFault.{TakeFault}
 use Rattle.agent_worker.specs.declared.fault.TakeFault.TheVariants.{Memory, Disk, Full, Stopped}
 use Rattle.model_run.specs.declared.event.Event.{Event}
@@ -17,13 +17,13 @@ use Rattle.model_run.specs.State.{Setting}
 use Rattle.model_run.specs.Taking.{taken, Standing}
 use Rattle.model_run.specs.World.{Build, answer_to, after_one, next_grant, unbegun, world_in}
 use Rattle.settle_laws.specs.Stances.{Stance}
-use Rattle.build_core.specs.Builds.{StandsFor, setting_in, standing_of}
-use Rattle.build_images.specs.Images.{image_in, world_image}
-use Rattle.script_run.proofs.Begun.{stays_begun}
-use Rattle.store_laws.specs.Store.{events_of, grant_of}
+use Rattle.durable_build.specs.Lower.build_core.Builds.{StandsFor, setting_in, standing_of}
+use Rattle.durable_build.specs.Lower.build_images.Images.{image_in, world_image}
+use Rattle.durable_build.proofs.Lower.script_run.Begun.{stays_begun}
+use Rattle.durable_build.specs.Lower.store_laws.Store.{events_of, grant_of}
 use Rattle.durable_build.specs.Standing.{Kept, Keeps, image_before, world_before}
-use Rattle.store_laws.proofs.Stories.{world-more}
-use Rattle.delta_records.specs.declared.weights.Weights.{Weights}
+use Rattle.durable_build.proofs.Lower.store_laws.Stories.{world-more}
+use Rattle.durable_build.specs.Lower.delta_records.declared.weights.Weights.{Weights}
 use Rattle.durable_build.specs.Kinds.{weights_of}
 use Rattle.durable_build.specs.Taking.{DueAdds, IsAfter, IsBehind, IsSized, Puts, TakeAnswers, TakeLeaves, TakeKeeps}
 use Rattle.durable_build.proofs.Sizes.{due_adds}

@@ -1,21 +1,21 @@
 -- What one event more makes of a store, and what a crash leaves of it.
 use Rattle.std.proofs.Common.{◌≡◌, ◌⊎◌, ℕ, true, false, List, [], ◌∷◌, ◌++◌, Option, Some, None, inl, inr, refl, sym, ap, ◌∙◌, subst, append-nil, append_assoc}
 use Rattle.std.specs.Prelude.{IsSomeAnd}
-use Rattle.record_form.specs.declared.record.EventRecord.{EventRecord}
+use Rattle.durable_build.specs.Lower.record_form.declared.record.EventRecord.{EventRecord}
 use Rattle.model_run.specs.declared.event.Event.{Event}
 use Rattle.model_run.specs.declared.event.Event.TheVariants as event
 use Rattle.model_run.specs.declared.taken.Taken.TheVariants.{Accepted}
 use Rattle.model_run.specs.State.{Common, Setting}
 use Rattle.model_run.specs.World.{Build, unbegun, answer_to, after_one, next_grant, standing, world_in}
 use Rattle.settle_laws.specs.Stances.{Stance}
-use Rattle.build_core.specs.Builds.{Parts, StandsFor, setting_in, standing_of}
-use Rattle.build_core.specs.Phases.{has_begun, has_ended, shown}
-use Rattle.build_core.specs.declared.phase.Phase.{Phase}
-use Rattle.build_core.specs.declared.phase.Phase.TheVariants.{Unbegun, Running, Ended, Stopped}
-use Rattle.cps_frames.specs.Standing.{common_of}
-use Rattle.build_images.specs.Images.{world_image}
-use Rattle.store_laws.specs.Store.{FirstStarts, Mean, events_of, grant_of, last_image, record_at}
-use Rattle.store_laws.proofs.Stories.{tell_more, events-more, due_more, follows_more}
+use Rattle.durable_build.specs.Lower.build_core.Builds.{Parts, StandsFor, setting_in, standing_of}
+use Rattle.durable_build.specs.Lower.build_core.Phases.{has_begun, has_ended, shown}
+use Rattle.durable_build.specs.Lower.build_core.declared.phase.Phase.{Phase}
+use Rattle.durable_build.specs.Lower.build_core.declared.phase.Phase.TheVariants.{Unbegun, Running, Ended, Stopped}
+use Rattle.durable_build.specs.Lower.cps_frames.Standing.{common_of}
+use Rattle.durable_build.specs.Lower.build_images.Images.{world_image}
+use Rattle.durable_build.specs.Lower.store_laws.Store.{FirstStarts, Mean, events_of, grant_of, last_image, record_at}
+use Rattle.durable_build.proofs.Lower.store_laws.Stories.{tell_more, events-more, due_more, follows_more}
 use Rattle.saved_run.specs.Saved.{IsTold, Stores, Survives}
 
 shown_requests : (p : Phase) (u : Common) → (shown p u).requests ≡ u.requests

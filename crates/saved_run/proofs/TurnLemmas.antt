@@ -16,10 +16,10 @@ use Rattle.model_run.specs.State.{Setting}
 use Rattle.model_run.specs.World.{Build, answer_to, next_grant, world_in}
 use Rattle.settle_laws.specs.Stances.{Stance}
 use Rattle.durable_build.specs.Standing.{Kept}
-use Rattle.script_run.specs.declared.rest.Rest.TheVariants.{Ended, Waits, AnswersFailed}
-use Rattle.script_run.specs.Rests.{nothing, of_line}
-use Rattle.script_run.specs.Running.{Decides, EndsLine, Hears, IsPassedOver, Listens, decides, passes_over}
-use Rattle.script_run.proofs.Turns.{grant_accepted}
+use Rattle.durable_build.specs.Lower.script_run.declared.rest.Rest.TheVariants.{Ended, Waits, AnswersFailed}
+use Rattle.durable_build.specs.Lower.script_run.Rests.{nothing, of_line}
+use Rattle.durable_build.specs.Lower.script_run.Running.{Decides, EndsLine, Hears, IsPassedOver, Listens, decides, passes_over}
+use Rattle.durable_build.proofs.Lower.script_run.Turns.{grant_accepted}
 use Rattle.saved_run.specs.declared.life.Life.{Life}
 use Rattle.saved_run.specs.Going.{GoesOn, begins, grants, hears}
 use Rattle.saved_run.specs.Lives.{Lasts, FailsBy, IsCaused, by_grant, by_line, SoFar, Turned, Broken}

@@ -8,7 +8,7 @@ use Rattle.model_run.specs.declared.event.Event.TheVariants.{Granted as GrantedE
 use Rattle.model_run.specs.declared.taken.Taken.TheVariants.{Accepted}
 use Rattle.model_run.specs.State.{Setting}
 use Rattle.model_run.specs.World.{answer_to, next_grant, world_in}
-use Rattle.script_run.specs.Running.{EndsLine, Hears, Listens}
+use Rattle.durable_build.specs.Lower.script_run.Running.{EndsLine, Hears, Listens}
 
 -- The events so far, which begin with those from before; the bytes of the answers that were read for them; and whether more can be read.
 pub data GoesOn (setting : Setting) (before : List Event) : List Event → List ℕ → Bool → Type 0 where

@@ -1,3 +1,4 @@
+pub mod Lower
 pub mod Saved
 pub mod Going
 pub mod Lives

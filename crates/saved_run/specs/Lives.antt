@@ -16,18 +16,18 @@ use Rattle.model_run.specs.State.{Setting}
 use Rattle.model_run.specs.declared.taken.Taken.TheVariants.{Accepted}
 use Rattle.model_run.specs.World.{answer_to, next_grant, world_in}
 use Rattle.image_form.specs.declared.image.Image.{Image}
-use Rattle.build_images.specs.Images.{image_in, world_image}
-use Rattle.store_laws.specs.Store.{grant_of}
-use Rattle.delta_records.specs.declared.weights.Weights.{Weights}
+use Rattle.durable_build.specs.Lower.build_images.Images.{image_in, world_image}
+use Rattle.durable_build.specs.Lower.store_laws.Store.{grant_of}
+use Rattle.durable_build.specs.Lower.delta_records.declared.weights.Weights.{Weights}
 use Rattle.durable_build.specs.Kinds.{weights_of}
 use Rattle.durable_build.specs.Taking.{DueAdds}
 use Rattle.settle_laws.specs.Stances.{Stance}
-use Rattle.build_core.specs.Builds.{StandsFor, setting_in}
+use Rattle.durable_build.specs.Lower.build_core.Builds.{StandsFor, setting_in}
 use Rattle.durable_build.specs.Standing.{Kept}
-use Rattle.script_run.specs.declared.rest.Rest.{Rest}
-use Rattle.script_run.specs.Rests.{LeftOver, TurnsTo}
-use Rattle.script_run.specs.Running.{Decides, EndsLine}
-use Rattle.script_run.specs.Standing.{IsProper}
+use Rattle.durable_build.specs.Lower.script_run.declared.rest.Rest.{Rest}
+use Rattle.durable_build.specs.Lower.script_run.Rests.{LeftOver, TurnsTo}
+use Rattle.durable_build.specs.Lower.script_run.Running.{Decides, EndsLine}
+use Rattle.durable_build.specs.Lower.script_run.Standing.{IsProper}
 use Rattle.saved_run.specs.declared.life.BeginFault.{BeginFault}
 use Rattle.saved_run.specs.declared.life.BeginFault.TheVariants.{HasBuild, Take}
 use Rattle.saved_run.specs.declared.life.Life.{Life}

@@ -1,15 +1,15 @@
 -- What the store of a build holds at each moment of a life, and what a crash leaves (this product's own).
 use Rattle.std.specs.Prelude.{◌≡◌, ◌⊎◌, ◌+◌, ℕ, List, [], ◌∷◌, ◌++◌, length, Option, None, IsSomeAnd}
-use Rattle.record_form.specs.declared.record.EventRecord.{EventRecord}
+use Rattle.durable_build.specs.Lower.record_form.declared.record.EventRecord.{EventRecord}
 use Rattle.model_run.specs.declared.event.Event.{Event}
 use Rattle.model_run.specs.State.{Setting}
 use Rattle.model_run.specs.World.{unbegun}
 use Rattle.settle_laws.specs.Stances.{Stance}
-use Rattle.build_core.specs.Builds.{setting_in}
-use Rattle.build_images.specs.Images.{world_image}
-use Rattle.store_laws.specs.Store.{AllDue, IsStory, Told, events_of}
+use Rattle.durable_build.specs.Lower.build_core.Builds.{setting_in}
+use Rattle.durable_build.specs.Lower.build_images.Images.{world_image}
+use Rattle.durable_build.specs.Lower.store_laws.Store.{AllDue, IsStory, Told, events_of}
 use Rattle.journal_core.specs.Records.{Has, framed, records}
-use Rattle.delta_records.specs.declared.weights.Weights.{Weights}
+use Rattle.durable_build.specs.Lower.delta_records.declared.weights.Weights.{Weights}
 use Rattle.durable_build.specs.Kinds.{weights_of}
 use Rattle.durable_build.specs.Standing.{Kept, Keeps}
 

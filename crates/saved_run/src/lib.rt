@@ -17,4 +17,6 @@
 
 mod life;
 
+pub use durable_build;
+pub use durable_build::{build_core, saved_thread, script_run};
 pub use life::{BeginFault, Life};

@@ -1,3 +1,4 @@
+pub mod Lower
 pub mod Called
 pub mod Tales
 pub mod Saying

@@ -12,7 +12,7 @@ use jp_disk::Disk;
 use model_run::{Event, Taken};
 use model_text::Bytes;
 use program_lock::{Pass, Program};
-use saved_thread::SavedThread;
+use site_state::saved_thread::SavedThread;
 use site_state::{Ask, Reply, SiteState};
 use std::alloc::{AllocError, Global};
 use std::sync::Wait;

@@ -12,4 +12,6 @@ mod turn;
 
 pub use gate::SiteGate;
 pub use place::Place;
+pub use site_state;
+pub use site_state::saved_thread;
 pub use turn::{take_turn, work_through};

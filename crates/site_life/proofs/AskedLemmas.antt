@@ -3,9 +3,9 @@ use Rattle.std.proofs.Common.{◌≡◌, ◌∙◌, ℕ, true, List, [], ◌∷�
 use Rattle.program_lock.specs.History.{has, entries, numbered, entries_of}
 use Rattle.program_lock.proofs.HistoryLemmas.{entries-append, entries-numbered, under-none, under-numbered}
 use Rattle.agent_worker.specs.declared.gate.GateCall.{GateCall}
-use Rattle.site_state.specs.declared.ask.Ask.{Ask}
-use Rattle.site_state.specs.declared.ask.Entry.{Entry}
-use Rattle.site_state.specs.declared.ask.Reply.{Reply}
+use Rattle.site_gate.specs.Lower.site_state.declared.ask.Ask.{Ask}
+use Rattle.site_gate.specs.Lower.site_state.declared.ask.Entry.{Entry}
+use Rattle.site_gate.specs.Lower.site_state.declared.ask.Reply.{Reply}
 use Rattle.site_gate.specs.Saying.{AnswersCall, AreAnswered}
 use Rattle.site_gate.proofs.PartLemmas.{all_map}
 use Rattle.site_gate.proofs.TrailLemmas.{entries_of-append}

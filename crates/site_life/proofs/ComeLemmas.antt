@@ -7,7 +7,7 @@ use Rattle.program_lock.proofs.NumberLemmas.{has-append}
 use Rattle.model_run.specs.declared.event.Event.{Event}
 use Rattle.model_run.specs.declared.event.Event.TheVariants.{Start, Granted, Output, Exited, Lost, Decided as DecidedEvent}
 use Rattle.settle_laws.specs.Stances.{Stance}
-use Rattle.build_core.specs.Builds.{Parts}
+use Rattle.site_gate.specs.Lower.build_core.Builds.{Parts}
 use Rattle.agent_worker.specs.declared.fault.TakeFault.{TakeFault}
 use Rattle.agent_worker.specs.declared.fault.TakeFault.TheVariants.{Memory, Disk, Full, Stopped}
 use Rattle.agent_worker.specs.declared.gate.GateCall.{GateCall}
@@ -15,15 +15,15 @@ use Rattle.agent_worker.specs.declared.gate.GateCall.TheVariants as gate_call
 use Rattle.agent_worker.specs.declared.gate.Heard.{Heard}
 use Rattle.agent_worker.specs.declared.gate.Heard.TheVariants.{Decided, Skipped}
 use Rattle.agent_worker.specs.Gate.{Told, told_as, is_told, added_if}
-use Rattle.site_state.specs.declared.ask.Ask.{Ask}
-use Rattle.site_state.specs.declared.ask.Ask.TheVariants as ask
-use Rattle.site_state.specs.declared.ask.Entry.{Entry}
-use Rattle.site_state.specs.declared.ask.Entry.TheVariants.{Took, Claimed, Line, Failed}
-use Rattle.site_state.specs.declared.ask.Reply.{Reply}
-use Rattle.site_state.specs.declared.ask.Reply.TheVariants as reply
-use Rattle.site_state.specs.Hearing.{AnswerSays}
-use Rattle.site_state.specs.Histories.{kept_fault}
-use Rattle.site_state.specs.Says.{Says, SaysAt}
+use Rattle.site_gate.specs.Lower.site_state.declared.ask.Ask.{Ask}
+use Rattle.site_gate.specs.Lower.site_state.declared.ask.Ask.TheVariants as ask
+use Rattle.site_gate.specs.Lower.site_state.declared.ask.Entry.{Entry}
+use Rattle.site_gate.specs.Lower.site_state.declared.ask.Entry.TheVariants.{Took, Claimed, Line, Failed}
+use Rattle.site_gate.specs.Lower.site_state.declared.ask.Reply.{Reply}
+use Rattle.site_gate.specs.Lower.site_state.declared.ask.Reply.TheVariants as reply
+use Rattle.site_gate.specs.Lower.site_state.Hearing.{AnswerSays}
+use Rattle.site_gate.specs.Lower.site_state.Histories.{kept_fault}
+use Rattle.site_gate.specs.Lower.site_state.Says.{Says, SaysAt}
 use Rattle.site_gate.specs.Saying.{AnswersCall, AreAnswered}
 use Rattle.site_gate.specs.Tales.{is_of_task, asked_for, told_of}
 use Rattle.site_gate.proofs.AskLemmas.{Asked, task_plain, claim_adds, take_adds, inputs_adds, halt_adds}

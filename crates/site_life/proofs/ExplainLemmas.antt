@@ -16,9 +16,9 @@ use Rattle.agent_worker.specs.declared.member.Member.TheVariants.{Executor, Oper
 use Rattle.agent_worker.specs.declared.worked.Worked.{Worked}
 use Rattle.agent_worker.specs.Gate.{Told, told_at, Decides, IsToldOf}
 use Rattle.agent_worker.specs.Operating.{Ask, Asked, Reads, Given, Halted, AreToldOf, given_in}
-use Rattle.site_state.specs.declared.ask.Entry.{Entry}
-use Rattle.site_state.specs.declared.ask.Entry.TheVariants.{Took, Claimed, Line, Failed}
-use Rattle.site_state.specs.Histories.{tooks, at_risk, pending}
+use Rattle.site_gate.specs.Lower.site_state.declared.ask.Entry.{Entry}
+use Rattle.site_gate.specs.Lower.site_state.declared.ask.Entry.TheVariants.{Took, Claimed, Line, Failed}
+use Rattle.site_gate.specs.Lower.site_state.Histories.{tooks, at_risk, pending}
 use Rattle.site_gate.specs.Tales.{is_grant, asked_for, failed_of, told_of}
 use Rattle.site_gate.specs.Turning.{IsCausedBy}
 use Rattle.site_gate.proofs.PartLemmas.{all_append, all_map}

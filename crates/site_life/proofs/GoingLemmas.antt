@@ -6,12 +6,12 @@ use Rattle.program_lock.specs.History.{has, entries, keep_if, under, NoneUnder}
 use Rattle.program_lock.specs.Legal.{Answers}
 use Rattle.program_lock.proofs.HistoryLemmas.{entries-append, under-append}
 use Rattle.settle_laws.specs.Stances.{Stance}
-use Rattle.build_core.specs.Builds.{Parts}
+use Rattle.site_gate.specs.Lower.build_core.Builds.{Parts}
 use Rattle.agent_worker.specs.Gate.{GateTells}
 use Rattle.agent_worker.specs.declared.gate.GateCall.{GateCall}
-use Rattle.site_state.specs.declared.ask.Ask.{Ask}
-use Rattle.site_state.specs.declared.ask.Entry.{Entry}
-use Rattle.site_state.specs.declared.ask.Reply.{Reply}
+use Rattle.site_gate.specs.Lower.site_state.declared.ask.Ask.{Ask}
+use Rattle.site_gate.specs.Lower.site_state.declared.ask.Entry.{Entry}
+use Rattle.site_gate.specs.Lower.site_state.declared.ask.Reply.{Reply}
 use Rattle.site_gate.specs.Saying.{AreAnswered}
 use Rattle.site_gate.specs.Turns.{TakesTurn}
 use Rattle.site_gate.proofs.CallLemmas.{site_says}

@@ -5,12 +5,12 @@ use Rattle.std.specs.Prelude.{nat_eq}
 use Rattle.program_lock.specs.Legal.{IsLegal}
 use Rattle.program_lock.specs.Merge.{IsMergeOf}
 use Rattle.settle_laws.specs.Stances.{Stance}
-use Rattle.build_core.specs.Builds.{Parts}
+use Rattle.site_gate.specs.Lower.build_core.Builds.{Parts}
 use Rattle.agent_worker.specs.declared.member.Member.{Member}
 use Rattle.agent_worker.specs.declared.member.Member.TheVariants.{Executor, Operator}
-use Rattle.site_state.specs.declared.ask.Entry.{Entry}
-use Rattle.site_state.specs.declared.ask.Entry.TheVariants.{Took, Claimed, Line, Failed}
-use Rattle.site_state.specs.Says.{Says}
+use Rattle.site_gate.specs.Lower.site_state.declared.ask.Entry.{Entry}
+use Rattle.site_gate.specs.Lower.site_state.declared.ask.Entry.TheVariants.{Took, Claimed, Line, Failed}
+use Rattle.site_gate.specs.Lower.site_state.Says.{Says}
 use Rattle.site_gate.specs.Tales.{claimed_of}
 use Rattle.site_gate.specs.Turning.{tasks_of, IsPart}
 use Rattle.site_gate.proofs.ClaimLaws.{claims_differ}

@@ -7,14 +7,14 @@ use Rattle.program_lock.specs.declared.view.Known.{Known}
 use Rattle.program_lock.specs.History.{entries_of}
 use Rattle.program_lock.specs.Calls.{Ends}
 use Rattle.settle_laws.specs.Stances.{Stance}
-use Rattle.build_core.specs.Builds.{Parts}
+use Rattle.site_gate.specs.Lower.build_core.Builds.{Parts}
 use Rattle.task_host.specs.declared.call.Call.{Call}
 use Rattle.task_host.specs.declared.order.Stream.{Stream}
 use Rattle.agent_worker.specs.declared.member.Member.{Member}
-use Rattle.site_state.specs.declared.ask.Ask.{Ask}
-use Rattle.site_state.specs.declared.ask.Entry.{Entry}
-use Rattle.site_state.specs.declared.ask.Progress.{Progress}
-use Rattle.site_state.specs.declared.ask.Reply.{Reply}
+use Rattle.site_gate.specs.Lower.site_state.declared.ask.Ask.{Ask}
+use Rattle.site_gate.specs.Lower.site_state.declared.ask.Entry.{Entry}
+use Rattle.site_gate.specs.Lower.site_state.declared.ask.Progress.{Progress}
+use Rattle.site_gate.specs.Lower.site_state.declared.ask.Reply.{Reply}
 use Rattle.site_gate.proofs.ClaimLaws.{claims_differ}
 use Rattle.site_gate.proofs.PartLemmas.{all_map}
 use Rattle.site_life.specs.Lives.{EndsWith, Life}

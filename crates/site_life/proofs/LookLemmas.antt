@@ -5,16 +5,16 @@ use Rattle.program_lock.specs.History.{entries, numbered, entries_of}
 use Rattle.program_lock.specs.Calls.{Steps}
 use Rattle.program_lock.proofs.EntryLemmas.{entries_of-step}
 use Rattle.settle_laws.specs.Stances.{Stance}
-use Rattle.build_core.specs.Builds.{Parts}
+use Rattle.site_gate.specs.Lower.build_core.Builds.{Parts}
 use Rattle.agent_worker.specs.declared.fault.TakeFault.{TakeFault}
-use Rattle.site_state.specs.declared.ask.Ask.{Ask}
-use Rattle.site_state.specs.declared.ask.Ask.TheVariants.{Look}
-use Rattle.site_state.specs.declared.ask.Entry.{Entry}
-use Rattle.site_state.specs.declared.ask.Progress.{Progress}
-use Rattle.site_state.specs.declared.ask.Reply.{Reply}
-use Rattle.site_state.specs.declared.ask.Reply.TheVariants as reply
-use Rattle.site_state.specs.Histories.{kept_fault}
-use Rattle.site_state.specs.Says.{Says, SaysAt}
+use Rattle.site_gate.specs.Lower.site_state.declared.ask.Ask.{Ask}
+use Rattle.site_gate.specs.Lower.site_state.declared.ask.Ask.TheVariants.{Look}
+use Rattle.site_gate.specs.Lower.site_state.declared.ask.Entry.{Entry}
+use Rattle.site_gate.specs.Lower.site_state.declared.ask.Progress.{Progress}
+use Rattle.site_gate.specs.Lower.site_state.declared.ask.Reply.{Reply}
+use Rattle.site_gate.specs.Lower.site_state.declared.ask.Reply.TheVariants as reply
+use Rattle.site_gate.specs.Lower.site_state.Histories.{kept_fault}
+use Rattle.site_gate.specs.Lower.site_state.Says.{Says, SaysAt}
 use Rattle.site_life.specs.Passing.{IsProgress, GoesOn}
 use Rattle.site_gate.proofs.CallLemmas.{site_says}
 use Rattle.site_life.proofs.GoingLemmas.{goes_without}

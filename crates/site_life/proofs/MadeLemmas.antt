@@ -2,7 +2,7 @@
 use Rattle.std.proofs.Common.{◌≡◌, ⊎_elim, inl, inr, List, [], ◌∷◌, ◌++◌, refl, sym, ap, subst, append-nil}
 use Rattle.std.specs.List.{AllByRecursion as AllAre}
 use Rattle.program_lock.specs.Merge.{IsMergeOf}
-use Rattle.site_state.specs.declared.ask.Entry.{Entry}
+use Rattle.site_gate.specs.Lower.site_state.declared.ask.Entry.{Entry}
 use Rattle.site_life.specs.Turns.{Turn, MadeOf}
 
 module _ {H A : Type 0} where

@@ -5,7 +5,7 @@ use Rattle.std.specs.List.{AllByRecursion as AllAre}
 use Rattle.program_lock.specs.declared.program.Memory.{Memory}
 use Rattle.program_lock.specs.Legal.{Answers}
 use Rattle.settle_laws.specs.Stances.{Stance}
-use Rattle.build_core.specs.Builds.{Parts}
+use Rattle.site_gate.specs.Lower.build_core.Builds.{Parts}
 use Rattle.task_host.specs.declared.call.Call.{Call}
 use Rattle.task_host.specs.declared.order.Stream.{Stream}
 use Rattle.agent_worker.specs.declared.fault.TakeFault.{TakeFault}
@@ -21,16 +21,16 @@ use Rattle.agent_worker.specs.declared.worked.Worked.TheVariants as worked
 use Rattle.agent_worker.specs.Operating.{Ask as OperatorDeed, operator_calls}
 use Rattle.agent_worker.specs.Acts.{Act, Called, Reported, with_reports}
 use Rattle.agent_worker.specs.Working.{Deed, Claims, Serves, Pauses, Halts, work_reports}
-use Rattle.site_state.specs.declared.ask.Ask.{Ask}
-use Rattle.site_state.specs.declared.ask.Ask.TheVariants as ask
-use Rattle.site_state.specs.declared.ask.Entry.{Entry}
-use Rattle.site_state.specs.declared.ask.Entry.TheVariants.{Took, Claimed, Line, Failed}
-use Rattle.site_state.specs.declared.ask.Progress.{Progress}
-use Rattle.site_state.specs.declared.ask.Reply.{Reply}
-use Rattle.site_state.specs.declared.ask.Reply.TheVariants as reply
-use Rattle.site_state.specs.Histories.{kept_fault}
-use Rattle.site_state.specs.Says.{SaysAt}
-use Rattle.site_state.proofs.HistoryLaws.{kept_fault-append}
+use Rattle.site_gate.specs.Lower.site_state.declared.ask.Ask.{Ask}
+use Rattle.site_gate.specs.Lower.site_state.declared.ask.Ask.TheVariants as ask
+use Rattle.site_gate.specs.Lower.site_state.declared.ask.Entry.{Entry}
+use Rattle.site_gate.specs.Lower.site_state.declared.ask.Entry.TheVariants.{Took, Claimed, Line, Failed}
+use Rattle.site_gate.specs.Lower.site_state.declared.ask.Progress.{Progress}
+use Rattle.site_gate.specs.Lower.site_state.declared.ask.Reply.{Reply}
+use Rattle.site_gate.specs.Lower.site_state.declared.ask.Reply.TheVariants as reply
+use Rattle.site_gate.specs.Lower.site_state.Histories.{kept_fault}
+use Rattle.site_gate.specs.Lower.site_state.Says.{SaysAt}
+use Rattle.site_gate.proofs.Lower.site_state.HistoryLaws.{kept_fault-append}
 use Rattle.site_gate.specs.Saying.{AnswersCall}
 use Rattle.site_gate.specs.Tales.{tells_of}
 use Rattle.site_gate.proofs.PartLemmas.{all_append, all_map}

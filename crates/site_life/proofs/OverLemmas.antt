@@ -13,13 +13,13 @@ use Rattle.agent_worker.specs.declared.member.Member.{Member}
 use Rattle.agent_worker.specs.declared.member.Member.TheVariants.{Executor, Operator}
 use Rattle.agent_worker.specs.Working.{Deed, Claims, Serves, Pauses, Halts}
 use Rattle.model_run.specs.declared.event.Event.{Event}
-use Rattle.site_state.specs.declared.ask.Ask.{Ask}
-use Rattle.site_state.specs.declared.ask.Ask.TheVariants as ask
-use Rattle.site_state.specs.declared.ask.Entry.{Entry}
-use Rattle.site_state.specs.declared.ask.Entry.TheVariants.{Took, Claimed, Line, Failed}
-use Rattle.site_state.specs.declared.ask.Progress.{Progress}
-use Rattle.site_state.specs.declared.ask.Reply.{Reply}
-use Rattle.site_state.specs.declared.ask.Reply.TheVariants as reply
+use Rattle.site_gate.specs.Lower.site_state.declared.ask.Ask.{Ask}
+use Rattle.site_gate.specs.Lower.site_state.declared.ask.Ask.TheVariants as ask
+use Rattle.site_gate.specs.Lower.site_state.declared.ask.Entry.{Entry}
+use Rattle.site_gate.specs.Lower.site_state.declared.ask.Entry.TheVariants.{Took, Claimed, Line, Failed}
+use Rattle.site_gate.specs.Lower.site_state.declared.ask.Progress.{Progress}
+use Rattle.site_gate.specs.Lower.site_state.declared.ask.Reply.{Reply}
+use Rattle.site_gate.specs.Lower.site_state.declared.ask.Reply.TheVariants as reply
 use Rattle.site_gate.specs.Saying.{AnswersCall}
 use Rattle.site_gate.proofs.PartLemmas.{all_map}
 use Rattle.site_life.specs.Coming.{Came, EachIs, FailedSo}

@@ -11,7 +11,7 @@ use Rattle.program_lock.specs.Legal.{Answers}
 use Rattle.program_lock.proofs.HistoryLemmas.{entries-append}
 use Rattle.program_lock.proofs.NumberLemmas.{has_one}
 use Rattle.settle_laws.specs.Stances.{Stance}
-use Rattle.build_core.specs.Builds.{Parts}
+use Rattle.site_gate.specs.Lower.build_core.Builds.{Parts}
 use Rattle.task_host.specs.declared.call.Call.{Call}
 use Rattle.task_host.specs.declared.order.Stream.{Stream}
 use Rattle.agent_worker.specs.declared.gate.GateCall.{GateCall}
@@ -19,9 +19,9 @@ use Rattle.agent_worker.specs.declared.member.Member.{Member}
 use Rattle.agent_worker.specs.declared.member.Member.TheVariants.{Executor, Operator}
 use Rattle.agent_worker.specs.declared.worked.Worked.{Worked}
 use Rattle.agent_worker.specs.Gate.{GateTells}
-use Rattle.site_state.specs.declared.ask.Ask.{Ask}
-use Rattle.site_state.specs.declared.ask.Entry.{Entry}
-use Rattle.site_state.specs.declared.ask.Reply.{Reply}
+use Rattle.site_gate.specs.Lower.site_state.declared.ask.Ask.{Ask}
+use Rattle.site_gate.specs.Lower.site_state.declared.ask.Entry.{Entry}
+use Rattle.site_gate.specs.Lower.site_state.declared.ask.Reply.{Reply}
 use Rattle.site_gate.specs.Turns.{TakesTurn, Executed}
 use Rattle.site_gate.proofs.PartLemmas.{all_append}
 use Rattle.site_life.specs.Passing.{GoesOn, TakesRound}

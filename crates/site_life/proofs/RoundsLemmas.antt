@@ -8,14 +8,14 @@ use Rattle.program_lock.specs.History.{entries, entries_of}
 use Rattle.program_lock.specs.Legal.{Answers}
 use Rattle.program_lock.proofs.HistoryLemmas.{entries-append}
 use Rattle.settle_laws.specs.Stances.{Stance}
-use Rattle.build_core.specs.Builds.{Parts}
+use Rattle.site_gate.specs.Lower.build_core.Builds.{Parts}
 use Rattle.agent_worker.specs.declared.member.Member.{Member}
-use Rattle.site_state.specs.declared.ask.Ask.{Ask}
-use Rattle.site_state.specs.declared.ask.Ask.TheVariants.{Look}
-use Rattle.site_state.specs.declared.ask.Entry.{Entry}
-use Rattle.site_state.specs.declared.ask.Progress.{Progress}
-use Rattle.site_state.specs.declared.ask.Reply.{Reply}
-use Rattle.site_state.specs.declared.ask.Reply.TheVariants as reply
+use Rattle.site_gate.specs.Lower.site_state.declared.ask.Ask.{Ask}
+use Rattle.site_gate.specs.Lower.site_state.declared.ask.Ask.TheVariants.{Look}
+use Rattle.site_gate.specs.Lower.site_state.declared.ask.Entry.{Entry}
+use Rattle.site_gate.specs.Lower.site_state.declared.ask.Progress.{Progress}
+use Rattle.site_gate.specs.Lower.site_state.declared.ask.Reply.{Reply}
+use Rattle.site_gate.specs.Lower.site_state.declared.ask.Reply.TheVariants as reply
 use Rattle.site_gate.proofs.PartLemmas.{all_append}
 use Rattle.site_life.specs.Ending.{goes_on}
 use Rattle.site_life.specs.Passing.{IsWhole, GoesOn, TakesRound, TakesRounds}

@@ -4,9 +4,9 @@ use Rattle.std.specs.List.{AllZip, AllByRecursion as AllAre}
 use Rattle.program_lock.specs.Legal.{Answers}
 use Rattle.program_lock.specs.Merge.{IsMergeOf}
 use Rattle.agent_worker.specs.declared.member.Member.{Member}
-use Rattle.site_state.specs.declared.ask.Ask.{Ask}
-use Rattle.site_state.specs.declared.ask.Entry.{Entry}
-use Rattle.site_state.specs.declared.ask.Reply.{Reply}
+use Rattle.site_gate.specs.Lower.site_state.declared.ask.Ask.{Ask}
+use Rattle.site_gate.specs.Lower.site_state.declared.ask.Entry.{Entry}
+use Rattle.site_gate.specs.Lower.site_state.declared.ask.Reply.{Reply}
 use Rattle.site_gate.proofs.PartLemmas.{all_append}
 use Rattle.site_life.specs.Rounds.{Round, AreTurnsOf, RoundsFrom, turns_of}
 use Rattle.site_life.specs.Turns.{Turn, MadeOf}

@@ -5,12 +5,12 @@ use Rattle.model_run.specs.declared.event.Event.{Event}
 use Rattle.model_run.specs.declared.event.Event.TheVariants.{Start, Granted, Output, Exited, Lost, Decided as DecidedEvent}
 use Rattle.agent_worker.specs.declared.fault.TakeFault.{TakeFault}
 use Rattle.agent_worker.specs.declared.gate.Heard.TheVariants.{Decided}
-use Rattle.site_state.specs.declared.ask.Ask.{Ask}
-use Rattle.site_state.specs.declared.ask.Ask.TheVariants.{Answer}
-use Rattle.site_state.specs.declared.ask.Entry.{Entry}
-use Rattle.site_state.specs.declared.ask.Entry.TheVariants.{Took, Claimed, Line, Failed}
-use Rattle.site_state.specs.declared.ask.Reply.{Reply}
-use Rattle.site_state.specs.declared.ask.Reply.TheVariants as reply
+use Rattle.site_gate.specs.Lower.site_state.declared.ask.Ask.{Ask}
+use Rattle.site_gate.specs.Lower.site_state.declared.ask.Ask.TheVariants.{Answer}
+use Rattle.site_gate.specs.Lower.site_state.declared.ask.Entry.{Entry}
+use Rattle.site_gate.specs.Lower.site_state.declared.ask.Entry.TheVariants.{Took, Claimed, Line, Failed}
+use Rattle.site_gate.specs.Lower.site_state.declared.ask.Reply.{Reply}
+use Rattle.site_gate.specs.Lower.site_state.declared.ask.Reply.TheVariants as reply
 
 abbrev pub is_decision : Event → Bool
 is_decision (DecidedEvent request proceed name) = true

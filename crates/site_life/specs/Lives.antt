@@ -8,13 +8,13 @@ use Rattle.task_host.specs.declared.order.Stream.{Stream}
 use Rattle.agent_worker.specs.declared.member.Member.{Member}
 use Rattle.agent_worker.specs.declared.worked.Worked.TheVariants as worked
 use Rattle.agent_worker.specs.Gate.{Told}
-use Rattle.site_state.specs.declared.ask.Ask.{Ask}
-use Rattle.site_state.specs.declared.ask.Ask.TheVariants.{Look}
-use Rattle.site_state.specs.declared.ask.Entry.{Entry}
-use Rattle.site_state.specs.declared.ask.Progress.{Progress}
-use Rattle.site_state.specs.declared.ask.Reply.{Reply}
-use Rattle.site_state.specs.declared.ask.Reply.TheVariants as reply
-use Rattle.site_state.specs.Histories.{kept_fault, pending, tooks}
+use Rattle.site_gate.specs.Lower.site_state.declared.ask.Ask.{Ask}
+use Rattle.site_gate.specs.Lower.site_state.declared.ask.Ask.TheVariants.{Look}
+use Rattle.site_gate.specs.Lower.site_state.declared.ask.Entry.{Entry}
+use Rattle.site_gate.specs.Lower.site_state.declared.ask.Progress.{Progress}
+use Rattle.site_gate.specs.Lower.site_state.declared.ask.Reply.{Reply}
+use Rattle.site_gate.specs.Lower.site_state.declared.ask.Reply.TheVariants as reply
+use Rattle.site_gate.specs.Lower.site_state.Histories.{kept_fault, pending, tooks}
 use Rattle.site_gate.specs.Tales.{claimed_of, told_of}
 use Rattle.site_gate.specs.Turning.{tasks_of}
 use Rattle.site_life.specs.Ending.{goes_on}

@@ -6,11 +6,11 @@ use Rattle.agent_worker.specs.declared.gate.GateCall.{GateCall}
 use Rattle.agent_worker.specs.declared.member.Member.{Member}
 use Rattle.agent_worker.specs.declared.member.Member.TheVariants.{Executor, Operator}
 use Rattle.agent_worker.specs.Working.{Deed, Claims, Serves, Pauses, Halts, work_reports}
-use Rattle.site_state.specs.declared.ask.Ask.{Ask}
-use Rattle.site_state.specs.declared.ask.Ask.TheVariants as ask
-use Rattle.site_state.specs.declared.ask.Entry.{Entry}
-use Rattle.site_state.specs.declared.ask.Reply.{Reply}
-use Rattle.site_state.specs.declared.ask.Reply.TheVariants as reply
+use Rattle.site_gate.specs.Lower.site_state.declared.ask.Ask.{Ask}
+use Rattle.site_gate.specs.Lower.site_state.declared.ask.Ask.TheVariants as ask
+use Rattle.site_gate.specs.Lower.site_state.declared.ask.Entry.{Entry}
+use Rattle.site_gate.specs.Lower.site_state.declared.ask.Reply.{Reply}
+use Rattle.site_gate.specs.Lower.site_state.declared.ask.Reply.TheVariants as reply
 use Rattle.site_gate.specs.Saying.{AnswersCall}
 use Rattle.site_life.specs.Turns.{IsIn}
 

@@ -14,7 +14,7 @@ use Rattle.agent_worker.specs.Gate.{GateTells, Decides, told_at}
 use Rattle.agent_worker.specs.MemberWork.{WorksAs}
 use Rattle.agent_worker.specs.Operating.{Operates, given_in}
 use Rattle.agent_worker.specs.Working.{telling, on_host}
-use Rattle.site_state.specs.declared.ask.Entry.{Entry}
+use Rattle.site_gate.specs.Lower.site_state.declared.ask.Entry.{Entry}
 use Rattle.site_gate.specs.Tales.{claimed_of, is_grant, tells_of, told_of}
 use Rattle.site_gate.specs.Turning.{tasks_of, IsPart, IsCausedBy, ExecutorTurn}
 use Rattle.site_gate.specs.Turns.{Executed}

@@ -3,7 +3,7 @@ ghost use Rattle.std.specs.Prelude.{◌≡◌};
 ghost use Rattle.site_life.specs.Ending.{can_read, can_answer, goes_by};
 
 use agent_worker::Member;
-use site_state::Progress;
+use site_gate::site_state::Progress;
 
 /// Whether the answers of an operator among the members are neither at their end nor failed.
 pub(crate) fn can_answer<H, A>(members: &[Member<H, A>]) -> bool

@@ -20,3 +20,5 @@ mod round;
 pub use ending::{can_read, goes_on};
 pub use life::{live, look, pause};
 pub use round::take_round;
+pub use site_gate;
+pub use site_gate::{saved_thread, site_state};

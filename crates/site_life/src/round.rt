@@ -2,7 +2,7 @@
 ghost use Rattle.std.specs.Prelude.{◌≡◌, ◌<◌};
 ghost use Rattle.program_lock.specs.Passes.{known, IsPassOf};
 ghost use Rattle.program_lock.specs.Views.{all_parts};
-ghost use Rattle.site_state.specs.Says.{Says};
+ghost use Rattle.site_gate.specs.Lower.site_state.Says.{Says};
 ghost use Rattle.site_life.specs.Passing.{TakesRound};
 ghost use Rattle.site_life.specs.Turns.{DidTurn};
 
@@ -10,9 +10,9 @@ use agent_worker::Member;
 use jp_disk::Disk;
 use jp_io::Source;
 use program_lock::{Memory, Pass, Program};
-use saved_thread::SavedThread;
+use site_gate::saved_thread::SavedThread;
+use site_gate::site_state::SiteState;
 use site_gate::take_turn;
-use site_state::SiteState;
 use std::alloc::{AllocGlobal, Global};
 use std::sync::Wait;
 use std::time::Clock;

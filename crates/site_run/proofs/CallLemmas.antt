@@ -10,30 +10,30 @@ use Rattle.agent_worker.specs.declared.gate.Heard.{Heard}
 use Rattle.agent_worker.specs.declared.gate.GateCall.{GateCall}
 use Rattle.agent_worker.specs.declared.gate.GateCall.TheVariants.{Claim, Report, Inputs, Answer, Halt}
 use Rattle.agent_worker.specs.declared.gate.Inputs.{Inputs as InputsSaid}
-use Rattle.build_core.specs.Builds.{Parts}
+use Rattle.saved_run.specs.Lower.build_core.Builds.{Parts}
 use Rattle.build_requests.specs.Waiting.{waiting_inputs}
 use Rattle.model_run.specs.declared.event.Event.{Event}
 use Rattle.model_run.specs.declared.request.OpenRequest.{OpenRequest}
 use Rattle.model_run.specs.Fitting.{Some_of}
 use Rattle.model_run.specs.State.{Setting}
 use Rattle.model_run.specs.World.{world_in}
-use Rattle.script_run.specs.Standing.{IsProper}
+use Rattle.saved_run.specs.Lower.script_run.Standing.{IsProper}
 use Rattle.settle_laws.specs.Stances.{Stance}
 use Rattle.task_host.specs.declared.order.Order.{Order}
-use Rattle.site_state.specs.declared.ask.Ask.{Ask}
-use Rattle.site_state.specs.declared.ask.Ask.TheVariants as ask
-use Rattle.site_state.specs.declared.ask.Entry.{Entry}
-use Rattle.site_state.specs.declared.ask.Entry.TheVariants.{Took, Claimed, Line, Failed}
-use Rattle.site_state.specs.declared.ask.Reply.{Reply}
-use Rattle.site_state.specs.declared.ask.Reply.TheVariants as reply
-use Rattle.site_state.specs.Claims.{first_free, is_free, order_as, within_u32}
-use Rattle.site_state.specs.Histories.{kept_fault, tooks}
-use Rattle.site_state.specs.Says.{Answers, SaysAt, Says}
-use Rattle.site_state.proofs.HistoryLaws.{kept_fault-append, no_fault, tooks-append}
-use Rattle.site_life.specs.Coming.{EachIs}
-use Rattle.site_life.specs.Orders.{AllAnswered, AnsweredIn}
-use Rattle.site_life.specs.Turns.{IsIn, Turn}
-use Rattle.site_life.specs.Waiting.{Waited}
+use Rattle.site_threads.specs.Lower.site_state.declared.ask.Ask.{Ask}
+use Rattle.site_threads.specs.Lower.site_state.declared.ask.Ask.TheVariants as ask
+use Rattle.site_threads.specs.Lower.site_state.declared.ask.Entry.{Entry}
+use Rattle.site_threads.specs.Lower.site_state.declared.ask.Entry.TheVariants.{Took, Claimed, Line, Failed}
+use Rattle.site_threads.specs.Lower.site_state.declared.ask.Reply.{Reply}
+use Rattle.site_threads.specs.Lower.site_state.declared.ask.Reply.TheVariants as reply
+use Rattle.site_threads.specs.Lower.site_state.Claims.{first_free, is_free, order_as, within_u32}
+use Rattle.site_threads.specs.Lower.site_state.Histories.{kept_fault, tooks}
+use Rattle.site_threads.specs.Lower.site_state.Says.{Answers, SaysAt, Says}
+use Rattle.site_threads.proofs.Lower.site_state.HistoryLaws.{kept_fault-append, no_fault, tooks-append}
+use Rattle.site_threads.specs.Lower.site_life.Coming.{EachIs}
+use Rattle.site_threads.specs.Lower.site_life.Orders.{AllAnswered, AnsweredIn}
+use Rattle.site_threads.specs.Lower.site_life.Turns.{IsIn, Turn}
+use Rattle.site_threads.specs.Lower.site_life.Waiting.{Waited}
 use Rattle.site_run.specs.Telling.{HeardInTime, IsOrderOf, orders_in}
 use Rattle.site_run.proofs.WalkLemmas.{ShowsAll, kept_first, requests_are, shows_shown}
 

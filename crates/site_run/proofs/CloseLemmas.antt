@@ -13,23 +13,23 @@ use Rattle.agent_worker.specs.declared.fault.TakeFault.{TakeFault}
 use Rattle.agent_worker.specs.declared.fault.TakeFault.TheVariants as take
 use Rattle.agent_worker.specs.declared.member.Member.{Member}
 use Rattle.image_form.specs.declared.image.Image.{Image}
-use Rattle.durable_build.specs.Standing.{Kept}
-use Rattle.script_run.specs.declared.rest.Rest.{Rest}
-use Rattle.script_run.specs.declared.rest.Rest.TheVariants.{Ended, Waits, AnswersFailed}
+use Rattle.saved_run.specs.Lower.durable_build.Standing.{Kept}
+use Rattle.saved_run.specs.Lower.script_run.declared.rest.Rest.{Rest}
+use Rattle.saved_run.specs.Lower.script_run.declared.rest.Rest.TheVariants.{Ended, Waits, AnswersFailed}
 use Rattle.settle_laws.specs.Stances.{Stance}
-use Rattle.site_state.specs.declared.ask.Ask.{Ask}
+use Rattle.site_threads.specs.Lower.site_state.declared.ask.Ask.{Ask}
 use Rattle.model_run.specs.declared.event.Event.{Event}
 use Rattle.saved_run.specs.Lives.{TellsFault}
-use Rattle.site_state.specs.declared.ask.Entry.{Entry}
-use Rattle.site_state.specs.declared.ask.Entry.TheVariants.{Took, Claimed, Line, Failed}
-use Rattle.site_state.specs.declared.ask.Progress.{Progress}
-use Rattle.site_state.specs.declared.ask.Reply.{Reply}
-use Rattle.site_state.specs.Facts.{Facts, IsFull, IsFullAt, IsSite}
-use Rattle.site_state.specs.Grants.{OpenRefuses}
-use Rattle.site_state.specs.Histories.{kept_fault}
-use Rattle.site_life.specs.Lives.{Life, LifeOf}
-use Rattle.site_life.specs.Ways.{Way}
-use Rattle.site_life.specs.Turns.{DidTurn}
+use Rattle.site_threads.specs.Lower.site_state.declared.ask.Entry.{Entry}
+use Rattle.site_threads.specs.Lower.site_state.declared.ask.Entry.TheVariants.{Took, Claimed, Line, Failed}
+use Rattle.site_threads.specs.Lower.site_state.declared.ask.Progress.{Progress}
+use Rattle.site_threads.specs.Lower.site_state.declared.ask.Reply.{Reply}
+use Rattle.site_threads.specs.Lower.site_state.Facts.{Facts, IsFull, IsFullAt, IsSite}
+use Rattle.site_threads.specs.Lower.site_state.Grants.{OpenRefuses}
+use Rattle.site_threads.specs.Lower.site_state.Histories.{kept_fault}
+use Rattle.site_threads.specs.Lower.site_life.Lives.{Life, LifeOf}
+use Rattle.site_threads.specs.Lower.site_life.Ways.{Way}
+use Rattle.site_threads.specs.Lower.site_life.Turns.{DidTurn}
 use Rattle.site_run.specs.Ending.{any_failed, ended_as, rest_of}
 
 -- Whether a count rose can be decided, so that what is merely known of it is so.

@@ -3,21 +3,21 @@ use Rattle.std.proofs.Common.{◌≡◌, ◌∙◌, ◌<◌, inl, inr, ℕ, Bool
 use Rattle.std.specs.Prelude.{◌&&◌, ◌||◌, not, nat_lt, if◌then◌else◌}
 use Rattle.agent_worker.specs.declared.member.Member.{Member}
 use Rattle.agent_worker.specs.declared.member.Member.TheVariants.{Executor, Operator}
-use Rattle.build_core.specs.Builds.{Parts}
-use Rattle.build_core.specs.Phases.{has_ended}
+use Rattle.saved_run.specs.Lower.build_core.Builds.{Parts}
+use Rattle.saved_run.specs.Lower.build_core.Phases.{has_ended}
 use Rattle.build_requests.specs.Waiting.{open_tasks, waiting_inputs}
-use Rattle.durable_build.proofs.OpenLemmas.{begun_all}
+use Rattle.saved_run.proofs.Lower.durable_build.OpenLemmas.{begun_all}
 use Rattle.launch_laws.specs.ManyTurns.{AllTaken, IsTaken}
 use Rattle.model_run.specs.declared.event.Event.{Event}
 use Rattle.model_run.specs.State.{Setting}
 use Rattle.model_run.specs.World as W
-use Rattle.script_run.specs.declared.rest.Rest.TheVariants.{Waits, AnswersFailed}
-use Rattle.script_run.specs.Standing.{IsProper}
+use Rattle.saved_run.specs.Lower.script_run.declared.rest.Rest.TheVariants.{Waits, AnswersFailed}
+use Rattle.saved_run.specs.Lower.script_run.Standing.{IsProper}
 use Rattle.settle_laws.specs.Stances.{Stance}
-use Rattle.site_state.specs.declared.ask.Progress.{Progress}
-use Rattle.site_state.specs.Claims.{within_u32}
-use Rattle.site_state.specs.Showing.{IsSettled}
-use Rattle.site_life.specs.Ending.{can_answer, goes_on}
+use Rattle.site_threads.specs.Lower.site_state.declared.ask.Progress.{Progress}
+use Rattle.site_threads.specs.Lower.site_state.Claims.{within_u32}
+use Rattle.site_threads.specs.Lower.site_state.Showing.{IsSettled}
+use Rattle.site_threads.specs.Lower.site_life.Ending.{can_answer, goes_on}
 use Rattle.site_run.specs.Ending.{any_failed, AllReadOut, RestsWith, rest_of}
 use Rattle.site_run.specs.Going.{Comes, by_grant, by_report, by_line, GoesBy, begins, takes, passes}
 use Rattle.site_run.proofs.WalkLemmas.{ShowsAll, requests_are, settled_none}

@@ -7,7 +7,7 @@ use Rattle.device_faults.specs.Faults.{Rose}
 use Rattle.jp_disk.specs.Moments.{AtEachMoment}
 use Rattle.jp_disk.proofs.MomentLemmas.{runs_on, at_each_weaker}
 use Rattle.journal_core.specs.Records.{Has, framed}
-use Rattle.record_form.specs.declared.record.EventRecord.{EventRecord}
+use Rattle.saved_run.specs.Lower.record_form.declared.record.EventRecord.{EventRecord}
 use Rattle.agent_worker.specs.declared.fault.TakeFault.{TakeFault}
 use Rattle.agent_worker.specs.declared.fault.TakeFault.TheVariants.{Disk}
 use Rattle.agent_worker.specs.declared.member.Member.{Member}
@@ -17,24 +17,24 @@ use Rattle.model_run.specs.World as W
 use Rattle.program_lock.specs.declared.program.Memory.{Memory as NoMemory}
 use Rattle.image_form.specs.declared.image.Image.{Image}
 use Rattle.settle_laws.specs.Stances.{Stance}
-use Rattle.build_core.specs.Builds.{Parts, StandsFor, setting_in}
-use Rattle.build_images.specs.Images.{world_image}
-use Rattle.store_laws.specs.Store.{AllDue, Follows, Told, events_of, last_image}
-use Rattle.store_laws.proofs.Payloads.{image_behind_more, told_append}
-use Rattle.delta_records.specs.declared.weights.Weights.{Weights}
-use Rattle.durable_build.specs.Kinds.{weights_of}
+use Rattle.saved_run.specs.Lower.build_core.Builds.{Parts, StandsFor, setting_in}
+use Rattle.saved_run.specs.Lower.build_images.Images.{world_image}
+use Rattle.saved_run.specs.Lower.store_laws.Store.{AllDue, Follows, Told, events_of, last_image}
+use Rattle.saved_run.proofs.Lower.store_laws.Payloads.{image_behind_more, told_append}
+use Rattle.saved_run.specs.Lower.delta_records.declared.weights.Weights.{Weights}
+use Rattle.saved_run.specs.Lower.durable_build.Kinds.{weights_of}
 use Rattle.std.specs.List.{AllByRecursion as AllAre}
-use Rattle.durable_build.specs.Standing.{IsWhole, Kept, Keeps}
-use Rattle.durable_build.proofs.OpenLemmas.{begun_all}
-use Rattle.script_run.specs.declared.rest.Rest.{Rest}
-use Rattle.site_state.specs.declared.ask.Entry.{Entry}
-use Rattle.site_state.specs.declared.ask.Entry.TheVariants.{Took, Claimed, Line, Failed}
-use Rattle.site_state.specs.declared.ask.Progress.{Progress}
-use Rattle.site_state.specs.Facts.{Facts, GoOn, Grown, HasFront, IsFullAt, IsMeant, IsSite, IsSizedAt}
-use Rattle.site_state.specs.Histories.{tooks, kept_fault}
-use Rattle.site_state.specs.Showing.{IsShown}
-use Rattle.site_state.proofs.FactLaws.{all_append, on_so_far, whole_so_far}
-use Rattle.site_state.proofs.HistoryLaws.{kept_fault-append, no_fault, none_pending, pending-append, tooks-append}
+use Rattle.saved_run.specs.Lower.durable_build.Standing.{IsWhole, Kept, Keeps}
+use Rattle.saved_run.proofs.Lower.durable_build.OpenLemmas.{begun_all}
+use Rattle.saved_run.specs.Lower.script_run.declared.rest.Rest.{Rest}
+use Rattle.site_threads.specs.Lower.site_state.declared.ask.Entry.{Entry}
+use Rattle.site_threads.specs.Lower.site_state.declared.ask.Entry.TheVariants.{Took, Claimed, Line, Failed}
+use Rattle.site_threads.specs.Lower.site_state.declared.ask.Progress.{Progress}
+use Rattle.site_threads.specs.Lower.site_state.Facts.{Facts, GoOn, Grown, HasFront, IsFullAt, IsMeant, IsSite, IsSizedAt}
+use Rattle.site_threads.specs.Lower.site_state.Histories.{tooks, kept_fault}
+use Rattle.site_threads.specs.Lower.site_state.Showing.{IsShown}
+use Rattle.site_threads.proofs.Lower.site_state.FactLaws.{all_append, on_so_far, whole_so_far}
+use Rattle.site_threads.proofs.Lower.site_state.HistoryLaws.{kept_fault-append, no_fault, none_pending, pending-append, tooks-append}
 use Rattle.site_run.specs.Ending.{ended_as}
 use Rattle.site_run.specs.Lives.{KeepsOn}
 use Rattle.site_run.proofs.StoreLemmas.{due_append, events-append, follows_append, no_payloads, no_records}

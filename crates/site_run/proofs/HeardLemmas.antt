@@ -9,7 +9,7 @@ use Rattle.std.proofs.Math.Seq.{take-nil}
 use Rattle.program_lock.specs.declared.program.Memory.{Memory as NoMemory}
 use Rattle.program_lock.specs.Legal.{Answers as AnswersOf}
 use Rattle.program_lock.specs.Merge.{IsMergeOf}
-use Rattle.script_run.specs.declared.rest.Rest.{Rest}
+use Rattle.saved_run.specs.Lower.script_run.declared.rest.Rest.{Rest}
 use Rattle.agent_worker.specs.declared.fault.TakeFault.{TakeFault}
 use Rattle.agent_worker.specs.declared.gate.GateCall.{GateCall}
 use Rattle.agent_worker.specs.declared.gate.GateCall.TheVariants as gate_call
@@ -25,24 +25,24 @@ use Rattle.agent_worker.specs.AnswerBytes.{begun_after, last_line, lines_of, sho
 use Rattle.agent_worker.specs.Operating.{Ask, Asked, Reads, Given, Halted, FoundInput, IsOperating, IsReadToEnd, NoMore, LastHeeded, MayAsk, First, Busy, PassedOver, Heeded, Operates, OperatorEnds, ReadLine, GivesLines, given_in, has_ended, read_in, operator_calls}
 use Rattle.agent_worker.specs.Operating as operating
 use Rattle.agent_worker.proofs.AnswerLemmas.{begun-on, lines-on}
-use Rattle.build_core.specs.Builds.{Parts}
+use Rattle.saved_run.specs.Lower.build_core.Builds.{Parts}
 use Rattle.settle_laws.specs.Stances.{Stance}
 use Rattle.task_host.specs.declared.call.Call.{Call}
 use Rattle.task_host.specs.declared.order.Stream.{Stream}
-use Rattle.site_state.specs.declared.ask.Ask.{Ask as AskState}
-use Rattle.site_state.specs.declared.ask.Entry.{Entry}
-use Rattle.site_state.specs.declared.ask.Progress.{Progress}
-use Rattle.site_state.specs.declared.ask.Reply.{Reply}
-use Rattle.site_state.specs.Histories.{kept_fault, lines}
-use Rattle.site_state.specs.Says.{Says}
-use Rattle.site_gate.specs.Tales.{tells_of}
-use Rattle.site_gate.proofs.TaleLemmas.{lines-append}
-use Rattle.site_life.specs.Lives.{EndsWith, Life}
-use Rattle.site_life.specs.Rounds.{AreTurnsOf, Round, RoundsFrom, turns_of}
-use Rattle.site_life.specs.Orders.{AllAnswered}
-use Rattle.site_life.specs.Turns.{Turn, DidTurn, MadeOf, Work}
-use Rattle.site_life.specs.Waiting.{operators}
-use Rattle.site_life.proofs.WaitLemmas.{few_nows, few_olds}
+use Rattle.site_threads.specs.Lower.site_state.declared.ask.Ask.{Ask as AskState}
+use Rattle.site_threads.specs.Lower.site_state.declared.ask.Entry.{Entry}
+use Rattle.site_threads.specs.Lower.site_state.declared.ask.Progress.{Progress}
+use Rattle.site_threads.specs.Lower.site_state.declared.ask.Reply.{Reply}
+use Rattle.site_threads.specs.Lower.site_state.Histories.{kept_fault, lines}
+use Rattle.site_threads.specs.Lower.site_state.Says.{Says}
+use Rattle.site_threads.specs.Lower.site_gate.Tales.{tells_of}
+use Rattle.site_threads.proofs.Lower.site_gate.TaleLemmas.{lines-append}
+use Rattle.site_threads.specs.Lower.site_life.Lives.{EndsWith, Life}
+use Rattle.site_threads.specs.Lower.site_life.Rounds.{AreTurnsOf, Round, RoundsFrom, turns_of}
+use Rattle.site_threads.specs.Lower.site_life.Orders.{AllAnswered}
+use Rattle.site_threads.specs.Lower.site_life.Turns.{Turn, DidTurn, MadeOf, Work}
+use Rattle.site_threads.specs.Lower.site_life.Waiting.{operators}
+use Rattle.site_threads.proofs.Lower.site_life.WaitLemmas.{few_nows, few_olds}
 use Rattle.site_run.specs.Ending.{ended_as}
 use Rattle.site_run.specs.Going.{heard_in}
 use Rattle.site_run.specs.Telling.{AreHeard}

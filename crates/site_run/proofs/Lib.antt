@@ -1,3 +1,4 @@
+pub mod Lower
 pub mod WalkLemmas
 pub mod ReplyLemmas
 pub mod StoreLemmas

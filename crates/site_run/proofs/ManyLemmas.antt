@@ -9,7 +9,7 @@ use Rattle.agent_worker.specs.declared.fault.TakeFault.{TakeFault}
 use Rattle.agent_worker.specs.declared.fault.TakeFault.TheVariants.{Memory, Disk, Full, Stopped}
 use Rattle.agent_worker.specs.declared.member.Member.{Member}
 use Rattle.agent_worker.specs.declared.member.Member.TheVariants.{Executor, Operator}
-use Rattle.durable_build.specs.Standing.{Kept}
+use Rattle.saved_run.specs.Lower.durable_build.Standing.{Kept}
 use Rattle.launch_laws.specs.Fitting as fitting
 use Rattle.launch_laws.specs.Fitting.{ExecutorHost}
 use Rattle.launch_laws.proofs.LifeLaws.{no_task_twice}
@@ -18,14 +18,14 @@ use Rattle.model_run.specs.declared.event.Event.{Event}
 use Rattle.model_run.specs.declared.taken.Taken.TheVariants.{Accepted}
 use Rattle.model_run.specs.State.{Setting}
 use Rattle.model_run.specs.World.{answer_to, world_in}
-use Rattle.script_run.specs.declared.rest.Rest.{Rest}
-use Rattle.script_run.specs.Standing.{IsProper}
+use Rattle.saved_run.specs.Lower.script_run.declared.rest.Rest.{Rest}
+use Rattle.saved_run.specs.Lower.script_run.Standing.{IsProper}
 use Rattle.settle_laws.specs.Stances.{Stance}
 use Rattle.saved_run.specs.Lives.{Fails, IsOf, Lasts, MayRisk}
 use Rattle.saved_run.specs.Saved.{IsTold, Stores}
-use Rattle.site_state.specs.declared.ask.Entry.{Entry}
-use Rattle.site_state.specs.Histories.{tooks}
-use Rattle.site_life.specs.Turns.{Turn}
+use Rattle.site_threads.specs.Lower.site_state.declared.ask.Entry.{Entry}
+use Rattle.site_threads.specs.Lower.site_state.Histories.{tooks}
+use Rattle.site_threads.specs.Lower.site_life.Turns.{Turn}
 use Rattle.site_run.specs.Lives.{Ends, EndsBehind, OpeningBreaks}
 use Rattle.site_run.specs.ManyLives.{Lives, OneLife, led, more, one, refused}
 use Rattle.site_run.specs.Serving.{AllFit, AreHonest, AreServed, hosts_of}

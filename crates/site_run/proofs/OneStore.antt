@@ -1,11 +1,11 @@
 -- A store tells of one build at most: of these events, and where there are any, of one setting.
 use Rattle.std.proofs.Common.{◌≡◌, ◌∙◌, ℕ, List, [], ◌∷◌, refl, sym, ap, subst}
-use Rattle.record_form.specs.declared.record.EventRecord.{EventRecord}
+use Rattle.saved_run.specs.Lower.record_form.declared.record.EventRecord.{EventRecord}
 use Rattle.model_run.specs.declared.event.Event.{Event}
 use Rattle.model_run.specs.declared.event.Event.TheVariants.{Start, Granted, Output, Exited, Lost, Decided}
 use Rattle.model_run.specs.State.{Setting}
-use Rattle.store_laws.specs.Store.{FirstStarts, HasEvents, Starts, Tells, events_of}
-use Rattle.store_laws.proofs.Tellings.{one_history, one_setting, one_telling}
+use Rattle.saved_run.specs.Lower.store_laws.Store.{FirstStarts, HasEvents, Starts, Tells, events_of}
+use Rattle.saved_run.proofs.Lower.store_laws.Tellings.{one_history, one_setting, one_telling}
 use Rattle.saved_run.specs.Saved.{Stores}
 
 tells : {s : Setting} {es : List Event} {file : List ℕ} → (a : Stores s es file) → Tells a.told.records file

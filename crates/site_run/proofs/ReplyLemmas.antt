@@ -9,8 +9,8 @@ use Rattle.agent_worker.specs.declared.gate.Claim.TheVariants as claim
 use Rattle.agent_worker.specs.declared.gate.Heard.{Heard}
 use Rattle.agent_worker.specs.declared.gate.Heard.TheVariants.{Decided, Skipped}
 use Rattle.agent_worker.specs.declared.gate.Inputs.{Inputs}
-use Rattle.build_core.specs.Builds.{Parts}
-use Rattle.build_core.specs.Phases.{has_ended}
+use Rattle.saved_run.specs.Lower.build_core.Builds.{Parts}
+use Rattle.saved_run.specs.Lower.build_core.Phases.{has_ended}
 use Rattle.build_requests.specs.Waiting.{input_of, open_tasks, waiting_inputs}
 use Rattle.model_run.specs.declared.event.Event.{Event}
 use Rattle.model_run.specs.declared.event.Event.TheVariants.{Granted}
@@ -20,29 +20,29 @@ use Rattle.model_run.specs.declared.taken.Taken.TheVariants.{Accepted, NotOpen, 
 use Rattle.model_run.specs.State.{Setting}
 use Rattle.model_run.specs.World as W
 use Rattle.program_lock.specs.Legal.{IsRun, IsLegal}
-use Rattle.script_run.specs.Standing.{IsProper}
-use Rattle.build_images.specs.Images.{world_image}
-use Rattle.delta_records.specs.declared.weights.Weights.{Weights}
-use Rattle.durable_build.specs.Standing.{world_before}
-use Rattle.durable_build.specs.Taking.{DueAdds}
-use Rattle.durable_build.proofs.Sizes.{due_adds}
+use Rattle.saved_run.specs.Lower.script_run.Standing.{IsProper}
+use Rattle.saved_run.specs.Lower.build_images.Images.{world_image}
+use Rattle.saved_run.specs.Lower.delta_records.declared.weights.Weights.{Weights}
+use Rattle.saved_run.specs.Lower.durable_build.Standing.{world_before}
+use Rattle.saved_run.specs.Lower.durable_build.Taking.{DueAdds}
+use Rattle.saved_run.proofs.Lower.durable_build.Sizes.{due_adds}
 use Rattle.saved_run.specs.Lives.{image_after}
 use Rattle.settle_laws.specs.Stances.{Stance}
-use Rattle.store_laws.proofs.Stories.{world-more}
-use Rattle.site_state.specs.declared.ask.Ask.{Ask}
-use Rattle.site_state.specs.declared.ask.Ask.TheVariants as ask
-use Rattle.site_state.specs.declared.ask.Entry.{Entry}
-use Rattle.site_state.specs.declared.ask.Entry.TheVariants.{Took, Claimed, Line, Failed}
-use Rattle.site_state.specs.declared.ask.Progress.{Progress}
-use Rattle.site_state.specs.declared.ask.Reply.{Reply}
-use Rattle.site_state.specs.declared.ask.Reply.TheVariants as reply
-use Rattle.site_state.specs.Claims.{ClaimSays, busy_of, within_u32}
-use Rattle.site_state.specs.Grants.{Grants, MayFail, RecordAdds, TakeSays, none_due, granted, refused, not_found}
-use Rattle.site_state.specs.Hearing.{AnswerSays}
-use Rattle.site_state.specs.Histories.{kept_fault, tooks}
-use Rattle.site_state.specs.Says.{Answers, SaysAt, Says}
-use Rattle.site_state.specs.Showing.{IsShown}
-use Rattle.site_life.specs.Coming.{EachIs}
+use Rattle.saved_run.proofs.Lower.store_laws.Stories.{world-more}
+use Rattle.site_threads.specs.Lower.site_state.declared.ask.Ask.{Ask}
+use Rattle.site_threads.specs.Lower.site_state.declared.ask.Ask.TheVariants as ask
+use Rattle.site_threads.specs.Lower.site_state.declared.ask.Entry.{Entry}
+use Rattle.site_threads.specs.Lower.site_state.declared.ask.Entry.TheVariants.{Took, Claimed, Line, Failed}
+use Rattle.site_threads.specs.Lower.site_state.declared.ask.Progress.{Progress}
+use Rattle.site_threads.specs.Lower.site_state.declared.ask.Reply.{Reply}
+use Rattle.site_threads.specs.Lower.site_state.declared.ask.Reply.TheVariants as reply
+use Rattle.site_threads.specs.Lower.site_state.Claims.{ClaimSays, busy_of, within_u32}
+use Rattle.site_threads.specs.Lower.site_state.Grants.{Grants, MayFail, RecordAdds, TakeSays, none_due, granted, refused, not_found}
+use Rattle.site_threads.specs.Lower.site_state.Hearing.{AnswerSays}
+use Rattle.site_threads.specs.Lower.site_state.Histories.{kept_fault, tooks}
+use Rattle.site_threads.specs.Lower.site_state.Says.{Answers, SaysAt, Says}
+use Rattle.site_threads.specs.Lower.site_state.Showing.{IsShown}
+use Rattle.site_threads.specs.Lower.site_life.Coming.{EachIs}
 use Rattle.site_run.specs.Replies as its
 use Rattle.site_run.specs.Telling.{ClaimedInTime}
 use Rattle.site_run.proofs.WalkLemmas.{ShowsAll, accepted_is, answer_is, due_is, found_task, line_decides, line_passed, requests_are, settled_none, shows_next, shows_shown}

@@ -9,7 +9,7 @@ use Rattle.jp_disk.specs.Moments.{AtEachMoment}
 use Rattle.jp_disk.proofs.MomentLemmas.{runs_on, at_each_weaker}
 use Rattle.journal_core.specs.Records.{Has, Walked, framed}
 use Rattle.journal_core.proofs.StepLemmas.{stores_has}
-use Rattle.record_form.specs.declared.record.EventRecord.{EventRecord}
+use Rattle.saved_run.specs.Lower.record_form.declared.record.EventRecord.{EventRecord}
 use Rattle.agent_worker.specs.declared.fault.TakeFault.{TakeFault}
 use Rattle.agent_worker.specs.declared.fault.TakeFault.TheVariants.{Memory, Disk, Full, Stopped}
 use Rattle.model_run.specs.declared.event.Event.{Event}
@@ -18,24 +18,24 @@ use Rattle.model_run.specs.State.{Setting}
 use Rattle.model_run.specs.World as W
 use Rattle.image_form.specs.declared.image.Image.{Image}
 use Rattle.settle_laws.specs.Stances.{Stance}
-use Rattle.build_core.specs.Builds.{StandsFor, setting_in}
-use Rattle.build_images.specs.Images.{world_image}
-use Rattle.store_laws.specs.Store.{AllDue, FirstStarts, Follows, Starts, Told, events_of, last_image}
-use Rattle.store_laws.proofs.Payloads.{image_behind_more, told_append}
-use Rattle.store_laws.proofs.Stories.{world-more}
-use Rattle.durable_build.specs.Standing.{Kept, world_before}
-use Rattle.delta_records.specs.declared.weights.Weights.{Weights}
-use Rattle.durable_build.specs.Kinds.{weights_of}
-use Rattle.durable_build.specs.Taking.{DueAdds}
-use Rattle.durable_build.proofs.OpenLemmas.{begun_all}
-use Rattle.durable_build.proofs.Sizes.{due_adds}
+use Rattle.saved_run.specs.Lower.build_core.Builds.{StandsFor, setting_in}
+use Rattle.saved_run.specs.Lower.build_images.Images.{world_image}
+use Rattle.saved_run.specs.Lower.store_laws.Store.{AllDue, FirstStarts, Follows, Starts, Told, events_of, last_image}
+use Rattle.saved_run.proofs.Lower.store_laws.Payloads.{image_behind_more, told_append}
+use Rattle.saved_run.proofs.Lower.store_laws.Stories.{world-more}
+use Rattle.saved_run.specs.Lower.durable_build.Standing.{Kept, world_before}
+use Rattle.saved_run.specs.Lower.delta_records.declared.weights.Weights.{Weights}
+use Rattle.saved_run.specs.Lower.durable_build.Kinds.{weights_of}
+use Rattle.saved_run.specs.Lower.durable_build.Taking.{DueAdds}
+use Rattle.saved_run.proofs.Lower.durable_build.OpenLemmas.{begun_all}
+use Rattle.saved_run.proofs.Lower.durable_build.Sizes.{due_adds}
 use Rattle.saved_run.specs.Saved.{IsTold, IsFront, Saves, Stores, Survives}
 use Rattle.saved_run.specs.Lives.{IsFull as IsFullOf, IsOf, Lasts, Fails, MayRisk, TellsStore, image_after}
-use Rattle.site_state.specs.declared.ask.Entry.{Entry}
-use Rattle.site_state.specs.declared.ask.Entry.TheVariants.{Took, Claimed, Line, Failed}
-use Rattle.site_state.specs.Facts.{Facts, Grown, HasFront, IsFull, IsFullAt, IsMeant, IsSized, IsSizedAt}
-use Rattle.site_state.specs.Histories.{tooks, kept_fault, pending, at_risk}
-use Rattle.site_state.proofs.HistoryLaws.{tooks-append, no_fault, none_pending, pending-append}
+use Rattle.site_threads.specs.Lower.site_state.declared.ask.Entry.{Entry}
+use Rattle.site_threads.specs.Lower.site_state.declared.ask.Entry.TheVariants.{Took, Claimed, Line, Failed}
+use Rattle.site_threads.specs.Lower.site_state.Facts.{Facts, Grown, HasFront, IsFull, IsFullAt, IsMeant, IsSized, IsSizedAt}
+use Rattle.site_threads.specs.Lower.site_state.Histories.{tooks, kept_fault, pending, at_risk}
+use Rattle.site_threads.proofs.Lower.site_state.HistoryLaws.{tooks-append, no_fault, none_pending, pending-append}
 use Rattle.site_run.proofs.WalkLemmas.{IsFaultOf, ShowsAll, shows_shown}
 
 -- records, their events and payloads

@@ -11,11 +11,11 @@ use Rattle.agent_worker.specs.declared.gate.Claim.TheVariants as claim
 use Rattle.agent_worker.specs.declared.gate.Heard.{Heard}
 use Rattle.agent_worker.specs.declared.gate.Heard.TheVariants.{Decided, Skipped}
 use Rattle.agent_worker.specs.Gate.{Claimed as ClaimedTask}
-use Rattle.build_core.specs.Builds.{Parts, StandsFor, setting_in, standing_of}
-use Rattle.build_core.specs.Phases.{has_begun}
+use Rattle.saved_run.specs.Lower.build_core.Builds.{Parts, StandsFor, setting_in, standing_of}
+use Rattle.saved_run.specs.Lower.build_core.Phases.{has_begun}
 use Rattle.build_requests.specs.Waiting.{input_of}
-use Rattle.durable_build.proofs.Cleared.{world_clears}
-use Rattle.durable_build.proofs.OpenLemmas.{begun_all}
+use Rattle.saved_run.proofs.Lower.durable_build.Cleared.{world_clears}
+use Rattle.saved_run.proofs.Lower.durable_build.OpenLemmas.{begun_all}
 use Rattle.launch_laws.specs.ManyTurns.{InLife}
 use Rattle.model_run.specs.declared.event.Event.{Event}
 use Rattle.model_run.specs.declared.event.Event.TheVariants.{Start, Granted, Output, Exited, Lost, Decided as DecidedEvent}
@@ -35,30 +35,30 @@ use Rattle.model_run.specs.State.{Setting}
 use Rattle.model_run.specs.Taking.{Standing}
 use Rattle.model_run.specs.World as W
 use Rattle.program_lock.specs.Legal.{IsRun, IsLegal}
-use Rattle.script_run.specs.Standing.{IsProper}
-use Rattle.script_run.proofs.Turns.{decided, grant_accepted}
+use Rattle.saved_run.specs.Lower.script_run.Standing.{IsProper}
+use Rattle.saved_run.proofs.Lower.script_run.Turns.{decided, grant_accepted}
 use Rattle.settle_laws.specs.Stances.{Stance}
-use Rattle.store_laws.specs.Store.{grant_of}
-use Rattle.store_laws.proofs.Stories.{world-more}
-use Rattle.site_state.specs.declared.ask.Ask.{Ask}
-use Rattle.site_state.specs.declared.ask.Ask.TheVariants as ask
-use Rattle.site_state.specs.declared.ask.Reply.{Reply}
-use Rattle.site_state.specs.declared.ask.Reply.TheVariants as reply
-use Rattle.site_state.specs.declared.ask.Entry.{Entry}
-use Rattle.site_state.specs.declared.ask.Entry.TheVariants.{Took, Claimed, Line, Failed}
-use Rattle.site_state.specs.Claims.{ClaimSays, first_free, is_free, is_task_of}
-use Rattle.site_state.specs.Grants.{Grants, TakeSays, none_due, granted, refused, not_found}
-use Rattle.site_state.specs.Hearing as hearing
-use Rattle.site_state.specs.Hearing.{AnswerSays, IsSkipped}
-use Rattle.site_state.specs.Histories.{tooks, kept_fault, lines, is_claimed}
-use Rattle.site_state.specs.Says.{Answers, SaysAt, Says}
-use Rattle.site_state.specs.Showing.{answer_of, due, IsNext, IsSettled, IsShown}
-use Rattle.site_state.proofs.HistoryLaws.{tooks-append, kept_fault-append, no_fault}
-use Rattle.site_state.proofs.WorldLaws.{same_standing, same_answer, same_due}
-use Rattle.site_gate.specs.Tales.{is_grant, claimed_of}
-use Rattle.site_life.specs.Coming.{BehindItsLine, Came, EachIs, FailedSo, is_decision}
-use Rattle.site_gate.proofs.PartLemmas.{all_append, all_map}
-use Rattle.site_gate.proofs.TaleLemmas.{claimed-append, lines-append, grants_silent}
+use Rattle.saved_run.specs.Lower.store_laws.Store.{grant_of}
+use Rattle.saved_run.proofs.Lower.store_laws.Stories.{world-more}
+use Rattle.site_threads.specs.Lower.site_state.declared.ask.Ask.{Ask}
+use Rattle.site_threads.specs.Lower.site_state.declared.ask.Ask.TheVariants as ask
+use Rattle.site_threads.specs.Lower.site_state.declared.ask.Reply.{Reply}
+use Rattle.site_threads.specs.Lower.site_state.declared.ask.Reply.TheVariants as reply
+use Rattle.site_threads.specs.Lower.site_state.declared.ask.Entry.{Entry}
+use Rattle.site_threads.specs.Lower.site_state.declared.ask.Entry.TheVariants.{Took, Claimed, Line, Failed}
+use Rattle.site_threads.specs.Lower.site_state.Claims.{ClaimSays, first_free, is_free, is_task_of}
+use Rattle.site_threads.specs.Lower.site_state.Grants.{Grants, TakeSays, none_due, granted, refused, not_found}
+use Rattle.site_threads.specs.Lower.site_state.Hearing as hearing
+use Rattle.site_threads.specs.Lower.site_state.Hearing.{AnswerSays, IsSkipped}
+use Rattle.site_threads.specs.Lower.site_state.Histories.{tooks, kept_fault, lines, is_claimed}
+use Rattle.site_threads.specs.Lower.site_state.Says.{Answers, SaysAt, Says}
+use Rattle.site_threads.specs.Lower.site_state.Showing.{answer_of, due, IsNext, IsSettled, IsShown}
+use Rattle.site_threads.proofs.Lower.site_state.HistoryLaws.{tooks-append, kept_fault-append, no_fault}
+use Rattle.site_threads.proofs.Lower.site_state.WorldLaws.{same_standing, same_answer, same_due}
+use Rattle.site_threads.specs.Lower.site_gate.Tales.{is_grant, claimed_of}
+use Rattle.site_threads.specs.Lower.site_life.Coming.{BehindItsLine, Came, EachIs, FailedSo, is_decision}
+use Rattle.site_threads.proofs.Lower.site_gate.PartLemmas.{all_append, all_map}
+use Rattle.site_threads.proofs.Lower.site_gate.TaleLemmas.{claimed-append, lines-append, grants_silent}
 use Rattle.saved_run.specs.Lives.{IsNext as ComesNext}
 use Rattle.site_run.specs.Going.{Decides, IsPassedOver, no_answer, nothing_open, Comes, by_grant, by_report, by_line, GoesBy, begins, takes, passes}
 

@@ -12,9 +12,9 @@ use Rattle.agent_worker.specs.declared.fault.TakeFault.{TakeFault}
 use Rattle.agent_worker.specs.declared.fault.TakeFault.TheVariants.{Memory, Disk, Full, Stopped}
 use Rattle.agent_worker.specs.declared.member.Member.{Member}
 use Rattle.agent_worker.specs.Gate.{Told, told_at}
-use Rattle.build_core.specs.Builds.{Parts}
-use Rattle.durable_build.specs.Standing.{Kept}
-use Rattle.durable_build.proofs.OpenLemmas.{begun_all}
+use Rattle.saved_run.specs.Lower.build_core.Builds.{Parts}
+use Rattle.saved_run.specs.Lower.durable_build.Standing.{Kept}
+use Rattle.saved_run.proofs.Lower.durable_build.OpenLemmas.{begun_all}
 use Rattle.launch_laws.specs.Fitting as fitting
 use Rattle.launch_laws.specs.Fitting.{ExecutorHost}
 use Rattle.launch_laws.proofs.LifeLaws.{all_fit_more}
@@ -25,32 +25,32 @@ use Rattle.model_run.specs.declared.event.Event.TheVariants.{Start, Granted, Out
 use Rattle.model_run.specs.Fitting.{Some_of}
 use Rattle.model_run.specs.State.{Setting}
 use Rattle.model_run.specs.World as W
-use Rattle.script_run.specs.declared.rest.Rest.{Rest}
+use Rattle.saved_run.specs.Lower.script_run.declared.rest.Rest.{Rest}
 use Rattle.settle_laws.specs.Stances.{Stance}
 use Rattle.saved_run.specs.Lives.{IsNext as ComesNext, Lasts, Fails}
-use Rattle.site_state.specs.declared.ask.Ask.TheVariants.{Look}
-use Rattle.site_state.specs.declared.ask.Entry.{Entry}
-use Rattle.site_state.specs.declared.ask.Entry.TheVariants.{Failed}
-use Rattle.site_state.specs.declared.ask.Progress.{Progress}
-use Rattle.site_state.specs.declared.ask.Reply.TheVariants as reply
-use Rattle.site_state.specs.Facts.{Facts, IsSite}
-use Rattle.site_state.specs.Grants.{Grants, OpenRefuses, granted, none_due, not_found, refused}
-use Rattle.site_state.specs.Histories.{tooks, kept_fault, lines}
-use Rattle.site_state.specs.Says.{Answers as AnswersOf, SaysAt, Says}
-use Rattle.site_state.proofs.HistoryLaws.{kept_fault-append, no_fault, tooks-append}
-use Rattle.site_gate.specs.Tales.{is_grant, told_of}
-use Rattle.site_gate.proofs.TaleLemmas.{grants_silent, told-append}
-use Rattle.site_life.specs.Coming.{Came, EachIs}
-use Rattle.site_life.specs.Orders.{AllAnswered}
-use Rattle.site_life.specs.Waiting.{Waited, operators}
+use Rattle.site_threads.specs.Lower.site_state.declared.ask.Ask.TheVariants.{Look}
+use Rattle.site_threads.specs.Lower.site_state.declared.ask.Entry.{Entry}
+use Rattle.site_threads.specs.Lower.site_state.declared.ask.Entry.TheVariants.{Failed}
+use Rattle.site_threads.specs.Lower.site_state.declared.ask.Progress.{Progress}
+use Rattle.site_threads.specs.Lower.site_state.declared.ask.Reply.TheVariants as reply
+use Rattle.site_threads.specs.Lower.site_state.Facts.{Facts, IsSite}
+use Rattle.site_threads.specs.Lower.site_state.Grants.{Grants, OpenRefuses, granted, none_due, not_found, refused}
+use Rattle.site_threads.specs.Lower.site_state.Histories.{tooks, kept_fault, lines}
+use Rattle.site_threads.specs.Lower.site_state.Says.{Answers as AnswersOf, SaysAt, Says}
+use Rattle.site_threads.proofs.Lower.site_state.HistoryLaws.{kept_fault-append, no_fault, tooks-append}
+use Rattle.site_threads.specs.Lower.site_gate.Tales.{is_grant, told_of}
+use Rattle.site_threads.proofs.Lower.site_gate.TaleLemmas.{grants_silent, told-append}
+use Rattle.site_threads.specs.Lower.site_life.Coming.{Came, EachIs}
+use Rattle.site_threads.specs.Lower.site_life.Orders.{AllAnswered}
+use Rattle.site_threads.specs.Lower.site_life.Waiting.{Waited, operators}
 use Rattle.site_run.specs.Replies.{replies}
 use Rattle.site_run.specs.Telling.{ClaimedInTime, HeardInTime, IsOrderOf, orders_in}
 use Rattle.site_run.proofs.ReplyLemmas.{claimed_in_time, replies_so}
-use Rattle.site_life.proofs.OverLemmas.{life_over}
+use Rattle.site_threads.proofs.Lower.site_life.OverLemmas.{life_over}
 use Rattle.site_run.proofs.CallLemmas.{heard_in_time, turns_ordered}
-use Rattle.site_life.specs.Lives.{Life, LifeOf, EndsWith}
-use Rattle.site_life.specs.Rounds.{turns_of}
-use Rattle.site_life.specs.Turns.{Turn}
+use Rattle.site_threads.specs.Lower.site_life.Lives.{Life, LifeOf, EndsWith}
+use Rattle.site_threads.specs.Lower.site_life.Rounds.{turns_of}
+use Rattle.site_threads.specs.Lower.site_life.Turns.{Turn}
 use Rattle.site_run.specs.Ending.{RestsWith, ended_as, rest_of}
 use Rattle.site_run.specs.Going.{Comes, by_grant, by_report, by_line, GoesBy, begins}
 use Rattle.site_run.specs.Lives.{BreaksBehind, EndsBehind, Ends, IsReported, IsRefused, OpeningBreaks}

@@ -8,9 +8,9 @@ use Rattle.agent_worker.specs.declared.member.Member.TheVariants.{Executor, Oper
 use Rattle.build_requests.specs.Waiting.{open_tasks, waiting_inputs}
 use Rattle.model_run.specs.State.{Setting}
 use Rattle.model_run.specs.World.{Build, next_grant}
-use Rattle.script_run.specs.declared.rest.Rest.{Rest}
-use Rattle.script_run.specs.declared.rest.Rest.TheVariants.{Ended, Waits, AnswersFailed}
-use Rattle.site_state.specs.declared.ask.Progress.{Progress}
+use Rattle.saved_run.specs.Lower.script_run.declared.rest.Rest.{Rest}
+use Rattle.saved_run.specs.Lower.script_run.declared.rest.Rest.TheVariants.{Ended, Waits, AnswersFailed}
+use Rattle.site_threads.specs.Lower.site_state.declared.ask.Progress.{Progress}
 
 module _ {H A : Type 0} where
   -- an operator whose answers could not be read

@@ -1,3 +1,4 @@
+pub mod Lower
 pub mod Going
 pub mod Replies
 pub mod Telling

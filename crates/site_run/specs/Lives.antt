@@ -6,36 +6,36 @@ use Rattle.task_host.specs.declared.call.Call.{Call}
 use Rattle.task_host.specs.declared.order.Stream.{Stream}
 use Rattle.agent_worker.specs.declared.fault.TakeFault.{TakeFault}
 use Rattle.agent_worker.specs.declared.member.Member.{Member}
-use Rattle.durable_build.specs.Standing.{Kept, Keeps}
+use Rattle.saved_run.specs.Lower.durable_build.Standing.{Kept, Keeps}
 use Rattle.jp_disk.specs.Moments.{AtEachMoment}
 use Rattle.model_run.specs.declared.event.Event.{Event}
 use Rattle.model_run.specs.declared.taken.Taken.TheVariants.{Accepted}
 use Rattle.model_run.specs.State.{Setting}
 use Rattle.model_run.specs.World.{answer_to, world_in}
 use Rattle.settle_laws.specs.Stances.{Stance}
-use Rattle.script_run.specs.declared.rest.Rest.{Rest}
+use Rattle.saved_run.specs.Lower.script_run.declared.rest.Rest.{Rest}
 use Rattle.saved_run.specs.Lives.{Lasts, Fails}
-use Rattle.site_state.specs.declared.ask.Ask.{Ask}
-use Rattle.site_state.specs.declared.ask.Entry.{Entry}
-use Rattle.site_state.specs.declared.ask.Progress.{Progress}
-use Rattle.site_state.specs.declared.ask.Reply.{Reply}
-use Rattle.site_state.specs.Histories.{kept_fault, lines, tooks}
-use Rattle.site_life.specs.Lives.{Life, LifeOf}
-use Rattle.site_life.specs.Rounds.{turns_of}
-use Rattle.site_life.specs.Turns.{Turn, Explains, HoldsOfOne}
+use Rattle.site_threads.specs.Lower.site_state.declared.ask.Ask.{Ask}
+use Rattle.site_threads.specs.Lower.site_state.declared.ask.Entry.{Entry}
+use Rattle.site_threads.specs.Lower.site_state.declared.ask.Progress.{Progress}
+use Rattle.site_threads.specs.Lower.site_state.declared.ask.Reply.{Reply}
+use Rattle.site_threads.specs.Lower.site_state.Histories.{kept_fault, lines, tooks}
+use Rattle.site_threads.specs.Lower.site_life.Lives.{Life, LifeOf}
+use Rattle.site_threads.specs.Lower.site_life.Rounds.{turns_of}
+use Rattle.site_threads.specs.Lower.site_life.Turns.{Turn, Explains, HoldsOfOne}
 use Rattle.site_run.specs.Ending.{RestsWith, ended_as}
 use Rattle.site_run.specs.Going.{Comes, GoesBy}
 use Rattle.site_run.specs.Replies.{replies}
 use Rattle.site_run.specs.Telling.{AreHeard, ClaimedInTime, HeardInTime, IsOrderOf, orders_in}
-use Rattle.site_life.specs.Coming.{EachIs}
-use Rattle.site_life.specs.Waiting.{operators}
+use Rattle.site_threads.specs.Lower.site_life.Coming.{EachIs}
+use Rattle.site_threads.specs.Lower.site_life.Waiting.{operators}
 use Rattle.site_run.specs.Serving.{AreHonest, AllFit, hosts_of}
 use Rattle.launch_laws.specs.Fitting as fitting
 use Rattle.launch_laws.specs.Fitting.{AreApart, ExecutorHost, all_launches}
 use Rattle.std.specs.List.{AllByRecursion as AllAre, IsDistinct}
-use Rattle.site_gate.specs.Tales.{is_grant}
-use Rattle.site_state.specs.Facts.{Facts, HasFront}
-use Rattle.site_state.specs.Grants.{Grants}
+use Rattle.site_threads.specs.Lower.site_gate.Tales.{is_grant}
+use Rattle.site_threads.specs.Lower.site_state.Facts.{Facts, HasFront}
+use Rattle.site_threads.specs.Lower.site_state.Grants.{Grants}
 
 -- A store that kept these records, whatever they tell, has them still, and perhaps others behind them; the build stands by the last of all.
 -- At each moment in between a crash leaves them and a front of the others.

@@ -14,10 +14,10 @@ use Rattle.model_run.specs.Fitting.{Some_of}
 use Rattle.model_run.specs.Requests.{IsTaskOf}
 use Rattle.model_run.specs.State.{Setting}
 use Rattle.model_run.specs.World.{world_in}
-use Rattle.site_state.specs.declared.ask.Entry.{Entry}
-use Rattle.site_state.specs.declared.ask.Entry.TheVariants.{Took, Claimed, Line, Failed}
-use Rattle.site_state.specs.Claims.{order_as}
-use Rattle.site_state.specs.Histories.{lines, tooks}
+use Rattle.site_threads.specs.Lower.site_state.declared.ask.Entry.{Entry}
+use Rattle.site_threads.specs.Lower.site_state.declared.ask.Entry.TheVariants.{Took, Claimed, Line, Failed}
+use Rattle.site_threads.specs.Lower.site_state.Claims.{order_as}
+use Rattle.site_threads.specs.Lower.site_state.Histories.{lines, tooks}
 use Rattle.site_run.specs.Going.{heard_in}
 
 -- the orders that the claims among these calls gave

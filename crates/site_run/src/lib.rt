@@ -21,3 +21,6 @@ mod going;
 mod resting;
 
 pub use going::{Lived, go_on};
+pub use saved_run;
+pub use saved_run::{build_core, durable_build, saved_thread, script_run};
+pub use site_threads::site_state;

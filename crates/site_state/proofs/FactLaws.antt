@@ -6,8 +6,8 @@ use Rattle.jp_disk.specs.Moments.{AtEachMoment}
 use Rattle.jp_disk.proofs.MomentLemmas.{starts, runs_on, at_each_weaker, rose_later}
 use Rattle.journal_core.specs.Records.{Has, HasWithOrWithout, framed}
 use Rattle.journal_core.proofs.StepLemmas.{stores_has}
-use Rattle.record_form.specs.Records.{record_of}
-use Rattle.record_form.specs.declared.record.EventRecord.{EventRecord}
+use Rattle.durable_build.specs.Lower.record_form.Records.{record_of}
+use Rattle.durable_build.specs.Lower.record_form.declared.record.EventRecord.{EventRecord}
 use Rattle.model_run.specs.declared.event.Event.{Event}
 use Rattle.model_run.specs.declared.taken.Taken.{Taken}
 use Rattle.model_run.specs.declared.taken.Taken.TheVariants.{Accepted, NotOpen, WrongPlace, Finished}
@@ -15,17 +15,17 @@ use Rattle.model_run.specs.State.{Setting}
 use Rattle.model_run.specs.World as W
 use Rattle.image_form.specs.declared.image.Image.{Image}
 use Rattle.settle_laws.specs.Stances.{Stance}
-use Rattle.build_core.specs.Builds.{Parts, StandsFor, setting_in}
-use Rattle.build_core.specs.Phases.{has_begun}
-use Rattle.build_images.specs.Images.{world_image, image_in}
-use Rattle.store_laws.specs.Store.{Told, events_of, grant_of, last_image, record_at}
-use Rattle.store_laws.proofs.Payloads.{image_behind_more}
-use Rattle.store_laws.proofs.Stories.{tell_more, events-more, world-more, due_more, follows_more}
+use Rattle.durable_build.specs.Lower.build_core.Builds.{Parts, StandsFor, setting_in}
+use Rattle.durable_build.specs.Lower.build_core.Phases.{has_begun}
+use Rattle.durable_build.specs.Lower.build_images.Images.{world_image, image_in}
+use Rattle.durable_build.specs.Lower.store_laws.Store.{Told, events_of, grant_of, last_image, record_at}
+use Rattle.durable_build.proofs.Lower.store_laws.Payloads.{image_behind_more}
+use Rattle.durable_build.proofs.Lower.store_laws.Stories.{tell_more, events-more, world-more, due_more, follows_more}
 use Rattle.agent_worker.specs.declared.fault.TakeFault.{TakeFault}
 use Rattle.agent_worker.specs.declared.fault.TakeFault.TheVariants.{Memory, Disk, Full, Stopped}
 use Rattle.std.specs.List.{AllByRecursion as AllAre}
 use Rattle.durable_build.specs.Standing.{IsWhole, Kept, Keeps, image_before, world_before}
-use Rattle.delta_records.specs.declared.weights.Weights.{Weights}
+use Rattle.durable_build.specs.Lower.delta_records.declared.weights.Weights.{Weights}
 use Rattle.durable_build.specs.Kinds.{weights_of}
 use Rattle.durable_build.specs.Taking.{Adds, DueAdds, LeavesWhole, Risks, IsSized as TellsSize, TakeAnswers, TakeKeeps, TakeLeaves}
 use Rattle.durable_build.proofs.Sizes.{due_adds}

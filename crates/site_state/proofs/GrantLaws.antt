@@ -7,11 +7,11 @@ use Rattle.model_run.specs.declared.taken.Taken.{Taken}
 use Rattle.model_run.specs.declared.taken.Taken.TheVariants.{Accepted, NotOpen, WrongPlace, Finished}
 use Rattle.model_run.specs.World as W
 use Rattle.settle_laws.specs.Stances.{Stance}
-use Rattle.build_core.specs.Builds.{Parts, StandsFor, setting_in}
+use Rattle.durable_build.specs.Lower.build_core.Builds.{Parts, StandsFor, setting_in}
 use Rattle.agent_worker.specs.declared.fault.TakeFault.{TakeFault}
 use Rattle.agent_worker.specs.declared.fault.TakeFault.TheVariants.{Memory, Disk, Full, Stopped}
-use Rattle.delta_records.specs.Payloads.{payload_form}
-use Rattle.build_images.specs.Images.{image_in}
+use Rattle.durable_build.specs.Lower.delta_records.Payloads.{payload_form}
+use Rattle.durable_build.specs.Lower.build_images.Images.{image_in}
 use Rattle.durable_build.specs.Standing.{Kept, image_before}
 use Rattle.durable_build.specs.Taking.{IsSized, TakeAnswers, TakeLeaves}
 use Rattle.site_state.specs.declared.ask.Entry.{Entry}

@@ -5,7 +5,7 @@ use Rattle.model_run.specs.declared.event.Event.{Event}
 use Rattle.model_run.specs.State.{Setting}
 use Rattle.model_run.specs.World as W
 use Rattle.image_form.specs.declared.image.Image.{Image}
-use Rattle.delta_records.specs.declared.weights.Weights.{Weights}
+use Rattle.durable_build.specs.Lower.delta_records.declared.weights.Weights.{Weights}
 use Rattle.settle_laws.specs.Stances.{Stance}
 use Rattle.agent_worker.specs.declared.fault.TakeFault.{TakeFault}
 use Rattle.durable_build.specs.Standing.{Kept}

@@ -3,8 +3,8 @@ use Rattle.std.proofs.Common.{◌≡◌, ◌<◌, ℕ, Bool, true, false, List, 
 use Rattle.std.proofs.Props.{props}
 use Rattle.std.proofs.Math.Logic.{∥∥₁_map, ∥∥₁_elim}
 use Rattle.settle_laws.specs.Stances.{Stance}
-use Rattle.build_core.specs.Builds.{Parts}
-use Rattle.build_core.specs.Phases.{has_begun}
+use Rattle.durable_build.specs.Lower.build_core.Builds.{Parts}
+use Rattle.durable_build.specs.Lower.build_core.Phases.{has_begun}
 use Rattle.agent_worker.specs.declared.fault.TakeFault.{TakeFault}
 use Rattle.durable_build.specs.Standing.{Kept}
 use Rattle.site_state.specs.declared.ask.Ask.{Ask}

@@ -4,19 +4,19 @@ use Rattle.std.specs.List.{AllByRecursion as AllAre}
 use Rattle.device_faults.specs.Faults.{Rose}
 use Rattle.jp_disk.specs.Moments.{AtEachMoment}
 use Rattle.journal_core.specs.Records.{Has, framed}
-use Rattle.record_form.specs.declared.record.EventRecord.{EventRecord}
+use Rattle.durable_build.specs.Lower.record_form.declared.record.EventRecord.{EventRecord}
 use Rattle.model_run.specs.declared.event.Event.{Event}
 use Rattle.model_run.specs.State.{Setting}
 use Rattle.model_run.specs.World as W
 use Rattle.image_form.specs.declared.image.Image.{Image}
 use Rattle.settle_laws.specs.Stances.{Stance}
-use Rattle.build_core.specs.Builds.{Parts, StandsFor, setting_in}
-use Rattle.build_images.specs.Images.{world_image, image_in}
-use Rattle.store_laws.specs.Store.{AllDue, Follows, Mean, Told, events_of, last_image}
+use Rattle.durable_build.specs.Lower.build_core.Builds.{Parts, StandsFor, setting_in}
+use Rattle.durable_build.specs.Lower.build_images.Images.{world_image, image_in}
+use Rattle.durable_build.specs.Lower.store_laws.Store.{AllDue, Follows, Mean, Told, events_of, last_image}
 use Rattle.agent_worker.specs.declared.fault.TakeFault.{TakeFault}
 use Rattle.agent_worker.specs.declared.fault.TakeFault.TheVariants.{Memory, Disk, Full, Stopped}
 use Rattle.durable_build.specs.Standing.{IsWhole, Kept, Keeps, world_before}
-use Rattle.delta_records.specs.declared.weights.Weights.{Weights}
+use Rattle.durable_build.specs.Lower.delta_records.declared.weights.Weights.{Weights}
 use Rattle.durable_build.specs.Kinds.{weights_of}
 use Rattle.durable_build.specs.Taking.{DueAdds}
 use Rattle.site_state.specs.declared.ask.Entry.{Entry}

@@ -6,7 +6,7 @@ use Rattle.agent_worker.specs.declared.fault.TakeFault.{TakeFault}
 use Rattle.agent_worker.specs.declared.fault.TakeFault.TheVariants.{Memory}
 use Rattle.agent_worker.specs.declared.gate.Heard.{Heard}
 use Rattle.agent_worker.specs.declared.gate.Heard.TheVariants.{Decided, Skipped}
-use Rattle.build_core.specs.Builds.{Parts}
+use Rattle.durable_build.specs.Lower.build_core.Builds.{Parts}
 use Rattle.build_requests.specs.Waiting.{input_of}
 use Rattle.model_run.specs.declared.event.Event.{Event}
 use Rattle.model_run.specs.declared.taken.Taken.{Taken}

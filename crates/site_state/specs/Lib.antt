@@ -1,3 +1,4 @@
+pub mod Lower
 pub mod Histories
 pub mod Showing
 pub mod Facts

@@ -4,8 +4,8 @@ use Rattle.std.specs.Prelude.{◌≡◌, true, false, List, [], ◌∷◌, Optio
 use Rattle.agent_worker.specs.declared.fault.TakeFault.{TakeFault}
 use Rattle.agent_worker.specs.declared.fault.TakeFault.TheVariants.{Memory, Stopped}
 use Rattle.agent_worker.specs.declared.gate.Claim.TheVariants as claim
-use Rattle.build_core.specs.Builds.{Parts}
-use Rattle.build_core.specs.Phases.{has_ended}
+use Rattle.durable_build.specs.Lower.build_core.Builds.{Parts}
+use Rattle.durable_build.specs.Lower.build_core.Phases.{has_ended}
 use Rattle.build_requests.specs.Waiting.{waiting_inputs, open_tasks}
 use Rattle.settle_laws.specs.Stances.{Stance}
 use Rattle.site_state.specs.declared.ask.Ask.{Ask}

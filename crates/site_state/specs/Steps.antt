@@ -5,7 +5,7 @@ use Rattle.model_run.specs.declared.event.Event.TheVariants.{Granted}
 use Rattle.model_run.specs.declared.taken.Taken.{Taken}
 use Rattle.model_run.specs.declared.taken.Taken.TheVariants.{Accepted, NotOpen, WrongPlace, Finished}
 use Rattle.settle_laws.specs.Stances.{Stance}
-use Rattle.build_core.specs.Phases.{has_begun}
+use Rattle.durable_build.specs.Lower.build_core.Phases.{has_begun}
 use Rattle.agent_worker.specs.declared.fault.TakeFault.{TakeFault}
 use Rattle.durable_build.specs.Standing.{Kept}
 use Rattle.site_state.specs.declared.ask.Entry.{Entry}

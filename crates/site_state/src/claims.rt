@@ -1,6 +1,6 @@
 //! Claims of tasks, and what is open.
 ghost use Rattle.std.specs.Prelude.{◌≡◌, ◌<◌, ◌++◌, List, length, vec_capacity, MatchOption, None, Some, IfOk, true, false};
-ghost use Rattle.build_core.specs.Phases.{has_ended};
+ghost use Rattle.durable_build.specs.Lower.build_core.Phases.{has_ended};
 ghost use Rattle.build_requests.specs.Waiting.{waiting_inputs, open_tasks};
 ghost use Rattle.model_run.specs.Taking.{is_task};
 ghost use Rattle.site_state.specs.Histories.{is_claimed, Quiet};
@@ -8,10 +8,10 @@ ghost use Rattle.site_state.specs.Claims.{is_task_of, is_free, is_busy, first_fr
 
 use crate::ask::{Entry, History, Progress};
 use agent_worker::{Claim, Inputs};
-use build_core::Build;
+use durable_build::build_core::Build;
+use durable_build::script_thread::ScriptThread;
 use model_run::{OpenRequest, Request};
 use model_text::Bytes;
-use script_thread::ScriptThread;
 use std::alloc::{AllocError, Global};
 use task_host::Order;
 

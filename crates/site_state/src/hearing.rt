@@ -1,6 +1,6 @@
 //! An answer line, heard and decided in one step.
 ghost use Rattle.std.specs.Prelude.{◌≡◌, ◌<◌, ◌+◌, ◌++◌, List, length, vec_capacity, OnOk, None, IfOk, MatchOption, true, false};
-ghost use Rattle.build_core.specs.Phases.{has_begun};
+ghost use Rattle.durable_build.specs.Lower.build_core.Phases.{has_begun};
 ghost use Rattle.durable_build.specs.Standing.{Kept};
 ghost use Rattle.site_state.specs.Facts.{Facts};
 ghost use Rattle.site_state.specs.Hearing.{AnswerSays, Decides, IsSkipped, noted_line, SkipSays};
@@ -11,13 +11,13 @@ ghost use Rattle.site_state.specs.Steps.{OneSays};
 use crate::ask::{Entry, History};
 use crate::taking::{grant_all, note, note_want};
 use agent_worker::{Heard, TakeFault, answer_of};
-use build_core::Build;
 use durable_build::DurableBuild;
+use durable_build::build_core::Build;
+use durable_build::saved_thread::SavedThread;
+use durable_build::script_thread::ScriptThread;
 use jp_disk::Disk;
 use model_run::{Event, Taken};
 use model_text::{Bytes, Text};
-use saved_thread::SavedThread;
-use script_thread::ScriptThread;
 use std::alloc::{AllocError, Global};
 
 /// The decision in a line, with the number of the first open input that has its id; none where there is no such input, or the

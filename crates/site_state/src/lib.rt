@@ -24,5 +24,6 @@ mod taking;
 
 pub use agent_worker::TakeFault;
 pub use ask::{Ask, Entry, History, Progress, Reply};
+pub use durable_build::saved_thread;
 pub use program_lock::Stepped;
 pub use site::SiteState;

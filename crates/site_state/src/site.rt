@@ -1,8 +1,8 @@
 //! The state of one life of a saved build.
 ghost use Rattle.std.specs.Prelude.{◌≡◌, ◌++◌, [], ◌∷◌, List, ℕ, length, vec_capacity, true, false, is_some, None, Some, IfOk, IfErr};
-ghost use Rattle.build_core.specs.Builds.{setting_in};
-ghost use Rattle.build_core.specs.Phases.{has_begun};
-ghost use Rattle.build_images.specs.Images.{image_in};
+ghost use Rattle.durable_build.specs.Lower.build_core.Builds.{setting_in};
+ghost use Rattle.durable_build.specs.Lower.build_core.Phases.{has_begun};
+ghost use Rattle.durable_build.specs.Lower.build_images.Images.{image_in};
 ghost use Rattle.durable_build.specs.Standing.{IsWhole, Kept};
 ghost use Rattle.site_state.specs.Facts.{Facts, IsSite};
 ghost use Rattle.site_state.specs.Grants.{Grants, OpenRefuses};
@@ -14,11 +14,11 @@ use crate::claims::{claim, inputs, progress};
 use crate::hearing::hear;
 use crate::taking::{grant_all, note_want, take_all};
 use agent_worker::{Claim, Inputs, TakeFault};
-use build_core::Build;
 use durable_build::DurableBuild;
+use durable_build::build_core::Build;
+use durable_build::saved_thread::SavedThread;
 use jp_disk::Disk;
 use program_lock::Stepped;
-use saved_thread::SavedThread;
 use std::alloc::Global;
 use std::snapshot::Snapshot;
 

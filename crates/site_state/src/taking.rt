@@ -1,7 +1,7 @@
 //! A take and the grants behind it.
 ghost use Rattle.std.specs.Prelude.{◌≡◌, ◌⊎◌, ◌<◌, ◌++◌, ◌∷◌, [], List, length, vec_capacity, OnOk, None, true, false};
-ghost use Rattle.build_core.specs.Phases.{has_begun};
-ghost use Rattle.store_laws.specs.Store.{grant_of};
+ghost use Rattle.durable_build.specs.Lower.build_core.Phases.{has_begun};
+ghost use Rattle.durable_build.specs.Lower.store_laws.Store.{grant_of};
 ghost use Rattle.durable_build.specs.Standing.{Kept};
 ghost use Rattle.site_state.specs.Facts.{Facts};
 ghost use Rattle.site_state.specs.Grants.{noted, Grants, TakeSays};
@@ -12,9 +12,9 @@ ghost use Rattle.site_state.specs.Steps.{GrantSays, OneSays};
 use crate::ask::{Entry, History};
 use agent_worker::TakeFault;
 use durable_build::DurableBuild;
+use durable_build::saved_thread::SavedThread;
 use jp_disk::Disk;
 use model_run::{Event, Taken};
-use saved_thread::SavedThread;
 use std::alloc::{AllocError, Global};
 
 /// Notes the answer to an event, where there is room for one entry.

@@ -1,3 +1,4 @@
+pub mod Lower
 pub mod Sent
 pub mod ServeLemmas
 pub mod SeatLemmas

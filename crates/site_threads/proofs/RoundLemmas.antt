@@ -14,15 +14,15 @@ use Rattle.program_lock.proofs.HistoryLemmas.{none_append, none_behind, none_bot
 use Rattle.program_lock.proofs.MergeLemmas.{IsMergeOf-entries, under_both}
 use Rattle.program_lock.proofs.NumberLemmas.{among_itself, among_right, has-append, has_one, or_true}
 use Rattle.settle_laws.specs.Stances.{Stance}
-use Rattle.build_core.specs.Builds.{Parts}
+use Rattle.site_life.specs.Lower.build_core.Builds.{Parts}
 use Rattle.agent_worker.specs.declared.member.Member.{Member}
-use Rattle.site_state.specs.declared.ask.Ask.{Ask}
-use Rattle.site_state.specs.declared.ask.Entry.{Entry}
-use Rattle.site_state.specs.declared.ask.Reply.{Reply}
-use Rattle.site_gate.specs.Saying.{AreAnswered, WereAnswered}
-use Rattle.site_gate.proofs.CallLemmas.{site_says}
-use Rattle.site_gate.proofs.TrailLemmas.{none_first, under-first, under-second, entries_of-append, answered_sooner}
-use Rattle.site_gate.proofs.TurnsLemmas.{answered_joined}
+use Rattle.site_life.specs.Lower.site_state.declared.ask.Ask.{Ask}
+use Rattle.site_life.specs.Lower.site_state.declared.ask.Entry.{Entry}
+use Rattle.site_life.specs.Lower.site_state.declared.ask.Reply.{Reply}
+use Rattle.site_life.specs.Lower.site_gate.Saying.{AreAnswered, WereAnswered}
+use Rattle.site_life.proofs.Lower.site_gate.CallLemmas.{site_says}
+use Rattle.site_life.proofs.Lower.site_gate.TrailLemmas.{none_first, under-first, under-second, entries_of-append, answered_sooner}
+use Rattle.site_life.proofs.Lower.site_gate.TurnsLemmas.{answered_joined}
 use Rattle.site_life.specs.Coming.{Came, EachUnder}
 use Rattle.site_life.specs.Passing.{IsWhole, CameUnder, GoesOn, TakesRound}
 use Rattle.site_life.specs.Rounds.{WereAsked, AllAsked}

@@ -17,9 +17,9 @@ use Rattle.program_lock.specs.Views.{all_parts}
 use Rattle.program_lock.proofs.HistoryLemmas.{none_among, none_append}
 use Rattle.program_lock.proofs.NumberLemmas.{among_left, among_right, off}
 use Rattle.program_lock.proofs.PartLemmas.{kept_back_half, parts-split, parts-split_kept, parts-join}
-use Rattle.site_gate.proofs.PartLemmas.{all_append}
-use Rattle.site_gate.proofs.TrailLemmas.{none_of}
-use Rattle.site_state.specs.declared.ask.Entry.{Entry}
+use Rattle.site_life.proofs.Lower.site_gate.PartLemmas.{all_append}
+use Rattle.site_life.proofs.Lower.site_gate.TrailLemmas.{none_of}
+use Rattle.site_life.specs.Lower.site_state.declared.ask.Entry.{Entry}
 use Rattle.site_threads.specs.Seats.{SeesMore, IsNew, WithinIf, AreAllApart, all_numbers, numbers_of, parts_of, total, given, HandsOut, TakesIn}
 
 -- a split leaves enough for xs many splits xs are left

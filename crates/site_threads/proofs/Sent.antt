@@ -39,24 +39,24 @@ use Rattle.cps_code.specs.contracts.code.Code as Code
 use Rattle.cps_code.specs.contracts.code.Code.TheInside as CodeInside
 use Rattle.flow_graph.specs.contracts.graph.Graph as Graph
 use Rattle.build_log.specs.contracts.log.Log as Log
-use Rattle.cps_frames.specs.contracts.shared.Shared as Shared
-use Rattle.cps_frames.specs.declared.shared.Shared as SharedValue
+use Rattle.site_life.specs.Lower.cps_frames.contracts.shared.Shared as Shared
+use Rattle.site_life.specs.Lower.cps_frames.declared.shared.Shared as SharedValue
 use Rattle.green_threads.specs.contracts.runner.Seated as Seated
 use Rattle.green_threads.specs.contracts.group.Group as Group
 use Rattle.green_threads.specs.declared.runner.Runner as Runner
-use Rattle.script_thread.specs.declared.thread.ScriptThread as ScriptThread
-use Rattle.build_core.specs.contracts.build.Build as Build
-use Rattle.build_core.specs.contracts.build.Build.TheInside as BuildInside
+use Rattle.site_life.specs.Lower.script_thread.declared.thread.ScriptThread as ScriptThread
+use Rattle.site_life.specs.Lower.build_core.contracts.build.Build as Build
+use Rattle.site_life.specs.Lower.build_core.contracts.build.Build.TheInside as BuildInside
 use Rattle.jp_disk.specs.declared.disk.Disk as Disk
 use Rattle.journal_core.specs.contracts.journal.Journal as Journal
-use Rattle.durable_build.specs.contracts.durable.DurableBuild as DurableBuild
-use Rattle.durable_build.specs.contracts.durable.DurableBuild.TheInside as DurableInside
-use Rattle.durable_build.specs.contracts.store.Last as Last
-use Rattle.site_state.specs.contracts.ask.Ask as Ask
-use Rattle.site_state.specs.contracts.ask.Entry as Entry
-use Rattle.site_state.specs.contracts.ask.Reply as Reply
-use Rattle.site_state.specs.contracts.site.SiteStateStepped.TheImpl as TheImpl
-use Rattle.saved_thread.specs.declared.thread.SavedThread as SavedThread
+use Rattle.site_life.specs.Lower.durable_build.contracts.durable.DurableBuild as DurableBuild
+use Rattle.site_life.specs.Lower.durable_build.contracts.durable.DurableBuild.TheInside as DurableInside
+use Rattle.site_life.specs.Lower.durable_build.contracts.store.Last as Last
+use Rattle.site_life.specs.Lower.site_state.contracts.ask.Ask as Ask
+use Rattle.site_life.specs.Lower.site_state.contracts.ask.Entry as Entry
+use Rattle.site_life.specs.Lower.site_state.contracts.ask.Reply as Reply
+use Rattle.site_life.specs.Lower.site_state.contracts.site.SiteStateStepped.TheImpl as TheImpl
+use Rattle.site_life.specs.Lower.saved_thread.declared.thread.SavedThread as SavedThread
 use Rattle.agent_worker.specs.contracts.member.Member as Member
 use Rattle.atomic_table.proofs.shared.Shared.TheSendSync as shared_laws
 use Rattle.atomic_table.proofs.shared.Seat.TheSendSync as seat_laws
@@ -67,7 +67,7 @@ use Rattle.program_lock.specs.contracts.program.Program as Program
 use Rattle.std.specs.contracts.option.Option as Option
 use Rattle.std.specs.contracts.snapshot.Snapshot as Snapshot
 use Rattle.site_threads.specs.contracts.seat.Seat as Seat
-use Rattle.site_state.specs.contracts.site.SiteState as SiteState
+use Rattle.site_life.specs.Lower.site_state.contracts.site.SiteState as SiteState
 
 pub text_send : IsSend Text.the_row
 text_send = search (sendable, crosses) depth 40

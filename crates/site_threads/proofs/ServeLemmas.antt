@@ -11,12 +11,12 @@ use Rattle.agent_worker.specs.declared.gate.Said.TheVariants.{Nothing}
 use Rattle.agent_worker.specs.declared.member.Member.{Member}
 use Rattle.agent_worker.specs.declared.worked.Worked.{Worked}
 use Rattle.agent_worker.specs.Gate.{GateTells}
-use Rattle.site_state.specs.declared.ask.Ask.{Ask}
-use Rattle.site_state.specs.declared.ask.Entry.{Entry}
-use Rattle.site_state.specs.declared.ask.Reply.{Reply}
-use Rattle.site_gate.specs.Tales.{tells_of}
-use Rattle.site_gate.specs.Turns.{WorksThrough}
-use Rattle.site_gate.proofs.TurnsLemmas.{executed}
+use Rattle.site_life.specs.Lower.site_state.declared.ask.Ask.{Ask}
+use Rattle.site_life.specs.Lower.site_state.declared.ask.Entry.{Entry}
+use Rattle.site_life.specs.Lower.site_state.declared.ask.Reply.{Reply}
+use Rattle.site_life.specs.Lower.site_gate.Tales.{tells_of}
+use Rattle.site_life.specs.Lower.site_gate.Turns.{WorksThrough}
+use Rattle.site_life.proofs.Lower.site_gate.TurnsLemmas.{executed}
 use Rattle.site_life.specs.Turns.{Turn, Work, DidTurn}
 use Rattle.site_life.proofs.RoundLemmas.{launched_in}
 use Rattle.site_threads.specs.Serving.{Served, Serves}

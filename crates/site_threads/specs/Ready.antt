@@ -2,10 +2,10 @@
 use Rattle.std.specs.Prelude.{◌≡◌, ℕ, List, map, None}
 use Rattle.std.specs.List.{AllByRecursion as AllAre}
 use Rattle.atomic_table.specs.Seated.{TableId}
-use Rattle.cps_frames.specs.declared.shared.Shared.{Shared}
+use Rattle.site_life.specs.Lower.cps_frames.declared.shared.Shared.{Shared}
 use Rattle.green_threads.specs.declared.runner.Runner as Runner
 use Rattle.jp_disk.specs.declared.disk.Disk as Disk
-use Rattle.script_thread.specs.declared.thread.ScriptThread as ScriptThread
+use Rattle.site_life.specs.Lower.script_thread.declared.thread.ScriptThread as ScriptThread
 use Rattle.site_threads.specs.declared.seat.Seat.{Seat}
 
 module _ {W D R H A : Type 0} {gd : Disk.Ghosts D} {gs : ScriptThread.Ghosts R} {gr : Runner.Ghosts R Shared} where

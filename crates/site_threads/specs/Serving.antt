@@ -6,10 +6,10 @@ use Rattle.program_lock.specs.History.{entries_of}
 use Rattle.program_lock.specs.Legal.{Answers}
 use Rattle.program_lock.specs.Passes.{known, own_entries}
 use Rattle.agent_worker.specs.declared.member.Member.{Member}
-use Rattle.site_state.specs.declared.ask.Ask.{Ask}
-use Rattle.site_state.specs.declared.ask.Entry.{Entry}
-use Rattle.site_state.specs.declared.ask.Reply.{Reply}
-use Rattle.site_gate.specs.Saying.{WereAnswered}
+use Rattle.site_life.specs.Lower.site_state.declared.ask.Ask.{Ask}
+use Rattle.site_life.specs.Lower.site_state.declared.ask.Entry.{Entry}
+use Rattle.site_life.specs.Lower.site_state.declared.ask.Reply.{Reply}
+use Rattle.site_life.specs.Lower.site_gate.Saying.{WereAnswered}
 use Rattle.site_life.specs.Turns.{Turn}
 
 -- The entries of the pass are those of a turn of this member, which was as `Did` says, and each answer that it was given is the state's reply;

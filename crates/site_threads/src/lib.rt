@@ -20,3 +20,4 @@ mod seating;
 pub use life::live_in_threads;
 pub use round::take_round_in_threads;
 pub use seat::Seat;
+pub use site_life::site_state;

@@ -6,9 +6,9 @@ use agent_worker::Member;
 use jp_disk::Disk;
 use jp_io::Source;
 use program_lock::{Pass, Program, Worker};
-use saved_thread::SavedThread;
-use site_gate::work_through;
-use site_state::SiteState;
+use site_life::saved_thread::SavedThread;
+use site_life::site_gate::work_through;
+use site_life::site_state::SiteState;
 use std::alloc::{AllocGlobal, Global};
 use std::sync::Wait;
 use std::time::Clock;
@@ -32,7 +32,7 @@ pub struct Seat<'a, W: Wait, D: Disk, R: SavedThread + Drop, H, A> {
 impl<'a, W: Wait + Clock + AllocGlobal, D: Disk, R: SavedThread + Drop, H: Host, A: Source> Worker
     for Seat<'a, W, D, R, H, A> {
     ghost use Rattle.std.specs.Prelude.{◌≡◌};
-    ghost use Rattle.site_state.specs.Says.{Says};
+    ghost use Rattle.site_life.specs.Lower.site_state.Says.{Says};
     ghost use Rattle.site_life.specs.Turns.{DidTurn};
     ghost use Rattle.site_threads.specs.Serving.{Serves};
 

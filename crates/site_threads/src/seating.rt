@@ -7,9 +7,9 @@ use crate::seat::Seat;
 use agent_worker::Member;
 use jp_disk::Disk;
 use program_lock::{Memory, Program};
-use saved_thread::SavedThread;
 use site_life::can_read;
-use site_state::SiteState;
+use site_life::saved_thread::SavedThread;
+use site_life::site_state::SiteState;
 use std::alloc::Global;
 use std::sync::Wait;
 

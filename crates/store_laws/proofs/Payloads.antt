@@ -3,10 +3,10 @@ use Rattle.std.proofs.Common.{◌≡◌, ℕ, List, [], ◌∷◌, ◌++◌, Opt
 use Rattle.std.specs.Option.{option_map}
 use Rattle.field_form.specs.Forms.{Spells, whole_of}
 use Rattle.field_form.proofs.Wholes.{read_again}
-use Rattle.record_form.specs.Records.{record_form, record_of}
-use Rattle.record_form.specs.declared.record.EventRecord.{EventRecord}
+use Rattle.delta_records.specs.Lower.record_form.Records.{record_form, record_of}
+use Rattle.delta_records.specs.Lower.record_form.declared.record.EventRecord.{EventRecord}
 use Rattle.image_form.specs.declared.image.Image.{Image}
-use Rattle.delta_form.specs.Applying.{◌>>=◌}
+use Rattle.delta_records.specs.Lower.delta_form.Applying.{◌>>=◌}
 use Rattle.delta_records.specs.Payloads.{payload_form, payload_lawful, event_of_payload, next_image}
 use Rattle.delta_records.specs.declared.payload.Payload.{Payload}
 use Rattle.delta_records.specs.declared.payload.Payload.TheVariants as payload

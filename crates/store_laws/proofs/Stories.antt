@@ -1,7 +1,7 @@
 -- What one record more makes of the records of a build, and which build they tell of.
 use Rattle.std.proofs.Common.{◌≡◌, ℕ, List, [], ◌∷◌, ◌++◌, refl, sym, ap, ◌∙◌, Option, Some}
 use Rattle.std.specs.Prelude.{fold}
-use Rattle.record_form.specs.declared.record.EventRecord.{EventRecord}
+use Rattle.delta_records.specs.Lower.record_form.declared.record.EventRecord.{EventRecord}
 use Rattle.image_form.specs.declared.image.Image.{Image}
 use Rattle.model_run.specs.declared.event.Event.{Event}
 use Rattle.model_run.specs.declared.event.Event.TheVariants as event

@@ -1,6 +1,6 @@
 -- A payload tells one record at most, a script and an agents file one setting, and a file one list of records.
 use Rattle.std.proofs.Common.{◌≡◌, ℕ, List, [], ◌∷◌, Option, Some, None, refl, sym, ap, ◌∙◌, subst}
-use Rattle.record_form.specs.declared.record.EventRecord.{EventRecord}
+use Rattle.delta_records.specs.Lower.record_form.declared.record.EventRecord.{EventRecord}
 use Rattle.image_form.specs.declared.image.Image.{Image}
 use Rattle.journal_core.specs.Records.{Has, Walked}
 use Rattle.groovy_parse.proofs.FirstFaults.{faultless_only}

@@ -1,6 +1,6 @@
 use Rattle.std.proofs.Common.{◌≡◌, ◌∙◌, ℕ, List, [], ◌∷◌, max, sym, ap, subst, reverse, arith}
 use Rattle.agent_worker.specs.declared.member.Member.{Member}
-use Rattle.build_core.specs.Builds.{Parts, setting_in}
+use Rattle.site_run.specs.Lower.build_core.Builds.{Parts, setting_in}
 use Rattle.model_run.specs.declared.site.Executor.{Executor as SiteExecutor}
 use Rattle.model_run.specs.declared.site.Site.{Site}
 use Rattle.model_run.specs.State.{Setting}
@@ -13,8 +13,8 @@ use Rattle.build_commands.specs.Reporting as report
 use Rattle.build_commands.proofs.FinishLemmas.{finished_wanting}
 use Rattle.build_commands.proofs.KeepLemmas.{nothing_kept}
 use Rattle.build_commands.proofs.LaunchLemmas.{none_launched}
-use Rattle.site_life.specs.Lives.{LifeOf, any_reply}
-use Rattle.site_state.specs.declared.ask.Entry.{Entry}
+use Rattle.site_run.specs.Lower.site_life.Lives.{LifeOf, any_reply}
+use Rattle.site_run.specs.Lower.site_state.declared.ask.Entry.{Entry}
 use Rattle.site_run.proofs.CloseLemmas.{no_turns}
 use Rattle.build_commands.proofs.LivingLemmas.{hosts_all, no_events, one_answer, stay_same, still_served}
 use Rattle.build_commands.proofs.finishing.finish.Goals as goal

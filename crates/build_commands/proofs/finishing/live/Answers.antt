@@ -5,16 +5,16 @@ use Rattle.std.proofs.Math.Logic.{∥∥₁_map}
 use Rattle.device_faults.specs.Faults.{Rose}
 use Rattle.agent_worker.specs.declared.member.Member.{Member}
 use Rattle.agent_worker.specs.Gate.{Told}
-use Rattle.build_core.specs.Builds.{Parts, StandsFor, setting_in}
-use Rattle.build_images.specs.Images.{image_in}
-use Rattle.site_state.specs.declared.ask.Entry.{Entry}
-use Rattle.site_state.specs.Histories.{lines, tooks}
-use Rattle.site_state.specs.Says.{Says}
-use Rattle.site_life.specs.Lives.{LifeOf, any_reply}
-use Rattle.site_life.proofs.OverLemmas.{life_over}
-use Rattle.site_life.specs.Rounds.{turns_of}
-use Rattle.site_life.specs.Turns.{Explains, HoldsOfOne}
-use Rattle.site_life.specs.Waiting.{operators}
+use Rattle.site_run.specs.Lower.build_core.Builds.{Parts, StandsFor, setting_in}
+use Rattle.site_run.specs.Lower.build_images.Images.{image_in}
+use Rattle.site_run.specs.Lower.site_state.declared.ask.Entry.{Entry}
+use Rattle.site_run.specs.Lower.site_state.Histories.{lines, tooks}
+use Rattle.site_run.specs.Lower.site_state.Says.{Says}
+use Rattle.site_run.specs.Lower.site_life.Lives.{LifeOf, any_reply}
+use Rattle.site_run.proofs.Lower.site_life.OverLemmas.{life_over}
+use Rattle.site_run.specs.Lower.site_life.Rounds.{turns_of}
+use Rattle.site_run.specs.Lower.site_life.Turns.{Explains, HoldsOfOne}
+use Rattle.site_run.specs.Lower.site_life.Waiting.{operators}
 use Rattle.site_run.specs.Serving.{AreServed}
 use Rattle.site_run.specs.Telling.{AreHeard}
 use Rattle.site_run.proofs.CloseLemmas.{no_turns}

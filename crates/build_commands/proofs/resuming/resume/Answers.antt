@@ -1,10 +1,10 @@
 use Rattle.std.proofs.Common.{◌∙◌, ℕ, List, refl, sym, ap, subst}
-use Rattle.build_core.specs.Builds.{setting_in}
+use Rattle.site_run.specs.Lower.build_core.Builds.{setting_in}
 use Rattle.jp_disk.specs.Moments.{AtEachMoment}
-use Rattle.durable_build.specs.Opening.{OpenFails}
-use Rattle.durable_build.specs.Standing.{Keeps, Kept}
-use Rattle.saved_run.specs.Lives.{Stands}
-use Rattle.saved_run.proofs.LifeLemmas.{lasts_here}
+use Rattle.site_run.specs.Lower.durable_build.Opening.{OpenFails}
+use Rattle.site_run.specs.Lower.durable_build.Standing.{Keeps, Kept}
+use Rattle.site_run.specs.Lower.saved_run.Lives.{Stands}
+use Rattle.site_run.proofs.Lower.saved_run.LifeLemmas.{lasts_here}
 use Rattle.build_commands.specs.Reporting.{Reports}
 use Rattle.build_commands.specs.Resuming.{Reopens, Resumes, goes_on, refused, unopened, went_on}
 use Rattle.build_commands.specs.Showing.{HasBuild}

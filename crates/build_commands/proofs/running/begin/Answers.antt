@@ -1,11 +1,11 @@
 use Rattle.std.proofs.Common.{◌∙◌, [], ◌∷◌, ℕ, refl, sym, ap, subst}
 use Rattle.std.specs.Prelude.{IsSome}
-use Rattle.durable_build.specs.Standing.{Kept}
+use Rattle.site_run.specs.Lower.durable_build.Standing.{Kept}
 use Rattle.model_run.specs.declared.event.Event.TheVariants.{Start as StartEvent}
-use Rattle.script_run.specs.Standing.{script_setting}
-use Rattle.saved_run.specs.Lives.{Goes}
-use Rattle.saved_run.specs.Saved.{Saves}
-use Rattle.saved_run.proofs.LifeLemmas.{lasts_here}
+use Rattle.site_run.specs.Lower.script_run.Standing.{script_setting}
+use Rattle.site_run.specs.Lower.saved_run.Lives.{Goes}
+use Rattle.site_run.specs.Lower.saved_run.Saved.{Saves}
+use Rattle.site_run.proofs.Lower.saved_run.LifeLemmas.{lasts_here}
 use Rattle.build_commands.specs.Beginning.{Begins, BeginsOver, begun, unbegun}
 use Rattle.build_commands.specs.Reporting.{Reports}
 use Rattle.build_commands.proofs.BeginLemmas.{begin_says, counts_first, known_file, meant}

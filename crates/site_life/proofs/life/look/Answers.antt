@@ -1,8 +1,8 @@
 use Rattle.std.proofs.Common.{subst}
 use Rattle.program_lock.specs.Calls.{Steps}
 use Rattle.program_lock.specs.Passes.{known}
-use Rattle.site_state.specs.Says.{Says}
-use Rattle.site_state.specs.declared.ask.Ask.TheVariants as asks
+use Rattle.site_gate.specs.Lower.site_state.Says.{Says}
+use Rattle.site_gate.specs.Lower.site_state.declared.ask.Ask.TheVariants as asks
 use Rattle.site_life.proofs.life.look.Goals as goal
 
 pub returns-clause-said : goal.returns-clause-said

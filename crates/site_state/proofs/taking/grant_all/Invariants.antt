@@ -1,5 +1,5 @@
 use Rattle.std.proofs.Common.{◌≡◌, ◌<◌, ◌++◌, ◌+◌, ◌-◌, ◌^◌, List, length, vec_capacity, None, true, false}
-use Rattle.build_core.specs.Phases.{has_begun}
+use Rattle.durable_build.specs.Lower.build_core.Phases.{has_begun}
 use Rattle.durable_build.specs.Standing.{Kept}
 use Rattle.site_state.specs.declared.ask.Entry.{Entry}
 use Rattle.site_state.specs.Histories.{kept_fault}

@@ -1,5 +1,5 @@
 use Rattle.std.proofs.Common.{◌≡◌, sym, ap}
-use Rattle.site_state.specs.Says.{Says}
+use Rattle.site_life.specs.Lower.site_state.Says.{Says}
 use Rattle.site_life.specs.Lives.{Life}
 use Rattle.site_threads.proofs.LivingLemmas.{ok_written, err_written}
 use Rattle.site_threads.proofs.SeatLemmas.{zip_length}

@@ -1,6 +1,6 @@
 use Rattle.std.proofs.Common.{rules, ◌≤◌, ◌∙◌, ℕ, refl, sym, subst, map}
 use Rattle.program_lock.specs.Passes.{known}
-use Rattle.site_state.specs.Says.{Says}
+use Rattle.site_life.specs.Lower.site_state.Says.{Says}
 use Rattle.site_life.specs.Passing.{TakesRounds}
 use Rattle.site_life.specs.Turns.{DidTurn}
 use Rattle.site_life.proofs.LookLemmas.{saw_progress}

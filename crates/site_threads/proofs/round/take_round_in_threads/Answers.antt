@@ -1,7 +1,7 @@
 use Rattle.std.proofs.Common.{◌≡◌, ◌∙◌, sym, subst, map, Ok, Err}
 use Rattle.std.specs.List.{AllByRecursion as AllAre}
 use Rattle.program_lock.specs.Passes.{known}
-use Rattle.site_gate.proofs.CallLemmas.{site_says}
+use Rattle.site_life.proofs.Lower.site_gate.CallLemmas.{site_says}
 use Rattle.site_life.specs.Passing.{TakesRound}
 use Rattle.site_life.specs.Turns.{DidTurn}
 use Rattle.site_threads.proofs.RoundLemmas.{whole_round, no_round, whole_again, whole_back}

@@ -2,10 +2,10 @@ use Rattle.std.proofs.Common.{◌≡◌, ◌∙◌, [], true, inl, refl, sym, ap
 use Rattle.jp_disk.proofs.MomentLemmas.{starts}
 use Rattle.journal_core.specs.Answers.{CreateRefuses}
 use Rattle.journal_core.specs.declared.faults.CreateFault.{CreateFault}
-use Rattle.build_core.specs.Builds.{Parts, StandsFor, setting_in}
+use Rattle.durable_build.specs.Lower.build_core.Builds.{Parts, StandsFor, setting_in}
 use Rattle.model_run.specs.declared.event.Event.TheVariants.{Start as StartEvent}
 use Rattle.model_run.specs.World.{unbegun}
-use Rattle.script_run.specs.Standing.{script_setting}
+use Rattle.durable_build.specs.Lower.script_run.Standing.{script_setting}
 use Rattle.saved_run.specs.Lives.{StartFails}
 use Rattle.saved_run.proofs.BeginLemmas.{begins_taken, is_begun, start_fails, start_faults, start_refused, since_started, since_either}
 use Rattle.saved_run.proofs.life.Life.begin.Goals as goal

@@ -3,7 +3,7 @@ use Rattle.std.specs.Prelude.{IsErrOf}
 use Rattle.device_faults.specs.Faults.{CountsFault}
 use Rattle.agent_worker.specs.declared.fault.TakeFault.TheVariants.{Disk}
 use Rattle.durable_build.specs.Standing.{Kept}
-use Rattle.script_run.specs.declared.rest.Rest.{Rest}
+use Rattle.durable_build.specs.Lower.script_run.declared.rest.Rest.{Rest}
 use Rattle.saved_run.proofs.LifeLemmas.{tells_stopped}
 use Rattle.saved_run.proofs.TurnLemmas.{broken_stopped}
 use Rattle.saved_run.proofs.life.Life.go_on.Goals as goal

@@ -1,9 +1,9 @@
 use Rattle.std.proofs.Common.{ℕ, List, sym, ap, subst}
-use Rattle.build_core.specs.Builds.{Parts, StandsFor}
+use Rattle.durable_build.specs.Lower.build_core.Builds.{Parts, StandsFor}
 use Rattle.model_run.specs.declared.event.Event.TheVariants.{Decided as DecidedEvent}
 use Rattle.model_run.specs.World.{world_in}
-use Rattle.script_run.specs.Running.{Decides, too_long, no_answer, nothing_open}
-use Rattle.script_run.proofs.Turns.{decided}
+use Rattle.durable_build.specs.Lower.script_run.Running.{Decides, too_long, no_answer, nothing_open}
+use Rattle.durable_build.proofs.Lower.script_run.Turns.{decided}
 use Rattle.saved_run.proofs.TurnLemmas.{wanting, hears_passed, hears_taken}
 use Rattle.saved_run.proofs.life.Life.hear.Goals as goal
 

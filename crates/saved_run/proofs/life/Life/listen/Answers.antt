@@ -3,8 +3,8 @@ use Rattle.agent_worker.specs.AnswerBytes.{kept_line, short}
 use Rattle.agent_worker.specs.declared.operator.LineEnd.TheVariants as line_end
 use Rattle.agent_worker.proofs.AnswerLemmas.{kept-short}
 use Rattle.model_run.specs.World.{world_in}
-use Rattle.script_run.specs.Running.{Hears}
-use Rattle.script_run.proofs.Turns.{whole_heard}
+use Rattle.durable_build.specs.Lower.script_run.Running.{Hears}
+use Rattle.durable_build.proofs.Lower.script_run.Turns.{whole_heard}
 use Rattle.saved_run.specs.declared.life.Life.{Life}
 use Rattle.saved_run.specs.Lives.{Lasts, Turned, Broken}
 use Rattle.saved_run.proofs.TurnLemmas.{breaks_reading, breaks_line, turns_heard}

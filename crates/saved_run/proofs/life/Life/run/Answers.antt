@@ -1,6 +1,6 @@
 use Rattle.std.proofs.Common.{◌≡◌, ◌∙◌, Option, Ok, Err, subst}
 use Rattle.agent_worker.specs.declared.fault.TakeFault.TheVariants.{Disk}
-use Rattle.script_run.specs.declared.rest.Rest.{Rest}
+use Rattle.durable_build.specs.Lower.script_run.declared.rest.Rest.{Rest}
 use Rattle.saved_run.specs.Lives.{Turned}
 use Rattle.saved_run.proofs.TurnLemmas.{goes_further}
 use Rattle.saved_run.proofs.life.Life.run.Goals as goal

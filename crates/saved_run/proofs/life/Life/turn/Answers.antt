@@ -1,10 +1,10 @@
 use Rattle.std.proofs.Common.{◌≡◌, ◌<◌, ℕ, [], Some, None, false, sym, ap, subst, ◌∙◌}
 use Rattle.agent_worker.specs.declared.fault.TakeFault.TheVariants.{Memory}
-use Rattle.build_core.specs.Builds.{Parts, StandsFor, setting_in}
+use Rattle.durable_build.specs.Lower.build_core.Builds.{Parts, StandsFor, setting_in}
 use Rattle.build_requests.specs.Waiting.{waiting_inputs}
 use Rattle.model_run.specs.State.{Setting}
 use Rattle.model_run.specs.World.{world_in, next_grant}
-use Rattle.script_run.proofs.Turns.{grant_accepted}
+use Rattle.durable_build.proofs.Lower.script_run.Turns.{grant_accepted}
 use Rattle.saved_run.specs.Lives.{IsCaused}
 use Rattle.saved_run.proofs.TurnLemmas.{wanting, breaks, granted_by, turns_granted, positive}
 use Rattle.saved_run.proofs.life.Life.turn.Goals as goal

@@ -1,6 +1,6 @@
 use Rattle.std.proofs.Common.{◌∙◌, refl, sym}
 use Rattle.program_lock.specs.Passes.{known}
-use Rattle.site_gate.proofs.CallLemmas.{site_says}
+use Rattle.site_life.proofs.Lower.site_gate.CallLemmas.{site_says}
 use Rattle.site_life.specs.Turns.{DidTurn}
 use Rattle.site_threads.proofs.ServeLemmas.{served, serves_seat}
 use Rattle.site_threads.proofs.seat.SeatWorker.work.Goals as goal

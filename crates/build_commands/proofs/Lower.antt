@@ -1,0 +1,6 @@
+-- Lemmas of the crates below, passed on to the crates above: these name this crate alone for them.
+pub use Rattle.run_command.proofs as run_command
+pub use Rattle.site_run.proofs as site_run
+pub use Rattle.site_run.proofs.Lower.durable_build
+pub use Rattle.site_run.proofs.Lower.saved_run
+pub use Rattle.site_run.proofs.Lower.site_life

@@ -1,0 +1,12 @@
+-- Definitions of the crates below, passed on to the crates above: these name this crate alone for them.
+pub use Rattle.run_command.specs as run_command
+pub use Rattle.site_run.specs as site_run
+pub use Rattle.site_run.specs.Lower.delta_records
+pub use Rattle.site_run.specs.Lower.durable_build
+pub use Rattle.site_run.specs.Lower.record_form
+pub use Rattle.site_run.specs.Lower.saved_run
+pub use Rattle.site_run.specs.Lower.script_run
+pub use Rattle.site_run.specs.Lower.site_gate
+pub use Rattle.site_run.specs.Lower.site_life
+pub use Rattle.site_run.specs.Lower.site_state
+pub use Rattle.site_run.specs.Lower.store_laws

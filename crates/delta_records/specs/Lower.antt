@@ -1,0 +1,3 @@
+-- Definitions of the crates below, passed on to the crates above: these name this crate alone for them.
+pub use Rattle.delta_form.specs as delta_form
+pub use Rattle.record_form.specs as record_form
