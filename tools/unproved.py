@@ -63,11 +63,22 @@ def kit_run(words):
         with open(f"{folder}/stdin", "wb") as file:
             file.write(given())
         if quick_try.is_here(kit):
-            told, status = called(quick_try.command(kit, folder, SECONDS, words), folder)
+            told, status = quick_run(kit, folder, words)
             # The kit's last line says that nothing is proved, once it has run the program.
             if status < 0 or told.endswith(" proved=no\n"):
                 return told
+            why = "; ".join(told.splitlines()[:2]) or f"status {status}"
+            say(f"the quick way failed ({why}); the kit now runs the program in its own way")
         return called([rt, "try", "--seconds", SECONDS, "--", *words], folder)[0]
+
+
+def quick_run(kit, folder, words):
+    """What the quick way said on standard error, and its exit status: 1 where it could not begin."""
+    try:
+        command = quick_try.command(kit, folder, SECONDS, words)
+    except Exception as why:  # The kit's own way is there for sources of whatever form.
+        return f"{type(why).__name__}: {why}", 1
+    return called(command, folder)
 
 
 def called(command, folder):
