@@ -1,0 +1,145 @@
+"""What the records of a build's store add to its log, in the form of docs/FORMATS.md: `tools/follow` reads them while the build runs.
+
+Of a record what stands in front of its log is gone over, and what stands behind it is not looked at. Whether a store is whole, and its
+last image one that a build can have, the program alone tells.
+"""
+import os
+import struct
+from typing import NamedTuple, Optional
+
+U32 = struct.Struct(">I")
+OPEN = b"\1"
+# The exit statuses of a build that has ended, by its result.
+STATUSES = (0, 10, 1, 11, 12)
+
+
+class NotARecord(Exception):
+    """There is no record, or one that is cut short or of another form."""
+
+
+def of_size(size):
+    return lambda _, at: at + size
+
+
+def row(*parts):
+    """What has these parts, one behind the other. Of each it is a function from its place to the place behind it."""
+
+    def behind(payload, at):
+        for part in parts:
+            at = part(payload, at)
+        return at
+
+    return behind
+
+
+def rows(item):
+    def behind(payload, at):
+        count, at = number_at(payload, at), at + 4
+        for _ in range(count):
+            at = item(payload, at)
+            if at > len(payload):
+                raise NotARecord
+        return at
+
+    return behind
+
+
+def kinds(*forms):
+    """What begins with its kind, which is the number of a form."""
+
+    def behind(payload, at):
+        if payload[at] >= len(forms):
+            raise NotARecord
+        return forms[payload[at]](payload, at + 1)
+
+    return behind
+
+
+def number_at(payload, at):
+    return U32.unpack_from(payload, at)[0]
+
+
+def text(payload, at):
+    return at + 4 + number_at(payload, at)
+
+
+nothing, byte, number, long_number = of_size(0), of_size(1), of_size(4), of_size(8)
+value = kinds(nothing, nothing, nothing, number, number)
+binding = row(text, number)
+entry = row(kinds(number, text), value)
+CELLS = (value, text, rows(value), rows(entry), row(number, rows(binding)), row(byte, kinds(nothing, text)))
+flow_node = row(byte, text, number, rows(number))
+event = kinds(
+    row(text, text), row(number, number), row(number, byte, long_number, text), row(number, number), row(number, byte), row(number, byte, text)
+)
+image = row(rows(binding), rows(kinds(*CELLS)), rows(flow_node))
+delta = row(rows(binding), rows(row(number, kinds(*CELLS, rows(value), rows(entry)))), rows(flow_node))
+WHOLE, CHANGES = 1, 2
+
+
+class Record(NamedTuple):
+    """Of a record the piece of the log that it has, the piece's place in the log, and the status of a build that it ends."""
+
+    piece: memoryview
+    place: int
+    status: Optional[int]
+
+    @staticmethod
+    def read(payload, size):
+        """The record of a payload that stands behind records whose log has this size."""
+        try:
+            if payload[0] not in (WHOLE, CHANGES):
+                raise NotARecord
+            at = event(payload, 1) + 8
+            result, has_ended = payload[at], payload[at + 1]
+            at = (image if payload[0] == WHOLE else delta)(payload, at + 2)
+            end = text(payload, at)
+        except (IndexError, struct.error):
+            raise NotARecord from None
+        if end > len(payload) or result >= len(STATUSES):
+            raise NotARecord
+        return Record(memoryview(payload)[at + 4 : end], 0 if payload[0] == WHOLE else size, STATUSES[result] if has_ended else None)
+
+
+class Store:
+    """The records of a store, each of them once, as they come; and the size of the log that they have."""
+
+    def __init__(self, path):
+        self.path, self.file, self.gate, self.size = path, None, 0, 0
+
+    def __enter__(self):
+        return self
+
+    def __exit__(self, *_):
+        if self.file:
+            self.file.close()
+
+    def records(self):
+        """Those that came since the last time; all, where another file is in the place of the one that was read."""
+        self.open()
+        while (head := self.bytes(5, self.gate))[:1] == OPEN:
+            if len(head) < 5:
+                raise NotARecord
+            end = self.gate + 5 + number_at(head, 1)
+            if end >= os.fstat(self.file.fileno()).st_size:
+                raise NotARecord
+            record = Record.read(self.bytes(end - self.gate - 5, self.gate + 5), self.size)
+            self.gate, self.size = end, record.place + len(record.piece)
+            yield record
+        if not head or self.gate == 0:
+            self.gate = self.size = 0
+            raise NotARecord
+
+    def open(self):
+        try:
+            if self.file and os.path.samestat(os.stat(self.path), os.fstat(self.file.fileno())):
+                return
+            self.file, self.gate, self.size = open(self.path, "rb", buffering=0), 0, 0
+        except OSError:
+            raise NotARecord from None
+
+    def bytes(self, count, place):
+        try:
+            return os.pread(self.file.fileno(), count, place)
+        except OSError:
+            raise NotARecord from None
