@@ -6,7 +6,8 @@ With words it runs those alone whose name has one of them. The examples are
 - each folder below examples/ with a `log`: what is printed is the log, the status is that of the line `Exit status: N` of its
   README.md, and `answers`, where it is there, is standard input;
 - each row of the tables in examples/faults/README.md and examples/shell/README.md;
-- in docs/USING.md each row of a table whose first column is `in Jenkins` or `met by`, and each script with a log behind it.
+- in docs/USING.md each row of a table whose first column is `in Jenkins` or `met by`, each script with a log behind it, and the
+  `"looks"` of an agents file.
 
 Where branches have shell steps their lines may come in any order among each other: then the lines of a log are compared in any order,
 and the flow graph without its numbers, so that each branch has to have its own steps in their order.
@@ -17,8 +18,9 @@ are stand-ins that do nothing, `timeout` runs its command, and `sleep` makes the
 
 Where the program is built it runs them, and then tries the other commands on each: `check`; `resume` with one answer at a time,
 behind a `run` without answers, which must give the same log; `log` and `graph`, which must write nothing; and each of them where
-there is no build. Else the kit runs all of them without a proof, and compiles the sources once. With `--reference` the interpreter
-in tools/reference runs those that it can run. The status is 0 where all are as their pages say.
+there is no build. The records of the store, as `tools/follow` reads them, have to give that log too. Else the kit runs all of them
+without a proof, and compiles the sources once. With `--reference` the interpreter in tools/reference runs those that it can run. The
+status is 0 where all are as their pages say.
 """
 import argparse
 import difflib
@@ -32,6 +34,7 @@ import sys
 import tempfile
 
 from build import PROGRAM, TOP
+from store_records import Store
 
 BUILT = f"{TOP}/crates/{PROGRAM}/out/{PROGRAM}"
 NO_AGENTS = b'{"job": "using", "agents": []}'
@@ -98,8 +101,8 @@ def steps_of(graph):
 
 
 def loaded(path):
-    loader = importlib.machinery.SourceFileLoader("pictures", path)
-    module = importlib.util.module_from_spec(importlib.util.spec_from_loader("pictures", loader))
+    loader = importlib.machinery.SourceFileLoader("script", path)
+    module = importlib.util.module_from_spec(importlib.util.spec_from_loader("script", loader))
     loader.exec_module(module)
     return module
 
@@ -228,9 +231,15 @@ def of_blocks(page):
             script = None
 
 
+def of_looks(page):
+    for words in re.findall(r'`("looks": \d+)`', page):
+        agents = NO_AGENTS.replace(b"}", f", {words}}}".encode())
+        yield Example(f"docs/USING.md: {words}", b"echo 'x'", f"{START}[Pipeline] echo\nx\n{END}", [0], agents)
+
+
 def examples():
     page = read("docs/USING.md").decode()
-    return [*of_folders(), *of_faults(), *of_shell_steps(), *of_tables(page), *of_blocks(page)]
+    return [*of_folders(), *of_faults(), *of_shell_steps(), *of_tables(page), *of_blocks(page), *of_looks(page)]
 
 
 # --- ways to run them: each gives what was printed and the status, in order
@@ -314,6 +323,7 @@ def stored(program, folder, ended, graph, varies):
     """A build that can go no further is shown, and is not begun again."""
     before = state_of(folder)
     yield "log", run_program(program, "log", folder), (ended[0], 0)
+    yield "the records that tools/follow reads", as_followed(folder), ended
     if graph is not None:
         found, status = run_program(program, "graph", folder)
         shown = steps_of if varies else str
@@ -322,6 +332,15 @@ def stored(program, folder, ended, graph, varies):
     yield "the store behind log, graph and check", state_of(folder), before
     yield "run once more", run_program(program, "run", folder), HAS_BUILD
     yield "resume", run_program(program, "resume", folder), ended
+
+
+def as_followed(folder):
+    """The log of the records, and the status of a build that they end, else that of one that waits."""
+    log, status = b"", None
+    with Store(f"{folder}/program.dat") as store:
+        for record in store.records():
+            log, status = log[: record.place] + record.piece, record.status
+    return as_on_pages(log, folder), 3 if status is None else status
 
 
 def state_of(folder):

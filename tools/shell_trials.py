@@ -8,6 +8,7 @@ import argparse
 import json
 import os
 import re
+import shlex
 import signal
 import subprocess
 import sys
@@ -332,19 +333,38 @@ class Page(Shell):
         self.assertEqual(len(self.launches()), 2)
         self.assertEqual(sorted(os.listdir(self.folder)), ["Jenkinsfile", "agents.json", "log", "program.dat", "program.lock"])
 
-    def test_a_stop_of_a_units_main_process_leaves_its_tasks_to_the_next_start(self):
+    def unit(self):
+        """The lines of the page's unit, with the names of this trial."""
         with open(f"{TOP}/docs/USING.md", encoding="utf-8") as page:
-            [words] = re.findall(r"^ExecStart=/bin/sh -c '(.*)'$", page.read(), re.M)
-        words = words.replace("./controller", PROGRAM).replace("DIR", self.folder)
-        self.build(f"node {{ sh {script('sleep 2', 'echo slept', 'exit 3')} }}")
-        # As systemd stops a unit with KillMode=process: SIGTERM for the process of ExecStart= alone.
-        unit = subprocess.Popen(["/bin/sh", "-c", words], cwd=TOP, stdin=subprocess.DEVNULL, stdout=subprocess.DEVNULL)
+            [lines] = re.findall(r"^```ini\n\[Service\]\n(.*?)^```$", page.read(), re.M | re.S)
+        for name, value in (("./controller", PROGRAM), ("DIR", "build"), ("/srv/controller", self.room), ("/srv", self.room)):
+            lines = lines.replace(name, value)
+        return dict(line.split("=", 1) for line in lines.splitlines())
+
+    def start_unit(self, unit):
+        """The main process of the unit, as systemd starts it, but for `Type=` and `User=`."""
+        kind, log = unit["StandardOutput"].split(":")
+        files = {"null": os.devnull}
+        with open(files[unit["StandardInput"]], "rb") as stdin, open(log, {"truncate": "wb", "append": "ab"}[kind]) as stdout:
+            words = shlex.split(unit["ExecStart"])
+            return subprocess.Popen(words, cwd=unit["WorkingDirectory"], stdin=stdin, stdout=stdout, start_new_session=True)
+
+    def test_a_unit_is_stopped_without_its_tasks_and_goes_on_with_them_at_the_next_start(self):
+        unit = self.unit()
+        self.build(f"node {{ sh {script('sleep 2', 'echo slept')} }}; input 'on?'")
+        process = self.start_unit(unit)
         self.wait_until(lambda: self.launches(), "a launch")
-        unit.terminate()
-        self.assertEqual(unit.wait(), -signal.SIGTERM)
-        again = subprocess.run(["/bin/sh", "-c", words], cwd=TOP, stdin=subprocess.DEVNULL, capture_output=True, check=False)
-        self.assertEqual((again.returncode, again.stdout.count(b"slept\n")), (1, 1), again.stderr)
+        self.assertEqual(unit["KillMode"], "process")
+        process.terminate()
+        self.assertEqual(process.wait(), -signal.SIGTERM)
+        # What the log of the stopped controller had is not kept.
+        self.put("shop.log", "an older log\n" * 100)
+        self.assertIn(self.start_unit(unit).wait(), map(int, unit["SuccessExitStatus"].split()))
+        log = self.ends("log", 0, "slept", "on?", "Proceed or Abort")
+        with open(f"{self.room}/shop.log", "rb") as kept:
+            self.assertEqual(kept.read(), log)
         self.assertEqual(len(self.launches()), 1)
+        self.assertEqual({*unit} - {"Type", "User"}, {"WorkingDirectory", "ExecStart", "StandardInput", "StandardOutput", "KillMode", "SuccessExitStatus"})
 
     def test_a_job_of_cron_beside_another_leaves_that_alone(self):
         self.build(f"node {{ sh {script('sleep 2', 'echo slept')} }}")
@@ -402,7 +422,8 @@ class Readers(Shell):
         self.build(f"node {{ sh '#!/bin/sh\\n{lines}'; sh 'exit 3' }}")
         controller = self.start("run")
         self.wait_until(lambda: self.ran("log")[1] == 0, "a store")
-        following = subprocess.Popen([f"{TOP}/tools/follow", "--program", PROGRAM, self.folder], stdout=subprocess.PIPE, bufsize=0)
+        # By the records alone: the program is not there.
+        following = subprocess.Popen([f"{TOP}/tools/follow", "--program", f"{self.room}/none", self.folder], stdout=subprocess.PIPE, bufsize=0)
         before_the_end = following.stdout.readline()
         self.assertIsNone(controller.poll())
         rest, _ = following.communicate(timeout=PATIENCE)
