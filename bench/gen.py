@@ -52,6 +52,16 @@ def generated(stages):
     return trial("", tasks, f"words controller gen {stages}")
 
 
+def looped(stages):
+    """The stages of `gen` in a loop: a build of the same records, whose script is short."""
+    script = (
+        f'total = 0\nseen = []\nfor (k in 1..{stages}) {{\n  stage("S${{k}}") {{\n    total = total + k\n    seen.add(total)\n'
+        '    echo "stage ${k} total ${total}"\n    node { sh "run ${k}" }\n  }\n}\necho "sum ${total} of ${seen.size()}"\n'
+    )
+    tasks = "".join(task(2 * k, 1, f"out {2 * k}\\n") for k in range(1, stages + 1))
+    return trial(script, tasks, "run")
+
+
 def many_outputs(outputs):
     """A build of so many steps, each of which gives an output of so many bytes that all together nearly fill the log."""
     lines = LOG * 9 // 10 // outputs // 64

@@ -1,6 +1,6 @@
 -- Worked examples of claims, over one open task, of executor 0: it is given to that executor; another one rests while no claim is open,
 -- and is idle while one is.
-use Rattle.std.proofs.Common.{◌≡◌, ◌<◌, false, List, [], ◌∷◌, None, refl, arith}
+use Rattle.std.proofs.Common.{false, List, [], ◌∷◌, refl, arith}
 use Rattle.agent_worker.specs.declared.gate.Claim.TheVariants as claim
 use Rattle.model_run.specs.declared.request.OpenRequest.{OpenRequest}
 use Rattle.model_run.specs.declared.request.Request.TheVariants.{Task}

@@ -1,5 +1,5 @@
 -- A site state between two asks.
-use Rattle.std.proofs.Common.{◌≡◌, ◌<◌, ℕ, Bool, true, false, List, [], ◌++◌, length, Option, Some, None, is_some, refl, sym, subst}
+use Rattle.std.proofs.Common.{arith, ◌≡◌, ◌+◌, ◌≤◌, ◌<◌, ℕ, Bool, true, false, List, [], ◌++◌, length, Option, Some, None, is_some, Result, Ok, Err, is_err, OnOk, refl, sym, subst}
 use Rattle.std.proofs.Props.{props}
 use Rattle.std.proofs.Math.Logic.{∥∥₁_map, ∥∥₁_elim}
 use Rattle.settle_laws.specs.Stances.{Stance}
@@ -31,6 +31,14 @@ settled_prop b f g = λ i request executor is accepted. bottom_prop (f request e
 pub is_none : (f : Option TakeFault) → is_some f ≡ false → f ≡ None
 is_none None is = refl
 is_none (Some f) is = absurd (cc)
+
+-- what a call says where it did not fail
+pub said_ok : {T E P : Type 0} (r : Result T E) → is_err r ≡ false → OnOk r P → P
+said_ok (Ok x) is said = said
+said_ok (Err e) is said = absurd (cc)
+
+pub at_least_one : {n m : ℕ} → n + 1 ≤ m → n < m
+at_least_one more = omega arith
 
 pub some_is : (f : Option TakeFault) → is_some f ≡ true → (kept : TakeFault) × (f ≡ Some kept)
 some_is None is = absurd (cc)

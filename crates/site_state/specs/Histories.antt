@@ -45,6 +45,14 @@ is_claimed task (Claimed executor claimed keep_out kept_log kept_out ∷ es) = n
 is_claimed task (Line line ∷ es) = is_claimed task es
 is_claimed task (Failed fault event ∷ es) = is_claimed task es
 
+-- the tasks that were claimed, in order
+abbrev pub claims : List Entry → List ℕ
+claims [] = []
+claims (Took e ∷ es) = claims es
+claims (Claimed executor task keep_out kept_log kept_out ∷ es) = task ∷ claims es
+claims (Line line ∷ es) = claims es
+claims (Failed fault event ∷ es) = claims es
+
 -- the lines that were heard
 abbrev pub lines : List Entry → List (List ℕ)
 lines [] = []
@@ -56,3 +64,8 @@ lines (Failed fault event ∷ es) = lines es
 -- entries that tell of no event and of no fault
 abbrev pub Quiet : List Entry → Type 0
 Quiet es = (tooks es ≡ []) × (kept_fault es ≡ None)
+
+-- What contracts see of a history: its entries, and for how many it has memory.
+pub record Past : Type 0 where
+  pub items : List Entry
+  pub capacity : ℕ

@@ -1,12 +1,14 @@
 //! Claims of tasks, and what is open.
-ghost use Rattle.std.specs.Prelude.{◌≡◌, ◌<◌, ◌++◌, List, length, vec_capacity, MatchOption, None, Some, IfOk, true, false};
+ghost use Rattle.std.specs.Prelude.{◌≡◌, ◌<◌, ◌++◌, List, length, MatchOption, None, Some, IfOk, true, false};
 ghost use Rattle.durable_build.specs.Lower.build_core.Phases.{has_ended};
 ghost use Rattle.build_requests.specs.Waiting.{waiting_inputs, open_tasks};
 ghost use Rattle.model_run.specs.Taking.{is_task};
-ghost use Rattle.site_state.specs.Histories.{is_claimed, Quiet};
+ghost use Rattle.site_state.specs.Histories.{Quiet};
+ghost use Rattle.site_state.specs.declared.ask.Entry.{Entry};
 ghost use Rattle.site_state.specs.Claims.{is_task_of, is_free, is_busy, first_free, order_as, busy_of, within_u32, ClaimSays};
 
-use crate::ask::{Entry, History, Progress};
+use crate::ask::Progress;
+use crate::indexed::IndexedHistory;
 use agent_worker::{Claim, Inputs};
 use durable_build::build_core::Build;
 use durable_build::script_thread::ScriptThread;
@@ -14,20 +16,6 @@ use model_run::{OpenRequest, Request};
 use model_text::Bytes;
 use std::alloc::{AllocError, Global};
 use task_host::Order;
-
-/// Whether this task was claimed.
-fn is_claimed(history: &[Entry], task: u32) -> bool
-    ensures { result ≡ is_claimed task history.now }
-{
-    for entry in history {
-        if let Entry::Claimed { task: claimed, .. } = entry {
-            if *claimed == task {
-                return true;
-            }
-        }
-    }
-    false
-}
 
 /// Whether it is a task of this executor.
 fn is_task_of(executor: u32, request: &Request) -> bool
@@ -50,26 +38,26 @@ fn is_task(request: &Request) -> bool
 }
 
 /// Whether it is a task of this executor that was not claimed.
-fn is_free(history: &[Entry], executor: u32, request: &OpenRequest) -> bool
-    ensures { result ≡ is_free history.now executor request.now }
+fn is_free(history: &IndexedHistory, executor: u32, request: &OpenRequest) -> bool
+    ensures { result ≡ is_free history.now.items executor request.now }
 {
-    is_task_of(executor, &request.request) && !is_claimed(history, request.number)
+    is_task_of(executor, &request.request) && !history.is_claimed(request.number)
 }
 
 /// Whether it is a task that was claimed.
-fn is_busy(history: &[Entry], request: &OpenRequest) -> bool
-    ensures { result ≡ is_busy history.now request.now }
+fn is_busy(history: &IndexedHistory, request: &OpenRequest) -> bool
+    ensures { result ≡ is_busy history.now.items request.now }
 {
-    is_task(&request.request) && is_claimed(history, request.number)
+    is_task(&request.request) && history.is_claimed(request.number)
 }
 
 /// The first open task of this executor that was not claimed.
 fn first_free<'a>(
     requests: &'a [OpenRequest],
-    history: &[Entry],
+    history: &IndexedHistory,
     executor: u32,
 ) -> Option<&'a OpenRequest>
-    ensures { MatchOption result (first_free history.now executor requests.now ≡ None) (λ r. first_free history.now executor requests.now ≡ Some r.now) }
+    ensures { MatchOption result (first_free history.now.items executor requests.now ≡ None) (λ r. first_free history.now.items executor requests.now ≡ Some r.now) }
 {
     for request in requests {
         if is_free(history, executor, request) {
@@ -80,8 +68,8 @@ fn first_free<'a>(
 }
 
 /// How many claims are open.
-fn busy_count(requests: &[OpenRequest], history: &[Entry]) -> u32
-    ensures { result ≡ busy_of history.now requests.now }
+fn busy_count(requests: &[OpenRequest], history: &IndexedHistory) -> u32
+    ensures { result ≡ busy_of history.now.items requests.now }
 {
     let mut count: u32 = 0;
     for request in requests {
@@ -132,37 +120,35 @@ fn order_for(alloc: Global, request: &OpenRequest) -> Result<Option<Order>, Allo
 /// Notes the claim of a task, and makes its order.
 fn give(
     alloc: Global,
-    history: &mut History,
+    history: &mut IndexedHistory,
     requests: &[OpenRequest],
     executor: u32,
     request: &OpenRequest,
 ) -> Claim
-    requires room { length history.old.items < vec_capacity history.old }
+    requires room { length history.old.items < history.old.capacity }
     requires first { first_free history.old.items executor requests.now ≡ Some request.now }
     ensures says { (es : List Entry) × (history.new.items ≡ history.old.items ++ es) × Quiet es × ClaimSays requests.now history.old.items executor result es }
-    ensures room { length history.new.items < vec_capacity history.new }
+    ensures room { length history.new.items < history.new.capacity }
 {
-    if history.reserve(2).is_err() {
-        return Claim::Memory;
-    }
     let Ok(Some(order)) = order_for(alloc, request) else {
         return Claim::Memory;
     };
-    history.push_reserved(Entry::Claimed {
-        executor,
-        task: request.number,
-        keep_out: order.keep_out,
-        kept_log: order.kept_log,
-        kept_out: order.kept_out,
-    });
+    if history.push_claim(executor, &order).is_err() {
+        return Claim::Memory;
+    }
     Claim::Order(order)
 }
 
 /// Claims the first open task of an executor that was not claimed.
-pub fn claim(alloc: Global, requests: &[OpenRequest], history: &mut History, executor: u32) -> Claim
-    requires room { length history.old.items < vec_capacity history.old }
+pub fn claim(
+    alloc: Global,
+    requests: &[OpenRequest],
+    history: &mut IndexedHistory,
+    executor: u32,
+) -> Claim
+    requires room { length history.old.items < history.old.capacity }
     ensures says { (es : List Entry) × (history.new.items ≡ history.old.items ++ es) × Quiet es × ClaimSays requests.now history.old.items executor result es }
-    ensures room { length history.new.items < vec_capacity history.new }
+    ensures room { length history.new.items < history.new.capacity }
 {
     match first_free(requests, history, executor) {
         Some(request) => give(alloc, history, requests, executor, request),
@@ -177,9 +163,9 @@ pub fn claim(alloc: Global, requests: &[OpenRequest], history: &mut History, exe
 }
 
 /// How many inputs and how many claims are open.
-pub fn inputs<R: ScriptThread + Drop>(build: &Build<R>, history: &[Entry]) -> Inputs
+pub fn inputs<R: ScriptThread + Drop>(build: &Build<R>, history: &IndexedHistory) -> Inputs
     ensures waiting { result.waiting ≡ within_u32 (waiting_inputs build.now.shared.requests) }
-    ensures busy { result.busy ≡ busy_of history.now build.now.shared.requests }
+    ensures busy { result.busy ≡ busy_of history.now.items build.now.shared.requests }
 {
     Inputs {
         waiting: within_u32(build.waiting_inputs()),

@@ -1,5 +1,5 @@
 //! An answer line, heard and decided in one step.
-ghost use Rattle.std.specs.Prelude.{◌≡◌, ◌<◌, ◌+◌, ◌++◌, List, length, vec_capacity, OnOk, None, IfOk, MatchOption, true, false};
+ghost use Rattle.std.specs.Prelude.{◌≡◌, ◌<◌, ◌+◌, ◌++◌, List, length, OnOk, None, IfOk, MatchOption, true, false};
 ghost use Rattle.durable_build.specs.Lower.build_core.Phases.{has_begun};
 ghost use Rattle.durable_build.specs.Standing.{Kept};
 ghost use Rattle.site_state.specs.Facts.{Facts};
@@ -8,7 +8,8 @@ ghost use Rattle.site_state.specs.Histories.{kept_fault};
 ghost use Rattle.site_state.specs.Showing.{IsSettled};
 ghost use Rattle.site_state.specs.Steps.{OneSays};
 
-use crate::ask::{Entry, History};
+use crate::ask::Entry;
+use crate::indexed::IndexedHistory;
 use crate::taking::{grant_all, note, note_want};
 use agent_worker::{Heard, TakeFault, answer_of};
 use durable_build::DurableBuild;
@@ -47,14 +48,19 @@ fn decision_in<R: ScriptThread + Drop>(
 }
 
 /// Notes a line and the answer to its decision, where there is room for two entries.
-fn note_line(history: &mut History, line: Bytes, event: Event, answer: Result<Taken, TakeFault>)
-    requires { length history.old.items + 1 < vec_capacity history.old }
+fn note_line(
+    history: &mut IndexedHistory,
+    line: Bytes,
+    event: Event,
+    answer: Result<Taken, TakeFault>,
+)
+    requires { length history.old.items + 1 < history.old.capacity }
     ensures noted { history.new.items ≡ history.old.items ++ noted_line line event answer }
-    ensures room { vec_capacity history.new ≡ vec_capacity history.old }
+    ensures room { history.new.capacity ≡ history.old.capacity }
 {
     match answer {
         Ok(taken) => {
-            history.push_reserved(Entry::Line(line));
+            history.push(Entry::Line(line));
             note(history, event, Ok(taken));
         }
         Err(fault) => note(history, event, Err(fault)),
@@ -65,7 +71,7 @@ fn note_line(history: &mut History, line: Bytes, event: Event, answer: Result<Ta
 fn decide_one<D: Disk, R: SavedThread + Drop>(
     alloc: Global,
     durable: &mut DurableBuild<D, R>,
-    history: &mut History,
+    history: &mut IndexedHistory,
     line: Bytes,
     event: Event,
 ) -> Result<Taken, TakeFault>
@@ -73,8 +79,8 @@ fn decide_one<D: Disk, R: SavedThread + Drop>(
     requires begun { has_begun durable.old.build.phase ≡ true }
     requires settled { IsSettled durable.old.build }
     requires none { kept_fault history.old.items ≡ None }
-    requires room { length history.old.items < vec_capacity history.old }
-    ensures room { OnOk result (length history.new.items < vec_capacity history.new) }
+    requires room { length history.old.items < history.old.capacity }
+    ensures room { OnOk result (length history.new.items < history.new.capacity) }
     ensures noted { history.new.items ≡ history.old.items ++ noted_line line event result }
     ensures says { OneSays R.stance durable.old durable.new event result }
     ensures facts { (opening : Kept D R) → Facts D.reads D.may_leave D.clock D.may_have_left_since D.faults R.stance opening durable.old history.old.items
@@ -93,7 +99,7 @@ fn decide_one<D: Disk, R: SavedThread + Drop>(
 fn decide<D: Disk, R: SavedThread + Drop>(
     alloc: Global,
     durable: &mut DurableBuild<D, R>,
-    history: &mut History,
+    history: &mut IndexedHistory,
     line: Bytes,
     request: u32,
     event: Event,
@@ -103,9 +109,9 @@ fn decide<D: Disk, R: SavedThread + Drop>(
     requires begun { has_begun durable.old.build.phase ≡ true }
     requires settled { IsSettled durable.old.build }
     requires none { kept_fault history.old.items ≡ None }
-    requires room { length history.old.items < vec_capacity history.old }
+    requires room { length history.old.items < history.old.capacity }
     ensures says { (es : List Entry) × (history.new.items ≡ history.old.items ++ es) × AnswerSays R.stance durable.old.build line result es }
-    ensures room { kept_fault history.new.items ≡ None → length history.new.items < vec_capacity history.new }
+    ensures room { kept_fault history.new.items ≡ None → length history.new.items < history.new.capacity }
     ensures settled { kept_fault history.new.items ≡ None → IsSettled durable.new.build }
     ensures facts { (opening : Kept D R) → Facts D.reads D.may_leave D.clock D.may_have_left_since D.faults R.stance opening durable.old history.old.items
         → Facts D.reads D.may_leave D.clock D.may_have_left_since D.faults R.stance opening durable.new history.new.items }
@@ -123,16 +129,16 @@ fn decide<D: Disk, R: SavedThread + Drop>(
 }
 
 /// Passes over a line.
-fn skip(history: &mut History, line: Bytes) -> Result<Heard, TakeFault>
-    requires room { length history.old.items < vec_capacity history.old }
+fn skip(history: &mut IndexedHistory, line: Bytes) -> Result<Heard, TakeFault>
+    requires room { length history.old.items < history.old.capacity }
     ensures says { SkipSays line result history.old.items history.new.items }
-    ensures room { OnOk result (length history.new.items < vec_capacity history.new) }
+    ensures room { OnOk result (length history.new.items < history.new.capacity) }
 {
     if history.reserve(2).is_err() {
         note_want(history);
         return Err(TakeFault::Memory);
     }
-    history.push_reserved(Entry::Line(line));
+    history.push(Entry::Line(line));
     Ok(Heard::Skipped)
 }
 
@@ -140,16 +146,16 @@ fn skip(history: &mut History, line: Bytes) -> Result<Heard, TakeFault>
 pub fn hear<D: Disk, R: SavedThread + Drop>(
     alloc: Global,
     durable: &mut DurableBuild<D, R>,
-    history: &mut History,
+    history: &mut IndexedHistory,
     line: Bytes,
 ) -> Result<Heard, TakeFault>
     requires running { durable.old.stopped ≡ false }
     requires begun { has_begun durable.old.build.phase ≡ true }
     requires settled { IsSettled durable.old.build }
     requires none { kept_fault history.old.items ≡ None }
-    requires room { length history.old.items < vec_capacity history.old }
+    requires room { length history.old.items < history.old.capacity }
     ensures says { (es : List Entry) × (history.new.items ≡ history.old.items ++ es) × AnswerSays R.stance durable.old.build line result es }
-    ensures room { kept_fault history.new.items ≡ None → length history.new.items < vec_capacity history.new }
+    ensures room { kept_fault history.new.items ≡ None → length history.new.items < history.new.capacity }
     ensures settled { kept_fault history.new.items ≡ None → IsSettled durable.new.build }
     ensures facts { (opening : Kept D R) → Facts D.reads D.may_leave D.clock D.may_have_left_since D.faults R.stance opening durable.old history.old.items
         → Facts D.reads D.may_leave D.clock D.may_have_left_since D.faults R.stance opening durable.new history.new.items }

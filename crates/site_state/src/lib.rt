@@ -19,6 +19,7 @@
 mod ask;
 mod claims;
 mod hearing;
+mod indexed;
 mod site;
 mod taking;
 

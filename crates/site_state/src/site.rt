@@ -1,5 +1,5 @@
 //! The state of one life of a saved build.
-ghost use Rattle.std.specs.Prelude.{◌≡◌, ◌++◌, [], ◌∷◌, List, ℕ, length, vec_capacity, true, false, is_some, None, Some, IfOk, IfErr};
+ghost use Rattle.std.specs.Prelude.{◌≡◌, ◌++◌, [], ◌∷◌, List, ℕ, length, true, false, is_some, None, Some, IfOk, IfErr};
 ghost use Rattle.durable_build.specs.Lower.build_core.Builds.{setting_in};
 ghost use Rattle.durable_build.specs.Lower.build_core.Phases.{has_begun};
 ghost use Rattle.durable_build.specs.Lower.build_images.Images.{image_in};
@@ -12,6 +12,7 @@ ghost use Rattle.site_state.specs.Says.{stopped_reply};
 use crate::ask::{Ask, Entry, History, Progress, Reply};
 use crate::claims::{claim, inputs, progress};
 use crate::hearing::hear;
+use crate::indexed::IndexedHistory;
 use crate::taking::{grant_all, note_want, take_all};
 use agent_worker::{Claim, Inputs, TakeFault};
 use durable_build::DurableBuild;
@@ -30,8 +31,8 @@ pub struct SiteState<D: Disk, R: SavedThread + Drop> {
     alloc: Global,
     durable: DurableBuild<D, R>,
     base: Snapshot<DurableBuild<D, R>>,
-    history: History,
-    ghost stands: { ∥ IsSite D.reads D.may_leave D.clock D.may_have_left_since D.faults R.stance base.value durable history.items (vec_capacity history) ∥₁ },
+    history: IndexedHistory,
+    ghost stands: { ∥ IsSite D.reads D.may_leave D.clock D.may_have_left_since D.faults R.stance base.value durable history.items history.capacity ∥₁ },
 }
 
 impl<D: Disk, R: SavedThread + Drop> SiteState<D, R> {
@@ -57,16 +58,16 @@ impl<D: Disk, R: SavedThread + Drop> SiteState<D, R> {
             × Facts D.reads D.may_leave D.clock D.may_have_left_since D.faults R.stance durable now made × (e.1 ≡ now.journal.disk)) }
     {
         let mut durable = durable;
-        let mut made: History = Vec::new(alloc);
+        let mut made = IndexedHistory::new(alloc);
         if made.reserve(1).is_err() {
             return Err((TakeFault::Memory, durable.close()));
         }
-        let mut history: History = Vec::new(alloc);
+        let mut history = IndexedHistory::new(alloc);
         if history.reserve(1).is_err() {
             return Err((TakeFault::Memory, durable.close()));
         }
         grant_all(alloc, &mut durable, &mut made);
-        if let Some(fault) = first_fault(&made) {
+        if let Some(fault) = made.fault() {
             return Err((fault, durable.close()));
         }
         let base = Snapshot::of(&durable);
@@ -84,7 +85,7 @@ impl<D: Disk, R: SavedThread + Drop> SiteState<D, R> {
         ensures build { result.now ≡ self.now.durable.build }
         ensures whole { self.now.durable.stopped ≡ false → has_begun self.now.durable.build.phase ≡ true
             → IsWhole (setting_in self.now.durable.build) (image_in R.stance self.now.durable.build) }
-        ensures known { ∥ IsSite D.reads D.may_leave D.clock D.may_have_left_since D.faults R.stance self.now.base.value self.now.durable self.now.history.items (vec_capacity self.now.history) ∥₁ }
+        ensures known { ∥ IsSite D.reads D.may_leave D.clock D.may_have_left_since D.faults R.stance self.now.base.value self.now.durable self.now.history.items self.now.history.capacity ∥₁ }
     {
         self.durable.build()
     }
@@ -101,21 +102,21 @@ impl<D: Disk, R: SavedThread + Drop> SiteState<D, R> {
     pub fn history(&self) -> &[Entry]
         ensures { result.now ≡ self.now.history.items }
     {
-        self.history.as_slice()
+        self.history.entries()
     }
 
     /// The fault that stopped it.
     pub fn fault(&self) -> Option<TakeFault>
         ensures { result ≡ kept_fault self.now.history.items }
     {
-        first_fault(&self.history)
+        self.history.fault()
     }
 
     /// The disk, and what happened since the opening. What was known of the state is known of them.
     pub fn close(self) -> (D, History)
         ensures disk { result.0 ≡ self.durable.journal.disk }
         ensures history { result.1.items ≡ self.history.items }
-        ensures known { ∥ IsSite D.reads D.may_leave D.clock D.may_have_left_since D.faults R.stance self.base.value self.durable self.history.items (vec_capacity self.history) ∥₁ }
+        ensures known { ∥ IsSite D.reads D.may_leave D.clock D.may_have_left_since D.faults R.stance self.base.value self.durable self.history.items self.history.capacity ∥₁ }
     {
         let SiteState {
             alloc: _,
@@ -123,27 +124,8 @@ impl<D: Disk, R: SavedThread + Drop> SiteState<D, R> {
             base: _,
             history,
         } = self;
-        (durable.close(), history)
+        (durable.close(), history.into_entries())
     }
-}
-
-/// The fault that is kept.
-fn first_fault(history: &[Entry]) -> Option<TakeFault>
-    ensures { result ≡ kept_fault history.now }
-{
-    for entry in history {
-        if let Entry::Failed { fault, .. } = entry {
-            return Some(*fault);
-        }
-    }
-    None
-}
-
-/// Whether a fault is kept.
-fn has_fault(history: &[Entry]) -> bool
-    ensures { result ≡ is_some (kept_fault history.now) }
-{
-    first_fault(history).is_some()
 }
 
 /// What is said to an ask where a fault is kept.
@@ -186,7 +168,7 @@ impl<D: Disk, R: SavedThread + Drop> Stepped for SiteState<D, R> {
     ghost answers = { λ base history ask reply new. Says R.stance base.value.build history ask reply new };
 
     fn step(&mut self, ask: Ask) -> Reply {
-        if has_fault(&self.history) {
+        if self.history.fault().is_some() {
             return stopped(ask);
         }
         match ask {
@@ -218,6 +200,6 @@ impl<D: Disk, R: SavedThread + Drop> Stepped for SiteState<D, R> {
     }
 
     fn len(&self) -> u64 {
-        self.history.len() as u64
+        self.history.entries().len() as u64
     }
 }

@@ -1,5 +1,5 @@
 //! A take and the grants behind it.
-ghost use Rattle.std.specs.Prelude.{◌≡◌, ◌⊎◌, ◌<◌, ◌++◌, ◌∷◌, [], List, length, vec_capacity, OnOk, None, true, false};
+ghost use Rattle.std.specs.Prelude.{◌≡◌, ◌⊎◌, ◌<◌, ◌++◌, ◌∷◌, [], List, length, OnOk, None, true, false};
 ghost use Rattle.durable_build.specs.Lower.build_core.Phases.{has_begun};
 ghost use Rattle.durable_build.specs.Lower.store_laws.Store.{grant_of};
 ghost use Rattle.durable_build.specs.Standing.{Kept};
@@ -9,7 +9,8 @@ ghost use Rattle.site_state.specs.Histories.{kept_fault};
 ghost use Rattle.site_state.specs.Showing.{due, IsSettled};
 ghost use Rattle.site_state.specs.Steps.{GrantSays, OneSays};
 
-use crate::ask::{Entry, History};
+use crate::ask::Entry;
+use crate::indexed::IndexedHistory;
 use agent_worker::TakeFault;
 use durable_build::DurableBuild;
 use durable_build::saved_thread::SavedThread;
@@ -18,19 +19,19 @@ use model_run::{Event, Taken};
 use std::alloc::{AllocError, Global};
 
 /// Notes the answer to an event, where there is room for one entry.
-pub fn note(history: &mut History, event: Event, answer: Result<Taken, TakeFault>)
-    requires { length history.old.items < vec_capacity history.old }
+pub fn note(history: &mut IndexedHistory, event: Event, answer: Result<Taken, TakeFault>)
+    requires { length history.old.items < history.old.capacity }
     ensures noted { history.new.items ≡ history.old.items ++ noted event answer }
-    ensures room { vec_capacity history.new ≡ vec_capacity history.old }
+    ensures room { history.new.capacity ≡ history.old.capacity }
 {
     match answer {
-        Ok(Taken::Accepted) => history.push_reserved(Entry::Took(event)),
+        Ok(Taken::Accepted) => history.push(Entry::Took(event)),
         Ok(_) | Err(TakeFault::Stopped) => {}
-        Err(TakeFault::Memory) => history.push_reserved(Entry::Failed {
+        Err(TakeFault::Memory) => history.push(Entry::Failed {
             fault: TakeFault::Memory,
             event: None,
         }),
-        Err(fault) => history.push_reserved(Entry::Failed {
+        Err(fault) => history.push(Entry::Failed {
             fault,
             event: Some(event),
         }),
@@ -41,15 +42,15 @@ pub fn note(history: &mut History, event: Event, answer: Result<Taken, TakeFault
 pub fn take_one<D: Disk, R: SavedThread + Drop>(
     alloc: Global,
     durable: &mut DurableBuild<D, R>,
-    history: &mut History,
+    history: &mut IndexedHistory,
     event: Event,
 ) -> Result<Taken, TakeFault>
     requires running { durable.old.stopped ≡ false }
     requires begun { has_begun durable.old.build.phase ≡ true }
     requires in_order { (due durable.old.build ≡ grant_of event) ⊎ IsSettled durable.old.build }
     requires none { kept_fault history.old.items ≡ None }
-    requires room { length history.old.items < vec_capacity history.old }
-    ensures room { OnOk result (length history.new.items < vec_capacity history.new) }
+    requires room { length history.old.items < history.old.capacity }
+    ensures room { OnOk result (length history.new.items < history.new.capacity) }
     ensures noted { history.new.items ≡ history.old.items ++ noted event result }
     ensures says { OneSays R.stance durable.old durable.new event result }
     ensures facts { (opening : Kept D R) → Facts D.reads D.may_leave D.clock D.may_have_left_since D.faults R.stance opening durable.old history.old.items
@@ -68,7 +69,7 @@ pub fn take_one<D: Disk, R: SavedThread + Drop>(
 fn grant<D: Disk, R: SavedThread + Drop>(
     alloc: Global,
     durable: &mut DurableBuild<D, R>,
-    history: &mut History,
+    history: &mut IndexedHistory,
     request: u32,
     executor: u32,
 ) -> Result<bool, TakeFault>
@@ -76,9 +77,9 @@ fn grant<D: Disk, R: SavedThread + Drop>(
     requires running { durable.old.stopped ≡ false }
     requires begun { has_begun durable.old.build.phase ≡ true }
     requires none { kept_fault history.old.items ≡ None }
-    requires room { length history.old.items < vec_capacity history.old }
+    requires room { length history.old.items < history.old.capacity }
     ensures says { GrantSays R.stance durable.old durable.new history.old.items history.new.items result }
-    ensures room { OnOk result (length history.new.items < vec_capacity history.new) }
+    ensures room { OnOk result (length history.new.items < history.new.capacity) }
     ensures facts { (opening : Kept D R) → Facts D.reads D.may_leave D.clock D.may_have_left_since D.faults R.stance opening durable.old history.old.items
         → Facts D.reads D.may_leave D.clock D.may_have_left_since D.faults R.stance opening durable.new history.new.items }
 {
@@ -97,14 +98,14 @@ fn grant<D: Disk, R: SavedThread + Drop>(
 fn grant_one<D: Disk, R: SavedThread + Drop>(
     alloc: Global,
     durable: &mut DurableBuild<D, R>,
-    history: &mut History,
+    history: &mut IndexedHistory,
 ) -> Result<bool, TakeFault>
     requires running { durable.old.stopped ≡ false }
     requires begun { has_begun durable.old.build.phase ≡ true }
     requires none { kept_fault history.old.items ≡ None }
-    requires room { length history.old.items < vec_capacity history.old }
+    requires room { length history.old.items < history.old.capacity }
     ensures says { GrantSays R.stance durable.old durable.new history.old.items history.new.items result }
-    ensures room { OnOk result (length history.new.items < vec_capacity history.new) }
+    ensures room { OnOk result (length history.new.items < history.new.capacity) }
     ensures facts { (opening : Kept D R) → Facts D.reads D.may_leave D.clock D.may_have_left_since D.faults R.stance opening durable.old history.old.items
         → Facts D.reads D.may_leave D.clock D.may_have_left_since D.faults R.stance opening durable.new history.new.items }
 {
@@ -119,11 +120,11 @@ fn grant_one<D: Disk, R: SavedThread + Drop>(
 }
 
 /// Notes want of memory, where there is room for one entry.
-pub fn note_want(history: &mut History)
-    requires { length history.old.items < vec_capacity history.old }
+pub fn note_want(history: &mut IndexedHistory)
+    requires { length history.old.items < history.old.capacity }
     ensures { history.new.items ≡ history.old.items ++ Entry.Failed TakeFault.Memory None ∷ [] }
 {
-    history.push_reserved(Entry::Failed {
+    history.push(Entry::Failed {
         fault: TakeFault::Memory,
         event: None,
     });
@@ -133,14 +134,14 @@ pub fn note_want(history: &mut History)
 pub fn grant_all<D: Disk, R: SavedThread + Drop>(
     alloc: Global,
     durable: &mut DurableBuild<D, R>,
-    history: &mut History,
+    history: &mut IndexedHistory,
 )
     requires running { durable.old.stopped ≡ false }
     requires begun { has_begun durable.old.build.phase ≡ true }
     requires none { kept_fault history.old.items ≡ None }
-    requires room { length history.old.items < vec_capacity history.old }
+    requires room { length history.old.items < history.old.capacity }
     ensures grants { (es : List Entry) × (history.new.items ≡ history.old.items ++ es) × Grants R.stance durable.old.build es }
-    ensures room { kept_fault history.new.items ≡ None → length history.new.items < vec_capacity history.new }
+    ensures room { kept_fault history.new.items ≡ None → length history.new.items < history.new.capacity }
     ensures settled { kept_fault history.new.items ≡ None → IsSettled durable.new.build }
     ensures facts { (opening : Kept D R) → Facts D.reads D.may_leave D.clock D.may_have_left_since D.faults R.stance opening durable.old history.old.items
         → Facts D.reads D.may_leave D.clock D.may_have_left_since D.faults R.stance opening durable.new history.new.items }
@@ -152,16 +153,16 @@ pub fn grant_all<D: Disk, R: SavedThread + Drop>(
 pub fn take_all<D: Disk, R: SavedThread + Drop>(
     alloc: Global,
     durable: &mut DurableBuild<D, R>,
-    history: &mut History,
+    history: &mut IndexedHistory,
     event: Event,
 ) -> Result<Taken, TakeFault>
     requires running { durable.old.stopped ≡ false }
     requires begun { has_begun durable.old.build.phase ≡ true }
     requires settled { IsSettled durable.old.build }
     requires none { kept_fault history.old.items ≡ None }
-    requires room { length history.old.items < vec_capacity history.old }
+    requires room { length history.old.items < history.old.capacity }
     ensures says { (es : List Entry) × (history.new.items ≡ history.old.items ++ es) × TakeSays R.stance durable.old.build event result es }
-    ensures room { kept_fault history.new.items ≡ None → length history.new.items < vec_capacity history.new }
+    ensures room { kept_fault history.new.items ≡ None → length history.new.items < history.new.capacity }
     ensures settled { kept_fault history.new.items ≡ None → IsSettled durable.new.build }
     ensures facts { (opening : Kept D R) → Facts D.reads D.may_leave D.clock D.may_have_left_since D.faults R.stance opening durable.old history.old.items
         → Facts D.reads D.may_leave D.clock D.may_have_left_since D.faults R.stance opening durable.new history.new.items }

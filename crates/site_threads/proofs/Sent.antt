@@ -67,6 +67,8 @@ use Rattle.program_lock.specs.contracts.program.Program as Program
 use Rattle.std.specs.contracts.option.Option as Option
 use Rattle.std.specs.contracts.snapshot.Snapshot as Snapshot
 use Rattle.site_threads.specs.contracts.seat.Seat as Seat
+use Rattle.site_life.specs.Lower.site_state.contracts.indexed.IndexedHistory as IndexedHistory
+use Rattle.site_life.specs.Lower.site_state.contracts.indexed.IndexedHistory.TheInside as HistoryInside
 use Rattle.site_life.specs.Lower.site_state.contracts.site.SiteState as SiteState
 
 pub text_send : IsSend Text.the_row
@@ -237,6 +239,9 @@ event_send = search (sendable, crosses) depth 40
 pub entry_send : IsSend Event.the_row → IsSend Entry.the_row
 entry_send e = search (sendable, crosses) depth 40
 
+pub history_send : IsSend Entry.the_row → IsSend IndexedHistory.the_row
+history_send e = view_send _ _ _ _ _ (declared_send HistoryInside.the_type (search (sendable, crosses) depth 30, (search (sendable, crosses) depth 20, (search (sendable, crosses) depth 20, tt))))
+
 module _ (R : RattleType) (gs : ScriptThread.Ghosts R.Denot) (gr : Runner.Ghosts R.Denot SharedValue.Shared) (r : IsSend R) where
   pub seated_send : IsSend (Seated.the_row R)
   seated_send = search (sendable, crosses) depth 40 fits 100000
@@ -255,8 +260,8 @@ module _ (D R : RattleType) (gd : Disk.Ghosts D.Denot) (gs : ScriptThread.Ghosts
   durable_send j b l = view_send _ _ _ _ _ (declared_send (DurableInside.the_type D R gd gs gr)
       (j, (b, (search (sendable, crosses) depth 30, (search (sendable, crosses) depth 30, (l, (search (sendable, crosses) depth 20, (search (sendable, crosses) depth 20, tt))))))))
 
-  pub state_send : IsSend Entry.the_row → IsSend (DurableBuild.the_row D R gd gs gr) → IsSend (SiteState.the_row D R gd gs gr)
-  state_send e d = declared_send (SiteState.the_type D R gd gs gr) (search (sendable, crosses) depth 20, (d, (search (sendable, crosses) depth 30, (search (sendable, crosses) depth 30, tt))))
+  pub state_send : IsSend IndexedHistory.the_row → IsSend (DurableBuild.the_row D R gd gs gr) → IsSend (SiteState.the_row D R gd gs gr)
+  state_send h d = declared_send (SiteState.the_type D R gd gs gr) (search (sendable, crosses) depth 20, (d, (search (sendable, crosses) depth 30, (h, tt))))
 
 -- a program may be shared and a pass may go to another thread, where the state may
 module _ (S A E R B : RattleType) where
@@ -287,7 +292,7 @@ module _ (a : NamedLft) (W D R H A : RattleType) (gd : Disk.Ghosts D.Denot) (gs 
       let cell : IsSend Cell.the_row = cell_send binding in
       let shared : IsSend Shared.the_row = shared_send (code_send (row_send form_send)) site_send (heap_send cell) binding_send (graph_send flow_send) log_send request_send in
       let last : IsSend Last.the_row = last_send (image_send binding_send cell flow_send request_send held_send (image_thread_send (image_frame_send binding))) in
-      state_send D R gd gs gr (entry_send event_send)
+      state_send D R gd gs gr (history_send (entry_send event_send))
       (durable_send D R gd gs gr (journal_send D R gd gs gr d) (build_send R gs gr r shared (group_send R gs gr r (seated_send R gs gr r))) last)
 
   pass_some : IsSend (PassOf.the_row State Entry.the_row Base) → IsSend (Option.the_row (PassOf.the_row State Entry.the_row Base))

@@ -1,4 +1,4 @@
-use Rattle.std.proofs.Common.{◌≡◌, ◌<◌, ◌++◌, ◌+◌, ◌-◌, ◌^◌, List, length, vec_capacity, None, true, false}
+use Rattle.std.proofs.Common.{◌≡◌, ◌<◌, ◌++◌, ◌+◌, ◌-◌, ◌^◌, List, length, None, true, false}
 use Rattle.durable_build.specs.Lower.build_core.Phases.{has_begun}
 use Rattle.durable_build.specs.Standing.{Kept}
 use Rattle.site_state.specs.declared.ask.Entry.{Entry}
@@ -12,7 +12,7 @@ invariant-loop g l = record {
   running : l.durable.stopped ≡ false;
   begun : has_begun l.durable.build.phase ≡ true;
   none : kept_fault l.history.items ≡ None;
-  room : length l.history.items < vec_capacity l.history;
+  room : length l.history.items < l.history.capacity;
   onward : (es : List Entry) × (l.history.items ≡ l.fn.history.items ++ es)
       × ((more : List Entry) → Grants g.R.ScriptThread.stance l.durable.build more → Grants g.R.ScriptThread.stance l.fn.durable.build (es ++ more));
   facts : (opening : Kept g.row.D.Denot g.row.R.Denot) → Facts g.D.Disk.reads g.D.Disk.may_leave g.D.Disk.clock g.D.Disk.may_have_left_since g.D.Disk.faults g.R.ScriptThread.stance opening l.fn.durable l.fn.history.items

@@ -1,10 +1,9 @@
-use Rattle.std.proofs.Common.{◌≡◌, ◌∙◌, ◌<◌, [], List, length, vec_capacity, arith, None, Some, inl, inr, refl, sym, ap, subst}
-use Rattle.std.proofs.lemmas.Grind.{common_steps}
+use Rattle.std.proofs.Common.{◌≡◌, ◌∙◌, ◌<◌, [], List, length, None, Some, inl, inr, refl, sym, ap, subst}
 use Rattle.site_state.specs.declared.ask.Entry.{Entry}
 use Rattle.site_state.specs.Histories.{kept_fault}
 use Rattle.site_state.specs.Facts.{Facts}
 use Rattle.site_state.proofs.FactLaws.{facts_start}
-use Rattle.site_state.proofs.SiteLaws.{only_new, site_begins}
+use Rattle.site_state.proofs.SiteLaws.{at_least_one, only_new, said_ok, site_begins}
 use Rattle.site_state.proofs.site.SiteState.open.Goals as goal
 
 pub returns-then-is_err-clause-refused : goal.returns-then-is_err-clause-refused
@@ -25,7 +24,7 @@ returns-in-Some-clause-refused g c =
     let is = only_new c.reserve.new.self.items says.0 c.grant_all.new.history.items none says.1 in
     let made = c.grant_all.ensures.facts c.args.durable (subst (λ (es : List Entry). Facts D.reads D.may_leave D.clock D.may_have_left_since D.faults g.R.ScriptThread.stance c.args.durable c.args.durable es) (sym none) start) in
     let facts = subst (λ (es : List Entry). Facts D.reads D.may_leave D.clock D.may_have_left_since D.faults g.R.ScriptThread.stance c.args.durable c.grant_all.new.durable es) is made in
-    let kept : kept_fault c.grant_all.new.history.items ≡ Some c.in-Some.fault = ap kept_fault (sym c.deref.ensures.value) ∙ sym c.first_fault.ensures ∙ c.in-Some.is in
+    let kept : kept_fault c.grant_all.new.history.items ≡ Some c.in-Some.fault = sym c.fault.ensures ∙ c.in-Some.is in
     (says.0, c.grant_all.new.durable, inl (says.2, ap kept_fault (sym is) ∙ kept), facts, c.close-in-Some.ensures)
 
 pub returns-then-is_err-2-clause-refused : goal.returns-then-is_err-2-clause-refused
@@ -43,10 +42,11 @@ invariant_of-result g c =
     let is = only_new c.reserve.new.self.items says.0 c.grant_all.new.history.items none says.1 in
     let made = c.grant_all.ensures.facts c.args.durable (subst (λ (es : List Entry). Facts D.reads D.may_leave D.clock D.may_have_left_since D.faults g.R.ScriptThread.stance c.args.durable c.args.durable es) (sym none) start) in
     let facts = subst (λ (es : List Entry). Facts D.reads D.may_leave D.clock D.may_have_left_since D.faults g.R.ScriptThread.stance c.args.durable c.grant_all.new.durable es) is made in
-    let kept : kept_fault c.grant_all.new.history.items ≡ None = ap kept_fault (sym c.deref.ensures.value) ∙ sym c.first_fault.ensures ∙ c.in_default.is in
+    let kept : kept_fault c.grant_all.new.history.items ≡ None = sym c.fault.ensures ∙ c.in_default.is in
     let none_kept : kept_fault says.0 ≡ None = ap kept_fault (sym is) ∙ kept in
     let empty : c.reserve-2.new.self.items ≡ [] = c.reserve-2.ensures.items ∙ c.new-history.ensures.items in
-    let room : length c.reserve-2.new.self.items < vec_capacity c.reserve-2.new.self = grind (arith, common_steps) in
+    let room : length c.reserve-2.new.self.items < c.reserve-2.new.self.capacity =
+    at_least_one (said_ok c.reserve-2.result (sym c.is_err-2.ensures.value ∙ c.if-is_err-2.false) c.reserve-2.ensures.ok) in
     record {
       stands = site_begins D.reads D.may_leave D.clock D.may_have_left_since D.faults g.R.ScriptThread.stance g.met.D.Disk.only_now c.args.durable c.grant_all.new.durable c.of-base.result.value
           says.0 c.reserve-2.new.self.items _ facts none_kept (c.grant_all.ensures.settled kept) c.of-base.ensures empty room;
@@ -61,5 +61,5 @@ returns-clause-grants g c =
     let is = only_new c.reserve.new.self.items says.0 c.grant_all.new.history.items none says.1 in
     let made = c.grant_all.ensures.facts c.args.durable (subst (λ (es : List Entry). Facts D.reads D.may_leave D.clock D.may_have_left_since D.faults g.R.ScriptThread.stance c.args.durable c.args.durable es) (sym none) start) in
     let facts = subst (λ (es : List Entry). Facts D.reads D.may_leave D.clock D.may_have_left_since D.faults g.R.ScriptThread.stance c.args.durable c.grant_all.new.durable es) is made in
-    let kept : kept_fault c.grant_all.new.history.items ≡ None = ap kept_fault (sym c.deref.ensures.value) ∙ sym c.first_fault.ensures ∙ c.in_default.is in
+    let kept : kept_fault c.grant_all.new.history.items ≡ None = sym c.fault.ensures ∙ c.in_default.is in
     (says.0, says.2, ap kept_fault (sym is) ∙ kept, facts)
