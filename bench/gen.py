@@ -19,6 +19,8 @@ MOST_TIMES_LONGER = 12
 MOST_TIMES_THE_BYTES = 11
 MOST_TIMES_THE_READING = 3
 MOST_TIMES_THE_STATE = 4
+# The crates that read a store: its journal, and the forms of what stands in it.
+READERS = ("journal_core", "delta_records", "delta_form", "record_form", "image_form", "field_form", "byte_form")
 # What a build's log takes, and what a read of it gives at most.
 LOG, READ = 16_777_216, 65_536
 OUTPUTS = 10_000
@@ -123,13 +125,56 @@ def told(what, two, most, of="that of the smaller"):
     return times <= most
 
 
-def reopened(given, at, stages):
-    """What `resume` of a build that has ended takes, and reading the file of its store."""
-    read, _, _ = shortest(given.runs, ["sh", "-c", f"cat {at}/program.dat > /dev/null"])
+def reopened(given, at, name):
+    """What `resume` of a build that has ended takes."""
+    cat, _, _ = shortest(given.runs, ["sh", "-c", f"cat {at}/program.dat > /dev/null"])
     seconds, peak, said = shortest(given.runs, [given.program, "resume", at])
-    print(f"resume of the store of gen {stages}: {seconds:.3f} s of a processor, {peak / KIB:.1f} MiB at the peak, {len(said):,} bytes of the log; "
-          f"cat of the file: {read:.3f} s", flush=True)
-    return read, seconds
+    print(f"resume of {name}: {seconds:.3f} s of a processor, {peak / KIB:.1f} MiB at the peak, {len(said):,} bytes of the log; "
+          f"cat of the file: {cat:.3f} s, {seconds / cat:.1f} times", flush=True)
+    return seconds
+
+
+def crate(function):
+    return function.split("::")[0]
+
+
+def instructions(words, at):
+    """How many instructions a run takes, and how many of these are in calls of the crates that read a store, as callgrind counts them."""
+    counts = f"{at}/callgrind"
+    tool = ["valgrind", "--tool=callgrind", "--compress-strings=no", "--compress-pos=no", f"--callgrind-out-file={counts}"]
+    subprocess.run([*tool, *words], check=True, stdout=subprocess.DEVNULL, stderr=subprocess.DEVNULL)
+    whole = reading = 0
+    here, called = "", None
+    with open(counts, encoding="utf-8") as lines:
+        for line in lines:
+            key, _, rest = line.rstrip("\n").partition("=")
+            if key == "fn":
+                here = rest
+            elif key == "cfn":
+                called = rest
+            elif line.startswith("summary: "):
+                whole = int(line.split()[1])
+            elif called and line[:1].isdigit():
+                reading += int(line.split()[1]) if crate(called) in READERS and crate(here) not in READERS else 0
+                called = None
+    return whole, reading
+
+
+def read_again(given):
+    """What `resume` of a store of many records takes, whose script is short, beside the reading of its file."""
+    stages = given.sizes[1]
+    stored = Stored(given.trials, looped(stages))
+    stored.tell(f"the store of {stages:,} stages in a loop")
+    with tempfile.TemporaryDirectory(prefix="controller-gen-") as at:
+        with open(f"{at}/program.dat", "wb") as file:
+            file.write(stored.bytes)
+        reopened(given, at, f"that store of {stored.records:,} records")
+        if shutil.which("valgrind") is None:
+            print("  no valgrind is here: the reading of the file is not counted")
+            return True
+        whole, reading = instructions([given.program, "resume", at], at)
+        print(f"  {whole / 1e6:.1f} million instructions, {reading / 1e6:.1f} of them in the journal and the forms, which read the file", flush=True)
+        return told("resume", (reading, whole), MOST_TIMES_THE_READING, "the reading of its file")
 
 
 class Allocated:
@@ -169,9 +214,8 @@ def stored_again(given, few, many):
         for stages, stored in zip(given.sizes, (few, many)):
             with open(f"{at}/program.dat", "wb") as file:
                 file.write(stored.bytes)
-            taken.append(reopened(given, at, stages))
-        fits = told("the time of resume of the larger", (taken[0][1], taken[1][1]), MOST_TIMES_LONGER)
-        fits = told("the time of resume", taken[1], MOST_TIMES_THE_READING, "that of cat") and fits
+            taken.append(reopened(given, at, f"the store of gen {stages}"))
+        fits = told("the time of resume of the larger", taken, MOST_TIMES_LONGER)
         return held(given, at, given.sizes[1]) and fits
 
 
@@ -205,6 +249,7 @@ def main():
         stored.tell(f"the store of gen {stages}")
     fits = told("the bytes of the larger", (len(few.bytes), len(many.bytes)), MOST_TIMES_THE_BYTES) and fits
     fits = stored_again(given, few, many) and fits
+    fits = read_again(given) and fits
     if given.outputs > 0:
         until_full(given)
         stored = Stored(given.trials, many_outputs(given.outputs))
