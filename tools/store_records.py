@@ -13,8 +13,12 @@ OPEN = b"\1"
 STATUSES = (0, 10, 1, 11, 12)
 
 
+class NoRecord(Exception):
+    """There is no store, or one without a record: as before a build has begun."""
+
+
 class NotARecord(Exception):
-    """There is no record, or one that is cut short or of another form."""
+    """A record that is cut short or of another form."""
 
 
 def of_size(size):
@@ -111,12 +115,13 @@ class Store:
         return self
 
     def __exit__(self, *_):
-        if self.file:
-            self.file.close()
+        self.close()
 
     def records(self):
         """Those that came since the last time; all, where another file is in the place of the one that was read."""
         self.open()
+        if self.gate == 0 and not self.has_record():
+            raise NoRecord
         while (head := self.bytes(5, self.gate))[:1] == OPEN:
             if len(head) < 5:
                 raise NotARecord
@@ -126,20 +131,30 @@ class Store:
             record = Record.read(self.bytes(end - self.gate - 5, self.gate + 5), self.size)
             self.gate, self.size = end, record.place + len(record.piece)
             yield record
-        if not head or self.gate == 0:
+        if not head:
             self.gate = self.size = 0
             raise NotARecord
 
     def open(self):
+        """Opens the file that is there now, where it is another one."""
         try:
-            if self.file and os.path.samestat(os.stat(self.path), os.fstat(self.file.fileno())):
+            found = os.stat(self.path)
+            if self.file and os.path.samestat(found, os.fstat(self.file.fileno())):
                 return
-            self.file, self.gate, self.size = open(self.path, "rb", buffering=0), 0, 0
-        except OSError:
-            raise NotARecord from None
+            file = open(self.path, "rb", buffering=0)
+        except FileNotFoundError:
+            raise NoRecord from None
+        self.close()
+        self.file, self.gate, self.size = file, 0, 0
+
+    def close(self):
+        if self.file:
+            self.file.close()
+
+    def has_record(self):
+        """Whether the file has the bytes of one, and its first gate is open."""
+        head = self.bytes(6, 0)
+        return len(head) == 6 and head[:1] == OPEN
 
     def bytes(self, count, place):
-        try:
-            return os.pread(self.file.fileno(), count, place)
-        except OSError:
-            raise NotARecord from None
+        return os.pread(self.file.fileno(), count, place)
