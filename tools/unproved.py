@@ -26,6 +26,8 @@ SECONDS = "600"
 # How much is read of standard input, in bytes.
 GIVEN = 64 << 20
 COMMANDS = ("run", "resume", "log", "graph", "check")
+# Those that read answers; `gen` makes a script without a question.
+READERS = ("run", "resume")
 
 
 def say(text):
@@ -61,7 +63,7 @@ def kit_run(words):
     kit = os.path.dirname(os.path.dirname(os.path.realpath(rt)))
     with tempfile.TemporaryDirectory(prefix="controller-") as folder:
         with open(f"{folder}/stdin", "wb") as file:
-            file.write(given())
+            file.write(given() if words and words[0] in READERS else b"")
         if quick_try.is_here(kit):
             told, status = quick_run(kit, folder, words)
             # The kit's last line says that nothing is proved, once it has run the program.
