@@ -1,7 +1,7 @@
 #!/usr/bin/env python3
 """Runs the examples, and compares what is printed and the exit status with what their pages say: `python3 tools/examples.py [WORD..]`.
 
-With words it runs those alone whose name has one of them. The examples are
+With words it runs only those whose names have one of them. The examples are
 
 - each folder below examples/ with a `log`: what is printed is the log, the status is that of the line `Exit status: N` of its
   README.md, and `answers`, where it is there, is standard input;
@@ -20,7 +20,7 @@ Where the program is built it runs them, and then tries the other commands on ea
 behind a `run` without answers, which must give the same log; `log` and `graph`, which must write nothing; and each of them where
 there is no build. The records of the store, as `tools/follow` reads them, have to give that log too. Else the kit runs all of them
 without a proof, and compiles the sources once. With `--reference` the interpreter in tools/reference runs those that it can run. The
-status is 0 where all are as their pages say.
+status is 0 where all are as their pages say, and 1 where one is not, or no name has one of the words.
 """
 import argparse
 import difflib
@@ -46,6 +46,8 @@ FILES = {"VERSION": "1.4\n", "list": "2\n1\n"}
 WITH_STAND_INS = "withEnv(['PATH=/tmp/controller/bin:/usr/bin:/bin']) { %s }"
 # The limits that the reference does not count, as patterns.
 UNCOUNTED = ("nodes\\ evaluated", "text\\ length", "collection\\ size")
+# Seconds until a command has to have ended.
+PATIENCE = 120
 START, END = "[Pipeline] Start of Pipeline\n", "[Pipeline] End of Pipeline\nFinished: SUCCESS\n"
 
 
@@ -246,7 +248,11 @@ def examples():
 
 
 def run_program(program, command, folder, answers=b""):
-    ran = subprocess.run([program, command, folder], input=answers, stdout=subprocess.PIPE, check=False)
+    words = [program, command, folder]
+    try:
+        ran = subprocess.run(words, input=answers, stdout=subprocess.PIPE, timeout=PATIENCE, check=False)
+    except subprocess.TimeoutExpired:
+        return "", f"of no end in {PATIENCE} seconds"
     return as_on_pages(ran.stdout, folder), ran.returncode
 
 
@@ -377,7 +383,8 @@ def other_commands(example, ended, program):
 
 
 def wrong_commands(example, ended, program):
-    return [f"{example.name}: {name}: {found!r}, wanted {wanted!r}" for name, found, wanted in other_commands(example, ended, program) if found != wanted]
+    tried = other_commands(example, ended, program)
+    return [f"{example.name}: {name}: {found!r}, wanted {wanted!r}" for name, found, wanted in tried if found != wanted]
 
 
 def is_built():
@@ -391,31 +398,48 @@ def is_built():
     return True
 
 
-def main():
+def asked():
     parser = argparse.ArgumentParser(description=__doc__.splitlines()[0])
     parser.add_argument("--reference", action="store_true", help="run them by the interpreter in tools/reference")
     parser.add_argument("--program", help="run them by this program")
-    parser.add_argument("words", nargs="*", help="run those alone whose name has one of these words")
-    asked = parser.parse_args()
-    given = [it for it in examples() if not asked.words or any(word in it.name for word in asked.words)]
-    program = None if asked.reference else asked.program or (BUILT if is_built() else None)
-    if not program and not asked.reference:
+    parser.add_argument("words", nargs="*", help="run only those whose names have one of these words")
+    return parser.parse_args()
+
+
+def chosen(words):
+    """The examples whose names have one of the words, or all; a word that no name has is a mistake."""
+    given = examples()
+    for word in words:
+        if not any(word in it.name for it in given):
+            sys.exit(f"examples: no name has the word {word!r}")
+    return [it for it in given if not words or any(word in it.name for word in words)]
+
+
+def complaints(example, ended, program):
+    """What is wrong with an example that ended so."""
+    if not example.is_right(*ended):
+        return [example.complaint(*ended)]
+    return wrong_commands(example, ended, program) if program else []
+
+
+def main():
+    given = asked()
+    if given.program and not os.access(given.program, os.X_OK):
+        sys.exit(f"examples: {given.program} is no program")
+    tried = chosen(given.words)
+    program = None if given.reference else given.program or (BUILT if is_built() else None)
+    if not program and not given.reference:
         print("examples: unproved and slow; ./controller build proves and builds the program", file=sys.stderr, flush=True)
-    way = by_reference(given) if asked.reference else by_program(given, program) if program else by_kit(given)
+    ways = by_reference(tried) if given.reference else by_program(tried, program) if program else by_kit(tried)
     wrong = unknown = 0
-    for example, ended in zip(given, way):
-        complaints = []
+    for example, ended in zip(tried, ways):
         if ended is None:
             unknown += 1
-        elif not example.is_right(*ended):
-            complaints = [example.complaint(*ended)]
-        elif program:
-            complaints = wrong_commands(example, ended, program)
-        if complaints:
+        elif told_wrong := complaints(example, ended, program):
             wrong += 1
-            print(*complaints, sep="\n", end="\n\n")
+            print(*told_wrong, sep="\n", end="\n\n")
     left_out = f", {unknown} left out" if unknown else ""
-    print(f"{len(given) - wrong - unknown} examples as their pages say, {wrong} others{left_out}")
+    print(f"{len(tried) - wrong - unknown} examples as their pages say, {wrong} others{left_out}")
     return 1 if wrong else 0
 
 
