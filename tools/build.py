@@ -1,9 +1,9 @@
 #!/usr/bin/env python3
 """Proves and builds the controller: `./controller build`.
 
-Each crate that the program stands on is proved before it is built, those that wait for no other side by side. What is at
-work is told on standard error: one line that is written anew on a terminal, and elsewhere a line per crate. What is built and
-has not changed is not done again. Of two builds at once the second waits for the first.
+Each crate of the program is proved before it is built, those that wait for no other side by side. What is at work is told on
+standard error: one line that is written anew on a terminal, and elsewhere a line per crate. What is built and has not changed is
+not done again. Of two builds at once the second waits for the first.
 """
 import concurrent.futures
 import contextlib
@@ -20,8 +20,8 @@ import time
 TOP = os.path.dirname(os.path.dirname(os.path.realpath(__file__)))
 PROGRAM = "jenkinsd"
 LOG = f"{TOP}/crates/{PROGRAM}/out/build.log"
-# A check may take this much memory, in KiB.
-MEMORY_OF_A_CHECK = 4_000_000
+# How much memory a check may take, in KiB, and which take more (measured 2026-11-30, kit 13f).
+MEMORY_OF_A_CHECK, OF_LARGE_ONES = 4_000_000, {"site_state": 12_500_000}
 
 
 def listed():
@@ -50,18 +50,22 @@ def crates_below(program):
     return order
 
 
-def lanes():
-    """How many crates are proved side by side: as processors and memory allow."""
+def memory_of(name):
+    return OF_LARGE_ONES.get(name, MEMORY_OF_A_CHECK)
+
+
+def free_memory():
+    """In KiB; where the system does not tell it, enough for one check."""
     try:
         with open("/proc/meminfo", encoding="utf-8") as lines:
-            free = int(re.search(r"MemAvailable:\s+(\d+)", lines.read())[1])
+            return int(re.search(r"MemAvailable:\s+(\d+)", lines.read())[1])
     except OSError:
-        return 1
-    return max(1, min(len(os.sched_getaffinity(0)), free // MEMORY_OF_A_CHECK))
+        return MEMORY_OF_A_CHECK
 
 
-def is_built(name, crates):
-    """Whether the crate's library was built after the last change to its sources and to those of the crates below it."""
+def is_library_built(name, crates):
+    """Whether the crate's library was built after the last change of its sources, of those of the crates below it, of the list
+    of crates and of the kit."""
     stamp = f"{TOP}/crates/{name}/out/rlib/stamp"
     below, found = [name], set()
     while below:
@@ -69,7 +73,20 @@ def is_built(name, crates):
         if it not in found:
             found.add(it)
             below += crates[it]
-    return os.path.isfile(stamp) and all(os.path.getmtime(stamp) > os.path.getmtime(file) for it in found for file in sources(it))
+    if not os.path.isfile(stamp):
+        return False
+    built = os.path.getmtime(stamp)
+    files = (file for it in found for file in sources(it))
+    return built > kit_came() and all(built > os.path.getmtime(file) for file in [f"{TOP}/crates.txt", *files])
+
+
+def kit_came():
+    """When the kit came to this machine."""
+    kit = os.path.dirname(os.path.dirname(os.path.realpath(shutil.which("rt"))))
+    try:
+        return os.stat(f"{kit}/KIT-ID").st_ctime
+    except FileNotFoundError:
+        return 0
 
 
 def sources(name):
@@ -125,22 +142,30 @@ class Progress:
 
 
 class Failed(Exception):
-    """A crate that was not proved or not built, with the kit's last word on it."""
+    """A crate that was not proved or not built, and why."""
 
 
 class Build:
     def __init__(self, crates, log):
         self.crates, self.log, self.progress = crates, log, Progress(len(crates))
-        self.children, self.lock, self.stopped = set(), threading.Lock(), False
+        self.children, self.lock, self.is_stopped = set(), threading.Lock(), False
+        self.processors, self.memory = len(os.sched_getaffinity(0)), free_memory()
+
+    def begin(self, name, words):
+        """The kit at work in a crate's folder, unless the build is stopped."""
+        with self.lock:
+            if self.is_stopped:
+                raise Failed(f"{name}: stopped")
+            streams = {"stdin": subprocess.DEVNULL, "stdout": subprocess.PIPE, "stderr": subprocess.STDOUT}
+            how = {"cwd": f"{TOP}/crates/{name}", "text": True, "errors": "replace", "start_new_session": True}
+            child = subprocess.Popen(["rt", *words], **streams, **how)
+            self.children.add(child)
+        return child
 
     def kit(self, name, *words):
-        """Runs the kit in a crate's folder. Its words go to the log, and the count of functions to the progress."""
-        if self.stopped:
-            raise Failed(f"{name}: stopped")
-        child = subprocess.Popen(["rt", *words], cwd=f"{TOP}/crates/{name}", stdin=subprocess.DEVNULL, stdout=subprocess.PIPE,
-                                 stderr=subprocess.STDOUT, text=True, errors="replace", start_new_session=True)
-        self.children.add(child)
-        last = ""
+        """The kit's exit status in a crate's folder, and the first error that it tells, or its last word. All its words go to
+        the log, and the count of functions to the progress."""
+        child, why = self.begin(name, words), ""
         for line in child.stdout:
             with self.lock:
                 self.log.write(f"{name}: {line}")
@@ -148,58 +173,72 @@ class Build:
             counted = re.match(r"checked .*, (\d+) of (\d+)$", line)
             if counted:
                 self.progress.function(name, int(counted[1]), counted[2])
-            if re.match(r"(error|rattle|rt:)", line):
-                last = line.strip()
-        self.children.discard(child)
-        return child.wait(), last
+            if re.match(r"(error|rattle|rt:)", line) and not why.startswith("error"):
+                why = line.strip()
+        status = child.wait()
+        with self.lock:
+            self.children.discard(child)
+        return status, why
 
     def one(self, name):
         """Proves and builds one crate."""
         is_program = name == PROGRAM
-        if not is_program and is_built(name, self.crates):
+        if not is_program and is_library_built(name, self.crates):
             self.progress.end(name)
             return
         self.progress.at(name, "begins")
-        status, last = self.kit(name, "check", "--jobs", "1")
+        status, why = self.kit(name, "check", "--jobs", "1")
         if not status and not is_program:
             self.progress.at(name, "is built")
-            status, last = self.kit(name, "lib", "--jobs", "1")
+            status, why = self.kit(name, "lib", "--jobs", "1")
         elif not status:
             self.progress.at(name, "is linked")
             # An older program goes first, so that one that is there afterwards is the new one. Without words it tells its usage.
             program = f"{TOP}/crates/{name}/out/{name}"
             with contextlib.suppress(FileNotFoundError):
                 os.remove(program)
-            status, last = self.kit(name, "run", "--")
+            status, why = self.kit(name, "run", "--")
             status = 0 if os.access(program, os.X_OK) else status or 1
         if status:
-            raise Failed(f"{name}: {last or f'the kit ended with status {status}'}")
+            raise Failed(f"{name}: {why or f'the kit ended with status {status}'}")
         self.progress.end(name)
 
+    def has_room(self, name, running):
+        """Whether processors and memory allow one more beside those that are at work; one at a time always is."""
+        memory = sum(map(memory_of, [name, *running]))
+        return not running or len(running) < self.processors and memory <= self.memory
+
+    def tell_of_memory(self):
+        """Says of a crate that is to be proved that its proof takes more memory than is free."""
+        for name, memory in OF_LARGE_ONES.items():
+            if name in self.crates and memory > self.memory and not is_library_built(name, self.crates):
+                free = f"{self.memory // 1_000_000} are free"
+                self.progress.say(f"the proof of {name} takes some {memory // 1_000_000} GB of memory, and {free}")
+
     def whole(self):
-        left, running = dict(self.crates), {}
-        with concurrent.futures.ThreadPoolExecutor(lanes()) as pool:
-            done = set()
+        self.tell_of_memory()
+        left, running, done = dict(self.crates), {}, set()
+        with concurrent.futures.ThreadPoolExecutor(self.processors) as pool:
             try:
                 while left or running:
                     for name in [it for it, deps in left.items() if set(deps) <= done]:
-                        del left[name]
-                        running[pool.submit(self.one, name)] = name
+                        if self.has_room(name, running.values()):
+                            del left[name]
+                            running[pool.submit(self.one, name)] = name
                     for it in concurrent.futures.wait(running, return_when=concurrent.futures.FIRST_COMPLETED).done:
                         it.result()
                         done.add(running.pop(it))
             except BaseException:
-                self.stopped = True
                 pool.shutdown(wait=False, cancel_futures=True)
                 self.stop()
                 raise
 
     def stop(self):
-        for child in list(self.children):
-            try:
-                os.killpg(child.pid, signal.SIGTERM)
-            except ProcessLookupError:
-                pass
+        with self.lock:
+            self.is_stopped = True
+            for child in self.children:
+                with contextlib.suppress(ProcessLookupError):
+                    os.killpg(child.pid, signal.SIGTERM)
 
 
 def hold():
@@ -227,16 +266,26 @@ def built():
     return 0
 
 
+def end_by(number, _):
+    sys.exit(128 + number)
+
+
 def main():
     if shutil.which("rt") is None:
         print("controller: Rattle's kit is not here: 'rt' is not on the PATH", file=sys.stderr)
         return 1
-    signal.signal(signal.SIGTERM, lambda *_: sys.exit(143))
+    for number in (signal.SIGINT, signal.SIGTERM, signal.SIGHUP):
+        # What is ignored from outside, as nohup does, stays so.
+        if signal.getsignal(number) != signal.SIG_IGN:
+            signal.signal(number, end_by)
     try:
         return built()
-    except KeyboardInterrupt:
-        print("\ncontroller: stopped; what is proved is kept", file=sys.stderr)
-        return 130
+    except SystemExit as stopped:
+        # A terminal that is gone takes no line.
+        with contextlib.suppress(OSError):
+            new_line = "\n" if sys.stderr.isatty() else ""
+            print(f"{new_line}controller: stopped; the crates that are built are kept", file=sys.stderr)
+        return stopped.code
     except OSError as why:
         print(f"controller: {why.filename or TOP}: {why.strerror}", file=sys.stderr)
         return 1
