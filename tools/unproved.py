@@ -28,17 +28,33 @@ GIVEN = 64 << 20
 COMMANDS = ("run", "resume", "log", "graph", "check")
 # Those that read answers; `gen` makes a script without a question.
 READERS = ("run", "resume")
+MOST_STAGES = 2000
+# What the program prints for other words, with status 2.
+USAGE = "usage: controller run|resume|log|graph|check DIR\n       controller gen N\n"
+
+
+class NoKit(Exception):
+    """The kit is not on the PATH."""
 
 
 def say(text):
     print(f"controller: {text}", file=sys.stderr, flush=True)
 
 
+def are_a_command(words):
+    """Whether the program takes these words for a command, by its own rule."""
+    if len(words) != 2:
+        return False
+    verb, operand = words
+    if verb == "gen":
+        return re.fullmatch("[1-9][0-9]{0,3}", operand) is not None and int(operand) <= MOST_STAGES
+    return verb in COMMANDS and operand != "" and not operand.startswith("-")
+
+
 def with_whole_path(words):
     """The kit's run stands in a folder of its own, so the words name DIR from the root on."""
-    if len(words) == 2 and words[0] in COMMANDS and words[1] != "" and not words[1].startswith("-"):
-        return [words[0], os.path.abspath(words[1])]
-    return words
+    verb, operand = words
+    return [verb, operand if verb == "gen" else os.path.abspath(operand)]
 
 
 def given():
@@ -59,11 +75,11 @@ def kit_run(words):
     """What the kit's run said on standard error, where the kit's own lines follow those of the program."""
     rt = shutil.which("rt")
     if rt is None:
-        raise FileNotFoundError
+        raise NoKit
     kit = os.path.dirname(os.path.dirname(os.path.realpath(rt)))
     with tempfile.TemporaryDirectory(prefix="controller-") as folder:
         with open(f"{folder}/stdin", "wb") as file:
-            file.write(given() if words and words[0] in READERS else b"")
+            file.write(given() if words[0] in READERS else b"")
         if quick_try.is_here(kit):
             told, status = quick_run(kit, folder, words)
             # The kit's last line says that nothing is proved, once it has run the program.
@@ -107,35 +123,42 @@ def called(command, folder):
 def counted(child):
     """What the child writes, for a terminal, which shows until its end that something is at work."""
     began = time.monotonic()
-    while True:
-        try:
-            return child.communicate(timeout=1)
-        except subprocess.TimeoutExpired:
+    try:
+        while True:
+            with contextlib.suppress(subprocess.TimeoutExpired):
+                return child.communicate(timeout=1)
             print(f"\rcontroller: compiling and running, {time.monotonic() - began:.0f} s", end="", file=sys.stderr, flush=True)
-        finally:
-            if child.returncode is not None:
-                print("\r\033[K", end="", file=sys.stderr, flush=True)
+    finally:
+        print("\r\033[K", end="", file=sys.stderr, flush=True)
 
 
 def main(words):
     for it in (signal.SIGTERM, signal.SIGHUP):
-        signal.signal(it, lambda number, _: sys.exit(128 + number))
+        # What is ignored from outside, as nohup does, stays so.
+        if signal.getsignal(it) != signal.SIG_IGN:
+            signal.signal(it, lambda number, _: sys.exit(128 + number))
+    if not are_a_command(words):
+        print(USAGE, end="")
+        say("./controller build proves and builds the program")
+        return 2
     say("unproved and slow; ./controller build proves and builds the program")
     try:
         told = kit_run(with_whole_path(words))
     except KeyboardInterrupt:
+        say("stopped; resume goes on with a build that had begun")
         return 130
-    except FileNotFoundError:
+    except NoKit:
         say("Rattle's kit is not here: 'rt' is not on the PATH")
         return NO_ANSWER
     except OSError as why:
         say(f"the kit could not be run: {why.strerror}")
         return NO_ANSWER
-    ended = re.search(r"^run=ended status=(\d+) .*$", told, re.M)
+    ended = re.findall(r"^run=ended status=(\d+) .*$", told, re.M)
     told = re.sub(r"^(interpreter:|checked: ended|run=ended|races:) .*\n?", "", told, flags=re.M)
     sys.stderr.write(told)
     if ended:
-        return int(ended[1])
+        # The kit's own lines follow those of the program.
+        return int(ended[-1])
     say("the kit gave no answer (it bounds a run's time and output): ./controller build makes a program without such bounds")
     return NO_ANSWER
 
