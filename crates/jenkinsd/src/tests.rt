@@ -234,7 +234,7 @@ fn failing_reads_give_6_and_a_failing_write_gives_7(rt: HostRuntime) -> Result<(
 }
 
 /// A number of stages, and the lines of their build.
-const GENERATED: [(&str, &str); 2] = [
+const GENERATED: [(&str, &str); 3] = [
     (
         "1",
         "stages 1\nnodes 13\ntasks 1\nrecords 4\nlog 319\nresult SUCCESS\n",
@@ -242,6 +242,10 @@ const GENERATED: [(&str, &str); 2] = [
     (
         "3",
         "stages 3\nnodes 33\ntasks 3\nrecords 10\nlog 755\nresult SUCCESS\n",
+    ),
+    (
+        "2000",
+        "stages 2000\nnodes 20003\ntasks 2000\nrecords 6001\nlog 461285\nresult SUCCESS\n",
     ),
 ];
 
