@@ -4,5 +4,6 @@ pub mod RetryLaws
 pub mod ContextLaws
 pub mod PlaceLaws
 pub mod BranchLaws
+pub mod NameLaws
 pub mod KeptLaws
 pub mod BeginLaws

@@ -1,7 +1,8 @@
 //! The branches of `parallel`: what they are, how they begin, and how each of them ends.
 
-ghost use Rattle.std.specs.Prelude.{◌≡◌, ◌++◌, ◌∷◌, ◌^◌, ◌<◌, [], ℕ, All, IfOk, IfSome, OnOk, codes, drop, length};
+ghost use Rattle.std.specs.Prelude.{◌≡◌, ◌-◌, ◌++◌, ◌∷◌, ◌^◌, ◌<◌, [], ℕ, All, IfOk, IfSome, OnOk, codes, drop, length, option_copied, slice_get};
 ghost use Rattle.cell_heap.specs.Soundness.{ValueBelow};
+ghost use Rattle.flow_graph.specs.Numbers.{AreNumbered};
 ghost use Rattle.model_values.specs.TextOf.{key_text};
 ghost use Rattle.model_run.specs.Around.{frame, whole};
 ghost use Rattle.model_run.specs.Callables.{closure_of};
@@ -212,16 +213,26 @@ fn log_failure(shared: &mut Shared, start: u32, cell: u32) -> Result<Move, Halt>
     Ok(Move::Ends(Ending::Thrown(cell)))
 }
 
-/// The name of the branch that began at this flow node. `AllocError` where the memory was refused.
+/// The name of the branch that began at this flow node, in constant time but for its copy. `AllocError` where the memory
+/// was refused.
 fn branch_name(alloc: Global, nodes: &[FlowNode], start: u32) -> Result<Text, AllocError>
+    requires { AreNumbered nodes.now }
     ensures { IfOk result (λ name. name ≡ branch_name start nodes.now) }
 {
-    for node in nodes {
-        if node.id == start {
-            return Text::from_slice(alloc, behind_prefix(node.name.as_slice()));
-        }
+    match node_at(nodes, start) {
+        Some(node) if node.id == start => Text::from_slice(
+            alloc,
+            behind_prefix(node.name.as_slice()),
+        ),
+        _ => Ok(Text::new(alloc)),
     }
-    Ok(Text::new(alloc))
+}
+
+/// The flow node at the place of this number: they are numbered from 2 on.
+fn node_at(nodes: &[FlowNode], number: u32) -> Option<&FlowNode>
+    ensures { option_copied result ≡ slice_get nodes.now (number - 2) }
+{
+    nodes.get(number.saturating_sub(2) as usize)
 }
 
 /// What stands behind `Branch: ` in a label.
