@@ -59,7 +59,8 @@ class Shell(unittest.TestCase):
 
     def ran(self, command):
         """What a command printed, and its status."""
-        ran = subprocess.run([PROGRAM, command, self.folder], stdin=subprocess.DEVNULL, capture_output=True, check=False)
+        words, streams = [PROGRAM, command, self.folder], {"stdin": subprocess.DEVNULL, "capture_output": True}
+        ran = subprocess.run(words, **streams, timeout=PATIENCE, check=False)
         return ran.stdout, ran.returncode
 
     def ends(self, command, status, *lines):
@@ -332,6 +333,26 @@ class Page(Shell):
                 self.assertIn("\nERROR: script returned exit code 3\nFinished: FAILURE\n", log.read())
         self.assertEqual(len(self.launches()), 2)
         self.assertEqual(sorted(os.listdir(self.folder)), ["Jenkinsfile", "agents.json", "log", "program.dat", "program.lock"])
+
+    def test_a_job_of_cron_that_gets_no_log_keeps_the_earlier_one_and_says_why(self):
+        self.build(f"node {{ sh {script('true')} }}")
+        self.assertEqual(self.sh(self.block("resume")).returncode, 0)
+        with open(f"{self.folder}/log", encoding="utf-8") as file:
+            log = file.read()
+        os.truncate(f"{self.folder}/program.dat", os.path.getsize(f"{self.folder}/program.dat") - 1)
+        for program, status, told in ((PROGRAM, 9, "program.dat: damaged at "), ("/none", 127, "")):
+            ran = self.sh(self.block("resume").replace(PROGRAM, program))
+            self.assertEqual((ran.returncode, told in ran.stderr), (status, True), ran.stderr)
+            with open(f"{self.folder}/log", encoding="utf-8") as file:
+                self.assertEqual(file.read(), log)
+
+    def test_the_line_of_the_page_for_cron_runs_the_script_of_the_job(self):
+        with open(f"{TOP}/docs/USING.md", encoding="utf-8") as page:
+            [line] = re.findall(r"^```crontab\n@reboot (.*)\n```$", page.read(), re.M)
+        self.build("echo 'on'")
+        self.put("shop.sh", self.block("resume"))
+        self.assertEqual(self.sh(line.replace("/srv/controller", self.room)).returncode, 0)
+        self.assertTrue(os.path.exists(f"{self.folder}/log"))
 
     def unit(self):
         """The lines of the page's unit, with the names of this trial."""
