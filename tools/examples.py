@@ -13,8 +13,8 @@ Where branches have shell steps their lines may come in any order among each oth
 and the flow graph without its numbers, so that each branch has to have its own steps in their order.
 
 Shell steps really run. The folder /tmp/controller of the pages, in which their agents stand, is a new one for each run, and what is
-printed has the name of the pages again. Of the scripts to write in place of one of Jenkins the commands `git`, `make`, `jq` and `cp`
-are stand-ins that do nothing, `timeout` runs its command, and `sleep` makes the file `f` that a loop waits for.
+printed has the name of the pages again. Of the scripts to write in place of one of Jenkins the commands `git`, `make`, `jq`, `cp`,
+`flock` and `docker` are stand-ins that do nothing, `timeout` runs its command, and `sleep` makes the file `f` that a loop waits for.
 
 Where the program is built it runs them, and then tries the other commands on each: `check`; `resume` with one answer at a time,
 behind a `run` without answers, which must give the same log; `log` and `graph`, which must write nothing; and each of them where
@@ -41,7 +41,8 @@ NO_AGENTS = b'{"job": "using", "agents": []}'
 ONE_AGENT = b'{"job": "using", "agents": [{"name": "m", "root": "/tmp/controller/m", "executors": 1}]}'
 # The folder of the agents, as the pages name it; the commands that stand in for others, and where.
 AGENTS = b"/tmp/controller"
-STAND_INS = {"git": "", "make": "", "jq": "", "cp": "", "timeout": 'shift; exec "$@"', "sleep": "touch f"}
+STAND_INS = {name: "" for name in ("git", "make", "jq", "cp", "flock", "docker")}
+STAND_INS |= {"timeout": 'shift; exec "$@"', "sleep": "touch f"}
 FILES = {"VERSION": "1.4\n", "list": "2\n1\n"}
 WITH_STAND_INS = "withEnv(['PATH=/tmp/controller/bin:/usr/bin:/bin']) { %s }"
 # The limits that the reference does not count, as patterns.
