@@ -1,7 +1,7 @@
-"""What the records of a build's store add to its log, in the form of docs/FORMATS.md: `tools/follow` reads them while the build runs.
+"""What the records of a build's store add to its log, in the form of docs/FORMATS.md: for `tools/follow`, while the build runs.
 
-Of a record what stands in front of its log is gone over, and what stands behind it is not looked at. Whether a store is whole, and its
-last image one that a build can have, the program alone tells.
+Of a record what stands in front of its log is gone over, and what stands behind it is not looked at. Whether a store is whole,
+and its last image one that a build can have, only the program tells.
 """
 import os
 import struct
@@ -26,7 +26,7 @@ def of_size(size):
 
 
 def row(*parts):
-    """What has these parts, one behind the other. Of each it is a function from its place to the place behind it."""
+    """What has these parts, one after the other. Of each it is a function from its place to the place behind it."""
 
     def behind(payload, at):
         for part in parts:
@@ -74,7 +74,12 @@ entry = row(kinds(number, text), value)
 CELLS = (value, text, rows(value), rows(entry), row(number, rows(binding)), row(byte, kinds(nothing, text)))
 flow_node = row(byte, text, number, rows(number))
 event = kinds(
-    row(text, text), row(number, number), row(number, byte, long_number, text), row(number, number), row(number, byte), row(number, byte, text)
+    row(text, text),
+    row(number, number),
+    row(number, byte, long_number, text),
+    row(number, number),
+    row(number, byte),
+    row(number, byte, text),
 )
 image = row(rows(binding), rows(kinds(*CELLS)), rows(flow_node))
 delta = row(rows(binding), rows(row(number, kinds(*CELLS, rows(value), rows(entry)))), rows(flow_node))
