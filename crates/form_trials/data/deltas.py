@@ -1,6 +1,7 @@
 #!/usr/bin/env python3
 """Deltas as docs/FORMATS.md spells them ("Records of changes"), by python3's struct: an independent writer of the rows
-in src/deltas.rt. What they make of the image INPUT of images.py was worked out by hand."""
+in src/deltas.rt. What they make of the image INPUT of images.py was worked out by hand, and where they break is what
+delta_places.py prints."""
 import os
 import struct
 import sys
@@ -117,7 +118,7 @@ WRONG_CELLS = {
 }
 
 # One thread, cut off behind what is wrong: a wait of kind 2, a list of held requests that ends early, and a frame with a
-# value of kind 9. The last byte tells the first and the third, and the second one is told behind all of it.
+# value of kind 9.
 THREAD = FRONT + rows() + rows() + rows() + text(b"") + rows() * 4 + u32(1) + u32(0) + NONE + u32(3)
 WRONG = {
     "WAIT": THREAD + u8(2),
@@ -133,9 +134,3 @@ if __name__ == "__main__":
         for start in range(0, len(row), 25):
             print("    " + "".join(f"\\x{byte:02x}" for byte in row[start:start + 25]) + "\\")
         print('";\n')
-    for word, row in UNRISEN.items():
-        print(f"({word}, {len(row) - (5 if word == 'NAMES' else 4)}),")
-    for word, row in WRONG_CELLS.items():
-        print(f"({word}, {len(row) - (6 if word == 'KEY' else 1)}),")
-    for word, row in WRONG.items():
-        print(f"({word}, {len(row) - (0 if word == 'CONTEXT' else 1)}),")

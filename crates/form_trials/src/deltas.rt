@@ -1,5 +1,5 @@
 //! Deltas of `delta_form` as an independent writer spells them (`data/deltas.py`), where the form of a delta breaks
-//! first, and the images that they make.
+//! first, as an independent reader tells it (`data/delta_places.py`), and the images that they make.
 
 use crate::images::INPUT;
 use delta_form::{DeltaRefusal, FormRefusal, apply, read_delta, write_delta};
@@ -234,26 +234,99 @@ fn fault(bytes: &[u8], rt: HostRuntime) -> Option<u64> {
     }
 }
 
+/// Where each field of these deltas ends, and where their kinds and flags are (`data/delta_places.py`).
+const FIELDS: [(&[u8], &[usize], &[usize]); 4] = [
+    (
+        NOTHING,
+        &[4, 8, 9, 10, 14, 18, 22, 26, 30, 34, 38, 42, 46],
+        &[8, 9],
+    ),
+    (
+        DECIDED,
+        &[
+            4, 8, 9, 10, 14, 20, 24, 28, 32, 33, 34, 38, 39, 40, 44, 48, 49, 55, 59, 63, 67, 74,
+            78, 82, 86, 87, 91, 95, 96, 100, 106, 112, 116, 124, 125, 126, 134, 138, 142, 146, 150,
+            154, 158, 162, 166, 167, 171, 172, 176, 180, 184, 188, 192, 196, 197, 201, 205, 209,
+            213,
+        ],
+        &[8, 9, 32, 33, 38, 39, 48, 86, 95, 124, 125, 166, 171],
+    ),
+    (
+        GROWN,
+        &[
+            4, 8, 9, 10, 14, 18, 22, 32, 36, 40, 41, 45, 53, 59, 63, 67, 71, 75, 79, 83,
+        ],
+        &[8, 9, 40],
+    ),
+    (
+        LONGER,
+        &[
+            4, 8, 9, 10, 14, 18, 22, 23, 27, 28, 29, 33, 37, 38, 42, 43, 48, 49, 53, 57, 61, 65,
+            69, 73, 77,
+        ],
+        &[8, 9, 22, 27, 28, 37, 42, 48],
+    ),
+];
+
+#[test]
+fn a_field_without_its_last_byte_is_told_at_its_first(rt: HostRuntime) -> Result<(), Fail> {
+    for (bytes, ends, _) in FIELDS {
+        let mut start = 0;
+        for end in ends {
+            let mut cut = bytes.to_vec(rt.alloc())?;
+            cut.truncate(*end);
+            cut.pop();
+            assert_eq!(rt; fault(&cut, rt), Some(start));
+            start = *end as u64;
+        }
+    }
+    Ok(())
+}
+
+#[test]
+fn a_kind_or_a_flag_that_there_is_not_is_told(rt: HostRuntime) -> Result<(), Fail> {
+    for (bytes, _, kinds) in FIELDS {
+        for place in kinds {
+            let mut wrong = bytes.to_vec(rt.alloc())?;
+            if let Some(kind) = wrong.get_mut(*place) {
+                *kind = 255;
+            }
+            assert_eq!(rt; fault(&wrong, rt), Some(*place as u64));
+        }
+    }
+    Ok(())
+}
+
+/// In each field of the delta of no change in turn the last byte is another one. The first two may be any numbers; a
+/// list, or the log, that has one item now takes it from the bytes behind it, and these end too early.
+#[test]
+fn one_byte_breaks_a_delta_in_each_field(rt: HostRuntime) -> Result<(), Fail> {
+    for (at, byte, place) in [
+        (3, 3, None),
+        (7, 2, None),
+        (8, 5, Some(8)),
+        (9, 2, Some(9)),
+        (13, 1, Some(46)),
+        (17, 1, Some(44)),
+        (21, 1, Some(43)),
+        (25, 1, Some(43)),
+        (29, 1, Some(46)),
+        (33, 1, Some(45)),
+        (37, 1, Some(46)),
+        (41, 1, Some(46)),
+        (45, 1, Some(46)),
+    ] {
+        let mut bytes = NOTHING.to_vec(rt.alloc())?;
+        if at < bytes.len() {
+            bytes[at] = byte;
+        }
+        assert_eq!(rt; fault(&bytes, rt), place);
+    }
+    Ok(())
+}
+
 #[test]
 fn a_delta_breaks_at_its_first_place(rt: HostRuntime) -> Result<(), Fail> {
-    // The fields of the delta of no change begin at 0, 4, 8, 9, 10, 14, 18, 22, 26, 30, 34, 38 and 42.
-    for (len, place) in [
-        (0, 0),
-        (4, 4),
-        (8, 8),
-        (9, 9),
-        (13, 10),
-        (17, 14),
-        (21, 18),
-        (25, 22),
-        (29, 26),
-        (33, 30),
-        (37, 34),
-        (41, 38),
-        (45, 42),
-    ] {
-        assert_eq!(rt; fault(&NOTHING[..len], rt), Some(place));
-    }
     for (bytes, place) in [
         (NAMES, 23),
         (CELLS, 24),
