@@ -20,8 +20,8 @@ import time
 TOP = os.path.dirname(os.path.dirname(os.path.realpath(__file__)))
 PROGRAM = "jenkinsd"
 LOG = f"{TOP}/crates/{PROGRAM}/out/build.log"
-# How much memory a check may take, in KiB, and which take more (measured 2026-11-30, kit 13f).
-MEMORY_OF_A_CHECK, OF_LARGE_ONES = 4_000_000, {"site_state": 12_500_000}
+# How much memory a check may take, in KiB.
+MEMORY_OF_A_CHECK = 4_000_000
 
 
 def listed():
@@ -48,10 +48,6 @@ def crates_below(program):
 
     visit(program)
     return order
-
-
-def memory_of(name):
-    return OF_LARGE_ONES.get(name, MEMORY_OF_A_CHECK)
 
 
 def free_memory():
@@ -203,26 +199,17 @@ class Build:
             raise Failed(f"{name}: {why or f'the kit ended with status {status}'}")
         self.progress.end(name)
 
-    def has_room(self, name, running):
-        """Whether processors and memory allow one more beside those that are at work; one at a time always is."""
-        memory = sum(map(memory_of, [name, *running]))
-        return not running or len(running) < self.processors and memory <= self.memory
-
-    def tell_of_memory(self):
-        """Says of a crate that is to be proved that its proof takes more memory than is free."""
-        for name, memory in OF_LARGE_ONES.items():
-            if name in self.crates and memory > self.memory and not is_library_built(name, self.crates):
-                free = f"{self.memory // 1_000_000} are free"
-                self.progress.say(f"the proof of {name} takes some {memory // 1_000_000} GB of memory, and {free}")
+    def has_room(self, running):
+        """Whether processors and memory allow one more beside so many that are at work; one at a time always is."""
+        return not running or running < self.processors and (running + 1) * MEMORY_OF_A_CHECK <= self.memory
 
     def whole(self):
-        self.tell_of_memory()
         left, running, done = dict(self.crates), {}, set()
         with concurrent.futures.ThreadPoolExecutor(self.processors) as pool:
             try:
                 while left or running:
                     for name in [it for it, deps in left.items() if set(deps) <= done]:
-                        if self.has_room(name, running.values()):
+                        if self.has_room(len(running)):
                             del left[name]
                             running[pool.submit(self.one, name)] = name
                     for it in concurrent.futures.wait(running, return_when=concurrent.futures.FIRST_COMPLETED).done:
