@@ -22,6 +22,8 @@ import quick_try
 
 TOP = os.path.dirname(os.path.dirname(os.path.realpath(__file__)))
 NO_ANSWER = 125
+# The status of a build that waits for an answer.
+WAITS = 3
 SECONDS = "600"
 # How much is read of standard input, in bytes.
 GIVEN = 64 << 20
@@ -158,7 +160,10 @@ def main(words):
     sys.stderr.write(told)
     if ended:
         # The kit's own lines follow those of the program.
-        return int(ended[-1])
+        status = int(ended[-1])
+        if status == WAITS and words[0] in READERS and sys.stdin is not None and sys.stdin.isatty():
+            say("no answer is read from a terminal here: give answers by a pipe or a file, or ./controller build")
+        return status
     say("the kit gave no answer (it bounds a run's time and output): ./controller build makes a program without such bounds")
     return NO_ANSWER
 
