@@ -29,6 +29,7 @@ use Rattle.model_run.specs.Requests.{SameRequest, RequestsFit}
 use Rattle.model_run.proofs.Asking.{asks_nothing, keeps_same}
 use Rattle.model_run.proofs.RequestLaws.{goes_on_itself, goes_on_if, goes_on_then, all_open, asks_go_on, asks_fit, close_goes_on, close_fits, grant_fits, change_goes_on, change_fits, taken_same, kept_same}
 use Rattle.model_run.proofs.Under.{first_of_both}
+use Rattle.model_run.proofs.AmongLaws.{among_itself, among_on, among_same}
 use Rattle.model_run.proofs.Front.{front_itself, front_same, front_new, front_on, front_ended}
 use Rattle.model_run.proofs.Relation.{Agree}
 use Rattle.model_run.proofs.FormLaws.{after_law}
@@ -123,18 +124,19 @@ module _ (setting : Setting) (p : Node) (e : setting.script ≡ term 0 p) (small
   GoesTo u v = Continues setting.site u v
 
   pub goes_itself : (u : Common) → GoesTo u u
-  goes_itself u = record { later = shared_itself u; log = front_itself u.log; requests = goes_on_itself u; fit = λ h. h }
+  goes_itself u = record { later = shared_itself u; log = front_itself u.log; binding = among_itself u.binding; requests = goes_on_itself u; fit = λ h. h }
 
   pub goes_then : (u v w : Common) → GoesTo u v → GoesTo v w → GoesTo u w
-  goes_then u v w h k = record { later = shared_on u v w h.later k.later; log = front_on u.log v.log w.log h.log k.log; requests = goes_on_then u v w h.requests k.requests; fit = λ x. k.fit (h.fit x) }
+  goes_then u v w h k = record { later = shared_on u v w h.later k.later; log = front_on u.log v.log w.log h.log k.log; binding = among_on u.binding v.binding w.binding h.binding k.binding; requests = goes_on_then u v w h.requests k.requests; fit = λ x. k.fit (h.fit x) }
 
   goes_as : (u v : Common) → Follows u v → GoesTo u v
-  goes_as u v f = record { later = f.later; log = f.log; requests = asks_go_on u v f.asks; fit = asks_fit setting.site u v f.asks f.held }
+  goes_as u v f = record { later = f.later; log = f.log; binding = f.binding; requests = asks_go_on u v f.asks; fit = asks_fit setting.site u v f.asks f.held }
 
   goes_finished : (u : Common) (heads : List ℕ) (causes : List (List ℕ)) (result : BuildResult) → GoesTo u (finished heads causes result u)
   goes_finished u heads causes result = record {
     later = record { cells = later_itself u.cells; nodes = front_new u.nodes (end_node u heads) };
     log = front_ended causes result u.log;
+    binding = among_itself u.binding;
     requests = record { next = omega arith; were = tt };
     fit = λ h. record { some = h.some; requests = tt; rising = tt; held = tt; differ = tt };
   }
@@ -210,22 +212,22 @@ module _ (setting : Setting) (p : Node) (e : setting.script ≡ term 0 p) (small
   later_same u v c n = record { cells = subst (λ (g : List Cell). CellsLater u.cells g) (sym c) (later_itself u.cells); nodes = front_same u.nodes v.nodes n }
 
   close_goes : (n : ℕ) (u : Common) → GoesTo u (without_request n u)
-  close_goes n u = record { later = later_same u (without_request n u) refl refl; log = front_itself u.log; requests = close_goes_on n u; fit = close_fits setting.site n u }
+  close_goes n u = record { later = later_same u (without_request n u) refl refl; log = front_itself u.log; binding = among_itself u.binding; requests = close_goes_on n u; fit = close_fits setting.site n u }
 
-  change_goes : (g : Request → Request) → ((r : Request) → SameRequest r (g r)) → (n : ℕ) (u v : Common) → v.cells ≡ u.cells → v.nodes ≡ u.nodes → IsFront u.log v.log → v.next_request ≡ u.next_request → v.requests ≡ map (change_if g n) u.requests → v.held ≡ u.held → GoesTo u v
-  change_goes g same n u v c ns log next rs held = record { later = later_same u v c ns; log = log; requests = change_goes_on g same n u v next rs; fit = change_fits g setting.site n u v next rs held }
+  change_goes : (g : Request → Request) → ((r : Request) → SameRequest r (g r)) → (n : ℕ) (u v : Common) → v.cells ≡ u.cells → v.nodes ≡ u.nodes → IsFront u.log v.log → v.binding ≡ u.binding → v.next_request ≡ u.next_request → v.requests ≡ map (change_if g n) u.requests → v.held ≡ u.held → GoesTo u v
+  change_goes g same n u v c ns log b next rs held = record { later = later_same u v c ns; log = log; binding = among_same u.binding v.binding b; requests = change_goes_on g same n u v next rs; fit = change_fits g setting.site n u v next rs held }
 
   output_goes : (task : ℕ) (stream : Stream) (bytes : List ℕ) (b : Build) → GoesTo b.shared (output setting.limits task stream bytes b).shared
   output_goes task LogStream bytes b = one (nat_lt setting.limits.log (length b.shared.log + length bytes))
     where
       one : (past : Bool) → GoesTo b.shared (if past then limit_met LogSize b.shared b else record b { shared = change_request (with_taken (length bytes)) task (record b.shared { log = raw bytes b.shared.log }) }).shared
       one true = goes_to_limit LogSize b.shared b.shared b (goes_itself b.shared)
-      one false = change_goes (with_taken (length bytes)) (taken_same (length bytes)) task b.shared (change_request (with_taken (length bytes)) task (record b.shared { log = raw bytes b.shared.log })) refl refl (bytes, refl) refl refl refl
+      one false = change_goes (with_taken (length bytes)) (taken_same (length bytes)) task b.shared (change_request (with_taken (length bytes)) task (record b.shared { log = raw bytes b.shared.log })) refl refl (bytes, refl) refl refl refl refl
   output_goes task OutStream bytes b = one (nat_lt setting.limits.values.text (length (kept_output (request_of b.shared.requests task)) + length bytes))
     where
       one : (past : Bool) → GoesTo b.shared (if past then limit_met TextLength b.shared b else record b { shared = change_request (with_kept bytes) task b.shared }).shared
       one true = goes_to_limit TextLength b.shared b.shared b (goes_itself b.shared)
-      one false = change_goes (with_kept bytes) (kept_same bytes) task b.shared (change_request (with_kept bytes) task b.shared) refl refl (front_itself b.shared.log) refl refl refl
+      one false = change_goes (with_kept bytes) (kept_same bytes) task b.shared (change_request (with_kept bytes) task b.shared) refl refl (front_itself b.shared.log) refl refl refl refl
 
   -- a grant that is accepted: its request is open, and its executor is one of the site's and not held
   grants : (request executor : ℕ) (label : Option (List ℕ)) (u : Common) → Some_of (λ r. r.number ≡ request) u.requests → (o : Option Executor) → executor_of setting.site executor ≡ o → may_get label u.held o ≡ true → GoesTo u (without_request request (held_as setting.site request executor o u))
@@ -236,6 +238,7 @@ module _ (setting : Setting) (p : Node) (e : setting.script ≡ term 0 p) (small
       record {
         later = later_same u (without_request request (held_as setting.site request executor (Some x) u)) refl refl;
         log = front_itself u.log;
+        binding = among_itself u.binding;
         requests = goes_on_then u (without_request request u) (without_request request (held_as setting.site request executor (Some x) u)) (close_goes_on request u) (goes_on_if (without_request request u) (without_request request (held_as setting.site request executor (Some x) u)) (omega arith) (all_open (without_request request u).requests));
         fit = grant_fits setting.site (record { executor = executor; request = request; workspace = workspace_number setting.site u.held x }) u (λ none. (let no : None ≡ Some x = sym none ∙ found in absurd (cc))) were free;
       }
@@ -256,7 +259,7 @@ module _ (setting : Setting) (p : Node) (e : setting.script ≡ term 0 p) (small
   changed_goes (DecidedEvent request proceed name) on b a = close_goes request b.shared
 
   pub uncounted_goes : (b : Build) → GoesTo b.shared (uncounted b).shared
-  uncounted_goes b = goes_as b.shared (uncounted b).shared (record { later = later_same b.shared (uncounted b).shared refl refl; log = front_itself b.shared.log; asks = asks_nothing b.shared (uncounted b).shared refl refl; held = keeps_same b.shared.held b.shared.held refl })
+  uncounted_goes b = goes_as b.shared (uncounted b).shared (record { later = later_same b.shared (uncounted b).shared refl refl; log = front_itself b.shared.log; binding = among_itself b.shared.binding; asks = asks_nothing b.shared (uncounted b).shared refl refl; held = keeps_same b.shared.held b.shared.held refl })
 
   event_goes : (b : Build) → AllStand b → (x : Event) → Goes_on x → (answer : Taken) → answer_to setting b x ≡ answer → GoesTo b.shared (after_event setting b x answer).shared
   event_goes b all x on Accepted a =

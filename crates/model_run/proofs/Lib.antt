@@ -6,6 +6,7 @@ mod RowExamples
 mod FitExamples
 mod AgentsExamples
 pub mod Front
+pub mod AmongLaws
 pub mod Asking
 pub mod Relation
 pub mod Room

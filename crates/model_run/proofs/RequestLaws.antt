@@ -12,6 +12,7 @@ use Rattle.model_run.specs.Fitting.{Rise, Rises, Distinct, Some_of, HeldFits}
 use Rattle.model_run.specs.Requests.{numbers_of, AsksMore, KeepsSome, RequestsFit, SameRequest, IsSame, WasOpen, RequestsGoOn}
 use Rattle.model_run.specs.World.{change_if, with_taken, with_kept}
 use Rattle.model_run.proofs.Asking.{rise_lower, rise_behind, numbers_behind}
+use Rattle.model_run.proofs.Front.{front_itself, front_on}
 
 -- lists
 pub some_weaker : {A : Type 0} (P Q : A → Type 0) → ((x : A) → P x → Q x) → (xs : List A) → Some_of P xs → Some_of Q xs
@@ -121,14 +122,14 @@ differ_kept keep (x ∷ xs) h = one (keep x) (others_kept x.request keep xs h.0)
 -- the same request
 same_itself : (r : Request) → SameRequest r r
 same_itself (NodeRequest l) = refl
-same_itself (TaskRequest x w f e s st k t o) = (refl, refl, refl, refl, refl, refl, refl)
+same_itself (TaskRequest x w f e s st k t o) = (refl, refl, refl, refl, refl, refl, refl, front_itself o)
 same_itself (InputRequest i) = refl
 
 same_on : (a b c : Request) → SameRequest a b → SameRequest b c → SameRequest a c
 same_on (NodeRequest a) (NodeRequest b) (NodeRequest c) h k = h ∙ k
 same_on (NodeRequest a) (NodeRequest b) c h k = absurd k
 same_on (NodeRequest a) b c h k = absurd h
-same_on (TaskRequest x1 w1 f1 e1 s1 st1 k1 t1 o1) (TaskRequest x2 w2 f2 e2 s2 st2 k2 t2 o2) (TaskRequest x3 w3 f3 e3 s3 st3 k3 t3 o3) h k = (h.0 ∙ k.0, h.1 ∙ k.1, h.2 ∙ k.2, h.3 ∙ k.3, h.4 ∙ k.4, h.5 ∙ k.5, h.6 ∙ k.6)
+same_on (TaskRequest x1 w1 f1 e1 s1 st1 k1 t1 o1) (TaskRequest x2 w2 f2 e2 s2 st2 k2 t2 o2) (TaskRequest x3 w3 f3 e3 s3 st3 k3 t3 o3) h k = (h.0 ∙ k.0, h.1 ∙ k.1, h.2 ∙ k.2, h.3 ∙ k.3, h.4 ∙ k.4, h.5 ∙ k.5, h.6 ∙ k.6, front_on o1 o2 o3 h.7 k.7)
 same_on (TaskRequest x1 w1 f1 e1 s1 st1 k1 t1 o1) (TaskRequest x2 w2 f2 e2 s2 st2 k2 t2 o2) c h k = absurd k
 same_on (TaskRequest x1 w1 f1 e1 s1 st1 k1 t1 o1) b c h k = absurd h
 same_on (InputRequest a) (InputRequest b) (InputRequest c) h k = h ∙ k
@@ -331,10 +332,10 @@ change_fits g site n u v next e same fit = record {
 
 pub taken_same : (n : ℕ) (r : Request) → SameRequest r (with_taken n r)
 taken_same n (NodeRequest l) = refl
-taken_same n (TaskRequest x w f e s st k t o) = (refl, refl, refl, refl, refl, refl, refl)
+taken_same n (TaskRequest x w f e s st k t o) = (refl, refl, refl, refl, refl, refl, refl, front_itself o)
 taken_same n (InputRequest i) = refl
 
 pub kept_same : (bytes : List ℕ) (r : Request) → SameRequest r (with_kept bytes r)
 kept_same bytes (NodeRequest l) = refl
-kept_same bytes (TaskRequest x w f e s st k t o) = (refl, refl, refl, refl, refl, refl, refl)
+kept_same bytes (TaskRequest x w f e s st k t o) = (refl, refl, refl, refl, refl, refl, refl, (bytes, refl))
 kept_same bytes (InputRequest i) = refl

@@ -13,6 +13,7 @@ use Rattle.model_run.specs.Steps.{with_request}
 use Rattle.model_run.specs.Since.{Follows, last_shared, Since, StopsSince}
 use Rattle.model_run.specs.Threads.{Runs, Script, Closure, stands_from}
 use Rattle.model_run.proofs.Asking.{asks_nothing, asks_one, asks_on, keeps_same, keeps_on}
+use Rattle.model_run.proofs.AmongLaws.{among_itself, among_on}
 use Rattle.model_run.proofs.Front.{front_itself, front_on}
 use Rattle.model_run.proofs.Relation.{Relation, Keeps}
 use Rattle.model_run.proofs.Walk.{Plain, plain_law}
@@ -25,18 +26,18 @@ pub shared_on : (u v w : Common) → Later u v → Later v w → Later u w
 shared_on u v w h k = record { cells = later_on u.cells v.cells w.cells h.cells k.cells; nodes = front_on u.nodes v.nodes w.nodes h.nodes k.nodes }
 
 pub follows_itself : (u : Common) → Follows u u
-follows_itself u = record { later = shared_itself u; log = front_itself u.log; asks = asks_nothing u u refl refl; held = keeps_same u.held u.held refl }
+follows_itself u = record { later = shared_itself u; log = front_itself u.log; binding = among_itself u.binding; asks = asks_nothing u u refl refl; held = keeps_same u.held u.held refl }
 
 pub follows_on : (u v w : Common) → Follows u v → Follows v w → Follows u w
-follows_on u v w h k = record { later = shared_on u v w h.later k.later; log = front_on u.log v.log w.log h.log k.log; asks = asks_on u v w h.asks k.asks; held = keeps_on u.held v.held w.held h.held k.held }
+follows_on u v w h k = record { later = shared_on u v w h.later k.later; log = front_on u.log v.log w.log h.log k.log; binding = among_on u.binding v.binding w.binding h.binding k.binding; asks = asks_on u v w h.asks k.asks; held = keeps_on u.held v.held w.held h.held k.held }
 
 -- every change of a world but a call's beginning and end, which leave the shared state
 pub keeps_follows : (w w' : World) → Keeps w w' → Follows w.shared w'.shared
-keeps_follows w w' k = record { later = record { cells = k.cells; nodes = k.nodes }; log = k.log; asks = asks_nothing w.shared w'.shared k.next k.requests; held = k.held }
+keeps_follows w w' k = record { later = record { cells = k.cells; nodes = k.nodes }; log = k.log; binding = k.binding; asks = asks_nothing w.shared w'.shared k.next k.requests; held = k.held }
 
 -- and a request that is opened
 pub asks_follows : (r : Request) (w : World) → Follows w.shared (with_request r w).shared
-asks_follows r w = record { later = record { cells = later_itself w.shared.cells; nodes = front_itself w.shared.nodes }; log = front_itself w.shared.log; asks = asks_one r w; held = keeps_same w.shared.held w.shared.held refl }
+asks_follows r w = record { later = record { cells = later_itself w.shared.cells; nodes = front_itself w.shared.nodes }; log = front_itself w.shared.log; binding = among_itself w.shared.binding; asks = asks_one r w; held = keeps_same w.shared.held w.shared.held refl }
 
 since_here : (u : Common) (rs : List Reply) (s : State) → s.replies ≡ rs → Follows u s.world.shared → Since u rs s
 since_here u [] s e l = (e, l)

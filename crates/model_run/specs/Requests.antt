@@ -4,6 +4,7 @@ use Rattle.std.specs.Prelude.{◌≡◌, ◌≤◌, ◌⊎◌, ℕ, Bool, List, 
 use Rattle.std.specs.List.{AllByRecursion as AllAre}
 use Rattle.model_run.specs.RunTypes.{Request, NodeRequest, TaskRequest, InputRequest, OpenRequest, Held, Site, Event, GrantedEvent, ExitedEvent, LostEvent, DecidedEvent}
 use Rattle.model_run.specs.State.{Common}
+use Rattle.model_run.specs.FlowNodes.{IsFront}
 use Rattle.model_run.specs.Fitting.{Rise, Rises, Distinct, Some_of, HeldFits}
 
 abbrev pub numbers_of : List OpenRequest → List ℕ
@@ -29,11 +30,11 @@ pub record RequestsFit (site : Site) (u : Common) : Type 0 where
   pub held : AllAre (HeldFits site u) u.held
   pub differ : Distinct (map (λ x. x.request) u.held)
 
--- the same request, but for what was taken of a task's output
+-- the same request, but for what was taken of a task's output, and what came to the output that is kept
 abbrev pub SameRequest : Request → Request → Type 0
 SameRequest (NodeRequest label) (NodeRequest l) = label ≡ l
 SameRequest (TaskRequest executor workspace folder env script status keep_out taken out) (TaskRequest x w f e s st k t o) =
-    (executor ≡ x) × (workspace ≡ w) × (folder ≡ f) × (env ≡ e) × (script ≡ s) × (status ≡ st) × (keep_out ≡ k)
+    (executor ≡ x) × (workspace ≡ w) × (folder ≡ f) × (env ≡ e) × (script ≡ s) × (status ≡ st) × (keep_out ≡ k) × IsFront out o
 SameRequest (InputRequest id) (InputRequest i) = id ≡ i
 SameRequest r q = ⊥
 

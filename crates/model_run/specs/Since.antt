@@ -4,22 +4,25 @@ use Rattle.std.specs.Prelude.{◌≡◌, ◌⊎◌, List, [], ◌∷◌}
 use Rattle.model_run.specs.RunTypes.{Site}
 use Rattle.model_run.specs.State.{Common, Reply, State, Result, Ended, Waits, Limited, Unfinished}
 use Rattle.model_run.specs.FlowNodes.{IsFront}
+use Rattle.model_run.specs.Among.{AreAmong}
 use Rattle.model_run.specs.Fitting.{Later}
 use Rattle.model_run.specs.Requests.{AsksMore, KeepsSome, RequestsFit, RequestsGoOn}
 
--- from a state to the one that an evaluation makes of it: it is later, the log is only added to, new requests stand behind those that
--- were open, and some of the held executors are still held
+-- from a state to the one that an evaluation makes of it: it is later, the log is only added to, binding variables stay, new requests
+-- stand behind those that were open, and some of the held executors are still held
 pub record Follows (u v : Common) : Type 0 where
   pub later : Later u v
   pub log : IsFront u.log v.log
+  pub binding : AreAmong u.binding v.binding
   pub asks : AsksMore u v
   pub held : KeepsSome u.held v.held
 
--- from a state to the one that an event makes of it: it is later, the log is only added to, each request that is open was open before
--- or has a new number, and open requests and held executors fit as before
+-- from a state to the one that an event makes of it: it is later, the log is only added to, binding variables stay, each request that
+-- is open was open before or has a new number, and open requests and held executors fit as before
 pub record Continues (site : Site) (u v : Common) : Type 0 where
   pub later : Later u v
   pub log : IsFront u.log v.log
+  pub binding : AreAmong u.binding v.binding
   pub requests : RequestsGoOn u v
   pub fit : RequestsFit site u → RequestsFit site v
 
