@@ -1,5 +1,5 @@
 -- How a frame goes on by the ending inside it: with what, or that it ends itself with this ending.
-use Rattle.std.specs.Prelude.{ℕ, ◌∷◌, Result as Outcome, Ok, Err}
+use Rattle.std.specs.Prelude.{ℕ, Bool, true, false, ◌∷◌, Result as Outcome, Ok, Err}
 use Rattle.model_values.specs.declared.value.Value.{Value}
 use Rattle.model_values.specs.declared.value.Value.TheVariants.{Null}
 use Rattle.model_run.specs.State.{Env}
@@ -36,6 +36,12 @@ answer_of Broke = Err Broke
 answer_of Continued = Err Continued
 answer_of (Declared b) = Err (Declared b)
 answer_of (Answered x) = Ok x
+
+-- how a block may end, or any other node that declares nothing
+abbrev pub is_block_ending : Ending → Bool
+is_block_ending (Declared b) = false
+is_block_ending (Answered x) = false
+is_block_ending e = true
 
 -- a loop goes on, and `break` ends it
 abbrev pub turn_of : Ending → Outcome (Unit {0}) Ending

@@ -1,7 +1,7 @@
 //! How a frame goes on by the ending inside it.
 
-ghost use Rattle.std.specs.Prelude.{◌≡◌, IfOk};
-ghost use Rattle.cps_frames.specs.Ways.{answer_of, statement_of, thrown_of, turn_of, value_of};
+ghost use Rattle.std.specs.Prelude.{◌≡◌, IfOk, true};
+ghost use Rattle.cps_frames.specs.Ways.{answer_of, is_block_ending, statement_of, thrown_of, turn_of, value_of};
 
 use model_run::{Answer, Ending};
 use model_values::{Env, Value};
@@ -39,11 +39,13 @@ pub fn answer_of(ending: Ending) -> Result<Answer, Ending>
 
 /// A turn of a loop has ended, and the loop goes on. `Err` is how the loop ends: with null behind `break`.
 pub fn turn_of(ending: Ending) -> Result<(), Ending>
+    requires { is_block_ending ending ≡ true }
     ensures { result ≡ turn_of ending }
 {
     match ending {
-        Ending::Normal(_) | Ending::Continued | Ending::Declared(_) => Ok(()),
+        Ending::Normal(_) | Ending::Continued => Ok(()),
         Ending::Broke => Err(Ending::Normal(Value::Null)),
+        Ending::Declared(_) | Ending::Answered(_) => unreachable!(),
         other => Err(other),
     }
 }
