@@ -243,7 +243,7 @@ module _ (root : Term) (k : ℕ) (sh : Shape) (there : shape_at root k ≡ sh) (
     node_runs_goes f w x None = end_law (here (cells w)) Null
     node_runs_goes f w x (Some y) =
         logging_law (here (cells w)) (running_line y (workspace_of w x y)) (changed (entered_node x.request (workspace_of w x y)) (calling (closure_of w f) (ended Null) (node_body a k env w))) (changed (entered_node x.request (workspace_of w x y)) (calling (closure_of w f) (ended Null) (node_body a k env w)))
-        (change_law (here (cells w)) (entered_node x.request (workspace_of w x y)) (λ w. kept refl refl refl refl refl refl refl refl refl refl) (calling (closure_of w f) (ended Null) (node_body a k env w)) (calling (closure_of w f) (ended Null) (node_body a k env w))
+        (change_law (here (cells w)) (entered_node x.request (workspace_of w x y)) (λ w. kept refl refl refl refl refl refl refl refl refl refl refl) (calling (closure_of w f) (ended Null) (node_body a k env w)) (calling (closure_of w f) (ended Null) (node_body a k env w))
         (calling_goes w f _ (λ c has. run_body_goes (cells w) (frame kind.NodeBody k 0 env (starts w)) (own_frame refl itself) (λ g. tt) refl (after_node_body w.own.head (next_node w)) (node_end_law (here (cells w)) w.own.head (next_node w)) [] c has)))
 
     node_held_goes : (f : Value) (w : World) (o : Option Held) → So (cells w) (node_held a k env f w o)
@@ -270,7 +270,7 @@ module _ (root : Term) (k : ℕ) (sh : Shape) (there : shape_at root k ≡ sh) (
     dir_in_goes path f w None = end_block_goes (cells w) (codes "dir") w.own.head _ (throwing_law (here (cells w)) MissingContextVariable (codes "Required context class hudson.FilePath is missing"))
     dir_in_goes path f w (Some p) =
         logging_law (here (cells w)) (codes "Running in " ++ folder_of p.folder path) (changed (with_folder (folder_of p.folder path)) (calling (closure_of w f) (ended Null) (dir_body a k env w))) (changed (with_folder (folder_of p.folder path)) (calling (closure_of w f) (ended Null) (dir_body a k env w)))
-        (change_law (here (cells w)) (with_folder (folder_of p.folder path)) (λ w. kept refl refl refl refl refl refl refl refl refl refl) (calling (closure_of w f) (ended Null) (dir_body a k env w)) (calling (closure_of w f) (ended Null) (dir_body a k env w))
+        (change_law (here (cells w)) (with_folder (folder_of p.folder path)) (λ w. kept refl refl refl refl refl refl refl refl refl refl refl) (calling (closure_of w f) (ended Null) (dir_body a k env w)) (calling (closure_of w f) (ended Null) (dir_body a k env w))
         (calling_goes w f _ (λ c has. run_body_goes (cells w) (frame kind.DirBody k 0 env (starts w)) (own_frame refl itself) (λ g. tt) refl (after_dir_body w.own.head (next_node w)) (dir_end_law (here (cells w)) w.own.head (next_node w)) [] c has)))
 
     -- the steps with a body
@@ -289,7 +289,7 @@ module _ (root : Term) (k : ℕ) (sh : Shape) (there : shape_at root k ≡ sh) (
     block_step_goes h w args f step.Dir = block_goes h (codes "dir") _ (seeing_goes h _ (λ u. dir_in_goes (text_or_empty w (codes "path") args) f u (place_of u)))
     block_step_goes h w args f step.WithEnv = block_goes h (codes "withEnv") _ (seeing_goes h _ (λ u.
         let go : State → Result = calling (closure_of u f) (ended Null) (with_env_body a k env (length (overrides_of (cells w) (given (codes "overrides") args))) u) in
-        change_law (here (cells u)) (with_overrides (overrides_of (cells w) (given (codes "overrides") args))) (λ w. kept refl refl refl refl refl refl refl refl refl refl) go go
+        change_law (here (cells u)) (with_overrides (overrides_of (cells w) (given (codes "overrides") args))) (λ w. kept refl refl refl refl refl refl refl refl refl refl refl) go go
         (calling_goes u f _ (λ c has. run_body_goes (cells u) (frame kind.WithEnvBody k 0 env (starts u ++ whole (length (overrides_of (cells w) (given (codes "overrides") args))) ∷ [])) (own_frame refl itself) (λ g. tt) refl (after_with_env u.own.head (next_node u) (length (overrides_of (cells w) (given (codes "overrides") args))))
         (with_env_end_law (here (cells u)) u.own.head (next_node u) (length (overrides_of (cells w) (given (codes "overrides") args)))) [] c has))))
     block_step_goes h w args f t = end_law (here h) Null

@@ -99,7 +99,7 @@ there_counted u v y p t = subst (λ (w : World). There w.shared.cells y) (sym p.
 
 -- The last suffix of a target.
 pub keeps_suffix : (f : NodeForm) → KeepsAll (suffix_counted f)
-keeps_suffix (form.ToName x) w = kept refl refl refl refl refl refl refl refl refl refl
+keeps_suffix (form.ToName x) w = kept refl refl refl refl refl refl refl refl refl refl refl
 keeps_suffix f w = keeps_count w
 
 pub name_counted : (f : NodeForm) (u : Standing) → is_name f ≡ true → Passed (suffix_limit f) (suffix_counted f) u u

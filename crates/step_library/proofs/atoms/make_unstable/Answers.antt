@@ -36,4 +36,4 @@ returns c = λ k r pos.
     to_note k r Atom (codes "unstable") 0 (pipeline (codes "unstable")) (λ sh a. logging (codes "WARNING: " ++ c.args.message.now) (changed (worsened Unstable) (ended Null))) _ _ (Ok (Ends (Normal Null))) _ c.in_ok-note_atom.ensures
     (subst (λ (x : List ℕ). ComesTo k r (λ sh a. logging x (changed (worsened Unstable) (ended Null))) (standing c.note_atom.new.shared c.note_atom.new.state) (Ok (Ends (Normal Null))) (standing c.worsen.new.shared c.note_atom.new.state)) told
     (to_line k r c.as_slice.result.now (λ sh a. changed (worsened Unstable) (ended Null)) _ (standing c.say.new.shared c.note_atom.new.state) (Ok (Ends (Normal Null))) _ (c.in_ok-say.ensures c.note_atom.new.state)
-    (to_change k r (worsened Unstable) (λ w. kept refl refl refl refl refl refl refl refl refl refl) (λ sh a. ended Null) _ _ (Ok (Ends (Normal Null))) _ (c.worsen.ensures c.note_atom.new.state) (comes_ended k r _ _ _ pos (λ a rs. refl)))))
+    (to_change k r (worsened Unstable) (λ w. kept refl refl refl refl refl refl refl refl refl refl refl) (λ sh a. ended Null) _ _ (Ok (Ends (Normal Null))) _ (c.worsen.ensures c.note_atom.new.state) (comes_ended k r _ _ _ pos (λ a rs. refl)))))
