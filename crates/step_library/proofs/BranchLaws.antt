@@ -1,6 +1,6 @@
 -- Branches that begin, one behind the other.
 use Rattle.std.proofs.Common.{◌≡◌, ◌∙◌, Bool, true, false, ℕ, ◌+◌, ◌≤◌, ◌<◌, ◌^◌, List, [], ◌∷◌, ◌++◌, length, Option, Some, None, refl, ap, sym, subst, arith}
-use Rattle.std.specs.Prelude.{Result as Outcome, Err, codes}
+use Rattle.std.specs.Prelude.{Result as Outcome, Err, codes, if◌then◌else◌, nat_lt}
 use Rattle.std.proofs.lemmas.List.{length-append}
 use Rattle.std.specs.List.{All, AllByRecursion as AllAre}
 use Rattle.std.proofs.lemmas.List.Elements.{All-cons}
@@ -20,7 +20,7 @@ use Rattle.model_run.specs.declared.callee.Callee.{Callee}
 use Rattle.model_run.specs.declared.ending.Branch.{Branch}
 use Rattle.model_run.specs.FlowNodes.{body_line, branch_label, end_branches, next_node, noted, noted_branch, noted_limit, pipeline}
 use Rattle.model_run.specs.State.{Common, Reply, Env, World, awaiting, through}
-use Rattle.model_run.specs.Steps.{after_parallel, begin_branches, fork, fork_or_none, no_branches, outcome_value, with_callee}
+use Rattle.model_run.specs.Steps.{after_parallel, begin_branches, earlier, first_failure, fork, fork_or_none, is_thrown, no_branches, outcome_value, with_callee}
 use Rattle.run_laws.proofs.Bounds.{node_room}
 use Rattle.cps_frames.specs.Standing.{Beside, Standing, room_of, state}
 use Rattle.cps_frames.specs.Changes.{Passed, Passes}
@@ -121,3 +121,37 @@ ends_below u (b ∷ bs) all = All-cons (λ (x : BranchEnd). OutcomeBelow (length
 pub value_below : (n : ℕ) (o : Outcome_of) → OutcomeBelow n o → ValueBelow n (outcome_value o)
 value_below n (ValueOutcome v) h = h
 value_below n (ThrownOutcome c) h = tt
+
+-- the first failure is one
+earlier_failed : (b d : BranchEnd) (o : Option BranchEnd) → is_thrown b.end.outcome ≡ true → ((x : BranchEnd) → o ≡ Some x → is_thrown x.end.outcome ≡ true) → earlier b o ≡ Some d → is_thrown d.end.outcome ≡ true
+earlier_failed b d None fails others e = let same : b ≡ d = cc e in subst (λ (x : BranchEnd). is_thrown x.end.outcome ≡ true) same fails
+earlier_failed b d (Some x) fails others e = go (nat_lt b.end.place x.end.place) e
+  where
+    go : (t : Bool) → (if t then Some b else Some x) ≡ Some d → is_thrown d.end.outcome ≡ true
+    go true is = let same : b ≡ d = cc is in subst (λ (y : BranchEnd). is_thrown y.end.outcome ≡ true) same fails
+    go false is = let same : x ≡ d = cc is in others d (ap Some same)
+
+pub failed_first : (bs : List BranchEnd) (d : BranchEnd) → first_failure bs ≡ Some d → is_thrown d.end.outcome ≡ true
+failed_first [] d e = absurd (cc e)
+failed_first (b ∷ bs) d e = go (is_thrown b.end.outcome) refl e (failed_first bs)
+  where
+    go : (t : Bool) → is_thrown b.end.outcome ≡ t → (if t then earlier b (first_failure bs) else first_failure bs) ≡ Some d → ((x : BranchEnd) → first_failure bs ≡ Some x → is_thrown x.end.outcome ≡ true) → is_thrown d.end.outcome ≡ true
+    go true fails is more = earlier_failed b d (first_failure bs) fails more is
+    go false holds is more = more d is
+
+-- where there is none, all have ended with a value
+no_earlier : (b : BranchEnd) (o : Option BranchEnd) → earlier b o ≡ None → ⊥
+no_earlier b None e = absurd (cc e)
+no_earlier b (Some x) e = go (nat_lt b.end.place x.end.place) e
+  where
+    go : (t : Bool) → (if t then Some b else Some x) ≡ None → ⊥
+    go true is = absurd (cc is)
+    go false is = absurd (cc is)
+
+pub none_failed : (bs : List BranchEnd) → first_failure bs ≡ None → All (λ b. is_thrown b.end.outcome ≡ false) bs
+none_failed [] e = λ k d lt. absurd (omega arith)
+none_failed (b ∷ bs) e = go (is_thrown b.end.outcome) refl e (none_failed bs)
+  where
+    go : (t : Bool) → is_thrown b.end.outcome ≡ t → (if t then earlier b (first_failure bs) else first_failure bs) ≡ None → (first_failure bs ≡ None → All (λ x. is_thrown x.end.outcome ≡ false) bs) → All (λ x. is_thrown x.end.outcome ≡ false) (b ∷ bs)
+    go true fails is more = absurd (no_earlier b (first_failure bs) is)
+    go false holds is more = All-cons (λ (x : BranchEnd). is_thrown x.end.outcome ≡ false) b bs holds (more is)

@@ -1,5 +1,5 @@
 -- What the frames of steps keep, by their rows.
-use Rattle.std.proofs.Common.{◌≡◌, ℕ, ◌<◌, List, [], ◌∷◌, length, refl, subst, arith}
+use Rattle.std.proofs.Common.{◌≡◌, ℕ, ◌<◌, ◌≤◌, List, [], ◌∷◌, length, refl, subst, arith}
 use Rattle.std.specs.Prelude.{pos}
 use Rattle.std.specs.Prelude.{Option, Some, None, slice_get}
 use Rattle.std.proofs.lemmas.Option.{slice_get_within}
@@ -14,7 +14,7 @@ use Rattle.model_run.specs.declared.frame.FrameKind.TheVariants as kind
 use Rattle.model_run.specs.declared.ending.Ending.{Ending}
 use Rattle.model_run.specs.declared.ending.Ending.TheVariants.{Normal, Thrown, Returned, Broke, Continued, Declared, Answered}
 use Rattle.model_run.specs.declared.wait.Answer.TheVariants.{Begin, Granted, Done, Decided, Joined}
-use Rattle.model_run.specs.Around.{Shape, value_at}
+use Rattle.model_run.specs.Around.{Shape, position, value_at}
 use Rattle.model_run.specs.FrameTable.{Sort, Further, Flag, Flow_node, A_closure, Text_or_null, Up_to, frame_row}
 use Rattle.model_run.specs.Fitting.{known}
 use Rattle.model_run.specs.Nesting.{Any_body, For_branches, For_executor, For_person, For_task, FrameFits, ValuesFit, shape_at, spot}
@@ -164,18 +164,26 @@ flags_in u f e may is =
     let sh = shape_at u.world.setting.script f.node in
     flags_kept u.world.shared (frame_row kind.ShWait sh f.left f.env).further f.values (values_fit u.world.shared u.world.setting.script f kind.ShWait is ((may.frame).fits))
 
+bounded_low : (u : Common) (n : ℕ) (v : Value) → known u (Up_to n) v → position v ≤ n
+bounded_low u n (Whole (pos m)) h = h
+bounded_low u n (Whole z) h = absurd h
+bounded_low u n Null h = absurd h
+bounded_low u n (Truth b) h = absurd h
+bounded_low u n (InCell c) h = absurd h
+
 -- a bounded number behind the first flow nodes
-pub record Bounded (vs : List Value) : Type 0 where
+pub record Bounded (n : ℕ) (vs : List Value) : Type 0 where
   pub many : 2 < length vs
   pub number : IsNatural (value_at 2 vs)
+  pub low : position (value_at 2 vs) ≤ n
 
-bounded_kept : (u : Common) (n : ℕ) (further : Further) (xs : List Sort) (vs : List Value) → ValuesFit (known u) further (Flow_node ∷ Flow_node ∷ Up_to n ∷ xs) vs → Bounded vs
+bounded_kept : (u : Common) (n : ℕ) (further : Further) (xs : List Sort) (vs : List Value) → ValuesFit (known u) further (Flow_node ∷ Flow_node ∷ Up_to n ∷ xs) vs → Bounded n vs
 bounded_kept u n further xs [] h = absurd h
 bounded_kept u n further xs (v ∷ []) h = absurd h.1
 bounded_kept u n further xs (v ∷ w ∷ []) h = absurd h.1.1
-bounded_kept u n further xs (v ∷ w ∷ x ∷ vs) h = record { many = omega arith; number = bounded_natural u n x h.1.1.0 }
+bounded_kept u n further xs (v ∷ w ∷ x ∷ vs) h = record { many = omega arith; number = bounded_natural u n x h.1.1.0; low = bounded_low u n x h.1.1.0 }
 
-pub bounded_in : (u : Standing) (f : Frame) (e : Ending) (d : FrameKind) (n : ℕ) (xs : List Sort) → MayGoOn u f e → f.kind ≡ d → ((sh : Shape) (left : ℕ) (env : Env) → (frame_row d sh left env).values ≡ Flow_node ∷ Flow_node ∷ Up_to n ∷ xs) → Bounded f.values
+pub bounded_in : (u : Standing) (f : Frame) (e : Ending) (d : FrameKind) (n : ℕ) (xs : List Sort) → MayGoOn u f e → f.kind ≡ d → ((sh : Shape) (left : ℕ) (env : Env) → (frame_row d sh left env).values ≡ Flow_node ∷ Flow_node ∷ Up_to n ∷ xs) → Bounded n f.values
 bounded_in u f e d n xs may is row =
     let sh = shape_at u.world.setting.script f.node in
     let further = (frame_row d sh f.left f.env).further in

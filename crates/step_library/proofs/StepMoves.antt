@@ -1,5 +1,5 @@
 -- What the words of steps come to: lines, flow nodes, changes of the context, closures that are called.
-use Rattle.std.proofs.Common.{◌≡◌, ◌∙◌, ℕ, ◌≤◌, ◌<◌, List, [], ◌∷◌, length, Some, refl, ap, sym, subst, arith}
+use Rattle.std.proofs.Common.{◌≡◌, ◌∙◌, ℕ, ◌≤◌, ◌<◌, List, [], ◌∷◌, length, Some, ap, sym, subst, arith}
 use Rattle.std.specs.Prelude.{Result as Outcome, Err, codes}
 use Rattle.model_values.specs.declared.value.Value.{Value}
 use Rattle.model_values.specs.declared.value.Value.TheVariants.{Null}

@@ -1,5 +1,5 @@
 -- How `retry` goes on behind its body's end node.
-use Rattle.std.specs.Prelude.{◌≡◌, ◌⊎◌, ◌≢◌, ◌-◌, ℕ, zero, suc, true, false, List, Option, Some, None, Result as Outcome, Ok, Err, slice_get}
+use Rattle.std.specs.Prelude.{◌≡◌, ◌⊎◌, ◌≢◌, ℕ, zero, suc, true, false, List, Option, Some, None, Result as Outcome, Ok, Err, slice_get}
 use Rattle.model_values.specs.Fitting.{HasThrowable}
 use Rattle.model_values.specs.declared.cell.Cell.{Cell}
 use Rattle.model_values.specs.declared.value.Value.{Value}

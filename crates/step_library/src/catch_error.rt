@@ -1,6 +1,6 @@
 //! `catchError`.
 
-ghost use Rattle.std.specs.Prelude.{◌≡◌, ◌<◌, ◌∷◌, ◌++◌, [], ℕ, codes, length, slice_get, IfOk, IfSome, OnOk};
+ghost use Rattle.std.specs.Prelude.{◌≡◌, ◌<◌, ◌≤◌, ◌∷◌, ◌++◌, [], ℕ, codes, length, slice_get, IfOk, IfSome, OnOk};
 ghost use Rattle.cell_heap.specs.Soundness.{ValueBelow};
 ghost use Rattle.model_values.specs.Fitting.{HasClosure, HasThrowable, IsIn};
 ghost use Rattle.model_values.specs.Kinds.{kind};
@@ -152,6 +152,7 @@ fn caught(
     message: &Value,
     ending: Ending,
 ) -> Result<Move, Halt>
+    requires least { least ≤ 4 }
     requires message { ValueBelow (length shared.old.heap.cells) message.now }
     requires thrown { Throws shared.old.heap.cells ending }
     ensures { (k r : ℕ) → 0 < r → ComesTo k r (λ sh a. caught start least message.now ending) (standing shared.old state.old) result (standing shared.new state.new) }
@@ -181,6 +182,7 @@ fn go_on_behind(
     message: &Value,
     cell: u32,
 ) -> Result<Move, Halt>
+    requires least { least ≤ 4 }
     requires message { ValueBelow (length shared.old.heap.cells) message.now }
     requires thrown { HasThrowable (slice_get shared.old.heap.cells cell) }
     ensures { (k r : ℕ) → 0 < r → ComesTo k r (λ sh a. logging_all (message_lines (kind shared.old.heap.cells message.now) ++ caught_lines (slice_get shared.old.heap.cells cell)) (changed (worsened (result_at least)) (catch_end start))) (standing shared.old state.old) result (standing shared.new state.new) }
@@ -236,6 +238,7 @@ fn catch_end(state: &mut ThreadState, shared: &mut Shared, start: u32) -> Result
 
 /// The result of this number.
 fn result_at(number: u32) -> BuildResult
+    requires { number ≤ 4 }
     ensures { result ≡ result_at number }
 {
     match number {
@@ -243,6 +246,7 @@ fn result_at(number: u32) -> BuildResult
         1 => BuildResult::Unstable,
         2 => BuildResult::Failure,
         3 => BuildResult::NotBuilt,
-        _ => BuildResult::Aborted,
+        4 => BuildResult::Aborted,
+        _ => unreachable!(),
     }
 }

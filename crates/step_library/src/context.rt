@@ -1,6 +1,6 @@
 //! What the bodies of steps add to a thread's context, and take away at their end.
 
-ghost use Rattle.std.specs.Prelude.{◌≡◌, ◌++◌, OnOk};
+ghost use Rattle.std.specs.Prelude.{◌≡◌, ◌<◌, ◌++◌, OnOk, length};
 ghost use Rattle.model_run.specs.Grants.{without_request};
 ghost use Rattle.model_run.specs.Steps.{entered_node, left_node, with_folder, with_overrides, without_folder, without_overrides};
 ghost use Rattle.cps_frames.specs.Standing.{standing};
@@ -68,14 +68,15 @@ pub(crate) fn enter_node(
 
 /// The body of a `node` is left, and its executor is given back.
 pub(crate) fn leave_node(state: &mut ThreadState, shared: &mut Shared)
+    requires { 0 < length state.old.context.held }
     ensures { Changes left_node (standing shared.old state.old) (standing shared.new state.new) }
 {
-    let request = state.context.held.pop();
+    let Some(request) = state.context.held.pop() else {
+        unreachable!()
+    };
     state.context.folders.pop();
-    if let Some(request) = request {
-        let alloc = shared.alloc();
-        release(&mut shared.held, alloc, request);
-    }
+    let alloc = shared.alloc();
+    release(&mut shared.held, alloc, request);
 }
 
 /// What this request holds is released.

@@ -1,6 +1,6 @@
 //! `parallel`.
 
-ghost use Rattle.std.specs.Prelude.{◌≡◌, ◌∷◌, ◌^◌, ◌<◌, [], ℕ, All, Some, codes, length, map, option_copied, IfOk, IfSome, OnOk};
+ghost use Rattle.std.specs.Prelude.{◌≡◌, ◌∷◌, ◌^◌, ◌<◌, [], ℕ, All, Some, true, false, codes, length, map, option_copied, IfOk, IfSome, OnOk};
 ghost use Rattle.cell_heap.specs.Soundness.{ValueBelow};
 ghost use Rattle.indexmap.specs.IndexMap.{insert_all, insert_entry};
 ghost use Rattle.model_values.specs.Cells.{new_map};
@@ -145,13 +145,14 @@ fn joined(shared: &mut Shared, ends: &[BranchEnd]) -> Result<Move, Halt>
     }
 }
 
-/// How a branch has ended.
+/// How a branch that has failed has ended.
 fn thrown_by(outcome: &Outcome) -> Ending
+    requires { is_thrown outcome.now ≡ true }
     ensures { result ≡ thrown_by outcome.now }
 {
     match outcome {
         Outcome::Thrown(cell) => Ending::Thrown(*cell),
-        Outcome::Value(value) => Ending::Normal(*value),
+        Outcome::Value(_) => unreachable!(),
     }
 }
 
@@ -197,7 +198,8 @@ fn is_thrown(outcome: &Outcome) -> bool
 
 /// The map of the branches' values.
 fn joined_values(shared: &mut Shared, ends: &[BranchEnd]) -> Result<Move, Halt>
-    requires { All (λ b. OutcomeBelow (length shared.old.heap.cells) b.end.outcome) ends.now }
+    requires below { All (λ b. OutcomeBelow (length shared.old.heap.cells) b.end.outcome) ends.now }
+    requires values { All (λ b. is_thrown b.end.outcome ≡ false) ends.now }
     ensures { (t : Thread) (k r : ℕ) → 0 < r → ComesTo k r (λ sh a. operating (λ w. new_map (limits w) (cells w) (insert_all same_key [] (values_of ends.now))) ended) (standing shared.old t) result (standing shared.new t) }
 {
     let entries = entries_of(shared.alloc(), ends)?;
@@ -206,6 +208,7 @@ fn joined_values(shared: &mut Shared, ends: &[BranchEnd]) -> Result<Move, Halt>
 
 /// The values of branches by their names. `AllocError` where the memory was refused.
 fn entries_of(alloc: Global, ends: &[BranchEnd]) -> Result<Entries, AllocError>
+    requires { All (λ b. is_thrown b.end.outcome ≡ false) ends.now }
     ensures entries { IfOk result (λ entries. entries ≡ insert_all same_key [] (values_of ends.now)) }
     ensures below { (n : ℕ) → All (λ b. OutcomeBelow n b.end.outcome) ends.now → IfOk result (λ entries. All (λ e. ValueBelow n e.1) entries) }
 {
@@ -218,6 +221,7 @@ fn entries_of(alloc: Global, ends: &[BranchEnd]) -> Result<Entries, AllocError>
 
 /// Puts the value of a branch under its name. `AllocError` where the memory was refused.
 fn put_value(entries: &mut Entries, branch: &BranchEnd) -> Result<(), AllocError>
+    requires { is_thrown branch.now.end.outcome ≡ false }
     ensures { OnOk result (entries.new ≡ insert_entry same_key entries.old (TextKey branch.now.name) (outcome_value branch.now.end.outcome)) }
 {
     let name = branch.name.clone()?;
@@ -225,12 +229,13 @@ fn put_value(entries: &mut Entries, branch: &BranchEnd) -> Result<(), AllocError
     Ok(())
 }
 
-/// The value of a branch, and null where it has failed.
+/// The value of a branch that has not failed.
 fn outcome_value(outcome: &Outcome) -> Value
+    requires { is_thrown outcome.now ≡ false }
     ensures { result ≡ outcome_value outcome.now }
 {
     match outcome {
         Outcome::Value(value) => *value,
-        Outcome::Thrown(_) => Value::Null,
+        Outcome::Thrown(_) => unreachable!(),
     }
 }

@@ -1,5 +1,4 @@
 use Rattle.std.proofs.Common.{ℕ, refl, subst, arith}
-use Rattle.model_run.specs.Around.{position, value_at}
 use Rattle.model_run.specs.Steps.{after_branch}
 use Rattle.model_run.specs.declared.frame.FrameKind.TheVariants as kind
 use Rattle.cps_frames.specs.Moves.{ComesTo}

@@ -36,7 +36,9 @@ caught-requires c =
     let v = standing c.end_body.new.shared c.end_body.new.state in
     let cells = cells_noted EndBody [] c.number_at.result (pipeline (codes "}")) u v c.in_ok-end_body.ensures in
     let s = messages_in (standing c.args.shared.now c.args.state.now) c.args.frame c.args.ending c.requires.may c.requires.kind in
+    let b = bounded_in u c.args.frame c.args.ending kind.CatchErrorBody 4 (Text_or_null ∷ []) c.requires.may c.requires.kind (λ sh left env. refl) in
     record {
+      least = omega (arith, b.low, c.number_at-least.ensures.number);
       message = subst (λ (h : List Cell). ValueBelow (length h) c.value_at-message.result) (sym cells) (subst (ValueBelow (length u.world.shared.cells)) (sym c.value_at-message.ensures) (text_below u.world.shared (value_at 3 c.args.frame.values) s.message));
       thrown = subst (λ (h : List Cell). Throws h c.args.ending) (sym cells) (body_throws u c.args.frame c.args.ending kind.CatchErrorBody c.requires.may c.requires.kind (λ root k sh left env. refl));
     }

@@ -1,8 +1,9 @@
-use Rattle.std.proofs.Common.{[], refl, arith}
+use Rattle.std.proofs.Common.{◌≡◌, [], length, refl, ap, arith}
 use Rattle.std.specs.Prelude.{codes}
 use Rattle.model_run.specs.Around.{position, value_at}
+use Rattle.model_run.specs.Fitting.{holds_executor}
 use Rattle.model_run.specs.FlowNodes.{end_block}
-use Rattle.model_run.specs.State.{Ended, changed}
+use Rattle.model_run.specs.State.{Ended, World, changed}
 use Rattle.model_run.specs.declared.frame.FrameKind.TheVariants as kind
 use Rattle.cps_frames.specs.Order.{rank}
 use Rattle.cps_frames.specs.Standing.{standing}
@@ -18,6 +19,11 @@ number_at-requires c = let s = (starts_in (standing c.args.shared.now c.args.sta
 
 pub number_at-requires-2 : goal.number_at-requires-2
 number_at-requires-2 c = let s = (starts_in (standing c.args.shared.now c.args.state.now) c.args.frame c.args.ending kind.NodeBody [] c.requires.may c.requires.kind (λ sh left env. refl)) in record { within = omega (arith, s.many); natural = s.start }
+
+pub leave_node-requires : goal.leave_node-requires
+leave_node-requires c =
+    let same : length c.end_body.new.state.context.held ≡ length c.args.state.now.context.held = ap (λ (w : World). length w.own.context.held) c.in_ok-end_body.ensures.made in
+    omega (arith, same, c.requires.may.executor (ap holds_executor c.requires.kind))
 
 pub returns : goal.returns
 returns c =

@@ -1,4 +1,4 @@
-use Rattle.std.proofs.Common.{◌∙◌, ◌+◌, List, ap, drop, subst, sym}
+use Rattle.std.proofs.Common.{◌≡◌, ◌∙◌, ◌+◌, List, ap, drop, false, subst, sym}
 use Rattle.std.specs.List.{All}
 use Rattle.indexmap.specs.IndexMap.{insert_all}
 use Rattle.cell_heap.specs.Soundness.{ValueBelow}
@@ -7,12 +7,15 @@ use Rattle.model_values.specs.Keys.{same_key}
 use Rattle.model_values.specs.declared.key.Key.{Key}
 use Rattle.model_values.specs.declared.key.Key.TheVariants.{Text as TextKey}
 use Rattle.model_values.specs.declared.value.Value.{Value}
-use Rattle.model_run.specs.Steps.{outcome_value, values_of}
+use Rattle.model_run.specs.Steps.{is_thrown, outcome_value, values_of}
 use Rattle.model_run.specs.declared.wait.BranchEnd.{BranchEnd}
 use Rattle.step_arguments.proofs.Rests.{next_item}
 use Rattle.step_library.specs.Branches.{OutcomeBelow}
 use Rattle.step_library.proofs.BranchLaws.{value_below}
 use Rattle.step_library.proofs.parallel.entries_of.Goals as goal
+
+pub put_value-requires : goal.put_value-requires
+put_value-requires c = subst (λ (x : BranchEnd). is_thrown x.end.outcome ≡ false) (sym c.branch-item.is) (c.requires c.loop-branch.branch-index c.branch-item.result c.loop-branch-test.true)
 
 pub loop-branch-preserved : goal.loop-branch-preserved
 loop-branch-preserved c =
