@@ -11,6 +11,7 @@ ghost use Rattle.model_run.specs.Forms.{enter};
 ghost use Rattle.model_run.specs.Nesting.{shape_at};
 ghost use Rattle.model_run.specs.State.{operating, through};
 ghost use Rattle.model_run.specs.Steps.{after_branch};
+ghost use Rattle.model_run.specs.Fitting.{IsFlowNode};
 ghost use Rattle.model_run.specs.Terms.{nodes_of};
 ghost use Rattle.model_run.specs.declared.ending.Entry.TheVariants.{Branched, First};
 ghost use Rattle.model_run.specs.declared.frame.Frame.{Frame as OneFrame};
@@ -58,6 +59,7 @@ pub fn branched(
 
 /// The end of a branch whose closure has more than one parameter: it throws.
 fn refuse_branch(state: &mut ThreadState, shared: &mut Shared, start: u32) -> Result<Move, Halt>
+    requires { IsFlowNode shared.old.graph start }
     ensures { (k r : ℕ) (f : OneFrame) → 0 < r → ComesTo k r (λ sh a s. through f (after_branch start) (operating (λ w. no_method (limits w) (cells w) (closure 0) (codes "call")) ended s)) (standing shared.old state.old) result (standing shared.new state.new) }
 {
     match throw_unfit(shared) {

@@ -14,10 +14,11 @@ use Rattle.model_run.specs.declared.ending.Asked.TheVariants.{ForBranches}
 use Rattle.model_run.specs.declared.flow.NodeKind.TheVariants.{EndBlock}
 use Rattle.model_run.specs.declared.frame.FrameKind.TheVariants.{ParallelWait}
 use Rattle.model_run.specs.Around.{frame, position, value_at, whole}
-use Rattle.model_run.specs.Fitting.{EndFits, OutcomeFits}
+use Rattle.model_run.specs.Fitting.{EndFits, IsFlowNode, OutcomeFits}
 use Rattle.model_run.proofs.Room.{keeps_node}
 use Rattle.model_run.specs.declared.callee.Callee.{Callee}
 use Rattle.model_run.specs.declared.ending.Branch.{Branch}
+use Rattle.model_run.specs.declared.flow.FlowNode.{FlowNode}
 use Rattle.model_run.specs.FlowNodes.{body_line, branch_label, end_branches, next_node, noted, noted_branch, noted_limit, pipeline}
 use Rattle.model_run.specs.State.{Common, Reply, Env, World, awaiting, through}
 use Rattle.model_run.specs.Steps.{after_parallel, begin_branches, earlier, first_failure, fork, fork_or_none, is_thrown, no_branches, outcome_value, with_callee}
@@ -55,6 +56,10 @@ branch_less name u v p =
     let flow : v.world.setting.limits.flow_nodes ≡ u.world.setting.limits.flow_nodes = ap (λ (w : World). w.setting.limits.flow_nodes) p.made in
     let most : v.world.setting.limits.values.nodes ≡ u.world.setting.limits.values.nodes = ap (λ (w : World). w.setting.limits.values.nodes) p.made in
     omega (arith, room, nodes, count, flow, most)
+
+-- a flow node stays one behind others
+pub still_flow_node : (n : ℕ) (xs ys : List FlowNode) → IsFlowNode xs n → IsFlowNode (xs ++ ys) n
+still_flow_node n xs ys h = let more : length (xs ++ ys) ≡ length xs + length ys = length-append xs ys in (h.0, omega (arith, h.1, more))
 
 -- one more
 pub begun_more : (named rest : List (List ℕ × Callee)) (name : List ℕ) (c : Callee) (bs cs : List Branch) (b : Branch) (u v w : Standing) → BegunSo named ((name, c) ∷ rest) bs u v → Passed (noted_limit (body_line (branch_label name))) (noted_branch name) v w → b ≡ record { name = name; closure = c.node; env = c.env; head = next_node v.world } → cs ≡ bs ++ b ∷ [] → w.world.own ≡ v.world.own → BegunSo named rest cs u w

@@ -16,7 +16,7 @@ use Rattle.model_run.specs.declared.ending.Ending.TheVariants.{Normal, Thrown, R
 use Rattle.model_run.specs.declared.wait.Answer.TheVariants.{Begin, Granted, Done, Decided, Joined}
 use Rattle.model_run.specs.Around.{Shape, position, value_at}
 use Rattle.model_run.specs.FrameTable.{Sort, Further, Flag, Flow_node, A_closure, Text_or_null, Up_to, frame_row}
-use Rattle.model_run.specs.Fitting.{known}
+use Rattle.model_run.specs.Fitting.{IsFlowNode, known}
 use Rattle.model_run.specs.Nesting.{Any_body, For_branches, For_executor, For_person, For_task, FrameFits, ValuesFit, shape_at, spot}
 use Rattle.model_run.specs.State.{Common, Env}
 use Rattle.model_run.specs.Terms.{Term}
@@ -246,16 +246,24 @@ body_throws u f e d may is row =
     let root = u.world.setting.script in
     thrown_there u.world.shared e (subst (λ at. EndsAt root u.world.shared at e) (row root f.node (shape_at root f.node) f.left f.env) (ended_in u f e d may is))
 
+flow_node_at : (u : Common) (v : Value) → known u Flow_node v → IsFlowNode u.nodes (position v)
+flow_node_at u (Whole (pos n)) h = h
+flow_node_at u (Whole z) h = absurd h
+flow_node_at u Null h = absurd h
+flow_node_at u (Truth b) h = absurd h
+flow_node_at u (InCell c) h = absurd h
+
 -- the first flow node of a `parallel` or a branch
-pub record Start (vs : List Value) : Type 0 where
+pub record Start (u : Common) (vs : List Value) : Type 0 where
   pub many : 0 < length vs
   pub start : IsNatural (value_at 0 vs)
+  pub there : IsFlowNode u.nodes (position (value_at 0 vs))
 
-start_kept : (u : Common) (further : Further) (vs : List Value) → ValuesFit (known u) further (Flow_node ∷ []) vs → Start vs
+start_kept : (u : Common) (further : Further) (vs : List Value) → ValuesFit (known u) further (Flow_node ∷ []) vs → Start u vs
 start_kept u further [] h = absurd h
-start_kept u further (v ∷ vs) h = record { many = omega arith; start = node_natural u v h.0 }
+start_kept u further (v ∷ vs) h = record { many = omega arith; start = node_natural u v h.0; there = flow_node_at u v h.0 }
 
-pub start_in : (u : Standing) (f : Frame) (e : Ending) (d : FrameKind) → MayGoOn u f e → f.kind ≡ d → ((sh : Shape) (left : ℕ) (env : Env) → (frame_row d sh left env).values ≡ Flow_node ∷ []) → Start f.values
+pub start_in : (u : Standing) (f : Frame) (e : Ending) (d : FrameKind) → MayGoOn u f e → f.kind ≡ d → ((sh : Shape) (left : ℕ) (env : Env) → (frame_row d sh left env).values ≡ Flow_node ∷ []) → Start u.world.shared f.values
 start_in u f e d may is row =
     let sh = shape_at u.world.setting.script f.node in
     let further = (frame_row d sh f.left f.env).further in

@@ -1,12 +1,13 @@
 //! The branches of `parallel`: what they are, how they begin, and how each of them ends.
 
-ghost use Rattle.std.specs.Prelude.{◌≡◌, ◌-◌, ◌++◌, ◌∷◌, ◌^◌, ◌<◌, [], ℕ, All, IfOk, IfSome, OnOk, codes, drop, length, option_copied, slice_get};
+ghost use Rattle.std.specs.Prelude.{◌≡◌, ◌-◌, ◌++◌, ◌∷◌, ◌^◌, ◌<◌, [], ℕ, All, IfOk, IfSome, OnOk, Some, codes, drop, length, slice_get};
 ghost use Rattle.cell_heap.specs.Soundness.{ValueBelow};
 ghost use Rattle.flow_graph.specs.Numbers.{AreNumbered};
 ghost use Rattle.model_values.specs.TextOf.{key_text};
 ghost use Rattle.model_run.specs.Around.{frame, whole};
 ghost use Rattle.model_run.specs.Callables.{closure_of};
 ghost use Rattle.model_run.specs.FlowNodes.{branch_name, logging};
+ghost use Rattle.model_run.specs.Fitting.{IsFlowNode};
 ghost use Rattle.model_run.specs.Forms.{after};
 ghost use Rattle.model_run.specs.State.{Ended, Env as Scope, World, put_cells};
 ghost use Rattle.model_run.specs.Steps.{after_branch, branch_failed, branches_given, branches_of, with_callee};
@@ -187,6 +188,7 @@ pub fn end_branch(
     start: u32,
     ending: Ending,
 ) -> Result<Move, Halt>
+    requires { IsFlowNode shared.old.graph start }
     ensures { (k r : ℕ) → 0 < r → ComesTo k r (λ sh a. after_branch start ending) (standing shared.old state.old) result (standing shared.new state.new) }
 {
     end_body(state, shared, start)?;
@@ -195,6 +197,7 @@ pub fn end_branch(
 
 /// What a branch throws is logged.
 fn branch_failed(shared: &mut Shared, start: u32, ending: Ending) -> Result<Move, Halt>
+    requires { IsFlowNode shared.old.graph start }
     ensures { (t : Thread) (k r : ℕ) → 0 < r → ComesTo k r (λ sh a. branch_failed start ending) (standing shared.old t) result (standing shared.new t) }
 {
     match thrown_of(ending) {
@@ -205,6 +208,7 @@ fn branch_failed(shared: &mut Shared, start: u32, ending: Ending) -> Result<Move
 
 /// The line of a branch that has failed, behind which its throwable is thrown on.
 fn log_failure(shared: &mut Shared, start: u32, cell: u32) -> Result<Move, Halt>
+    requires { IsFlowNode shared.old.graph start }
     ensures { (t : Thread) (k r : ℕ) → 0 < r → ComesTo k r (λ sh a. logging (codes "Failed in branch " ++ branch_name start shared.old.graph) (Ended (Thrown cell))) (standing shared.old t) result (standing shared.new t) }
 {
     let name = branch_name(shared.alloc(), shared.graph.nodes(), start)?;
@@ -216,23 +220,20 @@ fn log_failure(shared: &mut Shared, start: u32, cell: u32) -> Result<Move, Halt>
 /// The name of the branch that began at this flow node, in constant time but for its copy. `AllocError` where the memory
 /// was refused.
 fn branch_name(alloc: Global, nodes: &[FlowNode], start: u32) -> Result<Text, AllocError>
-    requires { AreNumbered nodes.now }
+    requires numbered { AreNumbered nodes.now }
+    requires there { IsFlowNode nodes.now start }
     ensures { IfOk result (λ name. name ≡ branch_name start nodes.now) }
 {
-    match node_at(nodes, start) {
-        Some(node) if node.id == start => Text::from_slice(
-            alloc,
-            behind_prefix(node.name.as_slice()),
-        ),
-        _ => Ok(Text::new(alloc)),
-    }
+    let node = node_at(nodes, start);
+    Text::from_slice(alloc, behind_prefix(node.name.as_slice()))
 }
 
-/// The flow node at the place of this number: they are numbered from 2 on.
-fn node_at(nodes: &[FlowNode], number: u32) -> Option<&FlowNode>
-    ensures { option_copied result ≡ slice_get nodes.now (number - 2) }
+/// The flow node of this number: they are numbered from 2 on.
+fn node_at(nodes: &[FlowNode], number: u32) -> &FlowNode
+    requires { IsFlowNode nodes.now number }
+    ensures { Some result.now ≡ slice_get nodes.now (number - 2) }
 {
-    nodes.get(number.saturating_sub(2) as usize)
+    &nodes[(number - 2) as usize]
 }
 
 /// What stands behind `Branch: ` in a label.

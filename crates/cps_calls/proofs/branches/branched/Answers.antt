@@ -33,6 +33,9 @@ run_branch-requires-clause-start c =
     let few : length c.args.shared.now.graph ≤ 100000000 = c.requires.may.sound.bounds.few_nodes in
     omega (arith, few, c.requires.may.entry.2.1)
 
+pub refuse_branch-requires : goal.refuse_branch-requires
+refuse_branch-requires c = c.requires.may.entry.2
+
 pub returns-in-None : goal.returns-in-None
 returns-in-None c =
     let k = c.args.node in

@@ -1,11 +1,22 @@
+use Rattle.std.proofs.Common.{ap, subst, sym}
 use Rattle.std.specs.Prelude.{codes}
 use Rattle.model_run.specs.Around.{cells, ended, limits}
+use Rattle.model_run.specs.Fitting.{IsFlowNode}
+use Rattle.model_run.specs.State.{World}
 use Rattle.model_run.specs.Steps.{after_branch}
 use Rattle.model_values.specs.Kinds.{closure}
 use Rattle.model_values.specs.Throws.{no_method}
 use Rattle.cps_frames.specs.Standing.{standing}
 use Rattle.cps_calls.proofs.BranchLaws.{met_inside, to_ended_inside, to_thrown_inside}
 use Rattle.cps_calls.proofs.branches.refuse_branch.Goals as goal
+
+pub end_branch-requires : goal.end_branch-requires
+end_branch-requires c = subst (λ ns. IsFlowNode ns c.args.start) (sym (ap (λ (w : World). w.shared.nodes) (c.in-Ok.ensures c.args.state.now).world)) c.requires
+
+pub end_branch-requires-in-Err-Thrown : goal.end_branch-requires-in-Err-Thrown
+end_branch-requires-in-Err-Thrown c =
+    let thrown = rw c.in-Err-Thrown.field-0-is at (c.in-Err-Thrown.ensures c.args.state.now) in
+    subst (λ ns. IsFlowNode ns c.args.start) (sym (ap (λ (w : World). w.shared.nodes) thrown.world)) c.requires
 
 pub returns-in-Ok : goal.returns-in-Ok
 returns-in-Ok c = λ k r f pos.

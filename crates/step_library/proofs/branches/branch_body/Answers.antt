@@ -1,4 +1,5 @@
-use Rattle.std.proofs.Common.{ℕ, refl, subst, arith}
+use Rattle.std.proofs.Common.{ℕ, refl, subst, sym, arith}
+use Rattle.model_run.specs.Fitting.{IsFlowNode}
 use Rattle.model_run.specs.Steps.{after_branch}
 use Rattle.model_run.specs.declared.frame.FrameKind.TheVariants as kind
 use Rattle.cps_frames.specs.Moves.{ComesTo}
@@ -11,6 +12,11 @@ use Rattle.step_library.proofs.branches.branch_body.Goals as goal
 
 pub number_at-start-requires : goal.number_at-start-requires
 number_at-start-requires c = let s = start_in (standing c.args.shared.now c.args.state.now) c.args.frame c.args.ending kind.BranchBody c.requires.may c.requires.kind (λ sh left env. refl) in record { within = omega (arith, s.many); natural = s.start }
+
+pub end_branch-requires : goal.end_branch-requires
+end_branch-requires c =
+    let s = start_in (standing c.args.shared.now c.args.state.now) c.args.frame c.args.ending kind.BranchBody c.requires.may c.requires.kind (λ sh left env. refl) in
+    subst (IsFlowNode c.args.shared.now.graph) (sym c.number_at-start.ensures.number) s.there
 
 pub returns : goal.returns
 returns c =

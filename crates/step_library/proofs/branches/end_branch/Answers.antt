@@ -1,8 +1,14 @@
-use Rattle.std.proofs.Common.{refl}
+use Rattle.std.proofs.Common.{refl, subst, sym, ap}
 use Rattle.model_run.specs.Steps.{branch_failed}
+use Rattle.model_run.specs.Fitting.{IsFlowNode}
+use Rattle.model_run.specs.State.{World}
 use Rattle.cps_frames.specs.Standing.{standing}
+use Rattle.step_library.proofs.BranchLaws.{still_flow_node}
 use Rattle.step_library.proofs.StepMoves.{to_body_end}
 use Rattle.step_library.proofs.branches.end_branch.Goals as goal
+
+pub branch_failed-requires : goal.branch_failed-requires
+branch_failed-requires c = subst (λ ns. IsFlowNode ns c.args.start) (sym (ap (λ (w : World). w.shared.nodes) c.in_ok-end_body.ensures.made)) (still_flow_node c.args.start c.args.shared.now.graph _ c.requires)
 
 pub returns : goal.returns
 returns c = λ k r above.
