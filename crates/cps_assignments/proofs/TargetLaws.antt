@@ -1,6 +1,7 @@
 -- Targets: they stand behind what leaves their cells, and what is read of them or written to them.
-use Rattle.std.proofs.Common.{◌≡◌, ◌∙◌, ◌<◌, ◌≤◌, ℕ, zero, suc, Bool, true, false, List, [], ◌∷◌, ◌++◌, length, refl, sym, ap, subst, arith}
-use Rattle.std.specs.Prelude.{Result as Outcome, Ok, Err, IfOk}
+use Rattle.std.proofs.Common.{◌≡◌, ◌∙◌, ◌<◌, ◌≤◌, ◌&&◌, ℕ, zero, suc, Bool, true, false, List, [], ◌∷◌, ◌++◌, length, refl, sym, ap, subst, arith}
+use Rattle.std.proofs.lemmas.Bool.{eqb-true}
+use Rattle.std.specs.Prelude.{Result as Outcome, Ok, Err, IfOk, Some}
 use Rattle.std.specs.List.{AllByRecursion as AllAre}
 use Rattle.model_syntax.specs.declared.node.NodeForm.{NodeForm}
 use Rattle.model_syntax.specs.declared.node.NodeForm.TheVariants as form
@@ -11,10 +12,11 @@ use Rattle.model_values.specs.Later.{AnswerLater, CellsLater}
 use Rattle.model_values.proofs.LaterLaws.{there_later, variables_later, all_weaker}
 use Rattle.model_values.specs.declared.cell.Cell.{Cell}
 use Rattle.model_values.specs.declared.limit.LimitKind.{LimitKind}
+use Rattle.model_values.specs.declared.operator.Op.{Op}
 use Rattle.model_values.specs.declared.value.Value.{Value}
-use Rattle.model_run.specs.Around.{arity, cells, value_at}
-use Rattle.model_run.specs.Assignments.{read_target, write_counted, write_target}
-use Rattle.model_run.specs.FrameTable.{Any, No_more, Row, any_values, is_assignment, is_declaration, is_target_form}
+use Rattle.model_run.specs.Around.{Shape, arity, cells, form_at, value_at}
+use Rattle.model_run.specs.Assignments.{operator_in, place_size, read_target, write_counted, write_target}
+use Rattle.model_run.specs.FrameTable.{Any, No_more, Row, any_values, is_assignment, is_declaration, is_target_form, operator_count}
 use Rattle.model_run.specs.Nesting.{ValuesFit, shape_at}
 use Rattle.model_run.specs.State.{Common, World, State, Env, Result, counted, guarded, may_count, operating}
 use Rattle.model_run.specs.Terms.{Term}
@@ -39,7 +41,7 @@ use Rattle.cps_frames.proofs.PartLaws.{parts_there}
 use Rattle.cps_variables.specs.Sight.{Sees}
 use Rattle.cps_variables.proofs.SightLaws.{below_there, sees, there_below}
 use Rattle.cps_variables.proofs.NodeLaws.{and_left, row_is, stands}
-use Rattle.cps_assignments.specs.Targets.{HasAssignment, HasTarget, TargetStands, is_name, read_answer, stepped, suffix_counted, suffix_limit}
+use Rattle.cps_assignments.specs.Targets.{HasAssignment, HasTarget, TargetStands, is_name, is_property, kept_size, read_answer, stepped, suffix_counted, suffix_limit}
 
 -- the parts of a node that has a target
 one_part : (f : NodeForm) → is_target_form f ≡ true → 1 ≤ least_parts f
@@ -74,6 +76,7 @@ stands_on u v k env place script binding later s = record {
     rising = s.sees.rising;
   });
   there = all_weaker (There u.world.shared.cells) (There v.world.shared.cells) (there_later u.world.shared.cells v.world.shared.cells later) place s.there;
+  size = subst (λ root. place_size (form_at (shape_at root k).parts 0) ≤ length place) (sym script) s.size;
 }
 
 -- behind an operation that gives a value
@@ -92,7 +95,10 @@ there_done f u v x y later d = there_later u.world.shared.cells v.world.shared.c
 
 -- behind what counts
 pub stands_counted : (u v : Standing) (k : ℕ) (env : Env) (place : List Value) → Passed may_count counted u v → TargetStands u.world.setting.script u.world.shared k env place → TargetStands v.world.setting.script v.world.shared k env place
-stands_counted u v k env place p s = subst (λ (w : World). TargetStands w.setting.script w.shared k env place) (sym p.made) (record { target = s.target; sees = s.sees; there = s.there })
+stands_counted u v k env place p s = subst (λ (w : World). TargetStands w.setting.script w.shared k env place) (sym p.made) (record { target = s.target; sees = s.sees; there = s.there; size = s.size })
+
+pub script_counted : (u v : Standing) → Passed may_count counted u v → v.world.setting.script ≡ u.world.setting.script
+script_counted u v p = ap (λ (w : World). w.setting.script) p.made
 
 pub there_counted : (u v : Standing) (y : Value) → Passed may_count counted u v → There u.world.shared.cells y → There v.world.shared.cells y
 there_counted u v y p t = subst (λ (w : World). There w.shared.cells y) (sym p.made) t
@@ -126,6 +132,7 @@ stands_suffix f u v k env place p s =
       target = subst (λ root. HasTarget root k) (sym (ap (λ (w : World). w.setting.script) p.made)) s.target;
       sees = subst (λ h. Sees h v.world.shared.binding env) (sym cells_are) (subst (λ bs. Sees u.world.shared.cells bs env) (sym binding_is) s.sees);
       there = subst (λ h. AllAre (There h) place) (sym cells_are) s.there;
+      size = subst (λ root. place_size (form_at (shape_at root k).parts 0) ≤ length place) (sym (ap (λ (w : World). w.setting.script) p.made)) s.size;
     }
 
 pub there_suffix : (f : NodeForm) (u v : Standing) (y : Value) → Passed (suffix_limit f) (suffix_counted f) u v → There u.world.shared.cells y → There v.world.shared.cells y
@@ -179,20 +186,44 @@ suffix_script f u v p = ap (λ (w : World). w.setting.script) p.made
 pub done_script : (f : World → Answer) (u v : Standing) (x : Value) → Done f u (Ok x) v → v.world.setting.script ≡ u.world.setting.script
 done_script f u v x d = ap (λ (w : World). w.setting.script) d.world
 
+-- How many values a target is of.
+pub name_size : (f : NodeForm) (place : List Value) → is_name f ≡ true → place_size f ≤ length place
+name_size (form.ToName x) place h = (let le : 0 ≤ length place = omega arith in le)
+name_size f place h = absurd (cc h)
+
+pub property_size : (f : NodeForm) (v : Value) → is_property f ≡ true → place_size f ≤ length (v ∷ [])
+property_size (form.ToProperty p) v h = (let le : 1 ≤ 1 = omega arith in le)
+property_size f v h = absurd (cc h)
+
+pub entry_size : (f : NodeForm) (n : ℕ) → place_size f ≤ n → ((x : List ℕ) → f ≡ form.ToName x → ⊥) → ((x : List ℕ) → f ≡ form.ToProperty x → ⊥) → 2 ≤ n
+entry_size (form.ToName x) n le not_name not_property = absurd (not_name x refl)
+entry_size (form.ToProperty x) n le not_name not_property = absurd (not_property x refl)
+entry_size f n le not_name not_property = le
+
 -- Frames of targets.
-frame_stands : (u : Standing) (f : Frame) (e : Ending) (place : List Value) → MayGoOn u f e → is_target_form (shape_at u.world.setting.script f.node).form ≡ true → AllAre (There u.world.shared.cells) place → TargetStands u.world.setting.script u.world.shared f.node f.env place
-frame_stands u f e place may is all = record {
+frame_stands : (u : Standing) (f : Frame) (e : Ending) (place : List Value) → MayGoOn u f e → is_target_form (shape_at u.world.setting.script f.node).form ≡ true → AllAre (There u.world.shared.cells) place → place_size (form_at (shape_at u.world.setting.script f.node).parts 0) ≤ length place → TargetStands u.world.setting.script u.world.shared f.node f.env place
+frame_stands u f e place may is all size = record {
   target = record { script = may.script; node = may.frame.fits.node; form = is };
   sees = sees u.world.setting u.world f.env may.sound may.frame.names.variables;
   there = all;
+  size = size;
 }
 
-pub receiver_stands : (u : Standing) (f : Frame) (e : Ending) (place : List Value) → MayGoOn u f e → f.kind ≡ kind.TargetReceiver → AllAre (There u.world.shared.cells) place → TargetStands u.world.setting.script u.world.shared f.node f.env place
-receiver_stands u f e place may is all = frame_stands u f e place may (and_left _ _ (stands u f e kind.TargetReceiver may is)) all
+pub receiver_target : (u : Standing) (f : Frame) (e : Ending) → MayGoOn u f e → f.kind ≡ kind.TargetReceiver → HasTarget u.world.setting.script f.node
+receiver_target u f e may is = record { script = may.script; node = may.frame.fits.node; form = and_left _ _ (stands u f e kind.TargetReceiver may is) }
+
+pub property_stands : (u : Standing) (f : Frame) (e : Ending) (of : Value) (place : List Value) → MayGoOn u f e → f.kind ≡ kind.TargetReceiver → is_property (form_at (shape_at u.world.setting.script f.node).parts 0) ≡ true → There u.world.shared.cells of → place ≡ of ∷ [] → TargetStands u.world.setting.script u.world.shared f.node f.env place
+property_stands u f e of place may is property there place_is =
+    subst (TargetStands u.world.setting.script u.world.shared f.node f.env) (sym place_is)
+    (frame_stands u f e (of ∷ []) may (and_left _ _ (stands u f e kind.TargetReceiver may is)) (there, tt) (property_size (form_at (shape_at u.world.setting.script f.node).parts 0) of property))
 
 assigns_target : (f : NodeForm) → is_assignment f ≡ true → is_target_form f ≡ true
 assigns_target (form.Assign sign) h = refl
 assigns_target f h = absurd (cc h)
+
+and_right : (a b : Bool) → (a && b) ≡ true → b ≡ true
+and_right true b h = h
+and_right false b h = absurd (cc h)
 
 -- what the frame of an index keeps
 one_kept : (u : Common) (vs : List Value) → ValuesFit (known u) No_more (Any ∷ []) vs → (vs ≡ value_at 0 vs ∷ []) × There u.cells (value_at 0 vs)
@@ -209,8 +240,10 @@ index_kept u f e may is = (one_kept u.world.shared f.values (index_values u f e 
 pub index_stands : (u : Standing) (f : Frame) (e : Ending) (i : Value) (place : List Value) → MayGoOn u f e → f.kind ≡ kind.TargetIndex → There u.world.shared.cells i → place ≡ f.values ++ i ∷ [] → TargetStands u.world.setting.script u.world.shared f.node f.env place
 index_stands u f e i place may is there place_is =
     let one = one_kept u.world.shared f.values (index_values u f e may is) in
+    let row = stands u f e kind.TargetIndex may is in
+    let two : place_size (form_at (shape_at u.world.setting.script f.node).parts 0) ≡ 2 = eqb-true _ _ (and_right _ _ row) in
     subst (TargetStands u.world.setting.script u.world.shared f.node f.env) (sym (place_is ∙ ap (λ vs. vs ++ i ∷ []) one.0))
-    (frame_stands u f e (value_at 0 f.values ∷ i ∷ []) may (and_left _ _ (stands u f e kind.TargetIndex may is)) (one.1, (there, tt)))
+    (frame_stands u f e (value_at 0 f.values ∷ i ∷ []) may (and_left _ _ row) (one.1, (there, tt)) (let le : 2 ≤ 2 = omega arith in subst (λ n. n ≤ 2) (sym two) le))
 
 -- what the frame of an assigned value keeps
 all_there : (u : Common) (n : ℕ) (vs : List Value) → ValuesFit (known u) No_more (any_values n) vs → AllAre (There u.cells) vs
@@ -219,10 +252,28 @@ all_there u zero (v ∷ vs) fits = absurd fits
 all_there u (suc n) [] fits = absurd fits
 all_there u (suc n) (v ∷ vs) fits = (fits.0, all_there u n vs fits.1)
 
+as_many : (u : Common) (n : ℕ) (vs : List Value) → ValuesFit (known u) No_more (any_values n) vs → length vs ≡ n
+as_many u zero [] fits = refl
+as_many u zero (v ∷ vs) fits = absurd fits
+as_many u (suc n) [] fits = absurd fits
+as_many u (suc n) (v ∷ vs) fits = ap suc (as_many u n vs fits.1)
+
+assigned_values : (u : Standing) (f : Frame) (e : Ending) → MayGoOn u f e → f.kind ≡ kind.AssignValue → ValuesFit (known u.world.shared) No_more (any_values (kept_size (shape_at u.world.setting.script f.node))) f.values
+assigned_values u f e may is = subst (λ (r : Row). ValuesFit (known u.world.shared) r.further r.values f.values) (row_is u f kind.AssignValue is) may.frame.fits.meets.values
+
+pub assigned_size : (u : Standing) (f : Frame) (e : Ending) → MayGoOn u f e → f.kind ≡ kind.AssignValue → length f.values ≡ kept_size (shape_at u.world.setting.script f.node)
+assigned_size u f e may is = as_many u.world.shared _ f.values (assigned_values u f e may is)
+
 pub assigned_stands : (u : Standing) (f : Frame) (e : Ending) → MayGoOn u f e → f.kind ≡ kind.AssignValue → TargetStands u.world.setting.script u.world.shared f.node f.env f.values
 assigned_stands u f e may is =
-    frame_stands u f e f.values may (assigns_target _ (stands u f e kind.AssignValue may is))
-    (all_there u.world.shared _ f.values (subst (λ (r : Row). ValuesFit (known u.world.shared) r.further r.values f.values) (row_is u f kind.AssignValue is) may.frame.fits.meets.values))
+    let size : length f.values ≡ kept_size (shape_at u.world.setting.script f.node) = assigned_size u f e may is in
+    frame_stands u f e f.values may (assigns_target _ (stands u f e kind.AssignValue may is)) (all_there u.world.shared _ f.values (assigned_values u f e may is)) (omega (arith, size))
+
+-- behind the values of a target stands what it has read, where there is an operator
+pub read_within : (sh : Shape) (o : Op) (n : ℕ) → operator_in sh.form ≡ Some o → n ≡ kept_size sh → place_size (form_at sh.parts 0) < n
+read_within sh o n some is =
+    let one : operator_count (operator_in sh.form) ≡ 1 = ap operator_count some in
+    omega (arith, one, is)
 
 -- an assignment has a target, and so has every statement of this crate but a declaration
 pub targets_else : (f : NodeForm) → starts_here f ≡ true → is_declaration f ≡ false → is_target_form f ≡ true

@@ -1,5 +1,5 @@
 -- Targets of assignments: what is read of one, what its last suffix counts, and what has to be there.
-use Rattle.std.specs.Prelude.{◌≡◌, ◌<◌, ℕ, Bool, true, false, List, Option, None, length}
+use Rattle.std.specs.Prelude.{◌≡◌, ◌<◌, ◌≤◌, ◌+◌, ℕ, Bool, true, false, List, Option, None, length}
 use Rattle.std.specs.List.{AllByRecursion as AllAre}
 use Rattle.model_syntax.specs.declared.node.NodeForm.{NodeForm}
 use Rattle.model_syntax.specs.declared.node.NodeForm.TheVariants as form
@@ -9,8 +9,9 @@ use Rattle.model_values.specs.Index.{get_at, get_property}
 use Rattle.model_values.specs.Operators.{decremented, incremented}
 use Rattle.model_values.specs.declared.limit.LimitKind.{LimitKind}
 use Rattle.model_values.specs.declared.value.Value.{Value}
-use Rattle.model_run.specs.Around.{cells, limits, value_at}
-use Rattle.model_run.specs.FrameTable.{is_assignment, is_target_form}
+use Rattle.model_run.specs.Around.{Shape, cells, form_at, limits, value_at}
+use Rattle.model_run.specs.Assignments.{operator_in, place_size}
+use Rattle.model_run.specs.FrameTable.{is_assignment, is_target_form, operator_count}
 use Rattle.model_run.specs.Names.{read_name}
 use Rattle.model_run.specs.Nesting.{shape_at}
 use Rattle.model_run.specs.State.{Common, Env, World, counted, may_count}
@@ -58,8 +59,13 @@ pub record HasAssignment (root : Term) (k : ℕ) : Type 0 where
   pub node : k < length (nodes_of root)
   pub form : is_assignment (shape_at root k).form ≡ true
 
--- a target that is of these values, seen from a place with these variables
+-- how many values are kept while the value of an assignment is evaluated: those of its target, and what that has read
+abbrev pub kept_size : Shape → ℕ
+kept_size sh = place_size (form_at sh.parts 0) + operator_count (operator_in sh.form)
+
+-- a target that is of these values, as many as it needs, seen from a place with these variables
 pub record TargetStands (root : Term) (u : Common) (k : ℕ) (env : Env) (place : List Value) : Type 0 where
   pub target : HasTarget root k
   pub sees : Sees u.cells u.binding env
   pub there : AllAre (There u.cells) place
+  pub size : place_size (form_at (shape_at root k).parts 0) ≤ length place

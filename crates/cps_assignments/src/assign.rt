@@ -1,10 +1,10 @@
 //! What is done with a target once what it is of is known, and once its value is.
 
-ghost use Rattle.std.specs.Prelude.{◌≡◌, ◌<◌, ◌∷◌, ◌++◌, [], ℕ, IfOk};
+ghost use Rattle.std.specs.Prelude.{◌≡◌, ◌<◌, ◌∷◌, ◌++◌, [], ℕ, IfOk, length};
 ghost use Rattle.model_values.specs.Fitting.{There};
 ghost use Rattle.model_run.specs.Around.{form_at};
 ghost use Rattle.model_run.specs.Assignments.{assign_by, assign_value, at_target, operator_in, read_target, sign_operator, step_by};
-ghost use Rattle.cps_assignments.specs.Targets.{HasAssignment, TargetStands, stepped};
+ghost use Rattle.cps_assignments.specs.Targets.{HasAssignment, TargetStands, kept_size, stepped};
 ghost use Rattle.model_run.specs.Forms.{after};
 ghost use Rattle.model_run.specs.Nesting.{shape_at};
 ghost use Rattle.model_run.specs.declared.frame.FrameKind.TheVariants as kind;
@@ -18,7 +18,7 @@ ghost use Rattle.cps_frames.specs.declared.thread.ThreadState.{ThreadState as Th
 
 use crate::targets::{count_suffix, place_size, read_target, write_target};
 use cps_frames::{Halt, Move, Shared, ThreadState, tick, under, value_of};
-use cps_variables::value_at;
+use cps_variables::kept_value;
 use model_run::{Ending, Entry, Frame, FrameKind};
 use model_syntax::{AssignSign, NodeForm};
 use model_values::{Env, Op, Value, Values};
@@ -152,6 +152,7 @@ fn assign_by(
     value: Value,
 ) -> Result<Move, Halt>
     requires stands { TargetStands (script_of shared.old.code) (common_of shared.old) node env kept }
+    requires read { length kept ≡ kept_size (shape_at (script_of shared.old.code) node) }
     requires value { There shared.old.heap.cells value }
     ensures { (r : ℕ) → 0 < r → ComesTo node r (λ sh a. assign_by (operator_in sh.form) (form_at sh.parts 0) kept env value) (standing shared.old state.now) result (standing shared.new state.now) }
 {
@@ -162,7 +163,7 @@ fn assign_by(
         }
         Some(op) => {
             tick(shared)?;
-            let old = value_at(&kept, place_size(&shared.code, node));
+            let old = kept_value(&kept, place_size(&shared.code, node));
             let value = apply(shared.alloc(), &mut shared.heap, op, &old, &value)?;
             write_target(shared, node, &kept, &env, value)
         }

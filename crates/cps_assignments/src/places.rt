@@ -1,6 +1,6 @@
 //! What a target is of.
 
-ghost use Rattle.std.specs.Prelude.{◌≡◌, ◌<◌, ◌+◌, ◌*◌, ◌^◌, [], ℕ};
+ghost use Rattle.std.specs.Prelude.{◌≡◌, ◌<◌, ◌+◌, ◌*◌, ◌^◌, ℕ};
 ghost use Rattle.model_run.specs.Around.{form_at};
 ghost use Rattle.model_run.specs.Assignments.{after_receiver, receiver};
 ghost use Rattle.model_run.specs.Forms.{after};
@@ -9,8 +9,9 @@ ghost use Rattle.cps_code.specs.Script.{script_of};
 ghost use Rattle.cps_frames.specs.Moves.{ComesTo};
 ghost use Rattle.cps_frames.specs.Order.{rank};
 ghost use Rattle.cps_frames.specs.Places.{MayGoOn};
-ghost use Rattle.cps_frames.specs.Standing.{common_of, standing};
-ghost use Rattle.cps_assignments.specs.Targets.{TargetStands};
+ghost use Rattle.cps_frames.specs.Standing.{standing};
+ghost use Rattle.cps_variables.specs.Sight.{Sees};
+ghost use Rattle.cps_assignments.specs.Targets.{HasTarget};
 
 use crate::assign::at_target;
 use crate::targets::{is_name, is_property};
@@ -26,7 +27,8 @@ pub(crate) fn receiver(
     node: u32,
     env: Env,
 ) -> Result<Move, Halt>
-    requires { TargetStands (script_of shared.old.code) (common_of shared.old) node env [] }
+    requires target { HasTarget (script_of shared.old.code) node }
+    requires sees { Sees shared.old.heap.cells shared.old.binding.items env }
     ensures { (r : ℕ) → 2 * 2 ^ 34 + 1 < r → ComesTo node r (λ sh a. receiver a node sh env (form_at sh.parts 0)) (standing shared.old state.old) result (standing shared.new state.new) }
 {
     if is_name(part_form(&shared.code, node, 0)) {

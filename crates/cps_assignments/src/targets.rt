@@ -14,7 +14,7 @@ ghost use Rattle.cps_assignments.specs.Targets.{HasTarget, TargetStands, is_name
 
 use cps_code::Code;
 use cps_frames::{Halt, Move, Shared, tick};
-use cps_variables::{part_form, read_name, value_at, write_name};
+use cps_variables::{kept_value, part_form, read_name, write_name};
 use model_run::Ending;
 use model_syntax::NodeForm;
 use model_values::{Env, Value, Values};
@@ -77,9 +77,14 @@ pub(crate) fn read_target(
             read_name(alloc, heap, shared.binding.as_slice(), name.as_slice(), env)
         }
         NodeForm::ToProperty(name) => {
-            get_property(alloc, heap, &value_at(place, 0), name.as_slice())
+            let of = kept_value(place, 0);
+            get_property(alloc, heap, &of, name.as_slice())
         }
-        _ => get_at(alloc, heap, &value_at(place, 0), &value_at(place, 1)),
+        _ => {
+            let holder = kept_value(place, 0);
+            let index = kept_value(place, 1);
+            get_at(alloc, heap, &holder, &index)
+        }
     }
 }
 
@@ -103,13 +108,13 @@ pub(crate) fn write_target(
             Ok(Move::Ends(Ending::Normal(value)))
         }
         NodeForm::ToProperty(name) => {
-            let of = value_at(place, 0);
+            let of = kept_value(place, 0);
             let value = set_property(alloc, heap, &of, name.as_slice(), value)?;
             Ok(Move::Ends(Ending::Normal(value)))
         }
         _ => {
-            let holder = value_at(place, 0);
-            let index = value_at(place, 1);
+            let holder = kept_value(place, 0);
+            let index = kept_value(place, 1);
             let value = set_at(alloc, heap, &holder, &index, value)?;
             Ok(Move::Ends(Ending::Normal(value)))
         }

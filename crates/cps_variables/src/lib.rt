@@ -3,7 +3,8 @@
 //!
 //! The rules are those of `Names` of `model_run`. What ends a node has the one contract of the machine (`ComesTo` of
 //! `cps_frames`), and what only reads or makes a variable that of an operation on values (`Done`). A name is looked up in
-//! the depth of its scopes, and then in time logarithmic in the number of the binding variables.
+//! the depth of its scopes, and then in time logarithmic in the number of the binding variables; a new one moves those that
+//! come behind it by name.
 //!
 //! ```
 //! // the statement `x = value`, where x may be declared or not
@@ -16,5 +17,5 @@ mod nodes;
 mod variables;
 
 pub use names::{look, look_binding};
-pub use nodes::{part_form, value_at};
+pub use nodes::{kept_value, part_form, value_at};
 pub use variables::{declare, new_variable, read_name, variable, write_name};

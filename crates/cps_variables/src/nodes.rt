@@ -28,3 +28,11 @@ pub fn value_at(values: &Values, at: usize) -> Value
 {
     values.get(at).copied().unwrap_or(Value::Null)
 }
+
+/// The kept value at a place where there is one, counted from 0.
+pub fn kept_value(values: &Values, at: usize) -> Value
+    requires { at < length values.now }
+    ensures { result ≡ value_at at values.now }
+{
+    values.as_slice()[at]
+}

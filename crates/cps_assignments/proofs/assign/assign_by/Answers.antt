@@ -1,4 +1,4 @@
-use Rattle.std.proofs.Common.{◌∙◌, ◌^◌, Err, Ok, ap, arith, refl, subst, sym}
+use Rattle.std.proofs.Common.{◌∙◌, ◌^◌, Err, Ok, length, ap, arith, refl, subst, sym}
 use Rattle.std.proofs.lemmas.Result.{err_from_is_err_and}
 use Rattle.model_values.specs.Limits.{product_limits}
 use Rattle.model_values.specs.Operators.{apply}
@@ -12,7 +12,7 @@ use Rattle.cps_frames.specs.Standing.{standing}
 use Rattle.cps_frames.proofs.MoveLaws.{done_answers}
 use Rattle.cps_variables.proofs.SightLaws.{below_there}
 use Rattle.cps_assignments.proofs.AssignLaws.{joined, to_join_uncounted, to_joined, to_not_joined, to_plain, to_plain_refused}
-use Rattle.cps_assignments.proofs.TargetLaws.{place_below, stands_counted, stands_done, stands_suffix, there_counted, there_suffix}
+use Rattle.cps_assignments.proofs.TargetLaws.{place_below, read_within, script_counted, stands_counted, stands_done, stands_suffix, there_counted, there_suffix}
 use Rattle.cps_assignments.proofs.assign.assign_by.Goals as goal
 
 pub returns-in_err-count_suffix-in-None : goal.returns-in_err-count_suffix-in-None
@@ -38,8 +38,16 @@ returns-in_err-tick-in-Some c = λ r lt.
 pub place_size-requires : goal.place_size-requires
 place_size-requires c = (stands_counted (standing c.args.shared.now c.args.state.now) (standing c.tick.new.shared c.args.state.now) c.args.node c.args.env c.args.kept (c.in_ok-tick-in-Some.ensures c.args.state.now) c.requires.stands).target
 
+pub kept_value-old-requires : goal.kept_value-old-requires
+kept_value-old-requires c =
+    let root = script_of c.args.shared.now.code in
+    let same = script_counted (standing c.args.shared.now c.args.state.now) (standing c.tick.new.shared c.args.state.now) (c.in_ok-tick-in-Some.ensures c.args.state.now) in
+    let size = c.place_size.ensures ∙ ap (λ t. place_size (form_at (shape_at t c.args.node).parts 0)) same in
+    let lt = read_within (shape_at root c.args.node) c.in-Some.op (length c.args.kept) (ap operator_in (sym c.kind.ensures) ∙ sym c.operator_in.ensures ∙ c.in-Some.is) c.requires.read in
+    omega (arith, lt, size)
+
 pub apply-requires-clause-left : goal.apply-requires-clause-left
-apply-requires-clause-left c = place_below c.tick.new.shared.heap.cells c.args.kept _ c.value_at-old.result c.value_at-old.ensures (stands_counted (standing c.args.shared.now c.args.state.now) (standing c.tick.new.shared c.args.state.now) c.args.node c.args.env c.args.kept (c.in_ok-tick-in-Some.ensures c.args.state.now) c.requires.stands).there
+apply-requires-clause-left c = place_below c.tick.new.shared.heap.cells c.args.kept _ c.kept_value-old.result c.kept_value-old.ensures (stands_counted (standing c.args.shared.now c.args.state.now) (standing c.tick.new.shared c.args.state.now) c.args.node c.args.env c.args.kept (c.in_ok-tick-in-Some.ensures c.args.state.now) c.requires.stands).there
 
 pub apply-requires-clause-right : goal.apply-requires-clause-right
 apply-requires-clause-right c = below_there c.tick.new.shared.heap.cells c.args.value (there_counted (standing c.args.shared.now c.args.state.now) (standing c.tick.new.shared c.args.state.now) c.args.value (c.in_ok-tick-in-Some.ensures c.args.state.now) c.requires.value)
@@ -48,7 +56,7 @@ pub returns-in_err-value-in-Some : goal.returns-in_err-value-in-Some
 returns-in_err-value-in-Some c = λ r lt.
     let p = err_from_is_err_and c.from_residual-in_err-value-in-Some.result c.from_residual-in_err-value-in-Some.ensures.1 in
     let F = form_at (shape_at (script_of c.tick.new.shared.code) c.args.node).parts 0 in
-    let old = c.value_at-old.ensures ∙ ap (λ n. value_at n c.args.kept) c.place_size.ensures in
+    let old = c.kept_value-old.ensures ∙ ap (λ n. value_at n c.args.kept) c.place_size.ensures in
     let u1 = standing c.tick.new.shared c.args.state.now in
     rw (p.1, p.2) (to_not_joined c.args.node r c.args.kept c.args.env c.args.value c.in-Some.op c.in_err-value-in-Some.field-0.0 _ u1 _ (ap operator_in (sym c.kind.ensures) ∙ sym c.operator_in.ensures ∙ c.in-Some.is) (c.in_ok-tick-in-Some.ensures c.args.state.now)
     (done_answers (joined c.in-Some.op F c.args.kept c.args.value) c.tick.new.shared.heap c.apply.new.heap u1 (Err c.in_err-value-in-Some.field-0.0) _ refl refl refl (record { parent = refl; heap = c.in_err-value-in-Some.ensures.leaves.follows })
@@ -57,7 +65,7 @@ returns-in_err-value-in-Some c = λ r lt.
 pub write_target-requires-in-Some-clause-stands : goal.write_target-requires-in-Some-clause-stands
 write_target-requires-in-Some-clause-stands c =
     let F = form_at (shape_at (script_of c.tick.new.shared.code) c.args.node).parts 0 in
-    let old = c.value_at-old.ensures ∙ ap (λ n. value_at n c.args.kept) c.place_size.ensures in
+    let old = c.kept_value-old.ensures ∙ ap (λ n. value_at n c.args.kept) c.place_size.ensures in
     let u1 = standing c.tick.new.shared c.args.state.now in
     let u2 = standing (record c.tick.new.shared { heap = c.apply.new.heap }) c.args.state.now in
     stands_done (joined c.in-Some.op F c.args.kept c.args.value) u1 u2 c.in_ok-value-in-Some.value c.args.node c.args.env c.args.kept (apply_later u1.world c.in-Some.op (value_at (place_size F) c.args.kept) c.args.value)
@@ -68,7 +76,7 @@ write_target-requires-in-Some-clause-stands c =
 pub returns : goal.returns
 returns c = λ r lt.
     let F = form_at (shape_at (script_of c.tick.new.shared.code) c.args.node).parts 0 in
-    let old = c.value_at-old.ensures ∙ ap (λ n. value_at n c.args.kept) c.place_size.ensures in
+    let old = c.kept_value-old.ensures ∙ ap (λ n. value_at n c.args.kept) c.place_size.ensures in
     let u1 = standing c.tick.new.shared c.args.state.now in
     let u2 = standing (record c.tick.new.shared { heap = c.apply.new.heap }) c.args.state.now in
     to_joined c.args.node r c.args.kept c.args.env c.args.value c.in_ok-value-in-Some.value c.in-Some.op (standing c.args.shared.now c.args.state.now) u1 u2 _ _ (ap operator_in (sym c.kind.ensures) ∙ sym c.operator_in.ensures ∙ c.in-Some.is) (c.in_ok-tick-in-Some.ensures c.args.state.now)

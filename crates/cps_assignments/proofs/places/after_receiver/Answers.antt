@@ -1,7 +1,5 @@
 use Rattle.std.proofs.Common.{◌≡◌, ◌∙◌, ◌<◌, ◌+◌, ◌*◌, ◌^◌, ◌++◌, ◌∷◌, [], ap, arith, subst, sym}
 use Rattle.std.proofs.lemmas.Result.{err_from_is_err_and}
-use Rattle.std.specs.List.{AllByRecursion as AllAre}
-use Rattle.model_values.specs.Fitting.{There}
 use Rattle.model_run.specs.Around.{frame, under}
 use Rattle.model_run.specs.Assignments.{at_target}
 use Rattle.model_run.specs.Forms.{after}
@@ -13,7 +11,7 @@ use Rattle.cps_frames.specs.Standing.{standing}
 use Rattle.cps_variables.proofs.NodeLaws.{rank_is, rank_some, value_there}
 use Rattle.cps_assignments.specs.Targets.{is_property}
 use Rattle.cps_assignments.proofs.AssignLaws.{entry_frame, no_receiver, property_frame}
-use Rattle.cps_assignments.proofs.TargetLaws.{receiver_stands, target_part}
+use Rattle.cps_assignments.proofs.TargetLaws.{property_stands, receiver_target, target_part}
 use Rattle.cps_assignments.proofs.places.after_receiver.Goals as goal
 
 pub returns-in_err-of : goal.returns-in_err-of
@@ -22,12 +20,12 @@ returns-in_err-of c =
     rw (p.1, p.2) (no_receiver (rank c.args.frame) c.args.frame c.args.ending c.in_err-of.field-0.0 (standing c.args.shared.now c.args.state.now) c.requires.kind (sym c.in_err-of.ensures) (rank_some c.args.frame))
 
 pub part_form-requires-clause-part : goal.part_form-requires-clause-part
-part_form-requires-clause-part c = target_part _ _ (receiver_stands (standing c.args.shared.now c.args.state.now) c.args.frame c.args.ending [] c.requires.may c.requires.kind tt).target
+part_form-requires-clause-part c = target_part _ _ (receiver_target (standing c.args.shared.now c.args.state.now) c.args.frame c.args.ending c.requires.may c.requires.kind)
 
 pub at_target-requires : goal.at_target-requires
 at_target-requires c =
-    receiver_stands (standing c.args.shared.now c.args.state.now) c.args.frame c.args.ending c.push.new.self c.requires.may c.requires.kind
-    (subst (AllAre (There c.args.shared.now.heap.cells)) (sym (c.in_ok-push.ensures.pushed ∙ ap (λ vs. vs ++ c.in_ok-of.of ∷ []) c.new-place.ensures)) (value_there (standing c.args.shared.now c.args.state.now) c.args.frame c.args.ending c.in_ok-of.of c.requires.may (sym c.in_ok-of.ensures), tt))
+    property_stands (standing c.args.shared.now c.args.state.now) c.args.frame c.args.ending c.in_ok-of.of c.push.new.self c.requires.may c.requires.kind (ap is_property (sym c.part_form.ensures) ∙ sym c.is_property.ensures ∙ c.if-is_property.true)
+    (value_there (standing c.args.shared.now c.args.state.now) c.args.frame c.args.ending c.in_ok-of.of c.requires.may (sym c.in_ok-of.ensures)) (c.in_ok-push.ensures.pushed ∙ ap (λ vs. vs ++ c.in_ok-of.of ∷ []) c.new-place.ensures)
 
 pub returns-then-is_property : goal.returns-then-is_property
 returns-then-is_property c =
@@ -37,7 +35,7 @@ returns-then-is_property c =
     (c.at_target.ensures (rank c.args.frame) (omega (arith, e))))
 
 pub under-requires-clause-part : goal.under-requires-clause-part
-under-requires-clause-part c = target_part _ _ (receiver_stands (standing c.args.shared.now c.args.state.now) c.args.frame c.args.ending [] c.requires.may c.requires.kind tt).target
+under-requires-clause-part c = target_part _ _ (receiver_target (standing c.args.shared.now c.args.state.now) c.args.frame c.args.ending c.requires.may c.requires.kind)
 
 pub returns : goal.returns
 returns c =

@@ -1,14 +1,30 @@
-use Rattle.std.proofs.Common.{◌∙◌, refl, subst, sym}
+use Rattle.std.proofs.Common.{◌∙◌, ◌≤◌, length, arith, refl, subst, sym}
+use Rattle.model_run.specs.Assignments.{place_size}
 use Rattle.model_run.specs.Names.{read_name}
 use Rattle.value_view.specs.Answers.{Answers}
 use Rattle.cps_frames.specs.Standing.{standing, world_of}
 use Rattle.cps_frames.proofs.MoveLaws.{done_answers}
 use Rattle.cps_assignments.specs.Targets.{read_answer}
-use Rattle.cps_assignments.proofs.TargetLaws.{target_part}
+use Rattle.cps_assignments.proofs.TargetLaws.{entry_size, target_part}
 use Rattle.cps_assignments.proofs.targets.read_target.Goals as goal
 
 pub part_form-requires-clause-part : goal.part_form-requires-clause-part
 part_form-requires-clause-part c = target_part _ _ c.requires.target
+
+pub kept_value-of-requires : goal.kept_value-of-requires
+kept_value-of-requires c =
+    let le : 1 ≤ length c.args.place.now = subst (λ f. place_size f ≤ length c.args.place.now) (sym c.part_form.ensures ∙ c.in-ToProperty.is) c.requires.size in
+    omega (arith, le)
+
+pub kept_value-holder-requires : goal.kept_value-holder-requires
+kept_value-holder-requires c =
+    let le = entry_size _ (length c.args.place.now) c.requires.size (λ x g. c.in_default.not-ToName _ (c.part_form.ensures ∙ g)) (λ x g. c.in_default.not-ToProperty _ (c.part_form.ensures ∙ g)) in
+    omega (arith, le)
+
+pub kept_value-index-requires : goal.kept_value-index-requires
+kept_value-index-requires c =
+    let le = entry_size _ (length c.args.place.now) c.requires.size (λ x g. c.in_default.not-ToName _ (c.part_form.ensures ∙ g)) (λ x g. c.in_default.not-ToProperty _ (c.part_form.ensures ∙ g)) in
+    omega (arith, le)
 
 pub returns-in-ToName-clause-done : goal.returns-in-ToName-clause-done
 returns-in-ToName-clause-done c = λ t.

@@ -1,8 +1,9 @@
-use Rattle.std.proofs.Common.{◌∙◌, arith, refl, subst, sym}
+use Rattle.std.proofs.Common.{◌∙◌, ◌≤◌, length, arith, refl, subst, sym}
 use Rattle.std.specs.Prelude.{Err, Ok}
 use Rattle.std.proofs.lemmas.Result.{err_from_is_err_and}
 use Rattle.model_syntax.specs.declared.node.NodeForm.TheVariants as form
 use Rattle.model_values.specs.Index.{set_at}
+use Rattle.model_run.specs.Assignments.{place_size}
 use Rattle.model_run.specs.Around.{cells, ended, limits, value_at}
 use Rattle.model_values.specs.Limits.{product_limits}
 use Rattle.value_view.specs.Answers.{Answers}
@@ -11,11 +12,26 @@ use Rattle.cps_frames.specs.Standing.{standing}
 use Rattle.cps_frames.proofs.MoveLaws.{done_answers, to_thrown}
 use Rattle.cps_variables.specs.Sight.{Written}
 use Rattle.cps_assignments.proofs.AssignLaws.{to_entry, to_form, to_not_written, to_written}
-use Rattle.cps_assignments.proofs.TargetLaws.{target_part}
+use Rattle.cps_assignments.proofs.TargetLaws.{entry_size, target_part}
 use Rattle.cps_assignments.proofs.targets.write_target.Goals as goal
 
 pub part_form-requires-clause-part : goal.part_form-requires-clause-part
 part_form-requires-clause-part c = target_part _ _ c.requires.stands.target
+
+pub kept_value-of-requires : goal.kept_value-of-requires
+kept_value-of-requires c =
+    let le : 1 ≤ length c.args.place.now = subst (λ f. place_size f ≤ length c.args.place.now) (sym c.part_form.ensures ∙ c.in-ToProperty.is) c.requires.stands.size in
+    omega (arith, le)
+
+pub kept_value-holder-requires : goal.kept_value-holder-requires
+kept_value-holder-requires c =
+    let le = entry_size _ (length c.args.place.now) c.requires.stands.size (λ x g. c.in_default.not-ToName _ (c.part_form.ensures ∙ g)) (λ x g. c.in_default.not-ToProperty _ (c.part_form.ensures ∙ g)) in
+    omega (arith, le)
+
+pub kept_value-index-requires : goal.kept_value-index-requires
+kept_value-index-requires c =
+    let le = entry_size _ (length c.args.place.now) c.requires.stands.size (λ x g. c.in_default.not-ToName _ (c.part_form.ensures ∙ g)) (λ x g. c.in_default.not-ToProperty _ (c.part_form.ensures ∙ g)) in
+    omega (arith, le)
 
 pub returns-in_err-write_name-in-ToName : goal.returns-in_err-write_name-in-ToName
 returns-in_err-write_name-in-ToName c = λ t r lt.
@@ -38,5 +54,5 @@ returns-in_err-value-in_default c = λ t r lt.
     rw (p.1, p.2) (to_entry c.args.node r c.args.place.now c.args.env.now c.args.value (standing c.args.shared.now t) (Err (halt_of c.in_err-value-in_default.field-0.0)) (standing (record c.args.shared.now { heap = c.set_at.new.heap }) t) (λ x g. c.in_default.not-ToName _ (c.part_form.ensures ∙ g)) (λ x g. c.in_default.not-ToProperty _ (c.part_form.ensures ∙ g))
     (to_thrown c.args.node r (λ w. set_at (limits w) (cells w) (value_at 0 c.args.place.now) (value_at 1 c.args.place.now) c.args.value) (λ y sh a. ended y) c.in_err-value-in_default.field-0.0 (standing c.args.shared.now t) _
     (done_answers (λ w. set_at (limits w) (cells w) (value_at 0 c.args.place.now) (value_at 1 c.args.place.now) c.args.value) c.args.shared.now.heap c.set_at.new.heap (standing c.args.shared.now t) (Err c.in_err-value-in_default.field-0.0) _ refl refl refl (record { parent = refl; heap = c.in_err-value-in_default.ensures.leaves.follows })
-    (subst (λ y. Answers (set_at product_limits c.args.shared.now.heap.cells y (value_at 1 c.args.place.now) c.args.value) c.args.shared.now.heap c.set_at.new.heap (Err c.in_err-value-in_default.field-0.0)) c.value_at-holder.ensures
-    (subst (λ z. Answers (set_at product_limits c.args.shared.now.heap.cells c.value_at-holder.result z c.args.value) c.args.shared.now.heap c.set_at.new.heap (Err c.in_err-value-in_default.field-0.0)) c.value_at-index.ensures c.in_err-value-in_default.ensures.answer))) lt))
+    (subst (λ y. Answers (set_at product_limits c.args.shared.now.heap.cells y (value_at 1 c.args.place.now) c.args.value) c.args.shared.now.heap c.set_at.new.heap (Err c.in_err-value-in_default.field-0.0)) c.kept_value-holder.ensures
+    (subst (λ z. Answers (set_at product_limits c.args.shared.now.heap.cells c.kept_value-holder.result z c.args.value) c.args.shared.now.heap c.set_at.new.heap (Err c.in_err-value-in_default.field-0.0)) c.kept_value-index.ensures c.in_err-value-in_default.ensures.answer))) lt))
