@@ -7,4 +7,5 @@ pub mod Answering
 pub mod Granting
 pub mod Stepping
 pub mod Marks
+pub mod Requests
 pub mod Frames

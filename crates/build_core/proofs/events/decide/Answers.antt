@@ -5,7 +5,7 @@ use Rattle.script_thread.specs.Events.{shared_after}
 use Rattle.build_core.proofs.Answering.{may_answer, decided, goes_on, map_ok}
 use Rattle.build_core.proofs.Fitting.{input_open, thread_is}
 use Rattle.build_core.proofs.Stepping.{steps_answered}
-use Rattle.build_core.proofs.Marks.{but_for}
+use Rattle.build_core.proofs.Marks.{but_for, closed_request}
 use Rattle.build_core.proofs.events.decide.Goals as goal
 
 pub answer-requires : goal.answer-requires
@@ -38,4 +38,4 @@ returns-clause-steps g c =
     c.close-closed.result.thread (thread_is c.args.request u.requests c.close-closed.result c.close-closed.ensures.closed) _ refl u2 same p _ _ k)
 
 pub returns-clause-marks : goal.returns-clause-marks
-returns-clause-marks g c = map_ok c.answer.result c.answer.ensures.marks (λ p k. but_for c.args.shared.now (record c.args.shared.now { requests = c.close-closed.new.requests; count = 0 }) _ refl refl refl k)
+returns-clause-marks g c = map_ok c.answer.result c.answer.ensures.marks (λ p k. but_for c.args.shared.now (record c.args.shared.now { requests = c.close-closed.new.requests; count = 0 }) _ refl refl refl refl (closed_request c.args.request _ _ refl c.close-closed.ensures.others) k)

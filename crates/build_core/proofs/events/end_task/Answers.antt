@@ -8,7 +8,7 @@ use Rattle.script_thread.specs.Events.{shared_after}
 use Rattle.build_core.proofs.Answering.{may_answer, ended, goes_on, map_ok}
 use Rattle.build_core.proofs.Fitting.{task_open, thread_is, request_is}
 use Rattle.build_core.proofs.Stepping.{steps_answered}
-use Rattle.build_core.proofs.Marks.{but_for}
+use Rattle.build_core.proofs.Marks.{but_for, closed_request}
 use Rattle.build_core.proofs.events.end_task.Goals as goal
 
 -- the answer that the thread gets
@@ -51,4 +51,4 @@ returns-clause-steps g c =
     (Done (to_z w32 (of_z w32 c.args.code)) c.take_output-out.result) (answer_is c.take_output-out.result c.args.code (to_z w32 (of_z w32 c.args.code)) u.requests c.args.task c.close-closed.result code_is c.close-closed.ensures.closed c.take_output-out.ensures) u2 same p _ _ k)
 
 pub returns-clause-marks : goal.returns-clause-marks
-returns-clause-marks g c = map_ok c.answer.result c.answer.ensures.marks (λ p k. but_for c.args.shared.now (record c.args.shared.now { requests = c.close-closed.new.requests; count = 0 }) _ refl refl refl k)
+returns-clause-marks g c = map_ok c.answer.result c.answer.ensures.marks (λ p k. but_for c.args.shared.now (record c.args.shared.now { requests = c.close-closed.new.requests; count = 0 }) _ refl refl refl refl (closed_request c.args.task _ _ refl c.close-closed.ensures.others) k)

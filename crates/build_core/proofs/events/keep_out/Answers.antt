@@ -5,6 +5,7 @@ use Rattle.model_run.specs.Results.{worse}
 use Rattle.model_values.specs.declared.limit.LimitKind.TheVariants.{TextLength}
 use Rattle.model_run.specs.Taking.{request_of}
 use Rattle.model_run.proofs.Front.{front_itself}
+use Rattle.model_run.proofs.RequestLaws.{change_goes_on, kept_same}
 use Rattle.model_run.specs.World as W
 use Rattle.cps_frames.specs.declared.shared.Shared.{Shared}
 use Rattle.cps_frames.specs.Standing.{setting_of, common_of}
@@ -16,7 +17,7 @@ use Rattle.build_core.proofs.Changes.{anew, uncounted_stand, kept_is, text_limit
 use Rattle.build_core.proofs.Answering.{rests_after, rests_on, is_limited, map_ok}
 use Rattle.build_core.proofs.Ended.{counted_fits, over_sound}
 use Rattle.build_core.proofs.Stepping.{steps_rested, steps_limited}
-use Rattle.build_core.proofs.Marks.{but_for, rests}
+use Rattle.build_core.proofs.Marks.{but_for, rests, same_requests}
 use Rattle.build_core.proofs.events.keep_out.Goals as goal
 
 pub returns-then-saturating_add-gt-MAX_TEXT-clause-stands : goal.returns-then-saturating_add-gt-MAX_TEXT-clause-stands
@@ -73,7 +74,8 @@ returns-then-saturating_add-gt-MAX_TEXT-clause-steps g c =
     (λ p o from. steps_limited g.R.ScriptThread.stance g.R.Runner.seated g.R.Runner.head g.R.Runner.turns g.R.Runner.room (OutputEvent c.args.task OutStream from c.args.bytes.now) c.args.group.now u TextLength (λ few. omega (arith, few, many)) (λ j passes. passes.0) u0 refl refl p _ _ o)
 
 pub returns-then-saturating_add-gt-MAX_TEXT-clause-marks : goal.returns-then-saturating_add-gt-MAX_TEXT-clause-marks
-returns-then-saturating_add-gt-MAX_TEXT-clause-marks g c = map_ok c.end_by_limit.result c.end_by_limit.ensures.marks (λ p k. but_for c.args.shared.now (record c.args.shared.now { count = 0 }) _ refl refl refl k)
+returns-then-saturating_add-gt-MAX_TEXT-clause-marks g c = map_ok c.end_by_limit.result c.end_by_limit.ensures.marks (λ p k. but_for c.args.shared.now (record c.args.shared.now { count = 0 }) _ refl refl refl refl (same_requests _ _ refl refl) k)
 
 pub returns-clause-marks : goal.returns-clause-marks
-returns-clause-marks g c = rests c.args.shared.now (record c.args.shared.now { requests = c.keep_output.new.requests; count = 0 }) refl refl (front_itself c.args.shared.now.log)
+returns-clause-marks g c = rests c.args.shared.now (record c.args.shared.now { requests = c.keep_output.new.requests; count = 0 }) refl refl refl (front_itself c.args.shared.now.log)
+    (change_goes_on (W.with_kept c.args.bytes.now) (kept_same c.args.bytes.now) c.args.task _ _ refl c.in_ok-keep_output.ensures)

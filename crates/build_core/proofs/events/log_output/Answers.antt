@@ -6,6 +6,7 @@ use Rattle.model_values.specs.declared.limit.LimitKind.TheVariants.{LogSize}
 use Rattle.model_run.specs.Fitting.{SharedFits}
 use Rattle.model_run.specs.World as W
 use Rattle.model_run.specs.LogText.{raw}
+use Rattle.model_run.proofs.RequestLaws.{change_goes_on, taken_same}
 use Rattle.cps_frames.specs.declared.shared.Shared.{Shared}
 use Rattle.cps_frames.specs.Standing.{setting_of, common_of}
 use Rattle.build_log.specs.Refusals.{limit_of}
@@ -18,7 +19,7 @@ use Rattle.build_core.proofs.Fitting.{log_over, log_within, room_to_take}
 use Rattle.build_core.proofs.Answering.{rests_after, rests_on, is_limited, map_ok}
 use Rattle.build_core.proofs.Ended.{counted_fits, over_sound}
 use Rattle.build_core.proofs.Stepping.{steps_rested, steps_limited}
-use Rattle.build_core.proofs.Marks.{but_for, rests}
+use Rattle.build_core.proofs.Marks.{but_for, rests, same_requests}
 use Rattle.build_core.proofs.events.log_output.Goals as goal
 
 pub returns-in-Err-LogLimit-clause-stands : goal.returns-in-Err-LogLimit-clause-stands
@@ -84,7 +85,8 @@ returns-in-Err-LogLimit-clause-steps g c =
     u0 (ap (λ l. record (common_of u) { log = l; count = 0 }) c.in-Err-LogLimit.ensures.unchanged) refl p _ _ o)
 
 pub returns-in-Err-LogLimit-clause-marks : goal.returns-in-Err-LogLimit-clause-marks
-returns-in-Err-LogLimit-clause-marks g c = map_ok c.end_by_limit.result c.end_by_limit.ensures.marks (λ p k. but_for c.args.shared.now (record c.args.shared.now { log = c.raw.new.self; count = 0 }) _ refl refl c.in-Err-LogLimit.ensures.unchanged k)
+returns-in-Err-LogLimit-clause-marks g c = map_ok c.end_by_limit.result c.end_by_limit.ensures.marks (λ p k. but_for c.args.shared.now (record c.args.shared.now { log = c.raw.new.self; count = 0 }) _ refl refl refl c.in-Err-LogLimit.ensures.unchanged (same_requests _ _ refl refl) k)
 
 pub returns-clause-marks : goal.returns-clause-marks
-returns-clause-marks g c = rests c.args.shared.now (record c.args.shared.now { log = c.raw.new.self; requests = c.count_taken.new.requests; count = 0 }) refl refl (c.args.bytes.now, c.in-Ok.ensures.written)
+returns-clause-marks g c = rests c.args.shared.now (record c.args.shared.now { log = c.raw.new.self; requests = c.count_taken.new.requests; count = 0 }) refl refl refl (c.args.bytes.now, c.in-Ok.ensures.written)
+    (change_goes_on (W.with_taken (length c.args.bytes.now)) (taken_same (length c.args.bytes.now)) c.args.task _ _ refl c.count_taken.ensures)
