@@ -165,6 +165,8 @@ impl Runner for MachineThread {
 impl ScriptThread for MachineThread {
     ghost use Rattle.std.specs.Prelude.{map, refl};
     ghost use Rattle.green_threads.specs.Threads.{marked_in};
+    ghost use Rattle.model_run.proofs.RequestLaws.{asks_go_on};
+    ghost use Rattle.cps_frames.specs.Standing.{common_of};
     ghost use Rattle.thread_fits.specs.Seats.{Fits};
     ghost use Rattle.thread_fits.proofs.BeginLaws.{script_fits};
     ghost use Rattle.thread_fits.proofs.EventLaws.{awaited_there, event_fits};
@@ -195,7 +197,7 @@ impl ScriptThread for MachineThread {
 
     ghost turned = { λ t u x stopped t' u' turns. turns.1 };
 
-    ghost marks = { λ t u x stopped t' u' turns. record { cells = turns.0.runs.onward.beside.heap; nodes = turns.0.runs.leaves.follows.later.nodes; log = turns.0.runs.leaves.follows.log } };
+    ghost marks = { λ t u x stopped t' u' turns. record { cells = turns.0.runs.onward.beside.heap; nodes = turns.0.runs.leaves.follows.later.nodes; log = turns.0.runs.leaves.follows.log; binding = turns.0.runs.leaves.follows.binding; requests = asks_go_on (common_of u) (common_of u') turns.0.runs.leaves.follows.asks } };
 
     ghost stays = { λ t u x stopped t' u' turns. turns.0.stays };
 
