@@ -1,4 +1,5 @@
--- The frames that count as untouched behind an event are those that stood before it.
+-- Behind an event the frames that count as untouched are those that stood before it, and a thread that took no turn is the one that stood
+-- before it.
 use Rattle.std.proofs.Common.{◌≡◌, ◌∙◌, ◌⊎◌, ◌≤◌, ◌<◌, ◌+◌, ℕ, suc, Bool, true, false, List, [], ◌∷◌, length, Option, Some, None, refl, sym, ap, subst, inl, inr, arith}
 use Rattle.std.specs.Prelude.{nat_eq, nat_lt, map, filter, if◌then◌else◌}
 use Rattle.std.specs.List.{AllByRecursion as AllAre}
@@ -26,7 +27,7 @@ use Rattle.green_threads.proofs.Seats.{all_below}
 use Rattle.cps_frames.specs.declared.shared.Shared.{Shared}
 use Rattle.settle_laws.specs.Stances.{Stance}
 use Rattle.script_thread.specs.Events.{EndsNot, answer_by, seats_after, seats_answered, shared_after}
-use Rattle.script_thread.specs.Marks.{FramesStay, SameFront, StaysBelow}
+use Rattle.script_thread.specs.Marks.{SameFront, StaysBelow, ThreadsStay}
 use Rattle.script_thread.specs.Names.{Answer, Event, StartEvent, GrantedEvent, OutputEvent, ExitedEvent, LostEvent, DecidedEvent, LogStream, OutStream, Ready}
 use Rattle.script_thread.proofs.Stays.{stays_itself, stays_further}
 use Rattle.build_core.specs.declared.phase.Phase.{Phase}
@@ -55,10 +56,27 @@ all_in : {A : Type 0} (xs : List A) → AllAre (One xs) xs
 all_in [] = tt
 all_in (x ∷ xs) = (inl refl, all_weaker (One xs) (One (x ∷ xs)) (λ y h. inr h) xs (all_in xs))
 
-module _ {T : Type 0} (low : T → ℕ) (stance : T → Stance) where
-  -- the frames of the one thread come from those of the other
-  abbrev Stays : T → T → Type 0
-  Stays t t' = StaysBelow (low t) (stance t).frames (low t') (stance t').frames
+module _ {T : Type 0} (low : T → ℕ) (touched : T → Bool) (stance : T → Stance) where
+  -- the frames of the one thread come from those of the other; where it is not touched it was not, and is the same
+  pub record Stays (t t' : T) : Type 0 where
+    pub frames : StaysBelow (low t) (stance t).frames (low t') (stance t').frames
+    pub same : touched t' ≡ false → (touched t ≡ false) × (stance t' ≡ stance t)
+
+  stays_so : (t : T) → Stays t t
+  stays_so t = record { frames = stays_itself (low t) (stance t).frames; same = λ e. (e, refl) }
+
+  stays_on : (t t' t'' : T) → Stays t t' → Stays t' t'' → Stays t t''
+  stays_on t t' t'' h k = record {
+    frames = stays_further (low t) (stance t).frames (low t') (stance t').frames (low t'') (stance t'').frames h.frames k.frames;
+    same = λ e. ((h.same (k.same e).0).0, (k.same e).1 ∙ (h.same (k.same e).0).1);
+  }
+
+  -- a turn touches its thread
+  stays_turned : (t t' : T) → StaysBelow (low t) (stance t).frames (low t') (stance t').frames → touched t' ≡ true → Stays t t'
+  stays_turned t t' h is = record { frames = h; same = λ e. (let never : true ≡ false = sym is ∙ e in absurd (cc never)) }
+
+  same_front : (t t' : T) → Stays t t' → SameFront low touched stance t t'
+  same_front t t' h = record { front = h.frames.same; same = λ e. (h.same e).1 }
 
   -- the thread of this number has stood, or is a new one
   abbrev StoodAs : ℕ → T → Seated T → Type 0
@@ -80,7 +98,7 @@ module _ {T : Type 0} (low : T → ℕ) (stance : T → Stance) where
       inr (some_weaker (λ z. z ≡ x) (StoodAs n t) (λ z is. (ap (λ (y : Seated T). y.number) is ∙ number, subst (λ (y : Seated T). Stays y.thread t) (sym is) stays)) g.seats there)
 
   all_stand : (g : Threads T) → AllAre (Stood g) g.seats
-  all_stand g = all_weaker (One g.seats) (Stood g) (λ x there. stood_by g x x.number x.thread there refl (stays_itself (low x.thread) (stance x.thread).frames)) g.seats (all_in g.seats)
+  all_stand g = all_weaker (One g.seats) (Stood g) (λ x there. stood_by g x x.number x.thread there refl (stays_so x.thread)) g.seats (all_in g.seats)
 
   chain_itself : (g : Threads T) → Chain g g
   chain_itself g = record { next = omega arith; stood = all_stand g }
@@ -92,7 +110,7 @@ module _ {T : Type 0} (low : T → ℕ) (stance : T → Stance) where
       further y x (inl new) so = inl (omega (arith, new, so.0))
       further y x (inr some) so =
           inr (some_weaker (StoodAs x.number x.thread) (StoodAs y.number y.thread)
-          (λ z was. (was.0 ∙ so.0, stays_further (low z.thread) (stance z.thread).frames (low x.thread) (stance x.thread).frames (low y.thread) (stance y.thread).frames was.1 so.1)) g.seats some)
+          (λ z was. (was.0 ∙ so.0, stays_on z.thread x.thread y.thread was.1 so.1)) g.seats some)
 
       from : (y : Seated T) → Stood h y → Stood g y
       from y (inl new) = inl (omega (arith, new, c.next))
@@ -149,7 +167,7 @@ module _ {T : Type 0} (low : T → ℕ) (stance : T → Stance) where
 
   -- all turns of an event
   module _ (seated : T → ℕ → Option ℕ → T) (head : T → ℕ) (turns : T → Shared → Answer → Stop T → T → Shared → Type 0)
-      (turn : (t : T) (u : Shared) (x : Answer) (k : Stop T) (t' : T) (u' : Shared) → turns t u x k t' u' → StaysBelow (low t) (stance t).frames (low t') (stance t').frames) where
+      (turn : (t : T) (u : Shared) (x : Answer) (k : Stop T) (t' : T) (u' : Shared) → turns t u x k t' u' → Stays t t') where
     chain_settled : (n : ℕ) (g : Threads T) (u : Shared) (out : Settled) (g' : Threads T) (u' : Shared) → Settles W.run_limits.threads seated head turns n g u out g' u' → Chain g g'
     chain_settled _ _ _ _ _ _ (all_wait n g u none) = chain_itself g
     chain_settled _ _ _ _ _ _ (next_turn n g g' u u' u'' v k t out first tu more adm rest) =
@@ -158,10 +176,10 @@ module _ {T : Type 0} (low : T → ℕ) (stance : T → Stance) where
     chain_settled _ _ _ _ _ _ (limit_met n g u u' v k t w first tu) = chain_over g v t first (turn v.seat.thread u v.answer _ t u' tu) w
     chain_settled _ _ _ _ _ _ (too_many n g u u' v bs t w first tu many) = chain_over g v t first (turn v.seat.thread u v.answer _ t u' tu) w
 
-  none_before : (xs ys : List (Seated T)) → xs ≡ [] → FramesStay low stance xs ys
-  none_before xs ys e = subst (λ zs. FramesStay low stance zs ys) (sym e) (nothing ys)
+  none_before : (xs ys : List (Seated T)) → xs ≡ [] → ThreadsStay low touched stance xs ys
+  none_before xs ys e = subst (λ zs. ThreadsStay low touched stance zs ys) (sym e) (nothing ys)
     where
-      nothing : (ys : List (Seated T)) → FramesStay low stance [] ys
+      nothing : (ys : List (Seated T)) → ThreadsStay low touched stance [] ys
       nothing [] = tt
       nothing (y ∷ ys) = (tt, nothing ys)
 
@@ -172,28 +190,32 @@ module _ {T : Type 0} (low : T → ℕ) (stance : T → Stance) where
     from_low low' (x ∷ xs) next h =
         (h.0, all_weaker (λ (y : Seated T). suc x.number ≤ y.number) (λ (y : Seated T). low' ≤ y.number) (λ y le. omega (arith, le, h.0)) xs (from_low (suc x.number) xs next h.2))
 
-    the_one : (n : ℕ) (t : T) (low' : ℕ) (xs : List (Seated T)) (next : ℕ) → Grouped number parent branch low' xs next → Some_of (StoodAs n t) xs → AllAre (λ (x : Seated T). x.number ≡ n → SameFront low stance x.thread t) xs
+    the_one : (n : ℕ) (t : T) (low' : ℕ) (xs : List (Seated T)) (next : ℕ) → Grouped number parent branch low' xs next → Some_of (StoodAs n t) xs → AllAre (λ (x : Seated T). x.number ≡ n → SameFront low touched stance x.thread t) xs
     the_one n t low' [] next h some = tt
     the_one n t low' (x ∷ xs) next h (inl so) =
-        (λ e. so.1.same, all_weaker (λ (y : Seated T). suc x.number ≤ y.number) (λ (y : Seated T). y.number ≡ n → SameFront low stance y.thread t) (λ y above e. let no : ⊥ = omega (arith, above, e, so.0) in absurd no) xs (from_low (suc x.number) xs next h.2))
+        (λ e. same_front x.thread t so.1, all_weaker (λ (y : Seated T). suc x.number ≤ y.number) (λ (y : Seated T). y.number ≡ n → SameFront low touched stance y.thread t) (λ y above e. let no : ⊥ = omega (arith, above, e, so.0) in absurd no) xs (from_low (suc x.number) xs next h.2))
     the_one n t low' (x ∷ xs) next h (inr some) = (
-      λ e. some_all (λ (y : Seated T). suc x.number ≤ y.number) (StoodAs n t) (SameFront low stance x.thread t) (λ y above so. let no : ⊥ = omega (arith, above, e, so.0) in absurd no) xs (from_low (suc x.number) xs next h.2) some,
+      λ e. some_all (λ (y : Seated T). suc x.number ≤ y.number) (StoodAs n t) (SameFront low touched stance x.thread t) (λ y above so. let no : ⊥ = omega (arith, above, e, so.0) in absurd no) xs (from_low (suc x.number) xs next h.2) some,
       the_one n t (suc x.number) xs next h.2 some,
     )
 
-    stay_chained : (g g' : Threads T) → Grouped number parent branch 0 g.seats g.next → Chain g g' → FramesStay low stance g.seats g'.seats
-    stay_chained g g' h c = all_weaker (Stood g) (λ (y : Seated T). AllAre (λ (x : Seated T). x.number ≡ y.number → SameFront low stance x.thread y.thread) g.seats) (λ y. one y) g'.seats c.stood
+    stay_chained : (g g' : Threads T) → Grouped number parent branch 0 g.seats g.next → Chain g g' → ThreadsStay low touched stance g.seats g'.seats
+    stay_chained g g' h c = all_weaker (Stood g) (λ (y : Seated T). AllAre (λ (x : Seated T). x.number ≡ y.number → SameFront low touched stance x.thread y.thread) g.seats) (λ y. one y) g'.seats c.stood
       where
-        one : (y : Seated T) → Stood g y → AllAre (λ (x : Seated T). x.number ≡ y.number → SameFront low stance x.thread y.thread) g.seats
-        one y (inl new) = all_weaker (λ (x : Seated T). x.number < g.next) (λ (x : Seated T). x.number ≡ y.number → SameFront low stance x.thread y.thread) (λ x below e. let no : ⊥ = omega (arith, below, e, new) in absurd no) g.seats (all_below number parent branch 0 g.seats g.next h)
+        one : (y : Seated T) → Stood g y → AllAre (λ (x : Seated T). x.number ≡ y.number → SameFront low touched stance x.thread y.thread) g.seats
+        one y (inl new) = all_weaker (λ (x : Seated T). x.number < g.next) (λ (x : Seated T). x.number ≡ y.number → SameFront low touched stance x.thread y.thread) (λ x below e. let no : ⊥ = omega (arith, below, e, new) in absurd no) g.seats (all_below number parent branch 0 g.seats g.next h)
         one y (inr some) = the_one y.number y.thread 0 g.seats g.next h some
 
     module _ (seated : T → ℕ → Option ℕ → T) (head : T → ℕ) (turns : T → Shared → Answer → Stop T → T → Shared → Type 0) (room : Shared → ℕ) (fits : List (Seated T) → Shared → Type 0)
-        (turn : (t : T) (u : Shared) (x : Answer) (k : Stop T) (t' : T) (u' : Shared) → turns t u x k t' u' → StaysBelow (low t) (stance t).frames (low t') (stance t').frames) where
-      none_left : (g h : Threads T) → h.seats ≡ [] → FramesStay low stance g.seats h.seats
-      none_left g h e = subst (λ ys. FramesStay low stance g.seats ys) (sym e) tt
+        (stays : (t : T) (u : Shared) (x : Answer) (k : Stop T) (t' : T) (u' : Shared) → turns t u x k t' u' → StaysBelow (low t) (stance t).frames (low t') (stance t').frames)
+        (touches : (t : T) (u : Shared) (x : Answer) (k : Stop T) (t' : T) (u' : Shared) → turns t u x k t' u' → touched t' ≡ true) where
+      turn : (t : T) (u : Shared) (x : Answer) (k : Stop T) (t' : T) (u' : Shared) → turns t u x k t' u' → Stays t t'
+      turn t u x k t' u' so = stays_turned t t' (stays t u x k t' u' so) (touches t u x k t' u' so)
 
-      stay_over : {p : Phase} (g h : Threads T) (u : Shared) (c : Common) (g' : Threads T) (u' : Shared) → IsOver p h u c g' u' → FramesStay low stance g.seats g'.seats
+      none_left : (g h : Threads T) → h.seats ≡ [] → ThreadsStay low touched stance g.seats h.seats
+      none_left g h e = subst (λ ys. ThreadsStay low touched stance g.seats ys) (sym e) tt
+
+      stay_over : {p : Phase} (g h : Threads T) (u : Shared) (c : Common) (g' : Threads T) (u' : Shared) → IsOver p h u c g' u' → ThreadsStay low touched stance g.seats g'.seats
       stay_over g h u c g' u' o = none_left g g' (ap (λ (k : Threads T). k.seats) o.threads)
 
       answered : (event : Event) (u : Shared) (g : Threads T) → Chain g (record { seats = seats_after event u.requests g.seats; next = g.next })
@@ -204,14 +226,14 @@ module _ {T : Type 0} (low : T → ℕ) (stance : T → Stance) where
           go (Some (n, x)) = with_same g (waits_as (Ready x)) (λ x h. h) (W.thread_of n u.requests) g.seats (all_stand g)
 
       stay_gone : (p : Phase) (event : Event) (g : Threads T) (u v : Shared) (g' : Threads T) (u' : Shared) → Grouped number parent branch 0 g.seats g.next →
-          GoesOnBy stance seated head turns room (record { seats = seats_after event u.requests g.seats; next = g.next }) v p g' u' → FramesStay low stance g.seats g'.seats
+          GoesOnBy stance seated head turns room (record { seats = seats_after event u.requests g.seats; next = g.next }) v p g' u' → ThreadsStay low touched stance g.seats g'.seats
       stay_gone p event g u v g' u' h goes = go goes.out goes.ends
         where
           chain : Chain g goes.threads
           chain = chain_on g _ goes.threads (answered event u g) (chain_settled seated head turns turn _ _ _ goes.out goes.threads goes.shared goes.settles)
 
-          go : (out : Settled) → EndsAs stance out goes.threads goes.shared p g' u' → FramesStay low stance g.seats g'.seats
-          go AllWait so = subst (λ (k : Threads T). FramesStay low stance g.seats k.seats) (sym so.1) (stay_chained g goes.threads h chain)
+          go : (out : Settled) → EndsAs stance out goes.threads goes.shared p g' u' → ThreadsStay low touched stance g.seats g'.seats
+          go AllWait so = subst (λ (k : Threads T). ThreadsStay low touched stance g.seats k.seats) (sym so.1) (stay_chained g goes.threads h chain)
           go (ScriptEnded o) so = stay_over g goes.threads goes.shared _ g' u' so
           go (LimitMet l) so = stay_over g goes.threads goes.shared _ g' u' so
 
@@ -232,22 +254,22 @@ module _ {T : Type 0} (low : T → ℕ) (stance : T → Stance) where
       decide u (LostEvent task why) = inl tt
       decide u (DecidedEvent request proceed name) = inl tt
 
-      stay_stepped : (p : Phase) (event : Event) (g : Threads T) (u : Shared) (g' : Threads T) (u' : Shared) → Grouped number parent branch 0 g.seats g.next → StepsOn stance seated head turns room event g u p g' u' → FramesStay low stance g.seats g'.seats
+      stay_stepped : (p : Phase) (event : Event) (g : Threads T) (u : Shared) (g' : Threads T) (u' : Shared) → Grouped number parent branch 0 g.seats g.next → StepsOn stance seated head turns room event g u p g' u' → ThreadsStay low touched stance g.seats g'.seats
       stay_stepped p event g u g' u' h steps = go (decide u event)
         where
-          go : EndsNot u event ⊎ ((k : LimitKind) × Passes u event k) → FramesStay low stance g.seats g'.seats
+          go : EndsNot u event ⊎ ((k : LimitKind) × Passes u event k) → ThreadsStay low touched stance g.seats g'.seats
           go (inl ends_not) = stay_gone p event g u (shared_after event u) g' u' h (steps.goes_on ends_not)
           go (inr passed) = stay_over g g u _ g' u' (steps.limited passed.0 passed.1)
 
       -- an event that a build has accepted
-      pub stay_accepted : (p p' : Phase) (event : Event) (g : Threads T) (u : Shared) (g' : Threads T) (u' : Shared) → SoundIn number parent branch fits p g u → (p ≡ Stopped → ⊥) → (p ≡ Running → StepsOn stance seated head turns room event g u p' g' u') → FramesStay low stance g.seats g'.seats
+      pub stay_accepted : (p p' : Phase) (event : Event) (g : Threads T) (u : Shared) (g' : Threads T) (u' : Shared) → SoundIn number parent branch fits p g u → (p ≡ Stopped → ⊥) → (p ≡ Running → StepsOn stance seated head turns room event g u p' g' u') → ThreadsStay low touched stance g.seats g'.seats
       stay_accepted Unbegun p' event g u g' u' h on steps = none_before g.seats g'.seats (ap (λ (k : Threads T). k.seats) h.threads)
       stay_accepted Running p' event g u g' u' h on steps = stay_stepped p' event g u g' u' h.grouped (steps refl)
       stay_accepted Ended p' event g u g' u' h on steps = none_before g.seats g'.seats h.threads
       stay_accepted Stopped p' event g u g' u' h on steps = absurd (on refl)
 
     -- and one that it has not
-    pub stay_refused : (fits : List (Seated T) → Shared → Type 0) (p : Phase) (g : Threads T) (u : Shared) → SoundIn number parent branch fits p g u → (p ≡ Stopped → ⊥) → FramesStay low stance g.seats g.seats
+    pub stay_refused : (fits : List (Seated T) → Shared → Type 0) (p : Phase) (g : Threads T) (u : Shared) → SoundIn number parent branch fits p g u → (p ≡ Stopped → ⊥) → ThreadsStay low touched stance g.seats g.seats
     stay_refused fits Unbegun g u h on = none_before g.seats g.seats (ap (λ (k : Threads T). k.seats) h.threads)
     stay_refused fits Running g u h on = stay_chained g g h.grouped (chain_itself g)
     stay_refused fits Ended g u h on = none_before g.seats g.seats h.threads

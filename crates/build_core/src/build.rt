@@ -8,7 +8,7 @@ ghost use Rattle.model_run.specs.Taking.{taken};
 ghost use Rattle.model_run.specs.World as W;
 ghost use Rattle.cps_code.specs.Script.{script_of};
 ghost use Rattle.green_threads.specs.Threads.{marked_group};
-ghost use Rattle.script_thread.specs.Marks.{FramesStay, GoesOnFrom, RequestsStay, marked};
+ghost use Rattle.script_thread.specs.Marks.{GoesOnFrom, RequestsStay, ThreadsStay, marked};
 ghost use Rattle.build_requests.specs.Waiting.{waiting_inputs, open_tasks, input_of};
 ghost use Rattle.build_core.specs.declared.phase.Phase.TheVariants.{Running, Ended, Stopped};
 ghost use Rattle.build_core.specs.Phases.{SoundIn, has_begun, has_ended};
@@ -89,8 +89,9 @@ impl<R: ScriptThread + Drop> Build<R> {
     /// else `Accepted`. Only `Accepted` changes anything: the thread that the event answers is ready, and threads go on until
     /// each waits or the build is over. Where it answers, what is unmarked behind it is as it was: of the cells each that is
     /// new or was written is marked, flow nodes, bytes of the log and binding variables are added alone, and of the frames of
-    /// a thread those are the same, from the outermost on, that count as untouched. An open request with the number of one
-    /// from before is the same, but for what was taken of its output and what came to the output that is kept.
+    /// a thread those are the same, from the outermost on, that count as untouched; a thread that is not touched is the same.
+    /// An open request with the number of one from before is the same, but for what was taken of its output and what came to
+    /// the output that is kept.
     ///
     /// # Errors
     ///
@@ -104,7 +105,7 @@ impl<R: ScriptThread + Drop> Build<R> {
         ensures steps { OnOk result (self.old.phase ≡ Running → taken (standing_of self.old) event.now ≡ Accepted → StepsOn R.stance R.seated R.head R.turns R.room event.now self.old.group self.old.shared self.new.phase self.new.group self.new.shared) }
         ensures marks { OnOk result (GoesOnFrom self.old.shared self.new.shared) }
         ensures requests { OnOk result (RequestsStay self.old.shared.requests self.new.shared.requests) }
-        ensures frames { OnOk result (FramesStay R.low R.stance self.old.group.seats self.new.group.seats) }
+        ensures frames { OnOk result (ThreadsStay R.low R.touched R.stance self.old.group.seats self.new.group.seats) }
         ensures setting { OnOk result (setting_in self.new ≡ setting_in self.old) }
         ensures ended { self.old.phase ≡ Ended → result ≡ Ok Finished }
         ensures memory { OnErr result (MayWant self.old.phase (standing_of self.old) event.now) }

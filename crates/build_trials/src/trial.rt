@@ -75,7 +75,7 @@ impl Runner for EmptyScript {
 }
 
 impl ScriptThread for EmptyScript {
-    ghost use Rattle.std.specs.Prelude.{[], None, refl};
+    ghost use Rattle.std.specs.Prelude.{[], None, true, refl};
     ghost use Rattle.script_thread.proofs.Stays.{stays_itself};
     ghost use Rattle.build_core.proofs.Marks.{stays};
     ghost use Rattle.build_trials.specs.EmptyScripts.{stance_of, begun_sound, begun_marked, heads_begun, none_open, never_rests, begins};
@@ -86,6 +86,12 @@ impl ScriptThread for EmptyScript {
 
     fn low(&self) -> usize {
         0
+    }
+
+    ghost touched = { λ t. true };
+
+    fn is_touched(&self) -> bool {
+        true
     }
 
     fn script(_alloc: Global) -> Result<EmptyScript, AllocError> {
@@ -105,6 +111,8 @@ impl ScriptThread for EmptyScript {
     ghost marks = { λ t u x stopped t' u' so. stays u u' so.0 };
 
     ghost stays = { λ t u x stopped t' u' so. stays_itself 0 [] };
+
+    ghost touches = { λ t u x stopped t' u' so. refl };
 
     ghost marked_is = { λ t. refl };
 

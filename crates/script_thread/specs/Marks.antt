@@ -1,5 +1,5 @@
 -- What the threads of a build leave as it was, as the marks of its cells and of its threads tell (this product's own).
-use Rattle.std.specs.Prelude.{◌≡◌, ◌≤◌, ℕ, false, List, length, replicate, take}
+use Rattle.std.specs.Prelude.{◌≡◌, ◌≤◌, ℕ, Bool, false, List, length, replicate, take}
 use Rattle.std.specs.List.{AllByRecursion as AllAre}
 use Rattle.cell_heap.specs.Follows.{Follows}
 use Rattle.model_run.specs.Among.{AreAmong}
@@ -35,10 +35,13 @@ pub record StaysBelow (n : ℕ) (xs : List Frame) (m : ℕ) (ys : List Frame) : 
   pub fewer : m ≤ n
   pub same : take m ys ≡ take m xs
 
--- Between threads xs and ys: of a thread that stood before the frames are the same that count as untouched now.
-abbrev pub SameFront : {T : Type 0} → (T → ℕ) → (T → Stance) → T → T → Type 0
-SameFront low stance t t' = take (low t') (stance t').frames ≡ take (low t') (stance t).frames
+-- From a thread of before to the one of now: the frames are the same that count as untouched now, and where it took no turn since it was
+-- marked all that the definitions see of it is.
+pub record SameFront {T : Type 0} (low : T → ℕ) (touched : T → Bool) (stance : T → Stance) (t t' : T) : Type 0 where
+  pub front : take (low t') (stance t').frames ≡ take (low t') (stance t).frames
+  pub same : touched t' ≡ false → stance t' ≡ stance t
 
-abbrev pub FramesStay : {T : Type 0} → (T → ℕ) → (T → Stance) → List (Seated T) → List (Seated T) → Type 0
-FramesStay {T} low stance xs ys =
-    AllAre (λ (y : Seated T). AllAre (λ (x : Seated T). x.number ≡ y.number → SameFront low stance x.thread y.thread) xs) ys
+-- the same of each thread of now that stood before
+abbrev pub ThreadsStay : {T : Type 0} → (T → ℕ) → (T → Bool) → (T → Stance) → List (Seated T) → List (Seated T) → Type 0
+ThreadsStay {T} low touched stance xs ys =
+    AllAre (λ (y : Seated T). AllAre (λ (x : Seated T). x.number ≡ y.number → SameFront low touched stance x.thread y.thread) xs) ys

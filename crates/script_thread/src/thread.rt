@@ -1,5 +1,5 @@
 //! A green thread that runs a script.
-ghost use Rattle.std.specs.Prelude.{◌≡◌, ◌-◌, ℕ, [], ◌∷◌, List, length, map, Option, None, IfOk, true, false, is_some};
+ghost use Rattle.std.specs.Prelude.{◌≡◌, ◌-◌, ℕ, Bool, [], ◌∷◌, List, length, map, Option, None, IfOk, true, false, is_some};
 ghost use Rattle.model_run.specs.declared.event.Event.{Event};
 ghost use Rattle.model_run.specs.declared.taken.Taken.TheVariants.{Accepted};
 ghost use Rattle.model_run.specs.Fitting.{SharedFits};
@@ -37,6 +37,14 @@ pub trait ScriptThread: Runner<Shared = Shared> {
     fn low(&self) -> usize
         ensures { result ≡ low self.now };
 
+    /// Whether it took a turn since it was marked last or was restored, or has not been marked since it began.
+    ghost touched: { Self → Bool };
+
+    /// Whether it took a turn since it was marked last or was restored, or has not been marked since it began. It takes no
+    /// memory.
+    fn is_touched(&self) -> bool
+        ensures { result ≡ touched self.now };
+
     /// The thread of the script, which has not begun, behind the start node. Its number and parent are open.
     /// `AllocError` where the memory was refused.
     fn script(alloc: Global) -> Result<Self, AllocError>
@@ -57,6 +65,9 @@ pub trait ScriptThread: Runner<Shared = Shared> {
 
     /// A turn lets no more frames count as untouched, and those that do are the same.
     ghost stays: { (t : Self) (u : Shared) (x : Answer) (stopped : Stop Self) (t' : Self) (u' : Shared) → Self.turns t u x stopped t' u' → StaysBelow (low t) (stance t).frames (low t') (stance t').frames };
+
+    /// A turn touches it.
+    ghost touches: { (t : Self) (u : Shared) (x : Answer) (stopped : Stop Self) (t' : Self) (u' : Shared) → Self.turns t u x stopped t' u' → touched t' ≡ true };
 
     /// The definitions see nothing of marks.
     ghost marked_is: { (t : Self) → stance (Self.marked t) ≡ stance t };

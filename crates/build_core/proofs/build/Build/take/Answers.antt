@@ -1,7 +1,7 @@
 use Rattle.std.proofs.Common.{rules, ◌≡◌, ◌∙◌, sym, ap, subst}
 use Rattle.model_run.specs.declared.taken.Taken.TheVariants.{Accepted}
 use Rattle.green_threads.specs.Threads.{Threads}
-use Rattle.script_thread.specs.Marks.{FramesStay}
+use Rattle.script_thread.specs.Marks.{ThreadsStay}
 use Rattle.build_core.specs.Builds.{Parts}
 use Rattle.build_core.specs.Phases.{SoundIn}
 use Rattle.build_core.proofs.Frames.{stay_accepted, stay_refused}
@@ -20,9 +20,10 @@ returns-then-ne-clause-frames g c =
     let branch = g.R.Runner.branch in
     let fits = g.R.Runner.fits in
     let low = g.R.ScriptThread.low in
+    let touched = g.R.ScriptThread.touched in
     let stance = g.R.ScriptThread.stance in
-    subst (λ (k : Threads _). FramesStay low stance b.group.seats k.seats) (sym (ap (λ (k : Parts _). k.group) c.self.view_is))
-    (stay_refused low stance number parent branch fits b.phase b.group b.shared (subst (λ (k : Parts _). SoundIn number parent branch fits k.phase k.group k.shared) c.self.view_is c.self.invariant) (returns-then-ne-clause-goes_on g c))
+    subst (λ (k : Threads _). ThreadsStay low touched stance b.group.seats k.seats) (sym (ap (λ (k : Parts _). k.group) c.self.view_is))
+    (stay_refused low touched stance number parent branch fits b.phase b.group b.shared (subst (λ (k : Parts _). SoundIn number parent branch fits k.phase k.group k.shared) c.self.view_is c.self.invariant) (returns-then-ne-clause-goes_on g c))
 
 pub returns-clause-goes_on : goal.returns-clause-goes_on
 returns-clause-goes_on g c = search rules
@@ -41,7 +42,7 @@ returns-clause-frames g c =
     let branch = g.R.Runner.branch in
     let fits = g.R.Runner.fits in
     let accepted : c.in_ok-answer.answer ≡ Accepted = search rules in
-    stay_accepted g.R.ScriptThread.low g.R.ScriptThread.stance number parent branch g.R.Runner.seated g.R.Runner.head g.R.Runner.turns g.R.Runner.room fits g.met.R.ScriptThread.stays b.phase _ c.args.event.now b.group b.shared _ _
+    stay_accepted g.R.ScriptThread.low g.R.ScriptThread.touched g.R.ScriptThread.stance number parent branch g.R.Runner.seated g.R.Runner.head g.R.Runner.turns g.R.Runner.room fits g.met.R.ScriptThread.stays g.met.R.ScriptThread.touches b.phase _ c.args.event.now b.group b.shared _ _
     (subst (λ (k : Parts _). SoundIn number parent branch fits k.phase k.group k.shared) c.self.view_is c.self.invariant) (returns-clause-goes_on g c) (λ running. returns-clause-steps g c running (sym (returns-clause-taken g c) ∙ accepted))
 
 pub returns-then-ne-clause-marks : goal.returns-then-ne-clause-marks
