@@ -470,13 +470,14 @@ turn_runs t u a may =
     ((may.3).script, (above stance_of may.0 (may.1).parent, outermost (may.1).parent, b, first_begins (stance_of t).runs a))
 
 pub turn_made : (t t1 : MachineThread) (u u' : Shared) (a : Answer) (first : Move) (s : Stopped) (st : ThreadState) (stops : Stop MachineThread) → t1 ≡ record t { start = None } → first ≡ first_move t a → Stops (standing u t1.state) first s (standing u' st) → IsStop s stops st.context
-    → (low : ℕ) → StaysBelow t1.low t1.state.stack.items low st.stack.items → IsTurn t u a stops (record t1 { state = st; low = low }) u'
+    → (low : ℕ) → StaysBelow t1.low t1.state.stack.items low st.stack.items → IsTurn t u a stops (record t1 { state = st; low = low; touched = true }) u'
 turn_made t t1 u u' a first s st stops e is runs stop low stays = record {
   stopped_so = s;
   stop = stop;
   runs = subst (λ (m : Move). Stops (standing u t.state) m s (standing u' st)) is (subst (λ (y : MachineThread). Stops (standing u y.state) first s (standing u' st)) e runs);
   begun = ap (λ (y : MachineThread). y.start) e;
   stays = subst (λ (y : MachineThread). StaysBelow y.low y.state.stack.items low st.stack.items) e stays;
+  touched = refl;
 }
 
 -- A turn is one of direct evaluation: of a thread that goes on, of the script, and of a branch.

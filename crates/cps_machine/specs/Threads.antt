@@ -49,9 +49,9 @@ is_branch t = branch_by t.start t.state.parent
 abbrev pub seated : MachineThread → ℕ → Option ℕ → MachineThread
 seated t n p = record t { state = record t.state { number = n; parent = p } }
 
--- the thread whose frames all count as untouched
+-- the thread that took no turn yet since it was marked, and whose frames all count as untouched
 abbrev pub marked : MachineThread → MachineThread
-marked t = record t { low = length t.state.stack.items }
+marked t = record t { low = length t.state.stack.items; touched = false }
 
 -- what the definitions see of a branch that is to begin
 pub record Beginning : Type 0 where
@@ -89,10 +89,11 @@ IsStop (stopped.Waits (ForBranches bs)) (stop.Forks ts) context = map seen ts �
 IsStop s t context = ⊥
 
 -- A turn: the machine runs from what the thread does first with the answer, and so stops. Of its frames no more count as untouched than
--- did before, and those are the same.
+-- did before, and those are the same; and the thread is touched.
 pub record IsTurn (t : MachineThread) (u : Shared) (x : Answer) (stops : Stop MachineThread) (t' : MachineThread) (u' : Shared) : Type 0 where
   pub stopped_so : Stopped
   pub stop : IsStop stopped_so stops t'.state.context
   pub runs : Stops (standing u t.state) (first_move t x) stopped_so (standing u' t'.state)
   pub begun : t'.start ≡ None
   pub stays : StaysBelow t.low t.state.stack.items t'.low t'.state.stack.items
+  pub touched : t'.touched ≡ true

@@ -34,6 +34,8 @@ pub struct MachineThread {
     /// How many of its frames, from the outermost on, of those that it had then, no move has taken off since it was marked,
     /// began or was restored, or more than there are.
     low: usize,
+    /// Whether it took a turn since it was marked last or was restored, or has not been marked since it began.
+    touched: bool,
 }
 
 impl MachineThread {
@@ -52,18 +54,20 @@ impl MachineThread {
             },
             start: Some(start),
             low: 0,
+            touched: true,
         }
     }
 
     /// The thread that waits inside these frames.
     pub fn restore(state: ThreadState) -> MachineThread
-        ensures { result ≡ record { state = state; start = None; low = length state.stack.items } }
+        ensures { result ≡ record { state = state; start = None; low = length state.stack.items; touched = false } }
     {
         let low = state.stack.len();
         MachineThread {
             state,
             start: None,
             low,
+            touched: false,
         }
     }
 
@@ -144,6 +148,7 @@ impl Runner for MachineThread {
 
     fn mark(&mut self) {
         self.low = self.state.stack.len();
+        self.touched = false;
     }
 
     ghost marked_seat = { λ t. record { number_same = refl; parent_same = refl; branch_same = refl } };
@@ -155,6 +160,7 @@ impl Runner for MachineThread {
     ) -> Result<Stop<MachineThread>, AllocError> {
         let alloc = shared.alloc();
         let first = self.first_move(alloc, answer);
+        self.touched = true;
         self.low = lowest(&self.state, self.low);
         let stopped = run(&mut self.state, &mut self.low, shared, first)?;
         let stop = self.stop(alloc, stopped)?;
@@ -182,6 +188,12 @@ impl ScriptThread for MachineThread {
         self.low
     }
 
+    ghost touched = { λ t. t.touched };
+
+    fn is_touched(&self) -> bool {
+        self.touched
+    }
+
     fn script(alloc: Global) -> Result<MachineThread, AllocError> {
         let outside = Context {
             held: Ids::new(alloc),
@@ -200,6 +212,8 @@ impl ScriptThread for MachineThread {
     ghost marks = { λ t u x stopped t' u' turns. record { cells = turns.0.runs.onward.beside.heap; nodes = turns.0.runs.leaves.follows.later.nodes; log = turns.0.runs.leaves.follows.log; binding = turns.0.runs.leaves.follows.binding; requests = asks_go_on (common_of u) (common_of u') turns.0.runs.leaves.follows.asks } };
 
     ghost stays = { λ t u x stopped t' u' turns. turns.0.stays };
+
+    ghost touches = { λ t u x stopped t' u' turns. turns.0.touched };
 
     ghost marked_is = { λ t. refl };
 

@@ -44,4 +44,4 @@ some_start_send : IsSend Start.the_row → IsSend (Option.the_row Start.the_row)
 some_start_send start = search (sendable, crosses) depth 20
 
 pub thread_send : IsSend MachineThread.the_row
-thread_send = declared_send MachineThread.the_type (state_send frame_send context_send, (some_start_send (start_send (callee_send env_send)), (search (sendable, crosses) depth 20, tt)))
+thread_send = declared_send MachineThread.the_type (state_send frame_send context_send, (some_start_send (start_send (callee_send env_send)), (search (sendable, crosses) depth 20, (search (sendable, crosses) depth 20, tt))))

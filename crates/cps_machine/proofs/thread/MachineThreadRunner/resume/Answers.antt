@@ -1,3 +1,4 @@
+use Rattle.std.proofs.Common.{true}
 use Rattle.cps_machine.specs.Threads.{IsTurn}
 use Rattle.cps_machine.specs.declared.thread.MachineThread.{MachineThread}
 use Rattle.cps_machine.proofs.ResumeLaws.{turn_begins, turn_branch, turn_keeps, turn_lowers, turn_made}
@@ -12,7 +13,7 @@ returns-clause-keeps c =
 
 pub returns-clause-turned : goal.returns-clause-turned
 returns-clause-turned c =
-    let after : MachineThread = record c.first_move-first.new.self { state = c.run.new.state; low = c.run.new.low } in
+    let after : MachineThread = record c.first_move-first.new.self { state = c.run.new.state; low = c.run.new.low; touched = true } in
     let turn : IsTurn c.args.self.now c.args.shared.now c.args.answer c.in_ok-stop.stop after c.run.new.shared =
     turn_made c.args.self.now c.first_move-first.new.self c.args.shared.now c.run.new.shared c.args.answer _ c.in_ok-stopped.stopped c.run.new.state c.in_ok-stop.stop c.first_move-first.ensures.begun c.first_move-first.ensures.first c.in_ok-stopped.ensures.stops c.in_ok-stop.ensures c.run.new.low (stays_less c.first_move-first.new.self.low c.lowest-self.result c.first_move-first.new.self.state.stack.items c.run.new.low c.run.new.state.stack.items c.lowest-self.ensures.0 c.in_ok-stopped.ensures.stays) in
     (turn, turn_is c.args.self.now after c.args.shared.now c.run.new.shared c.args.answer c.in_ok-stop.stop c.requires.ready turn)
