@@ -1,5 +1,6 @@
 pub mod RowLaws
 pub mod TestLaws
+pub mod BlockLaws
 pub mod WayLaws
 pub mod EachLaws
 pub mod TryLaws

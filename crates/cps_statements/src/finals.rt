@@ -12,6 +12,7 @@ ghost use Rattle.cps_frames.specs.Moves.{ComesTo};
 ghost use Rattle.cps_frames.specs.Order.{rank};
 ghost use Rattle.cps_frames.specs.Places.{MayGoOn};
 ghost use Rattle.cps_frames.specs.Standing.{standing};
+ghost use Rattle.cps_frames.specs.Ways.{is_block_ending};
 ghost use Rattle.cps_variables.specs.Nodes.{HasForm};
 ghost use Rattle.cps_statements.specs.Finals.{HasKept, final_before, final_kind, final_values, is_final, over_final};
 
@@ -33,7 +34,8 @@ fn has_finally(code: &Code, node: u32) -> bool
 }
 
 /// The kind of the frame in which a `finally` runs behind an ending, and what it keeps of that.
-pub(crate) fn final_frame(alloc: Global, ending: &Ending) -> Result<(FrameKind, Values), AllocError>
+fn final_frame(alloc: Global, ending: &Ending) -> Result<(FrameKind, Values), AllocError>
+    requires { is_block_ending ending.now ≡ true }
     ensures { IfOk result (λ kept. kept ≡ (final_kind ending.now, final_values ending.now)) }
 {
     let mut values = Values::new(alloc);
@@ -52,10 +54,7 @@ pub(crate) fn final_frame(alloc: Global, ending: &Ending) -> Result<(FrameKind, 
         }
         Ending::Broke => FrameKind::FinallyAfterBreak,
         Ending::Continued => FrameKind::FinallyAfterContinue,
-        Ending::Declared(_) | Ending::Answered(_) => {
-            values.push(Value::Null)?;
-            FrameKind::FinallyAfterValue
-        }
+        Ending::Declared(_) | Ending::Answered(_) => unreachable!(),
     };
     Ok((kind, values))
 }
@@ -68,7 +67,8 @@ pub(crate) fn after_catch(
     env: Env,
     ending: Ending,
 ) -> Result<Move, Halt>
-    requires { HasForm (script_of shared.now.code) node form.Try }
+    requires form { HasForm (script_of shared.now.code) node form.Try }
+    requires ending { is_block_ending ending ≡ true }
     ensures { (r : ℕ) → 1 < r → ComesTo node r (λ sh a. after_catch a node sh env ending) (standing shared.now state.old) result (standing shared.now state.new) }
 {
     if !has_finally(&shared.code, node) {
@@ -116,13 +116,13 @@ pub(crate) fn after_finally(
 }
 
 /// How a `try` ends: as its `finally` does, unless that ends with a value; then as before it.
-pub(crate) fn ending_behind(before: Ending, ending: Ending) -> Ending
+fn ending_behind(before: Ending, ending: Ending) -> Ending
+    requires { is_block_ending ending ≡ true }
     ensures { result ≡ over_final before ending }
 {
     match ending {
         Ending::Normal(_) => before,
-        Ending::Declared(_) => before,
-        Ending::Answered(_) => before,
+        Ending::Declared(_) | Ending::Answered(_) => unreachable!(),
         other => other,
     }
 }

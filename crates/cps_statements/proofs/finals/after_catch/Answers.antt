@@ -10,14 +10,14 @@ use Rattle.cps_statements.proofs.finals.after_catch.Goals as goal
 pub overflow_sub-at : goal.overflow_sub-at
 overflow_sub-at c =
     let one : 0 < 1 = omega arith in
-    let lt : 0 < arity (shape_at (script_of c.args.shared.now.code) c.args.node) = part_within _ _ form.Try 0 c.requires one in
+    let lt : 0 < arity (shape_at (script_of c.args.shared.now.code) c.args.node) = part_within _ _ form.Try 0 c.requires.form one in
     let e = c.parts-at.ensures ∙ count_is (script_of c.args.shared.now.code) c.args.node in
     omega (arith, lt, e)
 
 pub under-requires-clause-part : goal.under-requires-clause-part
 under-requires-clause-part c =
     let one : 0 < 1 = omega arith in
-    let lt : 0 < arity (shape_at (script_of c.args.shared.now.code) c.args.node) = part_within _ _ form.Try 0 c.requires one in
+    let lt : 0 < arity (shape_at (script_of c.args.shared.now.code) c.args.node) = part_within _ _ form.Try 0 c.requires.form one in
     let e = c.parts-at.ensures ∙ count_is (script_of c.args.shared.now.code) c.args.node in
     omega (arith, lt, e)
 
