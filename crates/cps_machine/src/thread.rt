@@ -1,6 +1,6 @@
 //! A green thread that runs a script, or a branch of a `parallel`.
 
-ghost use Rattle.std.specs.Prelude.{◌≡◌, ℕ, List, None, length, map, IfOk};
+ghost use Rattle.std.specs.Prelude.{◌≡◌, ℕ, false, List, None, length, map, IfOk};
 ghost use Rattle.model_run.specs.World.{outcome_of};
 ghost use Rattle.cps_machine.specs.Threads.{IsStop, beginning, first_move, seen, to_begin};
 
