@@ -1,5 +1,5 @@
 -- `for (x in value)`: its turns.
-use Rattle.std.proofs.Common.{◌≡◌, ◌∙◌, ◌<◌, ◌≤◌, ◌^◌, ℕ, suc, true, false, List, [], ◌∷◌, ℤ, pos, negsuc, Some, nat_abs, of_z, to_z, w32, refl, sym, ap, subst, arith}
+use Rattle.std.proofs.Common.{◌≡◌, ◌∙◌, ◌<◌, ◌≤◌, ◌^◌, ℕ, suc, true, false, List, [], ◌∷◌, ℤ, pos, negsuc, Some, length, nat_abs, of_z, to_z, w32, refl, sym, ap, subst, arith}
 use Rattle.std.specs.Prelude.{Result as Outcome, Ok, Err, slice_get}
 use Rattle.std.proofs.lemmas.Int.{to_z_pos}
 use Rattle.std.proofs.lemmas.Option.{get_or_from_slice_get}
@@ -109,6 +109,11 @@ pub kept_position : (u : Common) (vs : List Value) → ValuesFit (known u) No_mo
 kept_position u [] fits = absurd fits
 kept_position u (on ∷ []) fits = absurd fits.1
 kept_position u (on ∷ at ∷ vs) fits = position_of u at fits.1.0
+
+pub kept_two : (u : Common) (vs : List Value) → ValuesFit (known u) No_more (Any ∷ Up_to 2147483646 ∷ []) vs → 1 < length vs
+kept_two u [] fits = absurd fits
+kept_two u (on ∷ []) fits = absurd fits.1
+kept_two u (on ∷ at ∷ vs) fits = omega arith
 
 pub not_position : (v : Value) → IsPosition v → ((z : ℤ) → v ≡ Whole z → ⊥) → ⊥
 not_position (Whole (pos m)) is differs = differs (pos m) refl

@@ -34,11 +34,14 @@ final_values Continued = []
 final_values (Declared b) = Null ∷ []
 final_values (Answered x) = Null ∷ []
 
--- behind a throw its cell is kept
-abbrev pub HasKept : FrameKind → Value → Type 0
-HasKept kind.FinallyAfterThrow (InCell c) = Unit {0}
-HasKept kind.FinallyAfterThrow v = ⊥
-HasKept d v = Unit {0}
+-- what a frame of `finally` keeps: behind a value or a `return` the value, behind a throw its cell
+abbrev pub HasKept : FrameKind → List Value → Type 0
+HasKept kind.FinallyAfterValue (v ∷ vs) = Unit {0}
+HasKept kind.FinallyAfterThrow (InCell c ∷ vs) = Unit {0}
+HasKept kind.FinallyAfterReturn (v ∷ vs) = Unit {0}
+HasKept kind.FinallyAfterBreak vs = Unit {0}
+HasKept kind.FinallyAfterContinue vs = Unit {0}
+HasKept d vs = ⊥
 
 -- the ending of which this was kept
 abbrev pub final_before : FrameKind → Value → Ending

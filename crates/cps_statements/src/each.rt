@@ -1,6 +1,6 @@
 //! `for (x in value)`.
 
-ghost use Rattle.std.specs.Prelude.{◌≡◌, ◌<◌, ◌≤◌, ◌+◌, ◌^◌, ℕ};
+ghost use Rattle.std.specs.Prelude.{◌≡◌, ◌<◌, ◌≤◌, ◌+◌, ◌^◌, ℕ, length};
 ghost use Rattle.model_syntax.specs.declared.node.NodeForm.TheVariants as form;
 ghost use Rattle.model_values.specs.Fitting.{There};
 ghost use Rattle.model_values.specs.Kinds.{kind as kind_of};
@@ -20,7 +20,7 @@ ghost use Rattle.value_walks.specs.Places.{IsLoopPlace};
 ghost use Rattle.model_run.specs.declared.ending.Entry.TheVariants.{Turn};
 
 use cps_frames::{Halt, Move, Shared, ThreadState, turn, turn_of, under, value_of};
-use cps_variables::{new_variable, value_at};
+use cps_variables::{kept_value, new_variable, value_at};
 use model_run::{Ending, Entry, Frame, FrameKind};
 use model_syntax::NodeForm;
 use model_text::Text;
@@ -125,11 +125,12 @@ pub(crate) fn each_turn(
 
 /// The position of a turn, which its frame keeps behind what the loop goes over.
 fn kept_position(values: &Values) -> u32
-    requires { IsPosition (value_at 1 values.now) }
+    requires kept { 1 < length values.now }
+    requires place { IsPosition (value_at 1 values.now) }
     ensures position { result ≡ position (value_at 1 values.now) }
     ensures low { result ≤ 2147483646 }
 {
-    match value_at(values, 1) {
+    match kept_value(values, 1) {
         Value::Int(at) => at as u32,
         _ => unreachable!(),
     }
@@ -147,7 +148,7 @@ pub(crate) fn after_each_body(
     ensures { ComesTo frame.node (rank frame) (λ sh a. after frame sh a ending) (standing shared.old state.now) result (standing shared.new state.now) }
 {
     turn_of(ending)?;
-    let on = value_at(&frame.values, 0);
+    let on = kept_value(&frame.values, 0);
     let at = kept_position(&frame.values) + 1;
     each_from(shared, frame.node, at, on, frame.env)
 }

@@ -18,7 +18,7 @@ ghost use Rattle.cps_statements.specs.Finals.{HasKept, final_before, final_kind,
 
 use cps_code::Code;
 use cps_frames::{Halt, Move, Shared, ThreadState, under};
-use cps_variables::{part_form, value_at};
+use cps_variables::{kept_value, part_form};
 use model_run::{Ending, Entry, Frame, FrameKind};
 use model_syntax::NodeForm;
 use model_values::{Env, Value, Values};
@@ -129,18 +129,16 @@ fn ending_behind(before: Ending, ending: Ending) -> Ending
 
 /// The ending that a `finally` has kept.
 fn ending_before(frame: &Frame) -> Ending
-    requires kind { is_final frame.now.kind ≡ true }
-    requires thrown { HasKept frame.now.kind (value_at 0 frame.now.values) }
+    requires { HasKept frame.now.kind frame.now.values }
     ensures { result ≡ final_before frame.now.kind (value_at 0 frame.now.values) }
 {
-    let kept = value_at(&frame.values, 0);
     match frame.kind {
-        FrameKind::FinallyAfterValue => Ending::Normal(kept),
-        FrameKind::FinallyAfterThrow => match kept {
+        FrameKind::FinallyAfterValue => Ending::Normal(kept_value(&frame.values, 0)),
+        FrameKind::FinallyAfterThrow => match kept_value(&frame.values, 0) {
             Value::Cell(cell) => Ending::Thrown(cell),
             _ => unreachable!(),
         },
-        FrameKind::FinallyAfterReturn => Ending::Returned(kept),
+        FrameKind::FinallyAfterReturn => Ending::Returned(kept_value(&frame.values, 0)),
         FrameKind::FinallyAfterBreak => Ending::Broke,
         FrameKind::FinallyAfterContinue => Ending::Continued,
         _ => unreachable!(),
