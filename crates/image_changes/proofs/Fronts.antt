@@ -1,10 +1,8 @@
 -- The frames in front of a thread now, which stood.
-use Rattle.std.proofs.Common.{◌≡◌, ◌∙◌, ◌<◌, ◌≤◌, ◌+◌, ◌-◌, ℕ, List, [], ◌∷◌, ◌++◌, length, length-append, slice_get, take, drop, sym, ap, subst, arith}
+use Rattle.std.proofs.Common.{◌≡◌, ◌∙◌, ◌<◌, ◌≤◌, ◌+◌, ◌-◌, ℕ, List, ◌++◌, length, length-append, slice_get, take, drop, sym, ap, subst, arith}
 use Rattle.std.proofs.Math.Seq.{drop-append_seam, drop-append-add, take-append-add}
 use Rattle.image_form.specs.declared.image.ImageFrame.{ImageFrame}
-use Rattle.std.specs.List.{AllByRecursion as AllAre}
 use Rattle.image_changes.specs.Growing.{IsCommon, IsCounted}
-use Rattle.image_changes.specs.Walks.{AllKnown}
 use Rattle.image_changes.proofs.Gets.{first_behind, shorter_front}
 
 -- lists with the same front are the same where what is behind it is
@@ -41,12 +39,3 @@ common_counted front had has n count same in_had in_has most c =
     let is : length front + more ≡ count = omega (arith, c.from) in
     subst (IsCommon (front ++ had) (front ++ has) (length front)) is
     (common_at front had has n more same in_had in_has most (omega (arith, is, c.within)) (omega (arith, is, c.few)) (λ less. let full : count ≡ length front + n = c.all (omega (arith, is, less)) in omega (arith, is, full)))
-
--- nothing is asked of what is known
-pub nothing_known : {X N : Type 0} (by : X → ℕ) (seen : N → X) (before : List X) (now : List N) → AllKnown by seen (λ (x : X) (n : N). Unit {0}) before now
-nothing_known {X} {N} by seen before [] = tt
-nothing_known {X} {N} by seen before (n ∷ ns) = (one before, nothing_known by seen before ns)
-  where
-    one : (xs : List X) → AllAre (λ (x : X). by x ≡ by (seen n) → Unit {0}) xs
-    one [] = tt
-    one (x ∷ xs) = ((λ e. tt), one xs)

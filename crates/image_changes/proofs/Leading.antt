@@ -8,10 +8,10 @@ use Rattle.model_run.specs.declared.result.BuildResult.{BuildResult}
 use Rattle.image_form.specs.declared.image.Image.{Image}
 use Rattle.delta_form.specs.Applying.{◌>>=◌}
 use Rattle.delta_form.specs.Changes.{rising}
-use Rattle.delta_form.specs.After.{after, in_order, request_changes, thread_changes, with_changes}
+use Rattle.delta_form.specs.After.{in_order, request_changes, thread_changes, with_changes}
 use Rattle.delta_form.specs.Numbers.{written_number}
 use Rattle.delta_form.specs.declared.delta.Delta.{Delta}
-use Rattle.image_changes.specs.Parts.{PutsBindings, PutsCells, PutsNodes, Renews}
+use Rattle.image_changes.specs.Parts.{LeadsTo, PutsBindings, PutsCells, PutsNodes, Renews}
 use Rattle.image_changes.proofs.Rising.{rises_rising}
 
 bound : {A B : Type 0} (o : Option A) (f : A → Option B) (a : A) → o ≡ Some a → (o >>= f) ≡ f a
@@ -22,10 +22,10 @@ and_true a b p q = ap (λ (t : Bool). t && b) p ∙ q
 
 module _ (before now : Image) (d : Delta) where
   pub leads : d.next_request ≡ now.next_request → d.next_thread ≡ now.next_thread → d.result ≡ now.result → d.ended ≡ now.ended → d.held ≡ now.held
-      → PutsBindings before.bindings now.bindings (Some d.bindings) → PutsCells before.cells now.cells (Some d.cells) → PutsNodes before.nodes now.nodes (Some d.nodes) → now.log ≡ before.log ++ d.log
+      → PutsBindings before.bindings now.bindings d.bindings → PutsCells before.cells now.cells d.cells → PutsNodes before.nodes now.nodes d.nodes → now.log ≡ before.log ++ d.log
       → Renews (λ r. r.number) written_number request_changes before.requests now.requests d.closed_requests d.requests
       → Renews (λ t. t.number) (λ w. w.number) thread_changes before.threads now.threads d.ended_threads d.threads
-      → Rises (map (λ h. h.executor) now.held) → after before d ≡ Some now
+      → Rises (map (λ h. h.executor) now.held) → LeadsTo before now d
   leads next_request next_thread result ended held bindings cells nodes log requests threads rise =
       let held_rise = rises_rising (λ (h : Held). h.executor) now.held rise in
       let ordered : in_order d ≡ true =

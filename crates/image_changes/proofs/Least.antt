@@ -1,5 +1,5 @@
 -- Of an image and a later one there is one delta that leads from the one to the other and holds what changed alone.
-use Rattle.std.proofs.Common.{◌≡◌, ◌∙◌, ℕ, Bool, true, List, [], ◌∷◌, map, Some, sym, ap}
+use Rattle.std.proofs.Common.{◌≡◌, ◌∙◌, ℕ, Bool, true, List, [], ◌∷◌, map, sym, ap}
 use Rattle.std.specs.Ordering.{is_lt, nat_cmp, on}
 use Rattle.std.specs.Cmp.{IsTotalOrder}
 use Rattle.std.specs.Cmp.Lexicographic.{slice_cmp, nat_list_cmp_total}
@@ -79,7 +79,7 @@ lists d e =
 
 -- ---- the delta
 
-module _ (before now : Image) (ordered_before : IsInOrder before) (d e : Delta) (leads : LeadsTo before now (Some d)) (least : IsLeast before d) (leads_too : LeadsTo before now (Some e)) (least_too : IsLeast before e) where
+module _ (before now : Image) (ordered_before : IsInOrder before) (d e : Delta) (leads : LeadsTo before now d) (least : IsLeast before d) (leads_too : LeadsTo before now e) (least_too : IsLeast before e) where
   abbrev made_d : Makes before now d
   made_d = makes before now d leads
 

@@ -11,6 +11,7 @@ pub mod Reaching
 pub mod Marked
 pub mod Leading
 pub mod Necessary
+pub mod Bindings
 pub mod Finding
 pub mod Needed
 pub mod OneList

@@ -52,7 +52,7 @@ walked before now (false ∷ flags) place old new all same notes reach =
     (subst (λ (n : ℕ). NotesAll before now (places_from n flags) old new) next notes)
     (unmarked_stays before now place old (omega (arith, all)) (subst (λ (n : ℕ). slice_get now n ≡ slice_get before n) here (same 0 refl)) reach)
 
-pub marked_end : (before : List Cell) (now : Region) (ids : List ℕ) (k : ℕ) (found : List NumberedCell) → KeepsUnmarked before now → ids ≡ places now.changed → length now.changed ≡ length now.cells → length ids ≤ k → NotesReach before now.cells ids k found → PutsCells before now.cells (Some found)
+pub marked_end : (before : List Cell) (now : Region) (ids : List ℕ) (k : ℕ) (found : List NumberedCell) → KeepsUnmarked before now → ids ≡ places now.changed → length now.changed ≡ length now.cells → length ids ≤ k → NotesReach before now.cells ids k found → PutsCells before now.cells found
 marked_end before now ids k found keeps is marked end reach =
     let all : NotesAll before now.cells ids [] found = reach found (subst (λ (l : List ℕ). NotesAll before now.cells l found found) (sym (drop_all k ids end)) refl) in
     cells_end before now.cells (length now.cells) found keeps.grows (omega arith)

@@ -56,7 +56,7 @@ cell_noted before now place cell old new at (inr (unlike, (w, writes, is))) reac
     (subst (λ (l : List NumberedCell). PutsFrom 0 before now l) (sym (one_before old more (numbered place w)))
     (reach (numbered place w ∷ more) (found_before before now place cell w more at writes.0 puts)))
 
-pub cells_end : (before now : List Cell) (place : ℕ) (found : List NumberedCell) → length before ≤ length now → length now ≤ place → CellsReach before now place found → PutsCells before now (Some found)
+pub cells_end : (before now : List Cell) (place : ℕ) (found : List NumberedCell) → length before ≤ length now → length now ≤ place → CellsReach before now place found → PutsCells before now found
 cells_end before now place found longer all reach =
     let ends : PutsFrom place (drop place before) (drop place now) [] =
     subst (λ (bs : List Cell). PutsFrom place bs (drop place now) []) (sym (drop_all place before (omega (arith, longer, all))))
@@ -85,7 +85,7 @@ binding_noted before now had has next binding old new rise at (inr put) reach = 
     (subst (λ (l : List Binding). Binds before now l) (sym (one_before old more binding))
     (reach (binding ∷ more) (subst (λ (ns : List Binding). Binds (drop had before) ns (binding ∷ more)) (sym item) (binding_added binding (drop had before) (drop (suc has) now) more above rest))))
 
-pub bindings_end : (before now : List Binding) (had has : ℕ) (found : List Binding) → length before ≤ had → length now ≤ has → BindingsReach before now had has found → PutsBindings before now (Some found)
+pub bindings_end : (before now : List Binding) (had has : ℕ) (found : List Binding) → length before ≤ had → length now ≤ has → BindingsReach before now had has found → PutsBindings before now found
 bindings_end before now had has found all_before all_now reach =
     let ends : Binds (drop had before) (drop has now) [] =
     subst (λ (bs : List Binding). Binds bs (drop has now) []) (sym (drop_all had before all_before))

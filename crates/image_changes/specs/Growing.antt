@@ -2,42 +2,18 @@
 use Rattle.std.specs.Prelude.{◌≡◌, ◌<◌, ◌≤◌, ◌+◌, ℕ, List, drop, length, slice_get, take, Option, Some, None}
 use Rattle.model_values.specs.declared.cell.Cell.{Cell}
 use Rattle.model_run.specs.declared.request.Request.{Request}
-use Rattle.model_run.specs.declared.request.Request.TheVariants as request
-use Rattle.model_run.specs.declared.request.OpenRequest.{OpenRequest}
 use Rattle.image_form.specs.declared.image.ImageFrame.{ImageFrame}
 use Rattle.image_form.specs.declared.image.ImageThread.{ImageThread}
-use Rattle.delta_form.specs.After.{grown, written_cell, written_request}
-use Rattle.delta_form.specs.Numbers.{written_number}
+use Rattle.delta_form.specs.After.{grown, written_cell}
 use Rattle.delta_form.specs.declared.delta.WrittenCell.{WrittenCell}
-use Rattle.delta_form.specs.declared.delta.WrittenRequest.{WrittenRequest}
 use Rattle.delta_form.specs.declared.delta.WrittenThread.{WrittenThread}
-use Rattle.image_changes.specs.Least.{CannotGrow, CannotGrowTo, IsShort, IsShortCell}
+use Rattle.image_changes.specs.Least.{CannotGrowTo, IsShortCell}
 use Rattle.image_changes.specs.declared.requests.Growth.{Growth}
 
--- both are tasks of the same executor, workspace, folder and environment
-abbrev pub IsAtSamePlace : Request → Request → Type 0
-IsAtSamePlace (request.Task executor workspace folder env script status keep_out taken out) (request.Task executor_now workspace_now folder_now env_now script_now status_now keep_out_now taken_now out_now) =
-    (executor_now ≡ executor) × (workspace_now ≡ workspace) × (folder_now ≡ folder) × (env_now ≡ env)
-IsAtSamePlace r q = ⊥
-
--- both are tasks of the same script, whose status and whose output are wanted alike
-abbrev pub HasSameScript : Request → Request → Type 0
-HasSameScript (request.Task executor workspace folder env script status keep_out taken out) (request.Task executor_now workspace_now folder_now env_now script_now status_now keep_out_now taken_now out_now) =
-    (script_now ≡ script) × (status_now ≡ status) × (keep_out_now ≡ keep_out)
-HasSameScript r q = ⊥
-
--- both are tasks that differ at most in what was taken and in their output
-abbrev pub IsSameTask : Request → Request → Type 0
-IsSameTask r q = IsAtSamePlace r q × HasSameScript r q
-
--- The task has grown to be the other; or nothing grown of it is the other.
+-- The task has grown to be the other, and is not it; or nothing has grown.
 abbrev pub TaskGrows : Request → Request → Option Growth → Type 0
-TaskGrows stood item None = (taken : ℕ) (added : List ℕ) → grown taken added stood ≡ Some item → ⊥
-TaskGrows stood item (Some g) = grown g.taken g.out stood ≡ Some item
-
-abbrev pub Grows : OpenRequest → OpenRequest → Option WrittenRequest → Type 0
-Grows stood item None = CannotGrow stood item
-Grows stood item (Some w) = (written_number w ≡ item.number) × (written_request w (Some stood) ≡ Some (Some item)) × IsShort w stood
+TaskGrows stood item None = stood ≡ item
+TaskGrows stood item (Some g) = ¬ (stood ≡ item) × (grown g.taken g.out stood ≡ Some item)
 
 -- It makes the cell of what stood, and is the shortest that does.
 abbrev pub WritesCell : Option Cell → Cell → WrittenCell → Type 0

@@ -2,5 +2,4 @@ pub mod Least
 pub mod Parts
 pub mod Growing
 pub mod Walks
-pub mod Whole
 pub mod Seen

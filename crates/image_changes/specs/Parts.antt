@@ -1,5 +1,5 @@
 -- What leads from one image to a later one, part by part (this product's own; docs/FORMATS.md, "Records of changes").
-use Rattle.std.specs.Prelude.{◌≡◌, ◌<◌, ◌^◌, ◌⊎◌, ℕ, true, List, ◌++◌, length, Option, Some, None}
+use Rattle.std.specs.Prelude.{◌≡◌, ℕ, true, List, Some}
 use Rattle.std.specs.Ordering.{nat_cmp, on}
 use Rattle.std.specs.Cmp.Lexicographic.{slice_cmp}
 use Rattle.model_values.specs.declared.cell.Binding.{Binding}
@@ -13,31 +13,25 @@ use Rattle.delta_form.specs.declared.delta.Delta.{Delta}
 use Rattle.delta_form.specs.declared.delta.NewNode.{NewNode}
 use Rattle.delta_form.specs.declared.delta.NumberedCell.{NumberedCell}
 
--- The delta makes the image now of the image before. There is none only where no delta does, or where there are more cells
--- than a delta has numbers for.
-abbrev pub LeadsTo : Image → Image → Option Delta → Type 0
-LeadsTo before now None = ((d : Delta) → ¬ (after before d ≡ Some now)) ⊎ (2 ^ 32 < length now.cells)
-LeadsTo before now (Some d) = after before d ≡ Some now
+-- The delta makes the image now of the image before.
+abbrev pub LeadsTo : Image → Image → Delta → Type 0
+LeadsTo before now d = after before d ≡ Some now
 
 -- a flow node without its number
 abbrev pub as_new : FlowNode → NewNode
 as_new n = record { kind = n.kind; name = n.name; start = n.start; parents = n.parents }
 
 -- these flow nodes are put behind those from before
-abbrev pub PutsNodes : List FlowNode → List FlowNode → Option (List NewNode) → Type 0
-PutsNodes before now None = (news : List NewNode) → ¬ (in_turn put_node news before ≡ Some now)
-PutsNodes before now (Some news) = in_turn put_node news before ≡ Some now
+abbrev pub PutsNodes : List FlowNode → List FlowNode → List NewNode → Type 0
+PutsNodes before now news = in_turn put_node news before ≡ Some now
 
--- These cells are put among those from before, or behind them. There are none only where no cells do, or where there are
--- more cells than numbers.
-abbrev pub PutsCells : List Cell → List Cell → Option (List NumberedCell) → Type 0
-PutsCells before now None = ((cells : List NumberedCell) → ¬ (in_turn put_cell cells before ≡ Some now)) ⊎ (2 ^ 32 < length now)
-PutsCells before now (Some cells) = (in_turn put_cell cells before ≡ Some now) × (rising (on (λ c. c.number) nat_cmp) cells ≡ true)
+-- these cells are put among those from before, or behind them
+abbrev pub PutsCells : List Cell → List Cell → List NumberedCell → Type 0
+PutsCells before now cells = (in_turn put_cell cells before ≡ Some now) × (rising (on (λ c. c.number) nat_cmp) cells ≡ true)
 
 -- these variables are put among those from before, where the names rise
-abbrev pub PutsBindings : List Binding → List Binding → Option (List Binding) → Type 0
-PutsBindings before now None = (news : List Binding) → ¬ (changed binding_changes news before ≡ Some now)
-PutsBindings before now (Some news) = (changed binding_changes news before ≡ Some now) × (rising (on (λ b. b.name) (slice_cmp nat_cmp)) news ≡ true)
+abbrev pub PutsBindings : List Binding → List Binding → List Binding → Type 0
+PutsBindings before now news = (changed binding_changes news before ≡ Some now) × (rising (on (λ b. b.name) (slice_cmp nat_cmp)) news ≡ true)
 
 -- the items with these numbers are gone, and these changes are made
 pub record Renews {C X : Type 0} (by : X → ℕ) (number : C → ℕ) (how : Changing C X) (before now : List X) (gone : List ℕ) (changes : List C) : Type 0 where

@@ -37,12 +37,6 @@ pub record Binds (before now news : List Binding) : Type 0 where
   pub news_above : (k : List ℕ) → Above (slice_cmp nat_cmp) (λ b. b.name) k now → Above (slice_cmp nat_cmp) (λ b. b.name) k news
   pub rise : rising (on (λ b. b.name) (slice_cmp nat_cmp)) news ≡ true
 
--- the first list's items stand in the second one, in their order
-abbrev pub AreAmong : {X : Type 0} → List X → List X → Type 0
-AreAmong [] ys = Unit {0}
-AreAmong (x ∷ xs) [] = ⊥
-AreAmong (x ∷ xs) (y ∷ ys) = ((x ≡ y) × AreAmong xs ys) ⊎ AreAmong (x ∷ xs) ys
-
 abbrev pub BindingsReach : List Binding → List Binding → ℕ → ℕ → List Binding → Type 0
 BindingsReach before now had has found = (more : List Binding) → Binds (drop had before) (drop has now) more → Binds before now (found ++ more)
 

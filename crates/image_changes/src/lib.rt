@@ -2,14 +2,13 @@
 //!
 //! [`changes_between`] gives the delta that leads from the image before to what stands in the build now ([`Now`]):
 //! `delta_form::apply` makes the image now of the image before. The delta holds what changed alone: of two images there
-//! is one such. Of the cells only those are compared that are marked, of the flow nodes and the log nothing that stood before,
-//! and of the frames of a thread those alone that are not known to be the same ([`NowThread`]), so that it takes the time of
-//! what changed, of the variables, the open requests and the threads but for those frames.
+//! is one such. What is known to stand as it stood is not compared: the variables from before, the cells that are not marked, the
+//! flow nodes and the log from before, what an open request asks and what came to its output before, and the frames of a thread
+//! that are known to be the same ([`NowThread`]). So it takes the time of what changed, and of how many requests and threads there are.
 //!
 //! ```text
-//! if let Some(delta) = changes_between(alloc, &before, &now)? {
-//!     let image = apply(alloc, before, delta)?; // that of the build now
-//! }
+//! let delta = changes_between(alloc, &before, &now)?;
+//! let image = apply(alloc, before, delta)?; // that of the build now
 //! ```
 #![tactic(auto)]
 

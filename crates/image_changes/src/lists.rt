@@ -2,6 +2,7 @@
 
 ghost use Rattle.std.specs.Prelude.{◌≡◌, ◌<◌, ◌^◌, ◌++◌, IfOk, OnOk, length, map};
 ghost use Rattle.std.specs.List.{AllByRecursion as AllAre};
+ghost use Rattle.model_run.specs.Among.{AreAmong};
 ghost use Rattle.model_run.specs.Fitting.{NamesRise, NodesFit};
 ghost use Rattle.image_changes.specs.Least.{CellsDiffer};
 ghost use Rattle.model_run.specs.FlowNodes.{IsFront};
@@ -19,8 +20,8 @@ use model_text::{Bytes, Sequence};
 use model_values::{Binding, Cell};
 use std::alloc::{AllocError, Global};
 
-/// What was logged behind the log from before, which is the beginning of the log now.
-pub(crate) fn added_log(alloc: Global, before: &[u8], now: &[u8]) -> Result<Bytes, AllocError>
+/// What came behind the bytes from before, which are the beginning of those now.
+pub(crate) fn added_bytes(alloc: Global, before: &[u8], now: &[u8]) -> Result<Bytes, AllocError>
     requires front { IsFront before.now now.now }
     ensures { IfOk result (λ added. now.now ≡ before.now ++ added) }
 {
@@ -36,7 +37,7 @@ pub(crate) fn new_nodes(
 ) -> Result<NewNodes, AllocError>
     requires fit { NodesFit 2 now.now }
     requires front { IsFront before.now now.now }
-    ensures { IfOk result (λ news. PutsNodes before.now now.now (Some news)) }
+    ensures { IfOk result (PutsNodes before.now now.now) }
 {
     let news = nodes_as_new(alloc, &now[before.len()..])?;
     Ok(news)
@@ -75,7 +76,7 @@ pub(crate) fn changed_cells(
     now: &Heap,
 ) -> Result<NumberedCells, AllocError>
     requires { KeepsUnmarked before.now now.now }
-    ensures puts { IfOk result (λ cells. PutsCells before.now now.now.cells (Some cells)) }
+    ensures puts { IfOk result (PutsCells before.now now.now.cells) }
     ensures differ { IfOk result (CellsDiffer before.now) }
 {
     let marked = now.changed_since()?;
@@ -93,7 +94,7 @@ fn changed_among(
     requires keeps { KeepsUnmarked before.now now.now }
     requires marked { marked.now ≡ places now.now.changed }
     requires each { length now.now.changed ≡ length now.now.cells }
-    ensures puts { IfOk result (λ cells. PutsCells before.now now.now.cells (Some cells)) }
+    ensures puts { IfOk result (PutsCells before.now now.now.cells) }
     ensures differ { IfOk result (CellsDiffer before.now) }
 {
     let mut changed = Sequence::new(alloc);
@@ -123,24 +124,25 @@ fn note_cell(
     Ok(())
 }
 
-/// The new variables, where each from before stands now as it stood.
+/// The new variables. Each from before stands now, so where there are as many as before there is none.
 pub(crate) fn new_bindings(
     alloc: Global,
     before: &[Binding],
     now: &[Binding],
-) -> Result<Option<Sequence<Binding>>, AllocError>
-    requires { NamesRise now.now }
+) -> Result<Sequence<Binding>, AllocError>
+    requires rise { NamesRise now.now }
+    requires among { AreAmong before.now now.now }
     ensures { IfOk result (PutsBindings before.now now.now) }
 {
     let mut news = Sequence::new(alloc);
+    if now.len() == before.len() {
+        return Ok(news);
+    }
     let mut place = 0;
     for binding in now {
         place = note_binding(&mut news, before, place, binding)?;
     }
-    if place < before.len() {
-        return Ok(None);
-    }
-    Ok(Some(news))
+    Ok(news)
 }
 
 /// Passes a variable that stood so, or puts it behind the new ones. Answers the place behind those that stood.

@@ -1,6 +1,7 @@
 //! How items by numbers are written that are new or were changed.
 
 ghost use Rattle.std.specs.Prelude.{◌≡◌, ℕ, IfOk, Option, Some, None};
+ghost use Rattle.model_run.specs.Requests.{IsSame};
 ghost use Rattle.image_changes.specs.Least.{IsShort, KeepsMost};
 ghost use Rattle.image_changes.specs.Seen.{HasFront, thread_seen};
 ghost use Rattle.image_changes.specs.Walks.{Writes};
@@ -9,7 +10,6 @@ ghost use Rattle.delta_form.specs.Numbers.{written_number};
 
 use crate::now::NowThread;
 use crate::requests::{copied_request, written_short};
-use crate::same::Same;
 use crate::threads::{all_frames, common, frames_from, is_same_thread, written_with};
 use delta_form::{WrittenRequest, WrittenThread};
 use image_form::ImageThread;
@@ -57,7 +57,7 @@ impl Rewrite<OpenRequest, OpenRequest> for WrittenRequest {
 
     ghost seen = { λ r. r };
 
-    ghost known = { λ r q. Unit {0} };
+    ghost known = { IsSame };
 
     ghost number = { written_number };
 
@@ -82,13 +82,7 @@ impl Rewrite<OpenRequest, OpenRequest> for WrittenRequest {
         stood: &OpenRequest,
         item: &OpenRequest,
     ) -> Result<Option<WrittenRequest>, AllocError> {
-        if stood.is_same(item) {
-            return Ok(None);
-        }
-        match written_short(alloc, stood, item)? {
-            Some(grown) => Ok(Some(grown)),
-            None => Ok(Some(WrittenRequest::Whole(copied_request(item)?))),
-        }
+        written_short(alloc, stood, item)
     }
 }
 

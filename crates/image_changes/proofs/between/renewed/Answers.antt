@@ -6,14 +6,10 @@ use Rattle.model_run.specs.declared.request.OpenRequest.{OpenRequest}
 use Rattle.delta_form.specs.After.{request_changes}
 use Rattle.delta_form.specs.Numbers.{written_number}
 use Rattle.image_changes.specs.Parts.{Renews}
-use Rattle.image_changes.proofs.Fronts.{nothing_known}
 use Rattle.image_changes.proofs.between.renewed.Goals as goal
 
 pub renewal-requires-clause-now : goal.renewal-requires-clause-now
 renewal-requires-clause-now c = subst (λ (rs : List OpenRequest). Rises (map (λ (r : OpenRequest). r.number) rs)) (sym (map-id c.args.now.now)) c.requires.now
-
-pub renewal-requires-clause-known : goal.renewal-requires-clause-known
-renewal-requires-clause-known c = nothing_known (λ (r : OpenRequest). r.number) (λ (r : OpenRequest). r) c.args.before.now c.args.now.now
 
 pub returns-clause-renews : goal.returns-clause-renews
 returns-clause-renews c =

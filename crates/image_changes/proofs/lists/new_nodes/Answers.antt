@@ -1,4 +1,4 @@
-use Rattle.std.proofs.Common.{◌≡◌, ◌∙◌, ◌<◌, ◌^◌, List, Some, map, sym, ap, subst}
+use Rattle.std.proofs.Common.{◌∙◌, ◌<◌, ◌^◌, List, Some, map, sym, ap, subst}
 use Rattle.std.specs.List.{AllByRecursion as AllAre}
 use Rattle.model_run.specs.Fitting.{NodesFit}
 use Rattle.model_run.specs.declared.flow.FlowNode.{FlowNode}

@@ -1,6 +1,6 @@
 use Rattle.std.proofs.Common.{◌∙◌, ◌++◌, ℕ, List, sym, ap}
 use Rattle.image_changes.proofs.Gets.{rest_behind}
-use Rattle.image_changes.proofs.lists.added_log.Goals as goal
+use Rattle.image_changes.proofs.lists.added_bytes.Goals as goal
 
 pub returns : goal.returns
 returns c =
