@@ -4,16 +4,23 @@ use Rattle.std.specs.List.{AllByRecursion as AllAre}
 use Rattle.cell_heap.specs.Region.{Region}
 use Rattle.model_values.specs.declared.cell.Cell.{Cell}
 use Rattle.image_form.specs.declared.image.Image.{Image}
+use Rattle.image_form.specs.declared.image.ImageFrame.{ImageFrame}
 use Rattle.image_form.specs.declared.image.ImageThread.{ImageThread}
 use Rattle.model_run.specs.FlowNodes.{IsFront}
 use Rattle.model_run.specs.Requests.{IsSame}
 use Rattle.model_run.specs.declared.request.OpenRequest.{OpenRequest}
 use Rattle.image_changes.specs.declared.now.Now.{Now}
 use Rattle.image_changes.specs.declared.now.NowThread.{NowThread}
+use Rattle.image_changes.specs.declared.now.NowThread.TheVariants.{Touched, Untouched}
+
+-- the thread with the frames in front too
+abbrev pub behind_frames : List ImageFrame → ImageThread → ImageThread
+behind_frames front t = record t { frames = front ++ t.frames }
 
 -- the thread with all its frames
 abbrev pub thread_seen : NowThread → ImageThread
-thread_seen t = record t.thread { frames = t.front.now ++ t.thread.frames }
+thread_seen (Untouched stood parent wait) = record stood.now { parent = parent; wait = wait.now }
+thread_seen (Touched front thread) = behind_frames front.now thread
 
 -- the image that holds these parts
 abbrev pub image_seen : Now → Image
@@ -40,11 +47,16 @@ pub record KeepsUnmarked (before : List Cell) (now : Region) : Type 0 where
 abbrev pub KeepsRequests : List OpenRequest → List OpenRequest → Type 0
 KeepsRequests before now = AllAre (λ (r : OpenRequest). AllAre (λ (q : OpenRequest). q.number ≡ r.number → IsSame q r) before) now
 
--- The frames in front of a thread now are the first ones of the thread that stood at its number, and a delta can count them.
-pub record HasFront (stood : ImageThread) (item : NowThread) : Type 0 where
-  pub few : length item.front.now ≤ 4294967295
-  pub front : IsFront item.front.now stood.frames
+-- These frames are the first ones of the thread that stood, and a delta can count them.
+pub record HasFront (stood : ImageThread) (frames : List ImageFrame) : Type 0 where
+  pub few : length frames ≤ 4294967295
+  pub front : IsFront frames stood.frames
+
+-- A thread now that took no turn is the one that stood, but for its parent and what it waits for; any other has the frames in front that it had.
+abbrev pub KeepsThread : ImageThread → NowThread → Type 0
+KeepsThread x (Untouched stood parent wait) = x ≡ stood.now
+KeepsThread x (Touched front thread) = HasFront x front.now
 
 -- of each thread now that stood
-abbrev pub KeepsFronts : List ImageThread → List NowThread → Type 0
-KeepsFronts before now = AllAre (λ (y : NowThread). AllAre (λ (x : ImageThread). x.number ≡ y.thread.number → HasFront x y) before) now
+abbrev pub KeepsThreads : List ImageThread → List NowThread → Type 0
+KeepsThreads before now = AllAre (λ (y : NowThread). AllAre (λ (x : ImageThread). x.number ≡ (thread_seen y).number → KeepsThread x y) before) now

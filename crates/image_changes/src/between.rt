@@ -9,7 +9,7 @@ ghost use Rattle.delta_form.specs.After.{request_changes, written_request};
 ghost use Rattle.delta_form.specs.Numbers.{written_number};
 ghost use Rattle.image_changes.specs.Least.{AllNeeded, IsLeast, IsShort};
 ghost use Rattle.image_changes.specs.Parts.{LeadsTo, Renews};
-ghost use Rattle.image_changes.specs.Seen.{KeepsFronts, KeepsRequests, KeepsUnmarked, image_seen};
+ghost use Rattle.image_changes.specs.Seen.{KeepsRequests, KeepsThreads, KeepsUnmarked, image_seen};
 
 use crate::lists::{added_bytes, changed_cells, new_bindings, new_nodes};
 use crate::now::Now;
@@ -24,11 +24,12 @@ use std::alloc::{AllocError, Global};
 /// So much has to be known, as it is behind an event of which the image before is that in front of it, and is not compared: each
 /// variable from before stands now, each cell that is not marked stands in the image before, the flow nodes and the log before
 /// are the beginning of those now, an open request from before is the same but for what was taken of its task and came to the
-/// output, and the frames in front of a thread are those that it had.
+/// output, a thread that took no turn is the same but for its parent and what it waits for, and the frames in front of any other
+/// are those that it had.
 ///
-/// So it takes the time of the marked cells, of the numbers of the open requests and of the threads, of a thread's wait, its
-/// context and its frames that are not in front, and of what is new: variables, flow nodes, requests, and bytes of the log and of
-/// outputs. Where a variable is new it goes over all of them.
+/// So it takes the time of the marked cells, of the numbers of the open requests and of the threads, of what threads wait for, of
+/// the contexts of those that took a turn and their frames that are not in front, and of what is new: variables, flow nodes,
+/// requests, and bytes of the log and of outputs. Where a variable is new it goes over all of them.
 ///
 /// The delta holds what changed alone, so there is one such delta: cells, requests and threads that did not change are not
 /// listed, a thread keeps all its frames in front that are the same, and a task that has grown is written short.
@@ -40,7 +41,7 @@ pub fn changes_between(alloc: Global, before: &Image, now: &Now<'_>) -> Result<D
     requires nodes { IsFront before.now.nodes now.now.nodes.now }
     requires log { IsFront before.now.log now.now.log.now }
     requires requests { KeepsRequests before.now.requests now.now.requests.now }
-    requires threads { KeepsFronts before.now.threads now.now.threads.now }
+    requires threads { KeepsThreads before.now.threads now.now.threads.now }
     ensures leads { IfOk result (LeadsTo before.now (image_seen now.now)) }
     ensures least { IfOk result (IsLeast before.now) }
 {

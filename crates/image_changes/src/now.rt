@@ -2,7 +2,7 @@
 
 use cell_heap::Heap;
 use image_form::{ImageFrame, ImageThread};
-use model_run::{BuildResult, FlowNode, Held, OpenRequest};
+use model_run::{BuildResult, FlowNode, Held, OpenRequest, Wait};
 use model_values::Binding;
 
 /// The parts of a build as they stand now, borrowed: what an image of it holds, without a copy.
@@ -34,14 +34,25 @@ pub struct Now<'a> {
     pub threads: &'a [NowThread<'a>],
 }
 
-/// A green thread as it stands now, of which the frames in front, from the outermost on, are those that stand in the image
-/// before.
+/// A green thread as it stands now.
 ///
 /// A contract says `thread_seen` of it: the thread with all its frames.
 #[derive(Drop)]
-pub struct NowThread<'a> {
-    /// The frames in front, as the image before has them.
-    pub front: &'a [ImageFrame],
-    /// The thread, with the frames behind those alone.
-    pub thread: ImageThread,
+pub enum NowThread<'a> {
+    /// A thread that took no turn since the image before: all but its parent and what it waits for is as there.
+    Untouched {
+        /// The thread, as the image before has it.
+        stood: &'a ImageThread,
+        /// The number of its parent.
+        parent: Option<u32>,
+        /// What it waits for. A branch that ends changes that of its parent.
+        wait: &'a Wait,
+    },
+    /// A thread of which the frames in front, from the outermost on, are those that stand in the image before.
+    Touched {
+        /// The frames in front, as the image before has them.
+        front: &'a [ImageFrame],
+        /// The thread, with the frames behind those alone.
+        thread: ImageThread,
+    },
 }

@@ -3,14 +3,14 @@
 ghost use Rattle.std.specs.Prelude.{◌≡◌, ℕ, IfOk, Option, Some, None};
 ghost use Rattle.model_run.specs.Requests.{IsSame};
 ghost use Rattle.image_changes.specs.Least.{IsShort, KeepsMost};
-ghost use Rattle.image_changes.specs.Seen.{HasFront, thread_seen};
+ghost use Rattle.image_changes.specs.Seen.{KeepsThread, thread_seen};
 ghost use Rattle.image_changes.specs.Walks.{Writes};
 ghost use Rattle.delta_form.specs.After.{written_request, written_thread};
 ghost use Rattle.delta_form.specs.Numbers.{written_number};
 
 use crate::now::NowThread;
 use crate::requests::{copied_request, written_short};
-use crate::threads::{all_frames, common, frames_from, is_same_thread, written_with};
+use crate::threads::{moved, new_thread, number_of, turned};
 use delta_form::{WrittenRequest, WrittenThread};
 use image_form::ImageThread;
 use model_run::OpenRequest;
@@ -91,7 +91,7 @@ impl<'a> Rewrite<ImageThread, NowThread<'a>> for WrittenThread {
 
     ghost seen = { thread_seen };
 
-    ghost known = { HasFront };
+    ghost known = { KeepsThread };
 
     ghost number = { λ w. w.number };
 
@@ -106,12 +106,11 @@ impl<'a> Rewrite<ImageThread, NowThread<'a>> for WrittenThread {
     }
 
     fn number_now(item: &NowThread<'a>) -> u32 {
-        item.thread.number
+        number_of(item)
     }
 
     fn new_one(alloc: Global, item: &NowThread<'a>) -> Result<WrittenThread, AllocError> {
-        let frames = all_frames(alloc, item)?;
-        written_with(&item.thread, 0, frames)
+        new_thread(alloc, item)
     }
 
     fn changed_one(
@@ -119,11 +118,9 @@ impl<'a> Rewrite<ImageThread, NowThread<'a>> for WrittenThread {
         stood: &ImageThread,
         item: &NowThread<'a>,
     ) -> Result<Option<WrittenThread>, AllocError> {
-        if is_same_thread(stood, item) {
-            return Ok(None);
+        match item {
+            NowThread::Untouched { parent, wait, .. } => moved(alloc, stood, *parent, wait),
+            NowThread::Touched { front, thread } => turned(alloc, stood, front, thread),
         }
-        let kept = common(stood, item);
-        let frames = frames_from(alloc, item, kept)?;
-        Ok(Some(written_with(&item.thread, kept, frames)?))
     }
 }

@@ -4,10 +4,10 @@ use Rattle.image_changes.proofs.Fronts.{from_behind}
 use Rattle.image_changes.proofs.threads.frames_from.Goals as goal
 
 pub frames_behind-requires : goal.frames_behind-requires
-frames_behind-requires c = record { within = omega (arith, c.requires.within, c.requires.behind, length-append c.args.item.now.front.now c.args.item.now.thread.frames, ap length c.as_slice.ensures) }
+frames_behind-requires c = record { within = omega (arith, c.requires.within, c.requires.behind, length-append c.args.front.now c.args.thread.now.frames, ap length c.as_slice.ensures) }
 
 pub returns : goal.returns
 returns c =
-    let front = c.args.item.now.front.now in
+    let front = c.args.front.now in
     let place : ℕ = c.args.first - length front in
-    c.in_ok-copies.ensures ∙ ap (λ (l : List ImageFrame). drop place l) c.as_slice.ensures ∙ from_behind front c.args.item.now.thread.frames c.args.first place (omega (arith, c.requires.behind))
+    c.in_ok-copies.ensures ∙ ap (λ (l : List ImageFrame). drop place l) c.as_slice.ensures ∙ from_behind front c.args.thread.now.frames c.args.first place (omega (arith, c.requires.behind))

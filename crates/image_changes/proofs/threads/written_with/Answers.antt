@@ -7,5 +7,5 @@ use Rattle.image_changes.proofs.threads.written_with.Goals as goal
 pub returns : goal.returns
 returns c =
     let w = with_front c.args.item.now c.args.kept in
-    ap (λ (x : Wait). record w { wait = x; context = c.in_ok-context.context; frames = c.args.frames }) c.in_ok-wait.ensures
-    ∙ ap (λ (x : Context). record w { context = x; frames = c.args.frames }) c.in_ok-context.ensures
+    ap (λ (x : Wait). record w { parent = c.args.parent; wait = x; context = c.in_ok-context.context; frames = c.args.frames }) c.in_ok-wait.ensures
+    ∙ ap (λ (x : Context). record w { parent = c.args.parent; wait = c.args.wait.now; context = x; frames = c.args.frames }) c.in_ok-context.ensures
