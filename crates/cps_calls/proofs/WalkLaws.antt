@@ -28,7 +28,7 @@ use Rattle.model_run.specs.Around.{Around, Shape, cells, ended, frame, limits, p
 use Rattle.model_run.specs.Callables.{calling, closure_in, closure_of, parameters_of}
 use Rattle.model_run.specs.Calls.{after_walk_turn, begun_turn, element_size, held_in_turn, takes_two, walk, walk_after, walk_method, walk_turn, walked, walks}
 use Rattle.model_run.specs.Fitting.{closure_rule, known}
-use Rattle.model_run.specs.FrameTable.{Any, A_closure, A_count, Further, No_more, One_more, Any_more, frame_row, is_method, is_walk, walk_further, walk_values}
+use Rattle.model_run.specs.FrameTable.{Any, A_closure, A_count, Further, No_more, One_more, Any_more, frame_row, is_callable, is_closure_form, is_method, is_walk, walk_further, walk_values}
 use Rattle.model_run.specs.Forms.{after, enter, turn}
 use Rattle.model_run.specs.Nesting.{FrameFits, FurtherFit, ValuesFit, anything, shape_at as shape_in}
 use Rattle.model_run.specs.State.{Common, World, Reply, State, Env, Limited, choose, through, may_count, changed, counted, guarded, operating, seeing, unless_limit}
@@ -41,6 +41,7 @@ use Rattle.cps_frames.specs.Changes.{Passed, Met, changed_by}
 use Rattle.cps_frames.specs.Halts.{halt_of}
 use Rattle.value_walks.specs.Walking.{frame_after, kept_between}
 use Rattle.cps_calls.specs.Walking.{IsCount}
+use Rattle.cps_calls.proofs.BodyLaws.{closure_callable}
 use Rattle.cps_frames.specs.Moves.{Comes, ComesTo}
 use Rattle.cps_frames.specs.Order.{extra, rank, tier}
 use Rattle.cps_frames.specs.Ways.{value_of}
@@ -56,8 +57,16 @@ all_at P [] all i x e = absurd (cc e)
 all_at P (y ∷ ys) all zero x e = let same : y ≡ x = cc e in subst P same all.0
 all_at P (y ∷ ys) all (suc i) x e = all_at P ys all.1 i x e
 
-in_script : (root : Term) (h : List Cell) (o : Option Cell) (callee : Callee) → ((c : Cell) → o ≡ Some c → CellFits (closure_rule root) h c) → closure_in o ≡ Some callee → callee.node < length (nodes_of root)
-in_script root h (Some (ClosureCell k env)) callee fits e = let same : k ≡ callee.node = cc (ap (λ o. node_of o) e) in subst (λ n. n < length (nodes_of root)) same (fits (ClosureCell k env) refl).0.0
+-- a node of the script that is a closure
+record IsClosure (root : Term) (k : ℕ) : Type 0 where
+  node : k < length (nodes_of root)
+  form : is_closure_form (shape_in root k).form ≡ true
+
+in_script : (root : Term) (h : List Cell) (o : Option Cell) (callee : Callee) → ((c : Cell) → o ≡ Some c → CellFits (closure_rule root) h c) → closure_in o ≡ Some callee → IsClosure root callee.node
+in_script root h (Some (ClosureCell k env)) callee fits e =
+    let same : k ≡ callee.node = cc (ap (λ o. node_of o) e) in
+    let rule : closure_rule root k env = (fits (ClosureCell k env) refl).0 in
+    subst (IsClosure root) same (record { node = rule.0; form = rule.1 })
   where
     node_of : Option Callee → ℕ
     node_of (Some c) = c.node
@@ -69,12 +78,18 @@ in_script root h (Some (MapCell es)) callee fits e = absurd (cc e)
 in_script root h (Some (ThrownCell class m)) callee fits e = absurd (cc e)
 in_script root h None callee fits e = absurd (cc e)
 
--- the body of a closure is a node of the script
+closure_callee : (root : Term) (w : World) (v : Value) (callee : Callee) → CellsFit (closure_rule root) w.shared.cells → closure_of w v ≡ Some callee → IsClosure root callee.node
+closure_callee root w (InCell n) callee fits e = in_script root w.shared.cells (slice_get w.shared.cells n) callee (λ c is. all_at (CellFits (closure_rule root) w.shared.cells) w.shared.cells fits n c is) e
+closure_callee root w Null callee fits e = absurd (cc e)
+closure_callee root w (Truth b) callee fits e = absurd (cc e)
+closure_callee root w (Whole z) callee fits e = absurd (cc e)
+
+-- the body of a closure is a node of the script, and is called
 pub callee_there : (root : Term) (w : World) (v : Value) (callee : Callee) → CellsFit (closure_rule root) w.shared.cells → closure_of w v ≡ Some callee → callee.node < length (nodes_of root)
-callee_there root w (InCell n) callee fits e = in_script root w.shared.cells (slice_get w.shared.cells n) callee (λ c is. all_at (CellFits (closure_rule root) w.shared.cells) w.shared.cells fits n c is) e
-callee_there root w Null callee fits e = absurd (cc e)
-callee_there root w (Truth b) callee fits e = absurd (cc e)
-callee_there root w (Whole z) callee fits e = absurd (cc e)
+callee_there root w v callee fits e = (closure_callee root w v callee fits e).node
+
+pub callee_called : (root : Term) (w : World) (v : Value) (callee : Callee) → CellsFit (closure_rule root) w.shared.cells → closure_of w v ≡ Some callee → is_callable (shape_in root callee.node).form ≡ true
+callee_called root w v callee fits e = closure_callable (shape_in root callee.node).form (closure_callee root w v callee fits e).form
 
 -- a turn as it was read of the cells of the world, and of its script
 pub turn_there : (w : World) (on : Value) (callee : Callee) (i : ℕ) (h : List Cell) (root : Term) (two : Bool) → h ≡ w.shared.cells → root ≡ w.setting.script → two ≡ nat_eq (length (parameters_of (form_of (term_at root callee.node)))) 2 → element_at product_limits h on two i ≡ element_at product_limits w.shared.cells on (takes_two w callee) i
@@ -96,6 +111,7 @@ pub record KeepsTurn (u : Common) (m : Method) (vs : List Value) : Type 0 where
   pub count : IsCount (value_at 2 vs)
   pub kept : ValuesFit anything (walk_further m) (walk_values m) (drop 3 vs)
   pub there : AllAre (There u.cells) (drop 3 vs)
+  pub three : 3 ≤ length vs
 
 further_any : (u : Common) (further : Further) (vs : List Value) → FurtherFit (known u) further vs → FurtherFit anything further vs
 further_any u further [] fits = tt
@@ -139,7 +155,7 @@ keeps_values : (u : Common) (m : Method) (vs : List Value) → walks m ≡ true 
 keeps_values u m [] is fits = absurd fits
 keeps_values u m (x ∷ []) is fits = absurd fits.1
 keeps_values u m (x ∷ y ∷ []) is fits = absurd fits.1.1
-keeps_values u m (x ∷ y ∷ z ∷ vs) is fits = record { walks_it = is; on = fits.0; closure = closure_there u y fits.1.0; count = a_count u z fits.1.1.0; kept = (kept_any u m vs fits.1.1.1).0; there = (kept_any u m vs fits.1.1.1).1 }
+keeps_values u m (x ∷ y ∷ z ∷ vs) is fits = record { walks_it = is; on = fits.0; closure = closure_there u y fits.1.0; count = a_count u z fits.1.1.0; kept = (kept_any u m vs fits.1.1.1).0; there = (kept_any u m vs fits.1.1.1).1; three = omega arith }
 
 walks_too : (b c : Bool) → (b && c) ≡ true → c ≡ true
 walks_too true c e = e

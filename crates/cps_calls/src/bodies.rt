@@ -1,12 +1,13 @@
 //! The bodies of closures and functions.
 
-ghost use Rattle.std.specs.Prelude.{◌≡◌, ◌<◌, ◌^◌, ℕ, All, MatchResult, codes, length};
+ghost use Rattle.std.specs.Prelude.{◌≡◌, ◌<◌, ◌^◌, ℕ, All, MatchResult, codes, length, true};
 ghost use Rattle.cell_heap.specs.Soundness.{ValueBelow};
 ghost use Rattle.model_values.specs.Kinds.{closure};
 ghost use Rattle.model_values.specs.Throws.{no_method};
 ghost use Rattle.cps_code.specs.Script.{script_of};
 ghost use Rattle.model_run.specs.Around.{arity, cells, ended, limits};
 ghost use Rattle.model_run.specs.Callables.{after_call, call_limit, opened, parameters_of, plain};
+ghost use Rattle.model_run.specs.FrameTable.{is_callable};
 ghost use Rattle.model_run.specs.Forms.{body_of};
 ghost use Rattle.model_run.specs.Nesting.{shape_at};
 ghost use Rattle.model_run.specs.State.{operating};
@@ -16,6 +17,7 @@ ghost use Rattle.cps_frames.specs.Changes.{Done, Passed, Met};
 ghost use Rattle.cps_frames.specs.Moves.{Comes, ComesTo};
 ghost use Rattle.cps_frames.specs.Places.{MayEnter};
 ghost use Rattle.cps_frames.specs.Standing.{standing};
+ghost use Rattle.cps_frames.specs.Ways.{is_block_ending};
 ghost use Rattle.cps_frames.specs.declared.shared.Shared.{Shared as Common};
 ghost use Rattle.cps_frames.specs.declared.thread.ThreadState.{ThreadState as Thread};
 ghost use Rattle.cps_calls.specs.Calls.{body_of_values};
@@ -80,6 +82,7 @@ fn run_with(
     values: Values,
 ) -> Result<Move, Halt>
     requires node { node < length (nodes_of (script_of shared.old.code)) }
+    requires callable { is_callable (shape_at (script_of shared.old.code) node).form ≡ true }
     requires part { 0 < arity (shape_at (script_of shared.old.code) node) }
     requires values { All (ValueBelow (length shared.old.heap.cells)) values }
     requires count { length values ≡ length (parameters_of (shape_at (script_of shared.old.code) node).form) }
@@ -112,19 +115,22 @@ pub(crate) fn open_call(state: &mut ThreadState) -> Result<(), LimitKind>
 
 /// The body has ended: without `return` it gives the value of its last statement.
 pub(crate) fn after_body(state: &mut ThreadState, ending: Ending) -> Move
+    requires { is_block_ending ending ≡ true }
     ensures { (u : Common) (k r : ℕ) → 0 < r → Comes k r (λ sh a. after_call ending) (standing u state.old) result (standing u state.new) }
 {
     state.calls = state.calls.saturating_sub(1);
     Move::Ends(plain(ending))
 }
 
-/// What a body gives that has ended so.
+/// What a body gives that has ended so: null by a `break` or a `continue` outside of a loop, with which no script is read.
 fn plain(ending: Ending) -> Ending
+    requires { is_block_ending ending ≡ true }
     ensures { result ≡ plain ending }
 {
     match ending {
         Ending::Normal(value) | Ending::Returned(value) => Ending::Normal(value),
         Ending::Thrown(cell) => Ending::Thrown(cell),
-        _ => Ending::Normal(Value::Null),
+        Ending::Broke | Ending::Continued => Ending::Normal(Value::Null),
+        Ending::Declared(_) | Ending::Answered(_) => unreachable!(),
     }
 }

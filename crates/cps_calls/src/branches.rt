@@ -1,12 +1,13 @@
 //! The closures of the branches of `parallel`.
 
-ghost use Rattle.std.specs.Prelude.{◌≡◌, ◌∷◌, ◌<◌, ◌^◌, [], ℕ, All, codes, length};
+ghost use Rattle.std.specs.Prelude.{◌≡◌, ◌∷◌, ◌<◌, ◌^◌, [], ℕ, All, codes, length, true};
 ghost use Rattle.cell_heap.specs.Soundness.{ValueBelow};
 ghost use Rattle.model_values.specs.Kinds.{closure};
 ghost use Rattle.model_values.specs.Throws.{no_method};
 ghost use Rattle.cps_code.specs.Script.{script_of};
 ghost use Rattle.model_run.specs.Around.{arity, cells, ended, frame, limits, under, whole};
 ghost use Rattle.model_run.specs.Callables.{after_call, parameters_of};
+ghost use Rattle.model_run.specs.FrameTable.{is_callable};
 ghost use Rattle.model_run.specs.Forms.{enter};
 ghost use Rattle.model_run.specs.Nesting.{shape_at};
 ghost use Rattle.model_run.specs.State.{operating, through};
@@ -80,6 +81,7 @@ fn run_branch(
     values: Values,
 ) -> Result<Move, Halt>
     requires node { node < length (nodes_of (script_of shared.old.code)) }
+    requires callable { is_callable (shape_at (script_of shared.old.code) node).form ≡ true }
     requires part { 0 < arity (shape_at (script_of shared.old.code) node) }
     requires values { All (ValueBelow (length shared.old.heap.cells)) values }
     requires count { length values ≡ length (parameters_of (shape_at (script_of shared.old.code) node).form) }

@@ -66,10 +66,11 @@ pub fn method_step(
     requires may { MayEnter (standing shared.old state.old) First node env }
     requires form { is_method (shape_at (script_of shared.old.code) node).form ≡ true }
     requires values { AllAre (There shared.old.heap.cells) values }
+    requires some { 0 < length values }
     ensures { (r : ℕ) → 0 < r → ComesTo node r (λ sh a. gathered a node env sh sh.form values) (standing shared.old state.old) result (standing shared.new state.new) }
 {
     let Some((on, arguments)) = split_first(values) else {
-        return Ok(Move::Ends(Ending::Normal(Value::Null)));
+        unreachable!()
     };
     if is_null_safe(&shared.code, node) && is_null(&kind_of(&shared.heap, &on)) {
         tick(shared)?;

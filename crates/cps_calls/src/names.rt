@@ -1,6 +1,6 @@
 //! `f(..)`: calls of names.
 
-ghost use Rattle.std.specs.Prelude.{◌≡◌, ◌<◌, ℕ, IfOk, length, slice_get, true};
+ghost use Rattle.std.specs.Prelude.{◌≡◌, ◌<◌, ℕ, IfOk, is_some, length, slice_get, true};
 ghost use Rattle.std.specs.List.{AllByRecursion as AllAre};
 ghost use Rattle.model_values.specs.Fitting.{HasVariable, There};
 ghost use Rattle.cps_code.specs.Script.{script_of};
@@ -17,7 +17,7 @@ ghost use Rattle.cps_frames.specs.Moves.{ComesTo};
 ghost use Rattle.cps_frames.specs.Places.{MayEnter};
 ghost use Rattle.cps_frames.specs.Standing.{standing, world_of};
 ghost use Rattle.cps_frames.specs.declared.thread.ThreadState.{ThreadState as Thread};
-ghost use Rattle.cps_calls.specs.Meanings.{unknown_at};
+ghost use Rattle.cps_calls.specs.Meanings.{name_at, unknown_at};
 
 use crate::callees::{Meant, meaning};
 use crate::effects::end_with;
@@ -25,9 +25,9 @@ use crate::kept::split_first;
 use crate::methods::call_method;
 use cps_frames::{Halt, Move, Shared, ThreadState, tick};
 use cps_variables::{look, variable};
-use model_run::{Ending, Entry};
+use model_run::Entry;
 use model_syntax::NodeForm;
-use model_values::{Env, Value, Values};
+use model_values::{Env, Values};
 use std::alloc::AllocError;
 use step_library::begin;
 use value_ops::unknown_step;
@@ -46,7 +46,7 @@ pub fn called_value(shared: &Shared, name: &[u8], env: &Env) -> Result<Values, A
     Ok(values)
 }
 
-/// `f(..)` behind its arguments, before which the value of a declared variable is kept.
+/// `f(..)` behind its arguments, before which the value of a declared variable of this name is kept.
 pub fn call_named(
     state: &mut ThreadState,
     shared: &mut Shared,
@@ -57,6 +57,7 @@ pub fn call_named(
     requires may { MayEnter (standing shared.old state.old) First node env }
     requires form { is_name_call (shape_at (script_of shared.old.code) node).form ≡ true }
     requires values { AllAre (There shared.old.heap.cells) values }
+    requires called { is_some (look (name_at (shape_at (script_of shared.old.code) node).form) env) ≡ true → 0 < length values }
     ensures { (r : ℕ) → 0 < r → ComesTo node r (λ sh a. gathered a node env sh sh.form values) (standing shared.old state.old) result (standing shared.new state.new) }
 {
     let NodeForm::Call(name) = shared.code.kind(node) else {
@@ -98,10 +99,11 @@ fn call_value(
     requires may { MayEnter (standing shared.old state.old) First node env }
     requires form { is_name_call (shape_at (script_of shared.old.code) node).form ≡ true }
     requires values { AllAre (There shared.old.heap.cells) values }
+    requires called { 0 < length values }
     ensures { (r : ℕ) → 0 < r → ComesTo node r (λ sh a. call_value a node sh env values) (standing shared.old state.old) result (standing shared.new state.new) }
 {
-    match split_first(values) {
-        None => Ok(Move::Ends(Ending::Normal(Value::Null))),
-        Some((on, arguments)) => call_method(state, shared, node, env, on, arguments),
-    }
+    let Some((on, arguments)) = split_first(values) else {
+        unreachable!()
+    };
+    call_method(state, shared, node, env, on, arguments)
 }

@@ -1,7 +1,8 @@
 //! The parameters of closures and functions, and what they hold.
 
-ghost use Rattle.std.specs.Prelude.{◌≡◌, ◌+◌, ◌<◌, ◌≤◌, ◌^◌, ◌∷◌, [], codes, length, IfOk};
+ghost use Rattle.std.specs.Prelude.{◌≡◌, ◌+◌, ◌<◌, ◌≤◌, ◌^◌, ◌∷◌, [], codes, length, true, IfOk};
 ghost use Rattle.model_run.specs.Callables.{arguments_for, parameters_of};
+ghost use Rattle.model_run.specs.FrameTable.{is_callable};
 ghost use Rattle.model_run.specs.Names.{bind_all};
 
 use model_syntax::NodeForm;
@@ -11,12 +12,13 @@ use std::alloc::{AllocError, Global};
 
 /// How many parameters the closure or function of this form has; a closure without heads has `it`.
 pub(crate) fn parameter_count(form: &NodeForm) -> usize
+    requires { is_callable form.now ≡ true }
     ensures { result ≡ length (parameters_of form.now) }
 {
     match form {
         NodeForm::Closure(None) => 1,
         NodeForm::Closure(Some(names)) | NodeForm::Function(_, names) => names.len(),
-        _ => 0,
+        _ => unreachable!(),
     }
 }
 
@@ -26,6 +28,7 @@ pub(crate) fn arguments_for(
     form: &NodeForm,
     arguments: Values,
 ) -> Result<Option<Values>, AllocError>
+    requires { is_callable form.now ≡ true }
     ensures { IfOk result (λ held. held ≡ arguments_for (parameters_of form.now) arguments) }
 {
     let mut arguments = arguments;
@@ -48,7 +51,8 @@ pub(crate) fn bind_parameters(
     first: u32,
     env: Env,
 ) -> Result<Env, AllocError>
-    requires { first + length (parameters_of form.now) ≤ 2 ^ 32 }
+    requires callable { is_callable form.now ≡ true }
+    requires few { first + length (parameters_of form.now) ≤ 2 ^ 32 }
     ensures { IfOk result (λ bound. bound ≡ bind_all (parameters_of form.now) first env) }
 {
     match form {
@@ -56,7 +60,7 @@ pub(crate) fn bind_parameters(
         NodeForm::Closure(Some(names)) | NodeForm::Function(_, names) => bind_all(
             names, first, env,
         ),
-        _ => Ok(env),
+        _ => unreachable!(),
     }
 }
 

@@ -10,7 +10,7 @@ ghost use Rattle.model_values.specs.Walks.{turn as element_at};
 ghost use Rattle.model_run.specs.Around.{position};
 ghost use Rattle.model_run.specs.Callables.{closure_of, parameters_of};
 ghost use Rattle.model_run.specs.Calls.{takes_two, walk, walk_method, walk_turn};
-ghost use Rattle.model_run.specs.FrameTable.{is_method};
+ghost use Rattle.model_run.specs.FrameTable.{is_callable, is_method};
 ghost use Rattle.model_run.specs.Fitting.{closure_rule};
 ghost use Rattle.model_run.specs.Forms.{after, enter, turn};
 ghost use Rattle.model_run.specs.Nesting.{shape_at};
@@ -31,7 +31,7 @@ use crate::effects::end_with;
 use crate::parameters::parameter_count;
 use cps_code::Code;
 use cps_frames::{Halt, Move, Shared, ThreadState, tick, value_of};
-use cps_variables::value_at;
+use cps_variables::{kept_value, value_at};
 use method_names::Method;
 use model_run::{Callee, Ending, Entry, Frame, FrameKind};
 use model_syntax::NodeForm;
@@ -130,6 +130,7 @@ fn run_turn(
 ) -> Result<Move, Halt>
     requires stands { WalkStands (script_of shared.old.code) shared.old.heap.cells place }
     requires callee { callee.node < length (nodes_of (script_of shared.old.code)) }
+    requires callable { is_callable (form_of (term_at (script_of shared.old.code) callee.node)) ≡ true }
     requires has { (two : Bool) → has_turn (element_at product_limits shared.old.heap.cells place.on two place.at) ≡ true }
     requires small { place.at < 2 ^ 31 }
     ensures { (r : ℕ) → 0 < r → ComesTo place.node r (λ sh a. walk_turn a place.node place.env (walk_method sh.form) place.at place.on place.closure (walk_kept place.walk) callee (element_at product_limits shared.old.heap.cells place.on (takes_two (world_of shared.old state.old) callee) place.at)) (standing shared.old state.old) result (standing shared.new state.new) }
@@ -170,9 +171,9 @@ pub(crate) fn after_walk_turn(
 {
     let value = value_of(ending)?;
     let alloc = shared.alloc();
-    let on = value_at(&frame.values, 0);
-    let closure = value_at(&frame.values, 1);
-    let at = place_of(&value_at(&frame.values, 2));
+    let on = kept_value(&frame.values, 0);
+    let closure = kept_value(&frame.values, 1);
+    let at = place_of(&kept_value(&frame.values, 2));
     let method = walk_method(&shared.code, frame.node);
     let walk = WalkInTurn::of(&shared.heap, method, &on, Tail::behind(frame.values, 3));
     match walk.after(alloc, &shared.heap, &value)? {
@@ -192,20 +193,22 @@ pub(crate) fn after_walk_turn(
     }
 }
 
-/// The method of a walk.
+/// The method of a walk: `toString`, which walks over nothing, for a name that no method has.
 fn walk_method(code: &Code, node: u32) -> Method
-    requires { node < length (nodes_of (script_of code.now)) }
+    requires node { node < length (nodes_of (script_of code.now)) }
+    requires form { is_method (form_of (term_at (script_of code.now) node)) ≡ true }
     ensures { table_method result ≡ walk_method (form_of (term_at (script_of code.now) node)) }
 {
     match code.kind(node) {
         NodeForm::Method(_, name) => Method::named(name.as_slice()).unwrap_or(Method::ToString),
-        _ => Method::ToString,
+        _ => unreachable!(),
     }
 }
 
 /// Whether a closure has two parameters.
 fn takes_two(code: &Code, node: u32) -> bool
-    requires { node < length (nodes_of (script_of code.now)) }
+    requires node { node < length (nodes_of (script_of code.now)) }
+    requires callable { is_callable (form_of (term_at (script_of code.now) node)) ≡ true }
     ensures { result ≡ nat_eq (length (parameters_of (form_of (term_at (script_of code.now) node)))) 2 }
 {
     parameter_count(code.kind(node)) == 2

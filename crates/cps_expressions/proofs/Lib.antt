@@ -1,4 +1,6 @@
+pub mod CountLaws
 pub mod FormLaws
+pub mod MapLaws
 pub mod ThereLaws
 pub mod GatherLaws
 pub mod SoundLaws

@@ -5,7 +5,7 @@ ghost use Rattle.std.specs.List.{AllByRecursion as AllAre};
 ghost use Rattle.model_values.specs.Fitting.{There};
 ghost use Rattle.model_values.specs.declared.value.Value.{Value as Held};
 ghost use Rattle.model_run.specs.Around.{Around, arity, form_at};
-ghost use Rattle.model_run.specs.FrameTable.{gathers, is_method, is_name_call, is_plain};
+ghost use Rattle.model_run.specs.FrameTable.{count_before, count_of, gathers, is_method, is_name_call, is_plain};
 ghost use Rattle.model_run.specs.Forms.{after, gather_all, gathered, start, suffix_on};
 ghost use Rattle.model_run.specs.Gathering.{gather};
 ghost use Rattle.model_run.specs.Nesting.{shape_at};
@@ -41,6 +41,7 @@ pub(crate) fn gather(
     requires form { gathers (shape_at (script_of shared.old.code) node).form ≡ true }
     requires left { left ≤ arity (shape_at (script_of shared.old.code) node) }
     requires kept { AllAre (There shared.old.heap.cells) kept }
+    requires count { length kept ≡ count_of (shape_at (script_of shared.old.code) node) env (arity (shape_at (script_of shared.old.code) node) - left) }
     ensures { (r : ℕ) → left + left < r → ComesTo node r (λ sh a. gather_all a node sh env left kept) (standing shared.old state.old) result (standing shared.new state.new) }
 {
     let left = behind_plain(&shared.code, node, left);
@@ -62,6 +63,7 @@ pub(crate) fn gather_all(
 ) -> Result<Move, Halt>
     requires may { MayEnter (standing shared.old state.old) Entry.First node env }
     requires form { gathers (shape_at (script_of shared.old.code) node).form ≡ true }
+    requires before { count_before (shape_at (script_of shared.old.code) node).form env ≡ 0 }
     ensures { ComesTo node (2 ^ 66) (λ sh a. gather_all a node sh env (arity sh) []) (standing shared.old state.old) result (standing shared.new state.new) }
 {
     let left = arity(&shared.code, node);
@@ -124,6 +126,7 @@ fn behind_plain(code: &Code, node: u32, left: u32) -> u32
     requires left { left ≤ arity (shape_at (script_of code.now) node) }
     ensures less { result ≤ left }
     ensures same { (a : Around) (env : Variables) (finish : List Held → State → Comes) (kept : List Held) → gather a node (shape_at (script_of code.now) node) env finish left kept ≡ gather a node (shape_at (script_of code.now) node) env finish result kept }
+    ensures count { (env : Variables) → count_of (shape_at (script_of code.now) node) env (arity (shape_at (script_of code.now) node) - left) ≡ count_of (shape_at (script_of code.now) node) env (arity (shape_at (script_of code.now) node) - result) }
     ensures plain { 0 < result → is_plain (form_at (shape_at (script_of code.now) node).parts (arity (shape_at (script_of code.now) node) - result)) ≡ false }
 {
     let mut left = left;
@@ -148,6 +151,7 @@ fn gathered(
     requires may { MayEnter (standing shared.old state.old) Entry.First node env }
     requires form { gathers (shape_at (script_of shared.old.code) node).form ≡ true }
     requires values { AllAre (There shared.old.heap.cells) values }
+    requires count { length values ≡ count_of (shape_at (script_of shared.old.code) node) env (arity (shape_at (script_of shared.old.code) node)) }
     ensures { (r : ℕ) → 0 < r → ComesTo node r (λ sh a. gathered a node env sh sh.form values) (standing shared.old state.old) result (standing shared.new state.new) }
 {
     match shared.code.kind(node) {

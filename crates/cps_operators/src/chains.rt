@@ -20,16 +20,19 @@ use model_syntax::NodeForm;
 use model_values::{Env, Value};
 use value_view::truth;
 
-/// Operands with `&&` or `||` between them.
+/// Operands with `&&` or `||` between them. A tree of none, which no script is read as, gives null.
 pub fn chain(state: &mut ThreadState, shared: &Shared, node: u32, env: Env) -> Result<Move, Halt>
     requires { node < length (nodes_of (script_of shared.now.code)) }
     ensures { ComesTo node (2 ^ 66) (λ sh a. operands a node sh env (arity sh)) (standing shared.now state.old) result (standing shared.now state.new) }
 {
     let left = arity(&shared.code, node);
+    if left == 0 {
+        return Ok(Move::Ends(Ending::Normal(Value::Null)));
+    }
     operands(state, shared, node, env, left)
 }
 
-/// The last `left` of the operands.
+/// The last `left` of the operands, of which there is one at least.
 fn operands(
     state: &mut ThreadState,
     shared: &Shared,
@@ -38,12 +41,10 @@ fn operands(
     left: u32,
 ) -> Result<Move, Halt>
     requires node { node < length (nodes_of (script_of shared.now.code)) }
+    requires some { 0 < left }
     requires left { left ≤ arity (shape_at (script_of shared.now.code) node) }
     ensures { (r : ℕ) → left + left < r → ComesTo node r (λ sh a. operands a node sh env left) (standing shared.now state.old) result (standing shared.now state.new) }
 {
-    if left == 0 {
-        return Ok(Move::Ends(Ending::Normal(Value::Null)));
-    }
     let at = current(&shared.code, node, left - 1);
     inside(
         state,

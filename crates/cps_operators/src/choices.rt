@@ -22,14 +22,15 @@ use model_values::{Env, Value};
 
 /// Tests with their values, and then the last value.
 pub fn chosen(state: &mut ThreadState, shared: &Shared, node: u32, env: Env) -> Result<Move, Halt>
-    requires { node < length (nodes_of (script_of shared.now.code)) }
+    requires node { node < length (nodes_of (script_of shared.now.code)) }
+    requires part { 0 < arity (shape_at (script_of shared.now.code) node) }
     ensures { ComesTo node (2 ^ 66) (λ sh a. choices a node sh env (arity sh)) (standing shared.now state.old) result (standing shared.now state.new) }
 {
     let left = arity(&shared.code, node);
     choices(state, shared, node, env, left)
 }
 
-/// The last `left` of the parts.
+/// The last `left` of the parts, of which there is one at least: behind each test stands a part.
 fn choices(
     state: &mut ThreadState,
     shared: &Shared,
@@ -38,12 +39,10 @@ fn choices(
     left: u32,
 ) -> Result<Move, Halt>
     requires node { node < length (nodes_of (script_of shared.now.code)) }
+    requires some { 0 < left }
     requires left { left ≤ arity (shape_at (script_of shared.now.code) node) }
     ensures { (r : ℕ) → left + left < r → ComesTo node r (λ sh a. choices a node sh env left) (standing shared.now state.old) result (standing shared.now state.new) }
 {
-    if left == 0 {
-        return Ok(Move::Ends(Ending::Normal(Value::Null)));
-    }
     let at = current(&shared.code, node, left - 1);
     match part_form(&shared.code, node, at) {
         NodeForm::IfTrue | NodeForm::IfSet => inside(

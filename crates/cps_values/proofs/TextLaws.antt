@@ -1,5 +1,5 @@
 -- The parts of a text, one by one.
-use Rattle.std.proofs.Common.{◌≡◌, ◌∙◌, ℕ, false, List, [], ◌∷◌, refl, ap, sym}
+use Rattle.std.proofs.Common.{◌≡◌, ◌∙◌, ℕ, false, List, ◌∷◌, refl, ap, sym}
 use Rattle.std.specs.Prelude.{Err}
 use Rattle.value_view.specs.Answers.{IsWritten, Writes}
 use Rattle.value_view.specs.declared.refusal.OpRefusal.{OpRefusal}
@@ -21,10 +21,6 @@ value_part : (w : World) (f : NodeForm) (fs : List NodeForm) (v : Value) (vs : L
 value_part w (form.PlainPart p) fs v vs t h = absurd (cc h)
 value_part w f fs v vs t h = refl
 
-no_value : (w : World) (f : NodeForm) (fs : List NodeForm) (t : List ℕ) → is_plain f ≡ false → text_parts w (f ∷ fs) [] t ≡ Wrote t
-no_value w (form.PlainPart p) fs t h = absurd (cc h)
-no_value w f fs t h = refl
-
 -- a part is written, or stops it; gs are the parts from it on, and ws the values
 module _ (w : World) (f : NodeForm) (fs gs : List NodeForm) (ws : List Value) (t : List ℕ) (is : gs ≡ f ∷ fs) where
   plain_part : (p b : List ℕ) → f ≡ form.PlainPart p → b ≡ p → text_parts w gs ws t ≡ write_then (behind (limits w) (cells w) b t) (text_parts w fs ws)
@@ -38,9 +34,6 @@ module _ (w : World) (f : NodeForm) (fs gs : List NodeForm) (ws : List Value) (t
 
   pub value_wrote : (v : Value) (rest : List Value) (t' : List ℕ) → is_plain f ≡ false → ws ≡ v ∷ rest → text_behind (limits w) (cells w) v t ≡ Wrote t' → text_parts w gs ws t ≡ text_parts w fs rest t'
   value_wrote v rest t' plain vs e = a_value v rest plain vs ∙ ap (λ x. write_then x (text_parts w fs rest)) e
-
-  pub value_missing : is_plain f ≡ false → ws ≡ [] → text_parts w gs ws t ≡ Wrote t
-  value_missing plain vs = ap (λ xs. text_parts w xs ws t) is ∙ ap (λ ys. text_parts w (f ∷ fs) ys t) vs ∙ no_value w f fs t plain
 
   -- where it was refused, and so the whole text
   pub plain_refused : (p b : List ℕ) (all : Writing) (t' : List ℕ) (o : OpRefusal) → all ≡ text_parts w gs ws t → f ≡ form.PlainPart p → b ≡ p → Writes (behind (limits w) (cells w) b t) t' (Err o) → IsWritten all (Err o)

@@ -1,6 +1,6 @@
 //! What is made of the values that a node has gathered: a list, a map, a text, a throwable.
 
-ghost use Rattle.std.specs.Prelude.{◌≡◌, ◌<◌, [], ℕ, All, length, IfOk};
+ghost use Rattle.std.specs.Prelude.{◌≡◌, ◌<◌, ◌≤◌, [], ℕ, All, length, IfOk};
 ghost use Rattle.cell_heap.specs.Soundness.{ValueBelow};
 ghost use Rattle.model_values.specs.Limits.{product_limits};
 ghost use Rattle.value_ops.specs.Effects.{EffectBelow, effect_answer};
@@ -12,6 +12,7 @@ ghost use Rattle.value_view.specs.Answers.{IsWritten};
 ghost use Rattle.cps_frames.specs.Moves.{ComesTo};
 ghost use Rattle.cps_frames.specs.Standing.{standing, world_of};
 ghost use Rattle.cps_frames.specs.declared.thread.ThreadState.{ThreadState as Thread};
+ghost use Rattle.cps_values.specs.Values.{AreEntries, values_given};
 
 use crate::entries::entries_of;
 use cps_frames::{Halt, Move, Shared, ThreadState, tick};
@@ -43,6 +44,8 @@ pub fn map(
 ) -> Result<Move, Halt>
     requires node { node < length (nodes_of (script_of shared.old.code)) }
     requires below { All (ValueBelow (length shared.old.heap.cells)) values.now }
+    requires entries { AreEntries (shape_at (script_of shared.old.code) node) }
+    requires count { values_given (shape_at (script_of shared.old.code) node).parts ≤ length values.now }
     ensures { (r : ℕ) → 0 < r → ComesTo node r (λ sh a. map_of sh values.now) (standing shared.old state.now) result (standing shared.new state.now) }
 {
     tick(shared)?;
@@ -55,6 +58,8 @@ pub fn map(
 fn map_effect(shared: &Shared, node: u32, values: &Values) -> Result<Effect, AllocError>
     requires node { node < length (nodes_of (script_of shared.now.code)) }
     requires below { All (ValueBelow (length shared.now.heap.cells)) values.now }
+    requires entries { AreEntries (shape_at (script_of shared.now.code) node) }
+    requires count { values_given (shape_at (script_of shared.now.code) node).parts ≤ length values.now }
     ensures answer { IfOk result (λ effect. (t : Thread) → effect_answer product_limits shared.now.heap.cells effect ≡ map_from (world_of shared.now t) (entries_of shared.now.heap.cells (shape_at (script_of shared.now.code) node).parts values.now [])) }
     ensures below { IfOk result (EffectBelow (length shared.now.heap.cells)) }
 {
@@ -73,6 +78,7 @@ pub fn text(
 ) -> Result<Move, Halt>
     requires node { node < length (nodes_of (script_of shared.old.code)) }
     requires below { All (ValueBelow (length shared.old.heap.cells)) values.now }
+    requires count { values_given (shape_at (script_of shared.old.code) node).parts ≤ length values.now }
     ensures { (r : ℕ) → 0 < r → ComesTo node r (λ sh a. text_from sh values.now) (standing shared.old state.now) result (standing shared.new state.now) }
 {
     tick(shared)?;
@@ -85,6 +91,7 @@ pub fn text(
 fn written(shared: &Shared, node: u32, values: &Values) -> Result<Text, OpRefusal>
     requires node { node < length (nodes_of (script_of shared.now.code)) }
     requires below { All (ValueBelow (length shared.now.heap.cells)) values.now }
+    requires count { values_given (shape_at (script_of shared.now.code) node).parts ≤ length values.now }
     ensures { (t : Thread) → IsWritten (text_parts (world_of shared.now t) (shape_at (script_of shared.now.code) node).parts values.now []) result }
 {
     let mut text = Text::new(shared.alloc());
@@ -96,7 +103,7 @@ fn written(shared: &Shared, node: u32, values: &Values) -> Result<Text, OpRefusa
             write_value(&shared.heap, value, &mut text)?;
             used += 1;
         } else {
-            return Ok(text);
+            unreachable!()
         }
     }
     Ok(text)

@@ -1,20 +1,24 @@
 //! The entries of a map.
 
-ghost use Rattle.std.specs.Prelude.{◌≡◌, ◌∷◌, ◌<◌, ◌^◌, [], List, All, drop, length, IfOk};
-ghost use Rattle.std.specs.Option.{ForSome, option_copied};
+ghost use Rattle.std.specs.Prelude.{◌≡◌, ◌∷◌, ◌<◌, ◌≤◌, ◌+◌, ◌^◌, [], List, All, drop, length, true, IfOk};
+ghost use Rattle.std.specs.Option.{ForSome};
 ghost use Rattle.cell_heap.specs.Soundness.{ValueBelow};
 ghost use Rattle.model_syntax.specs.declared.node.NodeForm.{NodeForm as Form};
 ghost use Rattle.model_values.specs.declared.key.Key.{Key as MapKey};
 ghost use Rattle.model_values.specs.declared.value.Value.{Value as Held};
+ghost use Rattle.model_run.specs.FrameTable.{count_with};
 ghost use Rattle.model_run.specs.Gathering.{entries_of};
 ghost use Rattle.model_run.specs.Nesting.{shape_at};
 ghost use Rattle.model_run.specs.Terms.{nodes_of};
+ghost use Rattle.script_laws.specs.NodeParts.{is_entry};
 ghost use Rattle.cps_code.specs.Script.{script_of};
-ghost use Rattle.cps_values.specs.Entries.{EntryFits, entries_by, value_entry};
+ghost use Rattle.cps_values.specs.Entries.{entries_by};
+ghost use Rattle.cps_values.specs.Values.{AreEntries, values_given};
 
 use cell_heap::Heap;
 use cps_frames::Shared;
 use cps_operators::{arity, part_form};
+use cps_variables::kept_value;
 use model_syntax::NodeForm;
 use model_values::{Entries, Key, Value, Values};
 use std::alloc::AllocError;
@@ -40,6 +44,8 @@ pub(crate) fn entries_of(
 ) -> Result<Option<Entries>, AllocError>
     requires node { node < length (nodes_of (script_of shared.now.code)) }
     requires below { All (ValueBelow (length shared.now.heap.cells)) values.now }
+    requires entries { AreEntries (shape_at (script_of shared.now.code) node) }
+    requires count { values_given (shape_at (script_of shared.now.code) node).parts ≤ length values.now }
     ensures entries { IfOk result (λ entries. entries ≡ entries_of shared.now.heap.cells (shape_at (script_of shared.now.code) node).parts values.now []) }
     ensures below { IfOk result (λ entries. ForSome entries (λ es. All (λ e. ValueBelow (length shared.now.heap.cells) e.1) es)) }
 {
@@ -47,10 +53,7 @@ pub(crate) fn entries_of(
     let mut used = 0;
     for at in 0..arity(&shared.code, node) {
         let form = part_form(&shared.code, node, at);
-        let Some(entry) = entry_from(&shared.heap, form, values, used)? else {
-            return Ok(Some(entries));
-        };
-        let Entry { key, value, taken } = entry;
+        let Entry { key, value, taken } = entry_from(&shared.heap, form, values, used)?;
         let Some(key) = key else {
             return Ok(None);
         };
@@ -60,48 +63,50 @@ pub(crate) fn entries_of(
     Ok(Some(entries))
 }
 
-/// The entry of this form, from the values behind the first `used`. `None` where it is no entry, or has no value.
+/// The entry of this form, of the values behind the first `used`. `AllocError` where the memory was refused.
 fn entry_from(
     heap: &Heap,
     form: &NodeForm,
     values: &Values,
     used: usize,
-) -> Result<Option<Entry>, AllocError>
+) -> Result<Entry, AllocError>
     requires below { All (ValueBelow (length heap.now.cells)) values.now }
+    requires form { is_entry form.now ≡ true }
+    requires enough { used + count_with form.now 0 ≤ length values.now }
     requires few { used < 2 ^ 40 }
     ensures entry { IfOk result (λ entry. (fs : List Form) (es : List (MapKey × Held)) → entries_of heap.now.cells (form.now ∷ fs) (drop used values.now) es ≡ entries_by heap.now.cells fs (drop used values.now) es entry) }
-    ensures fits { IfOk result (λ entry. ForSome entry (EntryFits (length heap.now.cells))) }
+    ensures below { IfOk result (λ entry. ValueBelow (length heap.now.cells) entry.value) }
+    ensures taken { IfOk result (λ entry. entry.taken ≡ count_with form.now 0) }
 {
     match form {
         NodeForm::NamedEntry(name) => {
             let key = Some(Key::Text(name.clone()?));
-            Ok(with_value(key, values.get(used), 1))
+            let value = kept_value(values, used);
+            Ok(Entry {
+                key,
+                value,
+                taken: 1,
+            })
         }
         NodeForm::NumberedEntry(number) => {
             let key = Some(Key::Int(*number));
-            Ok(with_value(key, values.get(used), 1))
+            let value = kept_value(values, used);
+            Ok(Entry {
+                key,
+                value,
+                taken: 1,
+            })
         }
-        NodeForm::ComputedEntry => match values.get(used) {
-            None => Ok(None),
-            Some(key) => {
-                let key = key_of(&kind_of(heap, key))?;
-                Ok(with_value(key, values.get(used + 1), 2))
-            }
-        },
-        _ => Ok(None),
-    }
-}
-
-/// An entry with this value, where it has one.
-fn with_value(key: Option<Key>, value: Option<&Value>, taken: usize) -> Option<Entry>
-    ensures { result ≡ value_entry key taken (option_copied value.entry) }
-{
-    match value {
-        None => None,
-        Some(value) => Some(Entry {
-            key,
-            value: *value,
-            taken,
-        }),
+        NodeForm::ComputedEntry => {
+            let named = kept_value(values, used);
+            let key = key_of(&kind_of(heap, &named))?;
+            let value = kept_value(values, used + 1);
+            Ok(Entry {
+                key,
+                value,
+                taken: 2,
+            })
+        }
+        _ => unreachable!(),
     }
 }

@@ -1,9 +1,10 @@
-use Rattle.std.proofs.Common.{◌≡◌, ◌∙◌, ◌≤◌, ◌^◌, None, Some, sym, ap, arith}
+use Rattle.std.proofs.Common.{◌≡◌, ◌∙◌, ◌≤◌, ◌^◌, None, Some, true, sym, ap, subst, arith}
 use Rattle.std.specs.Prelude.{codes}
 use Rattle.model_values.specs.Kinds.{closure}
 use Rattle.model_values.specs.Throws.{no_method}
 use Rattle.model_run.specs.Around.{arity, cells, ended, limits}
 use Rattle.model_run.specs.Callables.{arguments_for, body_with, call_limit, opened, parameters_of}
+use Rattle.model_run.specs.FrameTable.{is_callable}
 use Rattle.model_run.specs.Forms.{body_of}
 use Rattle.model_run.specs.Nesting.{shape_at}
 use Rattle.model_run.specs.State.{guarded, operating}
@@ -15,6 +16,12 @@ use Rattle.cps_frames.proofs.PartLaws.{parts_there}
 use Rattle.cps_calls.specs.Calls.{body_of_values}
 use Rattle.cps_calls.proofs.BodyLaws.{body_called, callable_part, to_opened}
 use Rattle.cps_calls.proofs.bodies.enter_call.Goals as goal
+
+pub arguments_for-requires : goal.arguments_for-requires
+arguments_for-requires c = subst (λ f. is_callable f ≡ true) (sym c.kind.ensures) c.requires.may.entry.0
+
+pub run_with-requires-clause-callable : goal.run_with-requires-clause-callable
+run_with-requires-clause-callable c = c.requires.may.entry.0
 
 pub run_with-requires-clause-part : goal.run_with-requires-clause-part
 run_with-requires-clause-part c =

@@ -1,10 +1,11 @@
-use Rattle.std.proofs.Common.{◌≡◌, ◌∙◌, ◌∷◌, ◌≤◌, ◌^◌, [], None, Some, length, sym, ap, arith}
+use Rattle.std.proofs.Common.{◌≡◌, ◌∙◌, ◌∷◌, ◌≤◌, ◌^◌, [], None, Some, length, true, sym, ap, subst, arith}
 use Rattle.std.proofs.lemmas.Result.{err_from_is_err_and}
 use Rattle.std.specs.Prelude.{Err, codes}
 use Rattle.model_values.specs.Kinds.{closure}
 use Rattle.model_values.specs.Throws.{no_method}
 use Rattle.model_run.specs.Around.{arity, cells, ended, frame, limits, whole}
 use Rattle.model_run.specs.Callables.{arguments_for, body_with, call_limit, opened, parameters_of}
+use Rattle.model_run.specs.FrameTable.{is_callable}
 use Rattle.model_run.specs.Forms.{enter}
 use Rattle.model_run.specs.Nesting.{shape_at}
 use Rattle.model_run.specs.State.{guarded, operating, through}
@@ -18,8 +19,15 @@ use Rattle.cps_frames.specs.declared.halt.Halt.TheVariants.{Limit}
 use Rattle.cps_frames.proofs.MoveLaws.{to_as}
 use Rattle.cps_frames.proofs.PartLaws.{parts_there}
 use Rattle.cps_calls.specs.Calls.{body_of_values}
+use Rattle.cps_calls.proofs.BodyLaws.{closure_callable}
 use Rattle.cps_calls.proofs.BranchLaws.{branch_called, closure_part, full_inside, to_opened_inside}
 use Rattle.cps_calls.proofs.branches.branched.Goals as goal
+
+pub arguments_for-requires : goal.arguments_for-requires
+arguments_for-requires c = subst (λ f. is_callable f ≡ true) (sym c.kind.ensures) (closure_callable _ c.requires.may.entry.0)
+
+pub run_branch-requires-clause-callable : goal.run_branch-requires-clause-callable
+run_branch-requires-clause-callable c = closure_callable _ c.requires.may.entry.0
 
 pub run_branch-requires-clause-part : goal.run_branch-requires-clause-part
 run_branch-requires-clause-part c =

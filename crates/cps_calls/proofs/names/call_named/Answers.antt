@@ -24,6 +24,12 @@ use Rattle.cps_calls.specs.Meanings.{meant_of, name_at, unknown_at}
 use Rattle.cps_calls.proofs.NameLaws.{meant_met, name_says, sound_counted, value_says}
 use Rattle.cps_calls.proofs.names.call_named.Goals as goal
 
+pub call_value-requires-clause-called : goal.call_value-requires-clause-called
+call_value-requires-clause-called c =
+    let x = name_at (shape_at (script_of c.args.shared.now.code) c.args.node).form in
+    let name : x ≡ c.as_slice.result.now = sym (ap name_at c.kind.ensures) ∙ ap name_at c.in-Call.is ∙ sym c.as_slice.ensures in
+    c.requires.called (ap (λ y. is_some (look y c.args.env)) name ∙ ap is_some (sym c.look.ensures) ∙ sym c.is_some.ensures ∙ c.if-is_some.true)
+
 pub returns-then-is_some : goal.returns-then-is_some
 returns-then-is_some c = λ r above.
     let k = c.args.node in

@@ -9,8 +9,8 @@ use Rattle.cps_calls.specs.Calls.{method_name}
 use Rattle.cps_calls.proofs.NameLaws.{name_calls}
 use Rattle.cps_calls.proofs.names.call_value.Goals as goal
 
-pub returns-in-Some : goal.returns-in-Some
-returns-in-Some c = λ r above.
+pub returns : goal.returns
+returns c = λ r above.
     let k = c.args.node in
     let w = world_of c.args.shared.now c.args.state.now in
     let u = standing c.args.shared.now c.args.state.now in

@@ -14,12 +14,16 @@ use Rattle.cps_code.specs.Script.{script_of}
 use Rattle.cps_frames.specs.Halts.{halt_of}
 use Rattle.cps_frames.specs.Standing.{standing, state, world_of}
 use Rattle.cps_frames.proofs.MoveLaws.{done_answers, to_as, to_thrown}
-use Rattle.cps_calls.proofs.WalkLaws.{callee_there, no_turn, walk_with}
+use Rattle.cps_calls.proofs.WalkLaws.{callee_called, callee_there, no_turn, walk_with}
 use Rattle.cps_calls.proofs.walks.begin_turn.Goals as goal
 
 pub run_turn-requires-clause-callee : goal.run_turn-requires-clause-callee
 run_turn-requires-clause-callee c =
     callee_there (script_of c.args.shared.now.code) (world_of c.args.shared.now c.args.state.now) c.args.place.closure c.in-Some.callee c.requires.stands.cells (sym (c.in_ok-closure_of.ensures c.args.state.now) ∙ c.in-Some.is)
+
+pub run_turn-requires-clause-callable : goal.run_turn-requires-clause-callable
+run_turn-requires-clause-callable c =
+    callee_called (script_of c.args.shared.now.code) (world_of c.args.shared.now c.args.state.now) c.args.place.closure c.in-Some.callee c.requires.stands.cells (sym (c.in_ok-closure_of.ensures c.args.state.now) ∙ c.in-Some.is)
 
 pub returns-in_err-value-in-Some : goal.returns-in_err-value-in-Some
 returns-in_err-value-in-Some c = λ r pos.

@@ -11,7 +11,8 @@ use Rattle.model_values.specs.declared.value.Value.TheVariants.{Int as Whole}
 use Rattle.model_run.specs.Around.{whole}
 use Rattle.model_run.specs.Calls.{held_in_turn, takes_two, walk_method, walk_turn}
 use Rattle.model_run.specs.State.{put_cells}
-use Rattle.model_run.specs.Terms.{nodes_of}
+use Rattle.model_run.specs.FrameTable.{is_callable}
+use Rattle.model_run.specs.Terms.{form_of, nodes_of, term_at}
 use Rattle.model_run.specs.declared.ending.Entry.TheVariants.{Body}
 use Rattle.model_run.proofs.Room.{spends_count}
 use Rattle.value_walks.specs.Turns.{TurnAnswers, has_turn, listed}
@@ -30,8 +31,12 @@ returns-in_err-tick c = λ r pos.
     let p = err_from_is_err_and c.from_residual.result c.from_residual.ensures.1 in
     rw (p.1, p.2) (turn_met place.node place.env place.at place.on place.closure (walk_kept place.walk) c.args.callee r _ _ _ _ (c.requires.has (takes_two (world_of c.args.shared.now c.args.state.now) c.args.callee)) (c.in_err-tick.ensures c.args.state.now) pos)
 
-pub takes_two-two-requires : goal.takes_two-two-requires
-takes_two-two-requires c =
+pub takes_two-two-requires-clause-callable : goal.takes_two-two-requires-clause-callable
+takes_two-two-requires-clause-callable c =
+    subst (λ root. is_callable (form_of (term_at root c.args.callee.node)) ≡ true) (sym (ap (λ w. w.setting.script) (c.in_ok-tick.ensures c.args.state.now).made)) c.requires.callable
+
+pub takes_two-two-requires-clause-node : goal.takes_two-two-requires-clause-node
+takes_two-two-requires-clause-node c =
     subst (λ root. c.args.callee.node < length (nodes_of root)) (sym (ap (λ w. w.setting.script) (c.in_ok-tick.ensures c.args.state.now).made)) c.requires.callee
 
 pub walk_turn-requires : goal.walk_turn-requires

@@ -3,7 +3,7 @@ use Rattle.std.proofs.lemmas.Int.{to_z-of_z}
 use Rattle.model_syntax.specs.declared.node.NodeForm.TheVariants as form
 use Rattle.model_values.specs.declared.value.Value.TheVariants.{Int as Whole}
 use Rattle.model_run.specs.Forms.{start, value}
-use Rattle.model_run.specs.FrameTable.{gathers, is_name_call}
+use Rattle.model_run.specs.FrameTable.{count_before, gathers, is_name_call}
 use Rattle.script_laws.specs.NodeParts.{is_function}
 use Rattle.cps_frames.specs.Moves.{ComesTo}
 use Rattle.cps_frames.specs.Standing.{standing}
@@ -66,6 +66,9 @@ call-requires-clause-form c = ap is_name_call (sym c.kind.ensures ∙ c.in-Call.
 pub gather_all-requires-clause-form : goal.gather_all-requires-clause-form
 gather_all-requires-clause-form c = ap gathers (sym c.kind.ensures ∙ c.in-List.is)
 
+pub gather_all-requires-clause-before : goal.gather_all-requires-clause-before
+gather_all-requires-clause-before c = ap (λ f. count_before f c.args.env) (sym c.kind.ensures ∙ c.in-List.is)
+
 pub returns-in-List : goal.returns-in-List
 returns-in-List c =
     to_form c.args.node (2 ^ 66) form.List (λ f sh a. start a c.args.node sh c.args.env f) (standing c.args.shared.now c.args.state.now) c.gather_all.result (standing c.gather_all.new.shared c.gather_all.new.state) (sym c.kind.ensures ∙ c.in-List.is)
@@ -73,6 +76,9 @@ returns-in-List c =
 
 pub gather_all-requires-in-Map-clause-form : goal.gather_all-requires-in-Map-clause-form
 gather_all-requires-in-Map-clause-form c = ap gathers (sym c.kind.ensures ∙ c.in-Map.is)
+
+pub gather_all-requires-in-Map-clause-before : goal.gather_all-requires-in-Map-clause-before
+gather_all-requires-in-Map-clause-before c = ap (λ f. count_before f c.args.env) (sym c.kind.ensures ∙ c.in-Map.is)
 
 pub returns-in-Map : goal.returns-in-Map
 returns-in-Map c =
@@ -82,6 +88,9 @@ returns-in-Map c =
 pub gather_all-requires-in-GString-clause-form : goal.gather_all-requires-in-GString-clause-form
 gather_all-requires-in-GString-clause-form c = ap gathers (sym c.kind.ensures ∙ c.in-GString.is)
 
+pub gather_all-requires-in-GString-clause-before : goal.gather_all-requires-in-GString-clause-before
+gather_all-requires-in-GString-clause-before c = ap (λ f. count_before f c.args.env) (sym c.kind.ensures ∙ c.in-GString.is)
+
 pub returns-in-GString : goal.returns-in-GString
 returns-in-GString c =
     to_form c.args.node (2 ^ 66) form.GString (λ f sh a. start a c.args.node sh c.args.env f) (standing c.args.shared.now c.args.state.now) c.gather_all-in-GString.result (standing c.gather_all-in-GString.new.shared c.gather_all-in-GString.new.state) (sym c.kind.ensures ∙ c.in-GString.is)
@@ -89,6 +98,9 @@ returns-in-GString c =
 
 pub gather_all-requires-in-New-clause-form : goal.gather_all-requires-in-New-clause-form
 gather_all-requires-in-New-clause-form c = ap gathers (sym c.kind.ensures ∙ c.in-New.is)
+
+pub gather_all-requires-in-New-clause-before : goal.gather_all-requires-in-New-clause-before
+gather_all-requires-in-New-clause-before c = ap (λ f. count_before f c.args.env) (sym c.kind.ensures ∙ c.in-New.is)
 
 pub returns-in-New : goal.returns-in-New
 returns-in-New c =
@@ -144,6 +156,11 @@ pub returns-in-Or : goal.returns-in-Or
 returns-in-Or c =
     to_form c.args.node (2 ^ 66) form.Or (λ f sh a. start a c.args.node sh c.args.env f) (standing c.args.shared.now c.args.state.now) c.chain-in-Or.result (standing c.args.shared.now c.chain-in-Or.new.state) (sym c.kind.ensures ∙ c.in-Or.is)
     (c.chain-in-Or.ensures)
+
+pub chosen-requires-clause-part : goal.chosen-requires-clause-part
+chosen-requires-clause-part c =
+    let least = parts_of (standing c.args.shared.now c.args.state.now) c.args.node form.Chosen (c.requires.may).script (sym c.in-Chosen.is ∙ c.kind.ensures) in
+    omega (arith, least)
 
 pub returns-in-Chosen : goal.returns-in-Chosen
 returns-in-Chosen c =

@@ -1,11 +1,13 @@
-use Rattle.std.proofs.Common.{◌≡◌, ◌∙◌, ◌^◌, false, ap, sym, subst, arith, refl}
+use Rattle.std.proofs.Common.{◌≡◌, ◌∙◌, ◌-◌, ◌^◌, length, false, ap, sym, subst, arith, refl}
 use Rattle.model_run.specs.Calls.{called_value}
-use Rattle.model_run.specs.FrameTable.{gathers}
+use Rattle.model_run.specs.Around.{arity}
+use Rattle.model_run.specs.FrameTable.{count_of, gathers}
 use Rattle.model_run.specs.Names.{look}
 use Rattle.model_run.specs.Nesting.{shape_at}
 use Rattle.script_laws.specs.NodeParts.{is_function}
 use Rattle.cps_code.specs.Script.{script_of}
 use Rattle.cps_frames.specs.Standing.{standing}
+use Rattle.cps_expressions.proofs.CountLaws.{call_before, called_count}
 use Rattle.cps_expressions.proofs.StartLaws.{call_of, declared, to_call}
 use Rattle.cps_expressions.proofs.gathering.call.Goals as goal
 
@@ -19,6 +21,15 @@ called_value-requires c = declared (standing c.args.shared.now c.args.state.now)
 
 pub gather-requires-clause-form : goal.gather-requires-clause-form
 gather-requires-clause-form c = ap gathers (sym c.kind.ensures ∙ c.in-Call.is)
+
+pub gather-requires-clause-count : goal.gather-requires-clause-count
+gather-requires-clause-count c =
+    let u = standing c.args.shared.now c.args.state.now in
+    let sh = shape_at (script_of c.args.shared.now.code) c.args.node in
+    let o = look c.in-Call.name c.args.env in
+    let none : arity sh - c.arity-left.result ≡ 0 = let e = c.arity-left.ensures in omega (arith, e) in
+    ap length (c.in_ok-kept.ensures.value c.args.state.now ∙ ap (λ n. called_value u.world (look n c.args.env)) c.as_slice.ensures) ∙ called_count u.world o
+    ∙ sym (call_before sh.form c.in-Call.name c.args.env (sym c.kind.ensures ∙ c.in-Call.is)) ∙ ap (count_of sh c.args.env) (sym none)
 
 pub returns : goal.returns
 returns c =

@@ -2,7 +2,7 @@ use Rattle.std.proofs.Common.{◌≡◌, ◌∙◌, ◌<◌, ◌-◌, ℕ, suc, 
 use Rattle.model_run.specs.declared.ending.Entry.{Entry}
 use Rattle.model_run.specs.declared.frame.FrameKind.{FrameKind}
 use Rattle.model_run.specs.Around.{arity, form_at, frame, under}
-use Rattle.model_run.specs.FrameTable.{is_plain}
+use Rattle.model_run.specs.FrameTable.{count_of, is_plain}
 use Rattle.model_run.specs.Forms.{after, gather_all}
 use Rattle.model_run.specs.Nesting.{shape_at}
 use Rattle.cps_code.specs.Script.{script_of}
@@ -12,6 +12,12 @@ use Rattle.cps_frames.specs.Standing.{standing}
 use Rattle.cps_operators.proofs.FormLaws.{to_none}
 use Rattle.cps_expressions.proofs.GatherLaws.{first_rank, to_behind, to_part}
 use Rattle.cps_expressions.proofs.gathering.gather.Goals as goal
+
+pub gathered-requires-clause-count : goal.gathered-requires-clause-count
+gathered-requires-clause-count c =
+    let sh = shape_at (script_of c.args.shared.now.code) c.args.node in
+    let all : arity sh - c.behind_plain-left.result ≡ arity sh = let e = c.if-left-eq0.true in omega (arith, e) in
+    c.requires.count ∙ c.behind_plain-left.ensures.count c.args.env ∙ ap (count_of sh c.args.env) all
 
 pub returns-then-left-eq0 : goal.returns-then-left-eq0
 returns-then-left-eq0 c = λ r lt.

@@ -22,6 +22,7 @@ use Rattle.cps_frames.specs.Order.{rank}
 use Rattle.cps_frames.specs.Standing.{standing}
 use Rattle.cps_frames.proofs.MoveLaws.{done_answers, to_as, to_given, to_thrown}
 use Rattle.cps_operators.proofs.OperandLaws.{rank_above, rank_pos}
+use Rattle.cps_expressions.proofs.CountLaws.{kept_count, map_count}
 use Rattle.cps_expressions.proofs.GatherLaws.{named_answer, named_last, to_kept}
 use Rattle.cps_expressions.proofs.SoundLaws.{gathered_enters, map_made}
 use Rattle.cps_expressions.proofs.ThereLaws.{all_below, all_drop, all_take, kept_there, more_there, named_there}
@@ -29,6 +30,9 @@ use Rattle.cps_expressions.proofs.gathering.gathered_value.Goals as goal
 
 pub gather-requires-clause-kept : goal.gather-requires-clause-kept
 gather-requires-clause-kept c = kept_there (standing c.args.shared.now c.args.state.now) c.args.frame c.args.value c.push.new.self c.requires.may c.requires.kind c.in_ok-push.ensures.pushed
+
+pub gather-requires-clause-count : goal.gather-requires-clause-count
+gather-requires-clause-count c = kept_count (standing c.args.shared.now c.args.state.now) c.args.frame (Normal c.args.value) c.args.value c.push.new.self c.requires.may c.requires.kind c.in_ok-push.ensures.pushed (sym c.if-not-closes_named.true ∙ c.closes_named.ensures)
 
 pub returns-then-not-closes_named : goal.returns-then-not-closes_named
 returns-then-not-closes_named c =
@@ -103,6 +107,13 @@ gather-requires-2-clause-kept c =
     let h = c.perform.new.heap.cells in
     let before = c.saturating_sub-before.result in
     subst (AllAre (There h)) (sym c.in_ok-kept.ensures) (more_there h (take before ks) x (all_take (There h) before ks (made.kept ks there)) made.there)
+
+pub gather-requires-2-clause-count : goal.gather-requires-2-clause-count
+gather-requires-2-clause-count c =
+    let ks = c.push.new.self in
+    let sh = shape_at (script_of c.args.shared.now.code) c.args.frame.node in
+    let at : c.saturating_sub-before.result ≡ length ks - length (named_keys sh.parts) = omega (arith, c.saturating_sub-before.ensures, c.len.ensures, c.named_count.ensures) in
+    map_count (standing c.args.shared.now c.args.state.now) c.args.frame (Normal c.args.value) c.args.value ks c.requires.may c.requires.kind c.in_ok-push.ensures.pushed c.in_ok-map.map c.in_ok-kept.kept (sym c.if-not-closes_named.false ∙ c.closes_named.ensures) (c.in_ok-kept.ensures ∙ ap (λ m. take m ks ++ c.in_ok-map.map ∷ []) at)
 
 pub returns : goal.returns
 returns c =

@@ -1,4 +1,4 @@
-use Rattle.std.proofs.Common.{◌∙◌, ◌<◌, [], length, refl, ap, sym, subst}
+use Rattle.std.proofs.Common.{◌∙◌, ◌<◌, ◌≤◌, [], length, refl, ap, sym, subst}
 use Rattle.std.specs.Prelude.{Ok, Err}
 use Rattle.std.proofs.lemmas.Result.{err_from_is_err_and}
 use Rattle.model_run.specs.declared.ending.Ending.TheVariants.{Normal}
@@ -15,6 +15,7 @@ use Rattle.cps_frames.specs.Standing.{standing, world_of}
 use Rattle.cps_frames.specs.declared.thread.Move.TheVariants.{Ends}
 use Rattle.cps_frames.proofs.MoveLaws.{comes_met, to_as}
 use Rattle.cps_operators.proofs.FrameLaws.{script_passed}
+use Rattle.cps_values.specs.Values.{AreEntries, values_given}
 use Rattle.cps_values.proofs.HeapLaws.{all_passed, heap_ends, heap_stops}
 use Rattle.cps_values.proofs.built.map.Goals as goal
 
@@ -28,6 +29,12 @@ map_effect-requires-clause-node c = subst (λ s. c.args.node < length (nodes_of 
 
 pub map_effect-requires-clause-below : goal.map_effect-requires-clause-below
 map_effect-requires-clause-below c = all_passed (standing c.args.shared.now c.args.state.now) (standing c.tick.new.shared c.args.state.now) c.args.values.now (c.in_ok-tick.ensures c.args.state.now) c.requires.below
+
+pub map_effect-requires-clause-entries : goal.map_effect-requires-clause-entries
+map_effect-requires-clause-entries c = subst (λ s. AreEntries (shape_at s c.args.node)) (sym (script_passed (standing c.args.shared.now c.args.state.now) (standing c.tick.new.shared c.args.state.now) (c.in_ok-tick.ensures c.args.state.now))) c.requires.entries
+
+pub map_effect-requires-clause-count : goal.map_effect-requires-clause-count
+map_effect-requires-clause-count c = subst (λ s. values_given (shape_at s c.args.node).parts ≤ length c.args.values.now) (sym (script_passed (standing c.args.shared.now c.args.state.now) (standing c.tick.new.shared c.args.state.now) (c.in_ok-tick.ensures c.args.state.now))) c.requires.count
 
 pub perform-requires : goal.perform-requires
 perform-requires c = c.in_ok-effect.ensures.below

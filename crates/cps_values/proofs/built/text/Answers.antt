@@ -1,4 +1,4 @@
-use Rattle.std.proofs.Common.{◌∙◌, ◌<◌, [], length, refl, ap, sym, subst}
+use Rattle.std.proofs.Common.{◌∙◌, ◌<◌, ◌≤◌, [], length, refl, ap, sym, subst}
 use Rattle.std.specs.Prelude.{Ok, Err}
 use Rattle.std.proofs.lemmas.Result.{err_from_is_err_and}
 use Rattle.model_values.specs.Cells.{Answer}
@@ -17,6 +17,7 @@ use Rattle.cps_frames.specs.declared.thread.Move.TheVariants.{Ends}
 use Rattle.cps_frames.proofs.MoveLaws.{comes_met, to_as}
 use Rattle.cps_operators.proofs.FrameLaws.{script_passed}
 use Rattle.cps_operators.proofs.YieldLaws.{counted_stops}
+use Rattle.cps_values.specs.Values.{values_given}
 use Rattle.cps_values.proofs.HeapLaws.{all_passed, heap_ends, heap_stops, text_stops}
 use Rattle.cps_values.proofs.built.text.Goals as goal
 
@@ -30,6 +31,9 @@ written-requires-clause-node c = subst (λ s. c.args.node < length (nodes_of s))
 
 pub written-requires-clause-below : goal.written-requires-clause-below
 written-requires-clause-below c = all_passed (standing c.args.shared.now c.args.state.now) (standing c.tick.new.shared c.args.state.now) c.args.values.now (c.in_ok-tick.ensures c.args.state.now) c.requires.below
+
+pub written-requires-clause-count : goal.written-requires-clause-count
+written-requires-clause-count c = subst (λ s. values_given (shape_at s c.args.node).parts ≤ length c.args.values.now) (sym (script_passed (standing c.args.shared.now c.args.state.now) (standing c.tick.new.shared c.args.state.now) (c.in_ok-tick.ensures c.args.state.now))) c.requires.count
 
 pub returns-in_err-text : goal.returns-in_err-text
 returns-in_err-text c = λ r pos.
