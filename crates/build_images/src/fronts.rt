@@ -1,16 +1,18 @@
 //! The threads of a build as they stand behind an event, over the image before it.
-ghost use Rattle.std.specs.Prelude.{◌≡◌, true, map, min, take, IfOk, OnOk};
+ghost use Rattle.std.specs.Prelude.{◌≡◌, ◌≤◌, true, length, map, min, take, IfOk, OnOk, Option, Some, None};
 ghost use Rattle.std.specs.List.{AllByRecursion as AllAre};
+ghost use Rattle.std.specs.Option.{option_copied};
 ghost use Rattle.model_run.specs.Fitting.{Rises};
 ghost use Rattle.green_threads.specs.declared.runner.Seated.{Seated as Seat};
 ghost use Rattle.image_form.specs.declared.image.ImageThread.{ImageThread as Stood};
 ghost use Rattle.cps_code.specs.Script.{script_of};
 ghost use Rattle.saved_thread.specs.Lower.thread_fits.Seats.{as_seat};
-ghost use Rattle.saved_thread.specs.Saving.{AtNodes, thread_told};
+ghost use Rattle.saved_thread.specs.Saving.{AtNodes, thread_told, told_from};
 ghost use Rattle.build_core.specs.Phases.{has_begun};
 ghost use Rattle.build_core.specs.declared.phase.Phase.TheVariants.{Stopped};
-ghost use Rattle.image_changes.specs.Seen.{HasFront, KeepsFronts, thread_seen};
-ghost use Rattle.build_images.specs.Fronts.{FramesStand, HasStood, front_at};
+ghost use Rattle.image_changes.specs.Seen.{KeepsThread, KeepsThreads, thread_seen};
+ghost use Rattle.image_changes.specs.declared.now.NowThread.TheVariants as thread;
+ghost use Rattle.build_images.specs.Fronts.{HasStood, HasStoodAs, ThreadsStand, thread_at};
 ghost use Rattle.build_images.specs.Images.{HasImage, image_in};
 
 use build_core::{Build, Phase};
@@ -21,22 +23,22 @@ use image_form::{ImageFrame, ImageThread};
 use saved_thread::SavedThread;
 use std::alloc::{AllocError, Global};
 
-/// The threads of a build that has begun, whether it has ended or not, as they stand behind an event: their frames that count
-/// as untouched are those that stand in the image before. It takes the time of the other frames and of what the threads wait
-/// for and their contexts, and the square of how many threads there are, which are at most 256.
+/// The threads of a build that has begun, whether it has ended or not, as they stand behind an event. Those that took no turn since they
+/// were marked are those of the image before; of the others the frames that count as untouched are. It takes the time of the other frames
+/// of those that took a turn, of what these wait for and their contexts, and the square of how many threads there are, which are at most 256.
 ///
 /// # Errors
 ///
 /// `AllocError` where the memory was refused, in this call or while the build took an event.
 pub fn threads_now<'a, R: SavedThread + Drop>(
-    build: &Build<R>,
+    build: &'a Build<R>,
     before: &'a [ImageThread],
 ) -> Result<Vec<NowThread<'a>>, AllocError>
     requires begun { has_begun build.now.phase ≡ true }
     requires order { Rises (map (λ t. t.number) before.now) }
-    requires stood { FramesStand R.low R.stance (script_of build.now.shared.code) before.now build.now.group.seats }
+    requires stood { ThreadsStand R.low R.touched R.stance (script_of build.now.shared.code) before.now build.now.group.seats }
     ensures here { IfOk result (λ threads. map thread_seen threads.items ≡ (image_in R.stance build.now).threads) }
-    ensures fronts { IfOk result (λ threads. KeepsFronts before.now threads.items) }
+    ensures keeps { IfOk result (λ threads. KeepsThreads before.now threads.items) }
     ensures image { OnOk result (HasImage R.stance build.now) }
 {
     if build.phase() == Phase::Stopped {
@@ -48,15 +50,15 @@ pub fn threads_now<'a, R: SavedThread + Drop>(
 
 /// The threads of a build that goes on or has ended. `AllocError` where the memory was refused.
 fn threads_told<'a, R: SavedThread + Drop>(
-    build: &Build<R>,
+    build: &'a Build<R>,
     before: &'a [ImageThread],
 ) -> Result<Vec<NowThread<'a>>, AllocError>
     requires begun { has_begun build.now.phase ≡ true }
     requires goes_on { build.now.phase ≡ Stopped → ⊥ }
     requires order { Rises (map (λ t. t.number) before.now) }
-    requires stood { FramesStand R.low R.stance (script_of build.now.shared.code) before.now build.now.group.seats }
+    requires stood { ThreadsStand R.low R.touched R.stance (script_of build.now.shared.code) before.now build.now.group.seats }
     ensures here { IfOk result (λ threads. map thread_seen threads.items ≡ (image_in R.stance build.now).threads) }
-    ensures fronts { IfOk result (λ threads. KeepsFronts before.now threads.items) }
+    ensures keeps { IfOk result (λ threads. KeepsThreads before.now threads.items) }
     ensures image { OnOk result (HasImage R.stance build.now) }
 {
     let shared = build.shared();
@@ -69,14 +71,14 @@ fn threads_told<'a, R: SavedThread + Drop>(
 fn threads_of<'a, R: SavedThread>(
     alloc: Global,
     code: &Code,
-    seats: &[Seated<R>],
+    seats: &'a [Seated<R>],
     before: &'a [ImageThread],
 ) -> Result<Vec<NowThread<'a>>, AllocError>
     requires nodes { AllAre (λ (x : Seat R). AtNodes (script_of code.now) (R.stance x.thread).frames) seats.now }
     requires order { Rises (map (λ t. t.number) before.now) }
-    requires stood { FramesStand R.low R.stance (script_of code.now) before.now seats.now }
+    requires stood { ThreadsStand R.low R.touched R.stance (script_of code.now) before.now seats.now }
     ensures here { IfOk result (λ threads. map thread_seen threads.items ≡ map (thread_told (script_of code.now)) (map (as_seat R.stance) seats.now)) }
-    ensures fronts { IfOk result (λ threads. KeepsFronts before.now threads.items) }
+    ensures keeps { IfOk result (λ threads. KeepsThreads before.now threads.items) }
 {
     let mut threads = Vec::new(alloc);
     for seat in seats {
@@ -85,35 +87,73 @@ fn threads_of<'a, R: SavedThread>(
     Ok(threads)
 }
 
-/// This thread. `AllocError` where the memory was refused.
+/// This thread, over the one of its number that stood. `AllocError` where the memory was refused.
 fn thread_of<'a, R: SavedThread>(
     alloc: Global,
     code: &Code,
-    seat: &Seated<R>,
+    seat: &'a Seated<R>,
     before: &'a [ImageThread],
 ) -> Result<NowThread<'a>, AllocError>
     requires nodes { AtNodes (script_of code.now) (R.stance seat.now.thread).frames }
     requires order { Rises (map (λ t. t.number) before.now) }
-    requires stood { AllAre (HasStood R.low R.stance (script_of code.now) seat.now) before.now }
+    requires stood { AllAre (HasStoodAs R.low R.touched R.stance (script_of code.now) seat.now) before.now }
     ensures here { IfOk result (λ t. thread_seen t ≡ thread_told (script_of code.now) (as_seat R.stance seat.now)) }
-    ensures fronts { IfOk result (λ t. AllAre (λ (x : Stood). x.number ≡ t.thread.number → HasFront x t) before.now) }
+    ensures keeps { IfOk result (λ t. AllAre (λ (x : Stood). x.number ≡ (thread_seen t).number → KeepsThread x t) before.now) }
 {
-    let front = front_at(before, seat.number, seat.thread.low());
-    let thread = R::saved(alloc, code, seat, front.len())?;
-    Ok(NowThread { front, thread })
+    match stood_at(before, seat.number) {
+        Some(stood) => thread_over(alloc, code, seat, stood),
+        None => thread_behind(alloc, code, seat, &[]),
+    }
 }
 
-/// Of the thread of this number so many frames from the outermost on, as far as it has them and a delta can count them; none
-/// where there is no such thread.
-fn front_at(before: &[ImageThread], number: u32, low: usize) -> &[ImageFrame]
-    ensures { result.now ≡ front_at number low before.now }
+/// The thread of this number that stood.
+fn stood_at(before: &[ImageThread], number: u32) -> Option<&ImageThread>
+    ensures { option_copied result ≡ thread_at number before.now }
 {
     for stood in before {
         if stood.number == number {
-            return first_frames(stood.frames.as_slice(), low);
+            return Some(stood);
         }
     }
-    &[]
+    None
+}
+
+/// A thread that stood so. `AllocError` where the memory was refused.
+fn thread_over<'a, R: SavedThread>(
+    alloc: Global,
+    code: &Code,
+    seat: &'a Seated<R>,
+    stood: &'a ImageThread,
+) -> Result<NowThread<'a>, AllocError>
+    requires nodes { AtNodes (script_of code.now) (R.stance seat.now.thread).frames }
+    requires stood { HasStood R.low R.touched R.stance (script_of code.now) seat.now stood.now }
+    ensures here { IfOk result (λ t. thread_seen t ≡ thread_told (script_of code.now) (as_seat R.stance seat.now)) }
+    ensures keeps { IfOk result (KeepsThread stood.now) }
+{
+    if !seat.thread.is_touched() {
+        return Ok(NowThread::Untouched {
+            stood,
+            parent: seat.parent,
+            wait: &seat.wait,
+        });
+    }
+    let front = first_frames(stood.frames.as_slice(), seat.thread.low());
+    thread_behind(alloc, code, seat, front)
+}
+
+/// A thread that may have taken a turn, with these frames in front, of which it has no fewer. `AllocError` where the memory was refused.
+fn thread_behind<'a, R: SavedThread>(
+    alloc: Global,
+    code: &Code,
+    seat: &Seated<R>,
+    front: &'a [ImageFrame],
+) -> Result<NowThread<'a>, AllocError>
+    requires nodes { AtNodes (script_of code.now) (R.stance seat.now.thread).frames }
+    requires within { length front.now ≤ length (R.stance seat.now.thread).frames }
+    ensures { IfOk result (λ t. t ≡ thread.Touched front.entry (told_from (length front.now) (thread_told (script_of code.now) (as_seat R.stance seat.now)))) }
+{
+    let thread = R::saved(alloc, code, seat, front.len())?;
+    Ok(NowThread::Touched { front, thread })
 }
 
 /// So many frames from the outermost on, as far as there are and a delta can count them.

@@ -1,31 +1,37 @@
-use Rattle.std.proofs.Common.{map, ap, arith}
-use Rattle.std.proofs.lemmas.List.{length-map}
+use Rattle.std.proofs.Common.{◌≡◌, ◌∙◌, Some, None, sym, ap}
+use Rattle.std.specs.Option.{option_copied}
+use Rattle.std.proofs.lemmas.Result.{IfOk-weaker}
 use Rattle.cps_code.specs.Script.{script_of}
 use Rattle.image_form.specs.declared.image.ImageThread.{ImageThread}
 use Rattle.saved_thread.specs.Lower.thread_fits.Seats.{as_seat}
-use Rattle.saved_thread.specs.Saving.{frame_told, thread_told}
+use Rattle.saved_thread.specs.Saving.{thread_told}
+use Rattle.image_changes.specs.Seen.{KeepsThread, thread_seen}
 use Rattle.image_changes.specs.declared.now.NowThread.{NowThread}
-use Rattle.build_images.proofs.FrontLaws.{all_fronts, seen_whole, thread_front}
+use Rattle.build_images.specs.Fronts.{HasStoodAs, thread_at}
+use Rattle.build_images.proofs.FrontLaws.{both_ok, kept_by, kept_new, no_thread, one_thread, thread_is}
 use Rattle.build_images.proofs.fronts.thread_of.Goals as goal
 
-pub saved-requires : goal.saved-requires
-saved-requires g c =
+pub thread_over-requires-clause-stood : goal.thread_over-requires-clause-stood
+thread_over-requires-clause-stood g c =
     let seat = c.args.seat.now in
-    let root = script_of c.args.code.now in
-    let frames = (g.R.ScriptThread.stance seat.thread).frames in
-    let front = thread_front seat.number (g.R.ScriptThread.low seat.thread) c.low.result (map (frame_told root) frames) c.args.before.now c.front_at-front.result.now c.low.ensures c.front_at-front.ensures c.requires.stood in
-    record { nodes = c.requires.nodes; first = omega (arith, front.0, length-map frames (frame_told root)) }
+    let stood = c.in-Some.stood.now in
+    let at : thread_at seat.number c.args.before.now ≡ Some stood = sym c.stood_at.ensures ∙ ap option_copied c.in-Some.is in
+    let is = thread_is seat.number (HasStoodAs g.R.ScriptThread.low g.R.ScriptThread.touched g.R.ScriptThread.stance (script_of c.args.code.now) seat) c.args.before.now stood at c.requires.stood in
+    is.1 is.0
 
-pub returns-clause-here : goal.returns-clause-here
-returns-clause-here g c =
+pub returns-in-Some-clause-keeps : goal.returns-in-Some-clause-keeps
+returns-in-Some-clause-keeps g c =
     let seat = c.args.seat.now in
-    let root = script_of c.args.code.now in
-    let frames = (g.R.ScriptThread.stance seat.thread).frames in
-    let front = thread_front seat.number (g.R.ScriptThread.low seat.thread) c.low.result (map (frame_told root) frames) c.args.before.now c.front_at-front.result.now c.low.ensures c.front_at-front.ensures c.requires.stood in
-    let t : NowThread = record { front = c.front_at-front.result; thread = c.in_ok-thread.thread } in
-    seen_whole t (thread_told root (as_seat g.R.ScriptThread.stance seat)) c.in_ok-thread.ensures front.1
+    let before = c.args.before.now in
+    let stood = c.in-Some.stood.now in
+    let told = thread_told (script_of c.args.code.now) (as_seat g.R.ScriptThread.stance seat) in
+    let at : thread_at seat.number before ≡ Some stood = sym c.stood_at.ensures ∙ ap option_copied c.in-Some.is in
+    both_ok c.thread_over.result (λ t. thread_seen t ≡ told) (KeepsThread stood) _
+    (λ t here keeps. kept_by seat.number before stood t (ap (λ (x : ImageThread). x.number) here) (one_thread seat.number before stood at c.requires.order) keeps) c.thread_over.ensures.here c.thread_over.ensures.keeps
 
-pub returns-clause-fronts : goal.returns-clause-fronts
-returns-clause-fronts g c =
-    let t : NowThread = record { front = c.front_at-front.result; thread = c.in_ok-thread.thread } in
-    all_fronts c.args.seat.now.number c.low.result c.args.before.now t (ap (λ (x : ImageThread). x.number) c.in_ok-thread.ensures) c.front_at-front.ensures c.requires.order
+pub returns-in-None-clause-keeps : goal.returns-in-None-clause-keeps
+returns-in-None-clause-keeps g c =
+    let seat = c.args.seat.now in
+    let before = c.args.before.now in
+    let at : thread_at seat.number before ≡ None = sym c.stood_at.ensures ∙ ap option_copied c.in-None.is in
+    IfOk-weaker c.thread_behind.result _ _ (λ t e. kept_new seat.number before t (ap (λ (x : NowThread). (thread_seen x).number) e) (no_thread seat.number before at)) c.thread_behind.ensures

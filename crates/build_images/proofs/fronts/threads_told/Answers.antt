@@ -5,7 +5,7 @@ use Rattle.green_threads.specs.Threads.{Threads}
 use Rattle.cps_code.specs.Script.{script_of}
 use Rattle.saved_thread.specs.Lower.cps_frames.declared.shared.Shared.{Shared}
 use Rattle.saved_thread.specs.Saving.{AtNodes}
-use Rattle.build_images.specs.Fronts.{FramesStand}
+use Rattle.build_images.specs.Fronts.{ThreadsStand}
 use Rattle.build_images.proofs.SavedBuilds.{at_nodes, image_is, ordered, threads_ready, whole}
 use Rattle.build_images.proofs.fronts.threads_told.Goals as goal
 
@@ -18,8 +18,8 @@ threads_of-requires g c =
           (at_nodes g.R.ScriptThread.stance g.R.Runner.number g.R.Runner.parent g.R.Runner.branch g.R.Runner.fits g.met.R.SavedThread.storable g.met.R.ScriptThread.shared_fits
           c.args.build.now.phase c.args.build.now.group c.args.build.now.shared c.requires.begun c.requires.goes_on c.shared-shared.ensures.sound));
       order = c.requires.order;
-      stood = subst (λ (xs : List (Seated _)). FramesStand g.R.ScriptThread.low g.R.ScriptThread.stance (script_of c.shared-shared.result.now.code) c.args.before.now xs) (sym seats)
-          (subst (λ (u : Shared). FramesStand g.R.ScriptThread.low g.R.ScriptThread.stance (script_of u.code) c.args.before.now c.args.build.now.group.seats) (sym c.shared-shared.ensures.shared) c.requires.stood);
+      stood = subst (λ (xs : List (Seated _)). ThreadsStand g.R.ScriptThread.low g.R.ScriptThread.touched g.R.ScriptThread.stance (script_of c.shared-shared.result.now.code) c.args.before.now xs) (sym seats)
+          (subst (λ (u : Shared). ThreadsStand g.R.ScriptThread.low g.R.ScriptThread.touched g.R.ScriptThread.stance (script_of u.code) c.args.before.now c.args.build.now.group.seats) (sym c.shared-shared.ensures.shared) c.requires.stood);
     }
 
 pub returns-clause-image : goal.returns-clause-image
