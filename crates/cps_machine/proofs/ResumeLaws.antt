@@ -2,12 +2,16 @@
 use Rattle.std.proofs.Common.{◌≡◌, ◌∙◌, ℕ, suc, ◌+◌, ◌<◌, ◌≤◌, true, false, List, [], ◌∷◌, ◌++◌, map, length, Option, Some, None, arith, refl, ap, subst, sym}
 use Rattle.std.specs.Prelude.{find, is_some, nat_eq, slice_get}
 use Rattle.std.specs.List.{AllByRecursion as AllAre}
+use Rattle.std.proofs.Math.Bool.{Bool-set}
+use Rattle.std.proofs.Math.Logic.{∥∥₁_elim}
+use Rattle.model_syntax.specs.declared.node.NodeForm.{NodeForm}
 use Rattle.model_syntax.specs.declared.node.NodeForm.TheVariants as form
 use Rattle.model_values.specs.declared.value.Outcome.{Outcome}
 use Rattle.model_run.specs.declared.context.Context.{Context}
 use Rattle.model_run.specs.declared.ending.Asked.TheVariants.{ForBranches, ForRequest}
 use Rattle.model_run.specs.declared.ending.Branch.{Branch}
 use Rattle.model_run.specs.declared.ending.Ending.{Ending}
+use Rattle.model_run.specs.declared.ending.Ending.TheVariants.{Normal, Thrown, Returned, Broke, Continued, Declared, Answered}
 use Rattle.model_run.specs.declared.ending.Entry.TheVariants.{Branched}
 use Rattle.model_run.specs.declared.frame.Frame.{Frame}
 use Rattle.model_run.specs.declared.request.OpenRequest.{OpenRequest}
@@ -16,19 +20,20 @@ use Rattle.model_run.specs.declared.wait.Answer.TheVariants.{Begin}
 use Rattle.model_run.specs.declared.wait.Wait.{Wait}
 use Rattle.model_run.specs.declared.wait.Wait.TheVariants.{Ready, Request as RequestWait, Branches as BranchesWait}
 use Rattle.model_run.specs.Below.{Below}
+use Rattle.model_run.specs.FrameTable.{is_declaration}
 use Rattle.model_run.specs.Fitting.{Above, Distinct, ForRequest as IsForRequest, IsFlowNode, IsWaitedFor, OutcomeFits, outermost, ParentFits, ParentIs, Rise, SharedFits, WaitsFor}
 use Rattle.model_run.specs.Requests.{numbers_of}
 use Rattle.model_run.specs.Meaning.{unwind}
 use Rattle.model_run.specs.Nesting.{Any_body, Any_branch, Begun, Body_of, CallsClosures, For_branches, For_executor, For_person, For_task, Spot, innermost, shape_at}
 use Rattle.model_run.specs.State.{Common, Setting}
-use Rattle.model_run.specs.Terms.{Term}
+use Rattle.model_run.specs.Terms.{Term, form_of}
 use Rattle.model_run.specs.declared.callee.Callee.{Callee}
 use Rattle.model_run.specs.Threads.{Closure, Runs, Script}
 use Rattle.model_run.specs.World.{join_wait, outcome_of}
 use Rattle.model_values.proofs.CellGrowth.{all_append}
 use Rattle.model_values.proofs.LaterLaws.{all_weaker}
 use Rattle.run_laws.specs.Evaluation.{turn_open}
-use Rattle.run_laws.specs.Soundness.{BranchFits, Open, Pausing}
+use Rattle.run_laws.specs.Soundness.{BranchFits, EndFits, Open, Pausing, declares_as}
 use Rattle.run_laws.specs.Worlds.{EndIf, SharedSound}
 use Rattle.seat_laws.specs.Seats.{Holding}
 use Rattle.green_threads.specs.declared.runner.NewBranch.{NewBranch}
@@ -40,7 +45,8 @@ use Rattle.green_threads.specs.Threads.{GoesOn, Threads, joined_seat, new_joins,
 use Rattle.cps_code.specs.Script.{IsScript, script_of}
 use Rattle.cps_frames.specs.Places.{EndsAt, MoveFits, Poised}
 use Rattle.cps_frames.specs.Runs.{move_result}
-use Rattle.cps_frames.specs.Standing.{common_of, own_of, setting_of, standing, state}
+use Rattle.cps_frames.specs.Standing.{Standing, common_of, own_of, setting_of, standing, state}
+use Rattle.cps_frames.specs.Ways.{is_block_ending}
 use Rattle.cps_frames.specs.declared.shared.Shared.{Shared}
 use Rattle.cps_frames.specs.declared.thread.Move.{Move}
 use Rattle.cps_frames.specs.declared.thread.Move.TheVariants as move
@@ -50,14 +56,14 @@ use Rattle.cps_machine.specs.Resuming.{BeginsAs, ResumesAs, stopping}
 use Rattle.thread_fits.specs.Seats.{Family, Fits, HasBegun, IsAlone, IsGranted, IsReady, SeatStands, StartStands, WaitStands, as_seat, first_of, nodes_left, waiting_move}
 use Rattle.cps_machine.specs.Stops.{Begins as May_begin, MayRun, Stops}
 use Rattle.script_thread.specs.Marks.{StaysBelow}
-use Rattle.cps_machine.specs.Threads.{Beginning, IsStop, IsTurn, branch_by, first_move, is_branch, runs_of, seated, seen, stance_of, to_begin}
+use Rattle.cps_machine.specs.Threads.{Beginning, EndsAsBlock, IsStop, IsTurn, branch_by, first_move, is_branch, runs_of, seated, seen, stance_of, to_begin}
 use Rattle.cps_machine.specs.Turns.{IsAsked}
 use Rattle.cps_machine.specs.declared.machine.Stopped.{Stopped}
 use Rattle.cps_machine.specs.declared.machine.Stopped.TheVariants as stopped
 use Rattle.cps_machine.specs.declared.thread.MachineThread.{MachineThread}
 use Rattle.cps_machine.specs.declared.thread.Start.{Start}
 use Rattle.cps_machine.specs.declared.thread.Start.TheVariants as start
-use Rattle.thread_fits.proofs.Facts.{facts_of}
+use Rattle.thread_fits.proofs.Facts.{facts_of, script_at}
 use Rattle.cps_machine.proofs.ThreadLaws.{begins_branch, begins_script, resumes_as, stops_by}
 use Rattle.thread_fits.proofs.SeatLaws.{joined_grants, joined_stands, latest_found, outcome_there, stands_on, wait_then, with_move}
 use Rattle.thread_fits.proofs.FamilyLaws.{changed_family, ended_family, forked_family}
@@ -468,6 +474,43 @@ pub turn_runs : (t : MachineThread) (u : Shared) (a : Answer) → MayResume (Fit
 turn_runs t u a may =
     let b = first_poised may.0 u may.1 may.2 t a may.3 may.4 may.5 may.6 in
     ((may.3).script, (above stance_of may.0 (may.1).parent, outermost (may.1).parent, b, first_begins (stance_of t).runs a))
+
+-- What it runs ends as a block does.
+plain_ends : (f : NodeForm) (u : Common) (e : Ending) → is_declaration f ≡ false → EndFits f u e → is_block_ending e ≡ true
+plain_ends f u (Normal v) plain h = refl
+plain_ends f u (Thrown c) plain h = refl
+plain_ends f u (Returned v) plain h = refl
+plain_ends f u Broke plain h = refl
+plain_ends f u Continued plain h = refl
+plain_ends f u (Declared b) plain h = absurd (never f plain h.0)
+  where
+    never : (f : NodeForm) → is_declaration f ≡ false → declares_as f b.name → ⊥
+    never (form.Declare x) plain d = absurd (cc)
+    never f plain d = d
+plain_ends f u (Answered x) plain h = absurd h
+
+script_plain : (root : Term) → IsScript root → is_declaration (shape_at root 0).form ≡ false
+script_plain root script =
+    subst (λ t. is_declaration (form_of t) ≡ false) (sym (script_at root script))
+    (∥∥₁_elim script (hlevel (Bool-set)) (λ s. subst (λ t. is_declaration (form_of t) ≡ false) (sym s.1) refl))
+
+ends_outermost : (root : Term) → IsScript root → (p : Option ℕ) (u : Common) (e : Ending) → EndsAt root u (outermost p) e → is_block_ending e ≡ true
+ends_outermost root script None u e h = plain_ends (shape_at root 0).form u e (script_plain root script) h
+ends_outermost root script (Some p) u e h = plain_ends form.Block u e refl h
+
+ends_so : (t : MachineThread) (u : Shared) (a : Answer) (s : Stopped) (v : Standing) → MayResume (Fits stance_of) t u a → Stops (standing u t.state) (first_move t a) s v → EndsAsBlock s
+ends_so t u a (stopped.Ended e) v may stops =
+    let b = first_poised may.0 u may.1 may.2 t a may.3 may.4 may.5 may.6 in
+    let at : Spot = outermost (may.1).parent in
+    let still : Poised v.world.setting (above stance_of may.0 (may.1).parent) at v (move.Ends e) = stops.stands (above stance_of may.0 (may.1).parent) at b in
+    let here : EndsAt v.world.setting.script v.world.shared at e = subst (λ fs. EndsAt v.world.setting.script v.world.shared (innermost v.world.setting.script at fs) e) stops.over still.move in
+    ends_outermost v.world.setting.script (subst (λ (g : Setting). IsScript g.script) (sym stops.onward.setting) (may.3).script) (may.1).parent v.world.shared e here
+ends_so t u a (stopped.Limit k) v may stops = tt
+ends_so t u a (stopped.Waits q) v may stops = tt
+
+pub turn_ends : (t t1 : MachineThread) (u : Shared) (a : Answer) (first : Move) (s : Stopped) (v : Standing) → MayResume (Fits stance_of) t u a → t1 ≡ record t { start = None } → first ≡ first_move t a → Stops (standing u t1.state) first s v → EndsAsBlock s
+turn_ends t t1 u a first s v may e is runs =
+    ends_so t u a s v may (subst (λ (m : Move). Stops (standing u t.state) m s v) is (subst (λ (y : MachineThread). Stops (standing u y.state) first s v) e runs))
 
 pub turn_made : (t t1 : MachineThread) (u u' : Shared) (a : Answer) (first : Move) (s : Stopped) (st : ThreadState) (stops : Stop MachineThread) → t1 ≡ record t { start = None } → first ≡ first_move t a → Stops (standing u t1.state) first s (standing u' st) → IsStop s stops st.context
     → (low : ℕ) → StaysBelow t1.low t1.state.stack.items low st.stack.items → IsTurn t u a stops (record t1 { state = st; low = low; touched = true }) u'

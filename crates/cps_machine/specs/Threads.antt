@@ -12,6 +12,7 @@ use Rattle.green_threads.specs.declared.runner.Stop.{Stop}
 use Rattle.green_threads.specs.declared.runner.Stop.TheVariants as stop
 use Rattle.settle_laws.specs.Stances.{Stance}
 use Rattle.cps_frames.specs.Standing.{own_of, standing}
+use Rattle.cps_frames.specs.Ways.{is_block_ending}
 use Rattle.cps_frames.specs.declared.shared.Shared.{Shared}
 use Rattle.cps_frames.specs.declared.thread.Move.{Move}
 use Rattle.script_thread.specs.Marks.{StaysBelow}
@@ -79,6 +80,11 @@ beginning name s head context = record { name = name; start = Some s; head = hea
 -- A branch begins with its closure, behind its flow node, in the context of the thread that waits for it (Jenkins).
 abbrev pub to_begin : Context → Branch → Beginning
 to_begin context b = beginning b.name (start.Branch (record { node = b.closure; env = b.env })) b.head context
+
+-- what a thread runs is a script or the closure of a branch, and ends as a block does
+abbrev pub EndsAsBlock : Stopped → Type 0
+EndsAsBlock (stopped.Ended e) = is_block_ending e ≡ true
+EndsAsBlock s = Unit {0}
 
 -- how a thread stops, as other threads see it
 abbrev pub IsStop : Stopped → Stop MachineThread → Context → Type 0

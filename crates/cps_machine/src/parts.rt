@@ -19,8 +19,8 @@ use cps_frames::{Halt, Move, Shared, ThreadState, part};
 use model_run::{Ending, Entry, Frame};
 use model_values::{Env, Value, Values};
 
-/// How the innermost frame goes on with what stood inside it; a walk goes into its next turn at once. `Halt::Ends` where its node ends so, `Halt::Limit` where a
-/// limit was met, and `Halt::Memory` where the memory was refused.
+/// How the innermost frame goes on with what stood inside it; a walk goes into its next turn at once. `Halt::Ends` where
+/// its node ends so, `Halt::Limit` where a limit was met, and `Halt::Memory` where the memory was refused.
 pub fn go_on(
     state: &mut ThreadState,
     shared: &mut Shared,

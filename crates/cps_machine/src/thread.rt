@@ -1,8 +1,9 @@
 //! A green thread that runs a script, or a branch of a `parallel`.
 
-ghost use Rattle.std.specs.Prelude.{◌≡◌, ℕ, false, List, None, length, map, IfOk};
+ghost use Rattle.std.specs.Prelude.{◌≡◌, ℕ, false, List, None, length, map, true, IfOk};
 ghost use Rattle.model_run.specs.World.{outcome_of};
-ghost use Rattle.cps_machine.specs.Threads.{IsStop, beginning, first_move, seen, to_begin};
+ghost use Rattle.cps_frames.specs.Ways.{is_block_ending};
+ghost use Rattle.cps_machine.specs.Threads.{EndsAsBlock, IsStop, beginning, first_move, seen, to_begin};
 
 use crate::machine::{Stopped, lowest, run};
 use cps_frames::{Move, Shared, ThreadState};
@@ -94,6 +95,7 @@ impl MachineThread {
 
     /// How it stops, as other threads see it.
     fn stop(&self, alloc: Global, stopped: Stopped) -> Result<Stop<MachineThread>, AllocError>
+        requires { EndsAsBlock stopped }
         ensures { IfOk result (λ stop. IsStop stopped stop self.now.state.context) }
     {
         match stopped {
@@ -232,16 +234,16 @@ impl ScriptThread for MachineThread {
     ghost event_fits = { event_fits stance_of };
 }
 
-/// What a branch has ended with: a value, or what it has thrown.
+/// What a thread has ended with: a value, or what it has thrown. Behind a `break` or a `continue` that is in no loop it is null.
 fn outcome_of(ending: Ending) -> Outcome
+    requires { is_block_ending ending ≡ true }
     ensures { result ≡ outcome_of ending }
 {
     match ending {
         Ending::Thrown(cell) => Outcome::Thrown(cell),
         Ending::Normal(value) | Ending::Returned(value) => Outcome::Value(value),
-        Ending::Broke | Ending::Continued | Ending::Declared(_) | Ending::Answered(_) => {
-            Outcome::Value(Value::Null)
-        }
+        Ending::Broke | Ending::Continued => Outcome::Value(Value::Null),
+        Ending::Declared(_) | Ending::Answered(_) => unreachable!(),
     }
 }
 
