@@ -76,7 +76,7 @@ module _ {D : Type 0} (reads : D → Option (List ℕ)) (may_leave : D → List 
       tells = subst (λ (o : Option Image). record_at o p ≡ Some (record_of e image)) image_is (ap (λ (o : Option Payload). o >>= record_with before) (payload_spelled q p spells) ∙ due.tells);
       spelled = q;
       spells = spells;
-      kind = subst (λ (o : Option Image). IsKind (weights_of payloads) o q) image_is (subst (λ (v : Weights). IsKind v before q) weights_are due.kind);
+      kind = subst (λ (v : Weights). IsKind v q) weights_are due.kind;
       least = subst (λ (o : Option Image). HoldsLeast o q) image_is due.least;
       room = room;
       moments = moments payloads holds;

@@ -1,5 +1,5 @@
 -- Of an event, the image before and the image after it one payload alone is due.
-use Rattle.std.proofs.Common.{◌≡◌, ◌∙◌, ◌⊎◌, ◌≤◌, ◌<◌, ◌^◌, ℕ, true, false, inl, inr, List, length, Option, Some, None, sym, ap, subst, arith}
+use Rattle.std.proofs.Common.{◌≡◌, ◌∙◌, ℕ, true, false, List, Option, Some, None, sym, ap, subst}
 use Rattle.std.specs.Prelude.{IfSome}
 use Rattle.std.specs.Option.{option_map}
 use Rattle.model_run.specs.declared.event.Event.{Event}
@@ -15,9 +15,9 @@ use Rattle.delta_records.specs.declared.payload.Payload.TheVariants as payload
 use Rattle.delta_records.specs.declared.weights.Weights.{Weights}
 use Rattle.build_images.proofs.Lower.image_changes.Least.{least_is_one}
 use Rattle.store_laws.specs.Store.{last_image}
-use Rattle.durable_build.specs.Kinds.{is_whole_due, weights_of}
+use Rattle.durable_build.specs.Kinds.{weights_of}
 use Rattle.durable_build.specs.Standing.{IsWhole, Keeps, Kept, image_before}
-use Rattle.durable_build.specs.Taking.{HasNoChanges, IsDue}
+use Rattle.durable_build.specs.Taking.{IsDue}
 use Rattle.durable_build.proofs.OrderLemmas.{whole_in_order}
 use Rattle.durable_build.proofs.TakeLemmas.{stands_last}
 
@@ -39,30 +39,18 @@ changes_of (Some i) e f image is =
     (ap (λ (r : EventRecord). Some r.image) same, ap (λ (r : EventRecord). r.event) same)
 
 -- a whole payload and one of changes are not due both
-never_both : (w : Weights) (before : Option Image) (e : Event) (image : Image) (f g : Event) (i : Image) (d : Delta) → length image.cells ≤ 2 ^ 32 → IsDue w before e image (payload.Whole f i) → IsDue w before e image (payload.Changed g d) → ⊥
-never_both w None e image f g i d few whole changed = let bad : None ≡ Some image = (changes_of None g e image changed.tells).0 in absurd (cc)
-never_both w (Some b) e image f g i d few whole changed = by_kind whole.kind
-  where
-    here : Some i ≡ Some image
-    here = (changes_of (Some i) f e image whole.tells).0
+never_both : (w : Weights) (before : Option Image) (e : Event) (image : Image) (f g : Event) (i : Image) (d : Delta) → IsDue w before e image (payload.Whole f i) → IsDue w before e image (payload.Changed g d) → ⊥
+never_both w before e image f g i d whole changed = let bad : true ≡ false = sym whole.kind ∙ changed.kind in absurd (cc)
 
-    by_kind : (is_whole_due w ≡ true) ⊎ HasNoChanges (Some b) i → ⊥
-    by_kind (inl due) = let bad : true ≡ false = sym due ∙ changed.kind in absurd (cc)
-    by_kind (inr (inl none)) = none d ((changes_of (after b d) g e image changed.tells).0 ∙ sym here)
-    by_kind (inr (inr many)) = let same : i ≡ image = some_is i image here in absurd (omega (arith, many, few, ap (λ (x : Image). length x.cells) same))
-
-module _ (setting : Setting) (w : Weights) (before : Option Image) (e : Event) (image : Image) (whole_before : IfSome before (IsWhole setting)) (whole : IsWhole setting image) where
-  few : length image.cells ≤ 2 ^ 32
-  few = omega (arith, whole.stands.fits.fits.shared.few_cells)
-
-  -- behind a whole image one payload alone is due for an event and a whole image after it, as that of each accepted event is
+module _ (setting : Setting) (w : Weights) (before : Option Image) (e : Event) (image : Image) (whole_before : IfSome before (IsWhole setting)) where
+  -- behind a whole image one payload alone is due for an event and an image after it
   pub one_is_due : (q r : Payload) → IsDue w before e image q → IsDue w before e image r → q ≡ r
   one_is_due (payload.Whole f i) (payload.Whole g j) one other =
       let first = changes_of (Some i) f e image one.tells in
       let second = changes_of (Some j) g e image other.tells in
       ap (λ (x : Event). payload.Whole x i) (first.1 ∙ sym second.1) ∙ ap (payload.Whole g) (some_is i j (first.0 ∙ sym second.0))
-  one_is_due (payload.Whole f i) (payload.Changed g d) one other = absurd (never_both w before e image f g i d few one other)
-  one_is_due (payload.Changed g d) (payload.Whole f i) one other = absurd (never_both w before e image f g i d few other one)
+  one_is_due (payload.Whole f i) (payload.Changed g d) one other = absurd (never_both w before e image f g i d one other)
+  one_is_due (payload.Changed g d) (payload.Whole f i) one other = absurd (never_both w before e image f g i d other one)
   one_is_due (payload.Changed f c) (payload.Changed g d) one other = by before whole_before one other
     where
       by : (o : Option Image) → IfSome o (IsWhole setting) → IsDue w o e image (payload.Changed f c) → IsDue w o e image (payload.Changed g d) → payload.Changed f c ≡ payload.Changed g d

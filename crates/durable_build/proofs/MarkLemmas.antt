@@ -6,26 +6,28 @@ use Rattle.image_form.specs.declared.image.Image.{Image}
 use Rattle.cps_code.specs.Script.{script_of}
 use Rattle.model_run.specs.State.{Setting}
 use Rattle.model_run.specs.Terms.{Term}
-use Rattle.build_images.specs.Lower.script_thread.Marks.{FramesStay, GoesOnFrom}
+use Rattle.build_images.specs.Lower.script_thread.Marks.{GoesOnFrom, RequestsStay, ThreadsStay}
 use Rattle.build_images.specs.Lower.build_core.Builds.{Parts, setting_in}
 use Rattle.build_images.specs.Lower.build_core.Phases.{has_begun}
 use Rattle.build_images.specs.Images.{HasImage, image_in}
-use Rattle.build_images.specs.Fronts.{FramesStand}
-use Rattle.build_images.proofs.FrontLaws.{frames_stand}
+use Rattle.build_images.specs.Fronts.{ThreadsStand}
+use Rattle.build_images.proofs.FrontLaws.{threads_stand}
 use Rattle.build_images.proofs.MarkedBuilds.{has_image_marked, image_same, marked_build, stands_marked}
 use Rattle.durable_build.specs.Adding.{IsSameButMarks, MarksChanges}
 use Rattle.durable_build.specs.Standing.{Remembers}
 
 -- behind an event the marks tell what changed since the kept image
-pub marks_changes : {T : Type 0} (low : T → ℕ) (stance : T → Stance) (b c : Parts T) (kept : Option Image) → Remembers stance b kept → setting_in c ≡ setting_in b → GoesOnFrom b.shared c.shared → FramesStay low stance b.group.seats c.group.seats → IfSome kept (λ before. MarksChanges low stance before c)
-marks_changes low stance b c kept remembers setting goes stay = subst (λ (o : Option Image). IfSome o (λ before. MarksChanges low stance before c)) (sym remembers.is) (here (has_begun b.phase))
+pub marks_changes : {T : Type 0} (low : T → ℕ) (touched : T → Bool) (stance : T → Stance) (b c : Parts T) (kept : Option Image) → Remembers stance b kept → setting_in c ≡ setting_in b → GoesOnFrom b.shared c.shared → ThreadsStay low touched stance b.group.seats c.group.seats → RequestsStay b.shared.requests c.shared.requests → IfSome kept (λ before. MarksChanges low touched stance before c)
+marks_changes low touched stance b c kept remembers setting goes stay requests = subst (λ (o : Option Image). IfSome o (λ before. MarksChanges low touched stance before c)) (sym remembers.is) (here (has_begun b.phase))
   where
-    here : (begun : Bool) → IfSome (if begun then Some (image_in stance b) else None) (λ before. MarksChanges low stance before c)
+    here : (begun : Bool) → IfSome (if begun then Some (image_in stance b) else None) (λ before. MarksChanges low touched stance before c)
     here true = record {
+      bindings = goes.binding;
       cells = record { grows = goes.cells.grows; same = goes.cells.same };
       nodes = goes.nodes;
       log = goes.log;
-      frames = subst (λ (root : Term). FramesStand low stance root (image_in stance b).threads c.group.seats) (sym (ap (λ (s : Setting). s.script) setting)) (frames_stand low stance (script_of b.shared.code) b.group.seats c.group.seats stay);
+      requests = requests;
+      threads = subst (λ (root : Term). ThreadsStand low touched stance root (image_in stance b).threads c.group.seats) (sym (ap (λ (s : Setting). s.script) setting)) (threads_stand low touched stance (script_of b.shared.code) b.group.seats c.group.seats stay);
     }
     here false = tt
 

@@ -27,8 +27,8 @@ use Rattle.agent_worker.specs.declared.fault.TakeFault.TheVariants.{Memory, Disk
 use Rattle.durable_build.specs.declared.store.Sources.{Sources}
 use Rattle.build_images.specs.Images.{world_image, image_in}
 use Rattle.durable_build.specs.Kinds.{weights_of}
-use Rattle.durable_build.specs.Standing.{IsWhole, Kept, Keeps, Opening, Remembers, StandsBy, StandsForStory, image_before, world_before}
-use Rattle.durable_build.specs.Taking.{Adds, IsBehind, IsDue, IsSized, IsSource, LeavesWhole, Longer, MayStart, Puts, Risks, TakeAnswers, TakeKeeps, TakeLeaves, agents_after, kept_agents, kept_script, script_after}
+use Rattle.durable_build.specs.Standing.{BeginsWhole, IsWhole, Kept, Keeps, Opening, Remembers, StandsBy, StandsForStory, image_before, world_before}
+use Rattle.durable_build.specs.Taking.{Adds, IsBehind, IsDue, IsSized, IsSource, LeavesWhole, MayStart, Puts, Risks, TakeAnswers, TakeKeeps, TakeLeaves, agents_after, kept_agents, kept_script, script_after}
 use Rattle.durable_build.specs.Adding.{AddDone, AddKeeps, Adding}
 use Rattle.durable_build.proofs.KindLemmas.{image_push}
 
@@ -168,6 +168,10 @@ remembers_added stance b kept begun last whole told = subst (Remembers stance b)
 pub kept_whole : {T : Type 0} (stance : T → Stance) (b : Parts T) (kept : Option Image) → Remembers stance b kept → has_begun b.phase ≡ true → IsWhole (setting_in b) (image_in stance b)
 kept_whole stance b kept remembers begun =
     let here : kept ≡ Some (image_in stance b) = remembers.is ∙ begun_is stance b begun in subst (λ (o : Option Image). IfSome o (IsWhole (setting_in b))) here remembers.whole
+
+-- a build that has begun has a record
+pub begins_behind : {T : Type 0} (stance : T → Stance) (b : Parts T) (kept : Option Image) (w : Weights) → has_begun b.phase ≡ true → Remembers stance b kept → BeginsWhole kept w
+begins_behind stance b kept w begun remembers = subst (λ (o : Option Image). BeginsWhole o w) (sym (remembers.is ∙ begun_is stance b begun)) tt
 
 -- the last image of the records that a build stands by is its own
 pub stands_last : {T : Type 0} (stance : T → Stance) (b : Parts T) (script agents : List ℕ) (ps : List (List ℕ)) → StandsBy stance b script agents ps → image_before stance b ≡ last_image ps

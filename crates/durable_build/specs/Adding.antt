@@ -1,5 +1,5 @@
 -- How a record comes into the journal (of private functions alone).
-use Rattle.std.specs.Prelude.{◌≡◌, ◌⊎◌, ◌<◌, ◌≤◌, ◌+◌, ◌-◌, ◌^◌, ℕ, true, false, List, [], ◌∷◌, ◌++◌, length, min, Option, Some, None, IfSome, Result, Ok, Err}
+use Rattle.std.specs.Prelude.{◌≡◌, ◌<◌, ◌≤◌, ◌+◌, ◌-◌, ◌^◌, ℕ, Bool, true, false, List, [], ◌∷◌, ◌++◌, length, min, Option, Some, None, IfSome, Result, Ok, Err}
 use Rattle.journal_core.specs.State.{State, Holds}
 use Rattle.field_form.specs.Forms.{Spells}
 use Rattle.delta_records.specs.Lower.record_form.Records.{record_of}
@@ -13,28 +13,33 @@ use Rattle.delta_records.specs.declared.payload.Payload.{Payload}
 use Rattle.delta_records.specs.declared.payload.Payload.TheVariants as payload
 use Rattle.delta_records.specs.declared.weights.Weights.{Weights}
 use Rattle.build_images.specs.Lower.image_changes.Least.{IsLeast}
-use Rattle.build_images.specs.Lower.image_changes.Seen.{KeepsUnmarked}
+use Rattle.build_images.specs.Lower.image_changes.Seen.{KeepsRequests, KeepsUnmarked}
+use Rattle.model_run.specs.Among.{AreAmong}
 use Rattle.model_run.specs.FlowNodes.{IsFront}
 use Rattle.model_run.specs.World.{Build}
 use Rattle.settle_laws.specs.Stances.{Stance}
 use Rattle.cps_code.specs.Script.{script_of}
 use Rattle.build_images.specs.Lower.build_core.Builds.{Parts, StandsFor, setting_in}
-use Rattle.build_images.specs.Fronts.{FramesStand}
+use Rattle.build_images.specs.Fronts.{ThreadsStand}
 use Rattle.build_images.specs.Images.{image_in}
 use Rattle.model_run.specs.declared.event.Event.{Event}
 use Rattle.agent_worker.specs.declared.fault.TakeFault.{TakeFault}
 use Rattle.agent_worker.specs.declared.fault.TakeFault.TheVariants.{Memory, Disk, Full, Stopped}
 use Rattle.store_laws.specs.Store.{last_image}
 use Rattle.durable_build.specs.Kinds.{is_whole_due, weights_of, weights_with}
-use Rattle.durable_build.specs.Taking.{HasNoChanges, IsDue, Puts, added}
+use Rattle.durable_build.specs.Taking.{IsDue, Puts, added}
 
--- The marks of the cells and of the threads tell what changed since the image before: each unmarked cell stands as it stood in it, its flow
--- nodes and its log are the beginning of those now, and of a thread that it has the frames are the same that count as untouched.
-pub record MarksChanges {T : Type 0} (low : T → ℕ) (stance : T → Stance) (before : Image) (now : Parts T) : Type 0 where
+-- What is known of the image before, and the marks of the cells and of the threads, tell what changed since: its binding variables stand now,
+-- each unmarked cell stands as it stood in it, its flow nodes and its log are the beginning of those now, an open request that it has is the same
+-- but for what was taken and came to the output, and of a thread that it has the frames are the same that count as untouched, and all but its
+-- parent and what it waits for where it took no turn.
+pub record MarksChanges {T : Type 0} (low : T → ℕ) (touched : T → Bool) (stance : T → Stance) (before : Image) (now : Parts T) : Type 0 where
+  pub bindings : AreAmong before.bindings now.shared.binding.items
   pub cells : KeepsUnmarked before.cells now.shared.heap
   pub nodes : IsFront before.nodes now.shared.graph
   pub log : IsFront before.log now.shared.log
-  pub frames : FramesStand low stance (script_of now.shared.code) before.threads now.group.seats
+  pub requests : KeepsRequests before.requests now.shared.requests
+  pub threads : ThreadsStand low touched stance (script_of now.shared.code) before.threads now.group.seats
 
 -- The build is the same but for the marks of its cells and of its threads, which nothing else hangs on.
 pub record IsSameButMarks {T : Type 0} (stance : T → Stance) (old new : Parts T) : Type 0 where
@@ -45,7 +50,7 @@ pub record IsSameButMarks {T : Type 0} (stance : T → Stance) (old new : Parts 
 
 -- the changes that the next record is to hold, or that it is to hold a whole image
 abbrev pub IsDueDelta : Weights → Option Image → Image → Option Delta → Type 0
-IsDueDelta w before image None = (is_whole_due w ≡ true) ⊎ HasNoChanges before image
+IsDueDelta w before image None = is_whole_due w ≡ true
 IsDueDelta w before image (Some delta) = (is_whole_due w ≡ false) × ((before >>= λ i. after i delta) ≡ Some image) × IfSome before (λ i. IsLeast i delta)
 
 -- the payload that holds them

@@ -15,7 +15,7 @@ use Rattle.settle_laws.specs.Stances.{Stance}
 use Rattle.build_images.specs.Lower.build_core.Builds.{Parts, StandsFor, setting_in}
 use Rattle.build_images.specs.Lower.build_core.Phases.{has_begun}
 use Rattle.store_laws.specs.Store.{IsStory, Mean, Told, events_of, image_at, last_image, record_at}
-use Rattle.durable_build.specs.Kinds.{is_whole, weights_of}
+use Rattle.durable_build.specs.Kinds.{is_whole, is_whole_due, weights_of}
 use Rattle.build_images.specs.Images.{world_image, image_in}
 pub use Rattle.build_images.specs.Images.{IsWhole}
 
@@ -71,6 +71,11 @@ pub record Remembers {T : Type 0} (stance : T → Stance) (b : Parts T) (kept : 
   pub order : IfSome kept IsInOrder
   pub whole : IfSome kept (IsWhole (setting_in b))
   pub world : (w : Build) → StandsFor stance b w → kept ≡ world_before (setting_in b) w
+
+-- Of private fields alone: where there is no record yet, the next one is to hold a whole image.
+abbrev pub BeginsWhole : Option Image → Weights → Type 0
+BeginsWhole None w = is_whole_due w ≡ true
+BeginsWhole (Some image) w = Unit {0}
 
 -- The journal holds these records, and the build stands by them.
 pub record Keeps {D T : Type 0} (reads : D → Option (List ℕ)) (may_leave : D → List ℕ → Type 0) (stance : T → Stance) (k : Kept D T) (payloads : List (List ℕ)) : Type 0 where

@@ -1,5 +1,5 @@
 -- When each answer to an event comes, and what it leaves (this product's own).
-use Rattle.std.specs.Prelude.{◌≡◌, ◌⊎◌, ◌<◌, ◌≤◌, ◌+◌, ◌-◌, ◌^◌, ℕ, true, false, List, [], ◌∷◌, ◌++◌, length, min, Option, Some, None, IfSome, Result, Ok, Err}
+use Rattle.std.specs.Prelude.{◌≡◌, ◌<◌, ◌≤◌, ◌+◌, ◌-◌, ◌^◌, ℕ, true, false, List, [], ◌∷◌, ◌++◌, length, min, Option, Some, None, IfSome, Result, Ok, Err}
 use Rattle.jp_disk.specs.Moments.{AtEachMoment}
 use Rattle.journal_core.specs.Records.{HasWithOrWithout}
 use Rattle.journal_core.specs.State.{State}
@@ -10,7 +10,6 @@ use Rattle.delta_records.specs.declared.payload.Payload.{Payload}
 use Rattle.delta_records.specs.declared.payload.Payload.TheVariants as payload
 use Rattle.delta_records.specs.declared.weights.Weights.{Weights}
 use Rattle.build_images.specs.Lower.image_changes.Least.{IsLeast}
-use Rattle.build_images.specs.Lower.image_changes.Parts.{LeadsTo}
 use Rattle.delta_records.specs.Lower.record_form.declared.record.EventRecord.{EventRecord}
 use Rattle.image_form.specs.declared.image.Image.{Image}
 use Rattle.model_run.specs.declared.event.Event.{Event}
@@ -35,15 +34,10 @@ use Rattle.durable_build.specs.Standing.{IsWhole, Kept, Keeps, image_before, wor
 abbrev pub added : Payload → ℕ
 added q = min (5 + length (payload_form.spelling q)) (2 ^ 64 - 1)
 
--- nothing says what changed from the image before to this one, or there is none before (`changes_between` of image_changes)
-abbrev pub HasNoChanges : Option Image → Image → Type 0
-HasNoChanges None image = Unit {0}
-HasNoChanges (Some before) image = LeadsTo before image None
-
--- The kind of a payload: it holds a whole image where one is due, or nothing says what changed; else the changes alone.
-abbrev pub IsKind : Weights → Option Image → Payload → Type 0
-IsKind w before (payload.Whole e image) = (is_whole_due w ≡ true) ⊎ HasNoChanges before image
-IsKind w before (payload.Changed e delta) = is_whole_due w ≡ false
+-- The kind of a payload: it holds a whole image exactly where one is due, else the changes alone.
+abbrev pub IsKind : Weights → Payload → Type 0
+IsKind w (payload.Whole e image) = is_whole_due w ≡ true
+IsKind w (payload.Changed e delta) = is_whole_due w ≡ false
 
 -- A payload of changes holds what changed of the image before alone.
 abbrev pub HoldsLeast : Option Image → Payload → Type 0
@@ -53,7 +47,7 @@ HoldsLeast before (payload.Changed e delta) = IfSome before (λ image. IsLeast i
 -- The payload that is due for an event and the image after it.
 pub record IsDue (w : Weights) (before : Option Image) (e : Event) (image : Image) (q : Payload) : Type 0 where
   pub tells : record_with before q ≡ Some (record_of e image)
-  pub kind : IsKind w before q
+  pub kind : IsKind w q
   pub least : HoldsLeast before q
 
 -- what the payload that is due adds
@@ -147,7 +141,7 @@ pub record Puts {D : Type 0} (clock : D → ℕ) (since : D → ℕ → List ℕ
   pub tells : record_at (last_image payloads) payload ≡ Some item
   pub spelled : Payload
   pub spells : Spells payload_form spelled payload
-  pub kind : IsKind (weights_of payloads) (last_image payloads) spelled
+  pub kind : IsKind (weights_of payloads) spelled
   pub least : HoldsLeast (last_image payloads) spelled
   pub room : old.len + (5 + length payload) ≤ 2 ^ 30
   pub moments : AtEachMoment clock since old.disk new.disk (HasWithOrWithout payloads payload)

@@ -46,13 +46,13 @@ pub struct DurableBuild<D: Disk, R: SavedThread> {
 
 impl<D: Disk, R: SavedThread> Model for DurableBuild<D, R> {
     ghost use Rattle.std.specs.Prelude.{◌≡◌, ◌<◌, true, false};
-    ghost use Rattle.durable_build.specs.Standing.{Kept, Remembers};
+    ghost use Rattle.durable_build.specs.Standing.{BeginsWhole, Kept, Remembers};
 
     ghost Value = { Kept D R };
 
     ghost view = { λ d. record { journal = d.journal; build = d.build; script = d.script; agents = d.agents; weights = d.last.weights; records = d.records; stopped = d.stopped } };
 
-    ghost invariant = { λ d. (d.journal.stopped ≡ true → d.stopped ≡ true) × (d.stopped ≡ false → Remembers R.stance d.build d.last.image) × (d.records < d.journal.len) };
+    ghost invariant = { λ d. (d.journal.stopped ≡ true → d.stopped ≡ true) × (d.stopped ≡ false → Remembers R.stance d.build d.last.image × BeginsWhole d.last.image d.last.weights) × (d.records < d.journal.len) };
 }
 
 impl<D: Disk, R: SavedThread + Drop> DurableBuild<D, R> {
@@ -165,7 +165,7 @@ impl<D: Disk, R: SavedThread + Drop> DurableBuild<D, R> {
     /// Takes an event, and answers as the build does. At `Accepted` the event is durable, with the image of the build after it:
     /// each crash from then on leaves both. A crash during the call leaves the events from before, or these and the new one.
     /// The record holds what changed alone, where the payloads behind the last one with a whole image have together fewer bytes
-    /// than that one, and changes lead from the image before; else the whole image.
+    /// than that one; else the whole image.
     /// The script and the agents file are those of the accepted `Start`; nothing else changes them.
     ///
     /// # Errors

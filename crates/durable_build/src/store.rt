@@ -14,10 +14,11 @@ ghost use Rattle.delta_records.specs.Payloads.{CanBeWritten, payload_form};
 ghost use Rattle.delta_records.specs.declared.payload.Payload.TheVariants as payload;
 ghost use Rattle.delta_records.specs.Lower.record_form.Ordered.{IsInOrder};
 ghost use Rattle.delta_records.specs.Lower.record_form.Sizes.{size_in};
-ghost use Rattle.build_images.specs.Lower.script_thread.Marks.{FramesStay, GoesOnFrom};
+ghost use Rattle.build_images.specs.Lower.script_thread.Marks.{GoesOnFrom, RequestsStay, ThreadsStay};
 ghost use Rattle.build_images.specs.Images.{HasImage, image_in};
 ghost use Rattle.durable_build.specs.Kinds.{is_whole, weights_of, weights_with};
 ghost use Rattle.durable_build.specs.Adding.{AddDone, AddLeaves, HasRoom, IsDueDelta, IsSameButMarks, MarksChanges, SpellsDue};
+ghost use Rattle.durable_build.specs.Standing.{BeginsWhole};
 ghost use Rattle.durable_build.specs.Taking.{IsSource, kept_script, kept_agents};
 
 use crate::changes::due_changes;
@@ -50,7 +51,8 @@ pub fn take_event<R: SavedThread + Drop>(
     ensures unchanged { IfOk result (λ answer. (answer ≡ Accepted → ⊥) → build.new ≡ build.old) }
     ensures begun { IfOk result (λ answer. answer ≡ Accepted → has_begun build.new.phase ≡ true) }
     ensures marks { OnOk result (GoesOnFrom build.old.shared build.new.shared) }
-    ensures frames { OnOk result (FramesStay R.low R.stance build.old.group.seats build.new.group.seats) }
+    ensures frames { OnOk result (ThreadsStay R.low R.touched R.stance build.old.group.seats build.new.group.seats) }
+    ensures requests { OnOk result (RequestsStay build.old.shared.requests build.new.shared.requests) }
     ensures stands { OnOk result ((w : W.Build) → StandsFor R.stance build.old w → StandsFor R.stance build.new (W.after_one (setting_in build.old) w event.now)) }
     ensures setting { OnOk result (setting_in build.new ≡ setting_in build.old) }
 {
@@ -161,7 +163,8 @@ pub fn add<D: Disk, R: SavedThread + Drop>(
     requires running { journal.old.stopped ≡ false }
     requires begun { has_begun build.old.phase ≡ true }
     requires order { IfSome last.old.image IsInOrder }
-    requires marks { IfSome last.old.image (λ before. MarksChanges R.low R.stance before build.old) }
+    requires marks { IfSome last.old.image (λ before. MarksChanges R.low R.touched R.stance before build.old) }
+    requires first { BeginsWhole last.old.image last.old.weights }
     ensures adds { AddDone D.reads D.may_leave D.clock D.may_have_left_since last.old.weights last.old.image event.now (image_in R.stance build.new) journal.old journal.new last.new.weights result }
     ensures last { OnOk result ((last.new.image ≡ Some (image_in R.stance build.new)) × IsInOrder (image_in R.stance build.new)) }
     ensures image { ¬ (IsErrOf result TakeFault.Memory) → HasImage R.stance build.new }
@@ -184,7 +187,8 @@ fn add_record<D: Disk, R: SavedThread + Drop>(
     requires running { journal.old.stopped ≡ false }
     requires begun { has_begun build.now.phase ≡ true }
     requires order { IfSome last.old.image IsInOrder }
-    requires marks { IfSome last.old.image (λ before. MarksChanges R.low R.stance before build.now) }
+    requires marks { IfSome last.old.image (λ before. MarksChanges R.low R.touched R.stance before build.now) }
+    requires first { BeginsWhole last.old.image last.old.weights }
     ensures adds { AddDone D.reads D.may_leave D.clock D.may_have_left_since last.old.weights last.old.image event.now (image_in R.stance build.now) journal.old journal.new last.new.weights result }
     ensures last { OnOk result (last.new.image ≡ Some (image_in R.stance build.now)) }
     ensures image { ¬ (IsErrOf result TakeFault.Memory) → HasImage R.stance build.now }

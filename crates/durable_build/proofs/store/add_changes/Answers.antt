@@ -1,4 +1,4 @@
-use Rattle.std.proofs.Common.{◌≡◌, ◌∙◌, ◌<◌, ◌+◌, ◌^◌, ◌≤◌, ℕ, List, Option, Some, Ok, Err, length, refl, sym, ap, subst}
+use Rattle.std.proofs.Common.{◌≡◌, ◌∙◌, ◌+◌, ◌^◌, ◌≤◌, ℕ, List, Option, Some, Ok, Err, refl, sym, ap, subst}
 use Rattle.field_form.specs.Forms.{Spells}
 use Rattle.delta_records.specs.Lower.record_form.Sizes.{size_in}
 use Rattle.image_form.specs.declared.image.Image.{Image}
@@ -6,7 +6,7 @@ use Rattle.model_run.specs.declared.event.Event.{Event}
 use Rattle.delta_records.specs.Payloads.{next_image, payload_form}
 use Rattle.delta_records.specs.declared.payload.Payload.TheVariants as payload
 use Rattle.delta_records.specs.declared.weights.Weights.{Weights}
-use Rattle.durable_build.specs.Adding.{AddDone, HasRoom, SpellsDue}
+use Rattle.durable_build.specs.Adding.{AddDone, HasRoom}
 use Rattle.durable_build.specs.Kinds.{weights_with}
 use Rattle.durable_build.proofs.AddLemmas.{due_is, due_leads, not_added, not_spelled, room_refused, short_there, spelled_there, was_added}
 use Rattle.durable_build.proofs.LoadLemmas.{passes_on}

@@ -1,10 +1,9 @@
-use Rattle.std.proofs.Common.{Option, Some, None, Err, refl, ap, subst}
+use Rattle.std.proofs.Common.{Option, subst}
 use Rattle.std.specs.Prelude.{IfSome}
 use Rattle.build_images.specs.Lower.build_core.Builds.{setting_in}
 use Rattle.build_images.specs.Images.{HasImage, image_in}
 use Rattle.delta_records.specs.Lower.delta_form.declared.delta.Delta.{Delta}
-use Rattle.durable_build.specs.Adding.{AddDone, IsDueDelta}
-use Rattle.durable_build.proofs.LoadLemmas.{passes_on}
+use Rattle.durable_build.specs.Adding.{IsDueDelta}
 use Rattle.durable_build.proofs.OrderLemmas.{in_order}
 use Rattle.durable_build.proofs.store.add_record.Goals as goal
 

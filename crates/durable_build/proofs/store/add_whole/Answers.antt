@@ -1,10 +1,10 @@
-use Rattle.std.proofs.Common.{◌≡◌, ◌∙◌, ℕ, List, None, Some, Ok, Err, refl, sym, ap, subst}
+use Rattle.std.proofs.Common.{◌∙◌, ℕ, List, None, Some, Ok, Err, refl, sym, ap, subst}
 use Rattle.image_form.specs.declared.image.Image.{Image}
 use Rattle.delta_records.specs.declared.payload.Payload.TheVariants as payload
 use Rattle.delta_records.specs.declared.weights.Weights.{Weights}
 use Rattle.build_images.specs.Lower.build_core.Builds.{setting_in}
-use Rattle.build_images.specs.Images.{IsOrdered, IsWhole, image_in}
-use Rattle.durable_build.specs.Adding.{AddDone, IsDueDelta, SpellsDue}
+use Rattle.build_images.specs.Images.{image_in}
+use Rattle.durable_build.specs.Adding.{AddDone, SpellsDue}
 use Rattle.durable_build.specs.Kinds.{weights_with}
 use Rattle.durable_build.proofs.AddLemmas.{due_is, not_added, not_spelled, was_added}
 use Rattle.durable_build.proofs.LoadLemmas.{passes_on}

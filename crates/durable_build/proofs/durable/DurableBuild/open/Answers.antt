@@ -1,10 +1,11 @@
-use Rattle.std.proofs.Common.{◌≡◌, ◌∙◌, false, true, length, ap, subst, sym, arith}
+use Rattle.std.proofs.Common.{◌∙◌, length, ap, subst, sym, arith}
 use Rattle.jp_disk.proofs.MomentLemmas.{at_each_weaker, runs_on}
 use Rattle.journal_core.proofs.FindingLemmas.{length-entries}
 use Rattle.durable_build.specs.Opening.{OpenFails}
 use Rattle.durable_build.proofs.CountLemmas.{few_entries, still_holds}
 use Rattle.durable_build.proofs.LoadLemmas.{open_fails}
 use Rattle.durable_build.proofs.OpenLemmas.{opened_stories}
+use Rattle.durable_build.proofs.TakeLemmas.{begins_behind}
 use Rattle.durable_build.proofs.Undamaged.{never_damaged}
 use Rattle.durable_build.proofs.durable.DurableBuild.open.Goals as goal
 
@@ -57,6 +58,6 @@ returns-in-Ok-clause-undamaged g c = λ file told store at is.
 pub invariant_of-result : goal.invariant_of-result
 invariant_of-result g c = (
   λ stopped. sym c.in-Ok.ensures.running ∙ sym c.in-Ok-load.ensures.same.1 ∙ stopped,
-  λ running. c.in-Ok-load.ensures.kept,
+  λ running. (c.in-Ok-load.ensures.kept, begins_behind g.R.ScriptThread.stance c.in-Ok-load.loaded.build c.in-Ok-load.loaded.last.image c.in-Ok-load.loaded.last.weights c.in-Ok-load.ensures.begun c.in-Ok-load.ensures.kept),
   omega (arith, c.in-Ok-load.ensures.same.0, c.len.ensures, c.deref.ensures.len, ap length c.deref.ensures.value, few_entries 0 _ _ c.in-Ok.ensures.in_turn),
 )
