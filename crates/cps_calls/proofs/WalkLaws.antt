@@ -8,7 +8,7 @@ use Rattle.cell_heap.specs.Region.{Region}
 use Rattle.model_syntax.specs.declared.node.NodeForm.{NodeForm}
 use Rattle.model_syntax.specs.declared.node.NodeForm.TheVariants as form
 use Rattle.run_laws.specs.Evaluation.{TurnFits}
-use Rattle.model_values.specs.Fitting.{CellFits, CellsFit, HasClosure, There}
+use Rattle.model_values.specs.Fitting.{CellFits, CellsFit, HasClosure, IsIn, There}
 use Rattle.model_values.specs.Walks.{Turn as Element, Turns, Past, Stops, Keeps, Ends, turn as element_at}
 use Rattle.model_values.specs.Limits.{product_limits}
 use Rattle.model_values.specs.declared.cell.Cell.{Cell}
@@ -17,7 +17,7 @@ use Rattle.model_values.specs.declared.limit.LimitKind.{LimitKind}
 use Rattle.model_values.specs.declared.value.Value.{Value}
 use Rattle.model_values.specs.declared.value.Value.TheVariants.{Null, Bool as Truth, Int as Whole, Cell as InCell}
 use Rattle.model_values.specs.Cells.{Answer}
-use Rattle.model_values.specs.Kinds.{kind as kind_of}
+use Rattle.model_values.specs.Kinds.{cell_kind, closure, kind as kind_of}
 use Rattle.model_values.specs.MethodNames.{Method, Each, Collect, Find, FindAll, Any as AnyOf, Every, Times}
 use Rattle.model_run.specs.declared.callee.Callee.{Callee}
 use Rattle.model_run.specs.declared.ending.Entry.TheVariants.{Body, Turn}
@@ -91,6 +91,68 @@ callee_there root w v callee fits e = (closure_callee root w v callee fits e).no
 pub callee_called : (root : Term) (w : World) (v : Value) (callee : Callee) → CellsFit (closure_rule root) w.shared.cells → closure_of w v ≡ Some callee → is_callable (shape_in root callee.node).form ≡ true
 callee_called root w v callee fits e = closure_callable (shape_in root callee.node).form (closure_callee root w v callee fits e).form
 
+-- A closure among the cells: it is below their end, has a body, and is found by its kind.
+has_place : (cs : List Cell) (n : ℕ) → HasClosure (slice_get cs n) → n < length cs
+has_place [] n h = absurd h
+has_place (c ∷ cs) zero h = omega arith
+has_place (c ∷ cs) (suc n) h = let lt : n < length cs = has_place cs n h in omega (arith, lt)
+
+pub closure_below : (h : List Cell) (v : Value) → IsIn HasClosure h v → ValueBelow (length h) v
+closure_below h (InCell n) is = has_place h n is
+closure_below h Null is = absurd is
+closure_below h (Truth b) is = absurd is
+closure_below h (Whole z) is = absurd is
+
+has_body : (o : Option Cell) → HasClosure o → closure_in o ≡ None → ⊥
+has_body (Some (ClosureCell k env)) h e = cc e
+has_body (Some (Variable v)) h e = h
+has_body (Some (TextCell t)) h e = h
+has_body (Some (ListCell vs)) h e = h
+has_body (Some (MapCell es)) h e = h
+has_body (Some (ThrownCell class m)) h e = h
+has_body None h e = h
+
+-- what is not some callee is none
+pub none_left : (o : Option Callee) → ((callee : Callee) → o ≡ Some callee → ⊥) → o ≡ None
+none_left (Some callee) never = absurd (never callee refl)
+none_left None never = refl
+
+pub closure_has_body : (w : World) (v : Value) → IsIn HasClosure w.shared.cells v → closure_of w v ≡ None → ⊥
+closure_has_body w (InCell n) is e = has_body (slice_get w.shared.cells n) is e
+closure_has_body w Null is e = is
+closure_has_body w (Truth b) is e = is
+closure_has_body w (Whole z) is e = is
+
+of_body : (o : Option Cell) (callee : Callee) → closure_in o ≡ Some callee → HasClosure o
+of_body (Some (ClosureCell k env)) callee e = tt
+of_body (Some (Variable v)) callee e = absurd (cc e)
+of_body (Some (TextCell t)) callee e = absurd (cc e)
+of_body (Some (ListCell vs)) callee e = absurd (cc e)
+of_body (Some (MapCell es)) callee e = absurd (cc e)
+of_body (Some (ThrownCell class m)) callee e = absurd (cc e)
+of_body None callee e = absurd (cc e)
+
+pub closure_of_body : (w : World) (v : Value) (callee : Callee) → closure_of w v ≡ Some callee → IsIn HasClosure w.shared.cells v
+closure_of_body w (InCell n) callee e = of_body (slice_get w.shared.cells n) callee e
+closure_of_body w Null callee e = absurd (cc e)
+closure_of_body w (Truth b) callee e = absurd (cc e)
+closure_of_body w (Whole z) callee e = absurd (cc e)
+
+by_kind : (h : List Cell) (n c : ℕ) (o : Option Cell) → slice_get h n ≡ o → cell_kind n o ≡ closure c → HasClosure (slice_get h c)
+by_kind h n c (Some (ClosureCell k env)) at e = let same : n ≡ c = cc e in subst (λ m. HasClosure (slice_get h m)) same (subst HasClosure (sym at) tt)
+by_kind h n c (Some (Variable v)) at e = absurd (cc e)
+by_kind h n c (Some (TextCell t)) at e = absurd (cc e)
+by_kind h n c (Some (ListCell vs)) at e = absurd (cc e)
+by_kind h n c (Some (MapCell es)) at e = absurd (cc e)
+by_kind h n c (Some (ThrownCell class m)) at e = absurd (cc e)
+by_kind h n c None at e = absurd (cc e)
+
+pub closure_of_kind : (h : List Cell) (v : Value) (c : ℕ) → kind_of h v ≡ closure c → HasClosure (slice_get h c)
+closure_of_kind h (InCell n) c e = by_kind h n c (slice_get h n) refl e
+closure_of_kind h Null c e = absurd (cc e)
+closure_of_kind h (Truth b) c e = absurd (cc e)
+closure_of_kind h (Whole z) c e = absurd (cc e)
+
 -- a turn as it was read of the cells of the world, and of its script
 pub turn_there : (w : World) (on : Value) (callee : Callee) (i : ℕ) (h : List Cell) (root : Term) (two : Bool) → h ≡ w.shared.cells → root ≡ w.setting.script → two ≡ nat_eq (length (parameters_of (form_of (term_at root callee.node)))) 2 → element_at product_limits h on two i ≡ element_at product_limits w.shared.cells on (takes_two w callee) i
 turn_there w on callee i h root two cells script is =
@@ -107,7 +169,7 @@ no_turn (Stops k) e = absurd (cc e)
 pub record KeepsTurn (u : Common) (m : Method) (vs : List Value) : Type 0 where
   pub walks_it : walks m ≡ true
   pub on : There u.cells (value_at 0 vs)
-  pub closure : There u.cells (value_at 1 vs)
+  pub closure : IsIn HasClosure u.cells (value_at 1 vs)
   pub count : IsCount (value_at 2 vs)
   pub kept : ValuesFit anything (walk_further m) (walk_values m) (drop 3 vs)
   pub there : AllAre (There u.cells) (drop 3 vs)
@@ -133,16 +195,11 @@ kept_any u FindAll (v ∷ vs) fits = ((tt, further_any u Any_more vs fits.1), (f
 kept_any u Collect vs fits = (further_any u Any_more vs fits, further_there u Any_more vs fits)
 kept_any u m vs fits = (further_any u No_more vs fits, further_there u No_more vs fits)
 
-closure_there : (u : Common) (v : Value) → known u A_closure v → There u.cells v
-closure_there u (InCell n) h = has_place u.cells n h
-  where
-    has_place : (cs : List Cell) (n : ℕ) → HasClosure (slice_get cs n) → n < length cs
-    has_place [] n h = absurd h
-    has_place (c ∷ cs) zero h = omega arith
-    has_place (c ∷ cs) (suc n) h = let lt : n < length cs = has_place cs n h in omega (arith, lt)
-closure_there u Null h = tt
-closure_there u (Truth b) h = tt
-closure_there u (Whole z) h = tt
+known_closure : (u : Common) (v : Value) → known u A_closure v → IsIn HasClosure u.cells v
+known_closure u (InCell n) h = h
+known_closure u Null h = absurd h
+known_closure u (Truth b) h = absurd h
+known_closure u (Whole z) h = absurd h
 
 a_count : (u : Common) (v : Value) → known u A_count v → IsCount v
 a_count u (Whole (pos n)) h = tt
@@ -155,7 +212,7 @@ keeps_values : (u : Common) (m : Method) (vs : List Value) → walks m ≡ true 
 keeps_values u m [] is fits = absurd fits
 keeps_values u m (x ∷ []) is fits = absurd fits.1
 keeps_values u m (x ∷ y ∷ []) is fits = absurd fits.1.1
-keeps_values u m (x ∷ y ∷ z ∷ vs) is fits = record { walks_it = is; on = fits.0; closure = closure_there u y fits.1.0; count = a_count u z fits.1.1.0; kept = (kept_any u m vs fits.1.1.1).0; there = (kept_any u m vs fits.1.1.1).1; three = omega arith }
+keeps_values u m (x ∷ y ∷ z ∷ vs) is fits = record { walks_it = is; on = fits.0; closure = known_closure u y fits.1.0; count = a_count u z fits.1.1.0; kept = (kept_any u m vs fits.1.1.1).0; there = (kept_any u m vs fits.1.1.1).1; three = omega arith }
 
 walks_too : (b c : Bool) → (b && c) ≡ true → c ≡ true
 walks_too true c e = e
@@ -262,6 +319,9 @@ enters_turn k env i on f kept u result v is walks_it =
 -- a walk with a closure
 pub walk_with : (a : Around) (k : ℕ) (env : Env) (m : Method) (i : ℕ) (on f : Value) (kept : List Value) (w : World) (rs : List Reply) (callee : Callee) → closure_of w f ≡ Some callee → walk a k env m i on f kept (state w rs) ≡ walk_turn a k env m i on f kept callee (element_at (limits w) (cells w) on (takes_two w callee) i) (state w rs)
 walk_with a k env m i on f kept w rs callee e = ap (λ o. calling o (ended Null) (λ c. walk_turn a k env m i on f kept c (element_at (limits w) (cells w) on (takes_two w c) i)) (state w rs)) e
+
+pub walk_without : (a : Around) (k : ℕ) (env : Env) (m : Method) (i : ℕ) (on f : Value) (kept : List Value) (w : World) (rs : List Reply) → closure_of w f ≡ None → walk a k env m i on f kept (state w rs) ≡ ended Null (state w rs)
+walk_without a k env m i on f kept w rs e = ap (λ o. calling o (ended Null) (λ c. walk_turn a k env m i on f kept c (element_at (limits w) (cells w) on (takes_two w c) i)) (state w rs)) e
 
 module _ (k : ℕ) (env : Env) (i : ℕ) (on f : Value) (kept : List Value) (callee : Callee) where
   met_turn : (a : Around) (m : Method) (t : Element) (l : LimitKind) (u v : Standing) → has_turn t ≡ true → Met may_count l u v → (rs : List Reply) → walk_turn a k env m i on f kept callee t (state u.world rs) ≡ Limited l (state v.world rs)

@@ -1,11 +1,13 @@
 -- What calls do, as the program has it.
-use Rattle.std.specs.Prelude.{◌≡◌, ◌<◌, ℕ, Bool, true, false, List, [], map, length, Result as Outcome, Ok, Err, Option, Some, None, codes}
+use Rattle.std.specs.Prelude.{◌≡◌, ℕ, slice_get, Bool, true, false, List, [], map, length, Result as Outcome, Ok, Err, Option, Some, None, codes}
 use Rattle.model_syntax.specs.declared.node.NodeForm.{NodeForm}
 use Rattle.model_syntax.specs.declared.node.NodeForm.TheVariants as form
 use Rattle.model_values.specs.Cells.{Answer, Gives, with_new}
+use Rattle.model_values.specs.Fitting.{HasClosure}
 use Rattle.model_values.specs.Limits.{product_limits}
 use Rattle.model_values.specs.MethodNames.{Method, Call}
 use Rattle.model_values.specs.Methods.{Called, Walks, CallsClosure, Done}
+use Rattle.model_values.specs.declared.cell.Cell.{Cell}
 use Rattle.model_values.specs.declared.cell.Cell.TheVariants.{Variable}
 use Rattle.model_values.specs.declared.value.Value.{Value}
 use Rattle.model_values.specs.declared.value.Value.TheVariants.{Null, Cell as InCell}
@@ -63,11 +65,11 @@ IsCalled w f n called (does.Calls callee) = (c : ℕ) × (called ≡ CallsClosur
 IsCalled w f n called (does.Walks walk c) = (called ≡ Walks (method_of walk) c) × (method_of walk ≡ walk_method f) × (walk_kept walk ≡ [])
 IsCalled w f n called (does.Throws effect) = called ≡ Done (effect_answer product_limits (cells w) effect) n
 
--- what it names is among the first n cells
-abbrev pub CallBelow : ℕ → ClosureCall → Type 0
-CallBelow n (does.Calls callee) = Unit {0}
-CallBelow n (does.Walks walk c) = c < n
-CallBelow n (does.Throws effect) = EffectBelow n effect
+-- what it names is among these cells, and a walk's closure is one
+abbrev pub CallFits : List Cell → ClosureCall → Type 0
+CallFits h (does.Calls callee) = Unit {0}
+CallFits h (does.Walks walk c) = HasClosure (slice_get h c)
+CallFits h (does.Throws effect) = EffectBelow (length h) effect
 
 -- the frames of this crate
 abbrev pub is_call_frame : FrameKind → Bool

@@ -1,7 +1,7 @@
 -- A walk before its next turn, as the program has it.
 use Rattle.std.specs.Prelude.{◌≡◌, ◌<◌, List, All, length, pos}
 use Rattle.cell_heap.specs.Soundness.{ValueBelow}
-use Rattle.model_values.specs.Fitting.{CellsFit}
+use Rattle.model_values.specs.Fitting.{CellsFit, HasClosure, IsIn}
 use Rattle.model_values.specs.declared.cell.Cell.{Cell}
 use Rattle.model_values.specs.declared.value.Value.{Value}
 use Rattle.model_values.specs.declared.value.Value.TheVariants.{Int as Whole}
@@ -17,7 +17,7 @@ pub record WalkStands (root : Term) (h : List Cell) (p : WalkAt) : Type 0 where
   pub node : p.node < length (nodes_of root)
   pub method : method_of p.walk ≡ walk_method (shape_at root p.node).form
   pub on : ValueBelow (length h) p.on
-  pub closure : ValueBelow (length h) p.closure
+  pub closure : IsIn HasClosure h p.closure
   pub kept : All (ValueBelow (length h)) (walk_kept p.walk)
   pub cells : CellsFit (closure_rule root) h
 

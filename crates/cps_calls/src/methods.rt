@@ -25,7 +25,7 @@ ghost use Rattle.cps_frames.specs.Moves.{ComesTo};
 ghost use Rattle.cps_frames.specs.Places.{MayEnter};
 ghost use Rattle.cps_frames.specs.Standing.{standing, world_of};
 ghost use Rattle.cps_frames.specs.declared.thread.ThreadState.{ThreadState as Thread};
-ghost use Rattle.cps_calls.specs.Calls.{CallBelow, IsCalled, called_closure, method_name};
+ghost use Rattle.cps_calls.specs.Calls.{CallFits, IsCalled, called_closure, method_name};
 ghost use Rattle.cps_calls.specs.Kinds.{is_null_kind, is_null_safe};
 
 use crate::closures::closure_of;
@@ -173,7 +173,7 @@ fn closure_call(
     requires on { ValueBelow (length shared.now.heap.cells) on.now }
     requires arguments { All (ValueBelow (length shared.now.heap.cells)) arguments.now }
     ensures called { (t : Thread) (n : ℕ) → IfOk result (IsCalled (world_of shared.now t) (form_of (term_at (script_of shared.now.code) node)) n (called_or_none product_limits shared.now.heap.cells None (closure_call product_limits shared.now.heap.cells on.now (method_name (form_of (term_at (script_of shared.now.code) node))) arguments.now n) (kind shared.now.heap.cells on.now) (method_name (form_of (term_at (script_of shared.now.code) node))) n)) }
-    ensures below { IfOk result (CallBelow (length shared.now.heap.cells)) }
+    ensures fits { IfOk result (CallFits shared.now.heap.cells) }
 {
     let kind = kind_of(&shared.heap, on);
     let name = method_name(&shared.code, node);
@@ -214,7 +214,7 @@ fn walk_with(shared: &Shared, method: Method, closure: &Value) -> Result<Closure
     requires closure { ValueBelow (length shared.now.heap.cells) closure.now }
     requires walks { walks (table_method method) ≡ true }
     ensures called { (t : Thread) (n : ℕ) (f : Form) → walk_method f ≡ table_method method → IfOk result (IsCalled (world_of shared.now t) f n (walk_call product_limits shared.now.heap.cells (table_method method) (kind shared.now.heap.cells closure.now) n)) }
-    ensures below { IfOk result (CallBelow (length shared.now.heap.cells)) }
+    ensures fits { IfOk result (CallFits shared.now.heap.cells) }
 {
     let alloc = shared.alloc();
     match (Walk::begun(alloc, method), kind_of(&shared.heap, closure)) {

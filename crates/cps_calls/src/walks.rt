@@ -49,7 +49,8 @@ pub(crate) struct WalkAt {
     pub(crate) at: u32,
 }
 
-/// Turn `at` of a walk at a node, whose kept values are the value over which it goes, its closure, and what it has kept so far.
+/// Turn `at` of a walk at a node, whose kept values are the value over which it goes, its closure, and what it has kept so far. A
+/// method that walks over nothing, and what is no closure, give null, as the definitions have it.
 pub fn walk_turn(
     state: &mut ThreadState,
     shared: &mut Shared,
@@ -66,18 +67,21 @@ pub fn walk_turn(
     let closure = value_at(&kept, 1);
     match Walk::of(walk_method(&shared.code, node), Tail::behind(kept, 2)) {
         None => Ok(Move::Ends(Ending::Normal(Value::Null))),
-        Some(walk) => begin_turn(
-            state,
-            shared,
-            WalkAt {
-                node,
-                env,
-                walk,
-                on,
-                closure,
-                at,
-            },
-        ),
+        Some(walk) => match closure_of(shared, &closure)? {
+            None => Ok(Move::Ends(Ending::Normal(Value::Null))),
+            Some(_) => begin_turn(
+                state,
+                shared,
+                WalkAt {
+                    node,
+                    env,
+                    walk,
+                    on,
+                    closure,
+                    at,
+                },
+            ),
+        },
     }
 }
 
@@ -107,18 +111,15 @@ pub(crate) fn begin_turn(
     requires stands { WalkStands (script_of shared.old.code) shared.old.heap.cells place }
     ensures { (r : ℕ) → 0 < r → ComesTo place.node r (λ sh a. walk a place.node place.env (walk_method sh.form) place.at place.on place.closure (walk_kept place.walk)) (standing shared.old state.old) result (standing shared.new state.new) }
 {
-    match closure_of(shared, &place.closure)? {
-        None => Ok(Move::Ends(Ending::Normal(Value::Null))),
-        Some(callee) => {
-            if has_walk_turn(&shared.heap, &place.on, place.at) {
-                run_turn(state, shared, place, callee)
-            } else {
-                let alloc = shared.alloc();
-                let value = place.walk.at_end(alloc, &mut shared.heap, &place.on)?;
-                Ok(Move::Ends(Ending::Normal(value)))
-            }
-        }
+    let Some(callee) = closure_of(shared, &place.closure)? else {
+        unreachable!()
+    };
+    if has_walk_turn(&shared.heap, &place.on, place.at) {
+        return run_turn(state, shared, place, callee);
     }
+    let alloc = shared.alloc();
+    let value = place.walk.at_end(alloc, &mut shared.heap, &place.on)?;
+    Ok(Move::Ends(Ending::Normal(value)))
 }
 
 /// A turn that is there counts as it begins, and the cells that it needs are made with it; then its closure runs.

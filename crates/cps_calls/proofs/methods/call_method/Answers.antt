@@ -25,7 +25,7 @@ use Rattle.std.proofs.lemmas.List.Elements.{All-nil}
 use Rattle.cps_frames.specs.Halts.{halt_of}
 use Rattle.cps_frames.specs.Standing.{standing, world_of}
 use Rattle.cps_frames.specs.declared.thread.Move.TheVariants.{Ends}
-use Rattle.cps_calls.specs.Calls.{CallBelow, IsCalled}
+use Rattle.cps_calls.specs.Calls.{CallFits, IsCalled}
 use Rattle.cps_calls.proofs.CallLaws.{call_ends, call_met, calls, name_of, no_own_call, own_call_is, own_gives, own_none, own_refuses, read_again, to_done, to_unraised, to_walks}
 use Rattle.cps_calls.proofs.CountLaws.{call_counts}
 use Rattle.cps_calls.proofs.methods.call_method.Goals as goal
@@ -145,7 +145,7 @@ begin_turn-requires c =
     let h = new.heap.cells in
     let n = new.count in
     let is = subst (IsCalled (world_of new c.args.state.now) (form_of (term_at (script_of new.code) k)) n (called_or_none product_limits h None (closure_call product_limits h on (name_of (script_of new.code) k) c.as_slice-2.result.now n) (kind h on) (name_of (script_of new.code) k) n)) c.in-Walks.is (c.in_ok-callee.ensures.called c.args.state.now n) in
-    let below = subst (CallBelow (length h)) c.in-Walks.is c.in_ok-callee.ensures.below in
+    let below = subst (CallFits h) c.in-Walks.is c.in_ok-callee.ensures.fits in
     record {
       stands = record {
         node = subst (λ x. k < length (nodes_of (script_of x.code))) (sym same) (subst (λ root. k < length (nodes_of root)) (sym script) c.requires.node);

@@ -15,8 +15,8 @@ use Rattle.cps_calls.specs.Calls.{IsCalled, method_name}
 use Rattle.cps_calls.proofs.MethodLaws.{calls_named, closure_cell, is_call, not_called, right_of, throws_named, walk_is, walk_walks, walks_named}
 use Rattle.cps_calls.proofs.methods.closure_call.Goals as goal
 
-pub returns-in_default-clause-below : goal.returns-in_default-clause-below
-returns-in_default-clause-below c = c.in_ok-refusal.ensures.below _
+pub returns-in_default-clause-fits : goal.returns-in_default-clause-fits
+returns-in_default-clause-fits c = c.in_ok-refusal.ensures.below _
 
 pub returns-in-Some-2-clause-called : goal.returns-in-Some-2-clause-called
 returns-in-Some-2-clause-called c = λ t n.
@@ -40,8 +40,8 @@ returns-clause-called c = λ t n.
     throws_named h c.args.on.now x c.args.arguments.now n m named (not_called m w c.args.on.now (sym (c.in_ok-callee.ensures t) ∙ c.in_default-2.is)) walks
     ∙ ap (λ a. Done a n) (ap (λ k. no_method product_limits h k x) (sym c.kind_of-kind.ensures.kind) ∙ ap (no_method product_limits h (seen c.kind_of-kind.result)) (sym c.method_name-name.ensures) ∙ sym (c.in_ok-refusal-2.ensures.answer h))
 
-pub returns-clause-below : goal.returns-clause-below
-returns-clause-below c = c.in_ok-refusal-2.ensures.below _
+pub returns-clause-fits : goal.returns-clause-fits
+returns-clause-fits c = c.in_ok-refusal-2.ensures.below _
 
 pub walk_with-requires-clause-walks : goal.walk_with-requires-clause-walks
 walk_with-requires-clause-walks c =

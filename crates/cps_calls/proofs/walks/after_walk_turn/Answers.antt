@@ -2,6 +2,7 @@ use Rattle.std.proofs.Common.{◌∙◌, ◌+◌, ◌^◌, ◌∷◌, length, dr
 use Rattle.std.specs.List.{All}
 use Rattle.cell_heap.specs.Soundness.{ValueBelow}
 use Rattle.method_names.specs.Names.{seen as table_method}
+use Rattle.model_values.specs.Fitting.{HasClosure, IsIn}
 use Rattle.model_values.specs.Limits.{product_limits}
 use Rattle.model_run.specs.Around.{position, value_at}
 use Rattle.model_run.specs.Calls.{walk_method, walks}
@@ -61,7 +62,7 @@ begin_turn-requires c =
         node = c.requires.may.frame.fits.node;
         method = is.0 ∙ c.of-walk.ensures.method ∙ c.walk_method-method.ensures;
         on = subst (ValueBelow (length h)) (sym c.kept_value-on.ensures) (there_below h (value_at 0 f.values) row.on);
-        closure = subst (ValueBelow (length h)) (sym c.kept_value-closure.ensures) (there_below h (value_at 1 f.values) row.closure);
+        closure = subst (IsIn HasClosure h) (sym c.kept_value-closure.ensures) row.closure;
         kept = subst (NextBelow (length h)) c.in-GoesOn.is c.in_ok-walk.ensures.below;
         cells = c.requires.may.sound.cells;
       };
