@@ -5,7 +5,6 @@ use Rattle.model_syntax.specs.declared.node.NodeForm.{NodeForm}
 use Rattle.model_syntax.specs.declared.node.NodeForm.TheVariants as form
 use Rattle.model_syntax.specs.declared.tree.AssignSign.{AssignSign}
 use Rattle.model_values.specs.Cells.{Answer}
-use Rattle.model_values.specs.Index.{set_at}
 use Rattle.model_values.specs.Operators.{apply}
 use Rattle.model_values.specs.declared.limit.LimitKind.{LimitKind}
 use Rattle.model_values.specs.declared.cell.Binding.{Binding}
@@ -14,7 +13,7 @@ use Rattle.model_values.specs.declared.operator.Op.{Op}
 use Rattle.model_values.specs.declared.value.Value.{Value}
 use Rattle.model_values.specs.declared.value.Value.TheVariants.{Null}
 use Rattle.model_run.specs.Around.{Around, Shape, arity, cells, ended, form_at, frame, limits, under, value_at}
-use Rattle.model_run.specs.Assignments.{after_receiver, assign_at, assign_by, assign_value, at_target, operator_in, place_size, read_target, receiver, sign_operator, step_by, write_target}
+use Rattle.model_run.specs.Assignments.{after_receiver, assign_at, assign_by, assign_value, at_target, operator_in, place_size, read_target, receiver, sign_operator, write_target}
 use Rattle.model_run.specs.Forms.{after, enter, name_of, start}
 use Rattle.model_run.specs.Names.{declare, write_name}
 use Rattle.model_run.specs.Nesting.{shape_at}
@@ -143,11 +142,6 @@ set_says a k sh env place sign none = ap (assign_at a k sh env place) none
 pub join_says : (a : Around) (k : ℕ) (sh : Shape) (env : Env) (place : List Value) (sign : AssignSign) (o : Op) → sign_operator sign ≡ Some o → at_target a k sh env place (form.Assign sign) ≡ read_target (form_at sh.parts 0) place env (λ old. assign_value a k sh env (place ++ old ∷ []))
 join_says a k sh env place sign o some = ap (assign_at a k sh env place) some
 
-pub down_says : (a : Around) (k : ℕ) (sh : Shape) (env : Env) (place : List Value) (f : NodeForm) → ((sign : AssignSign) → f ≡ form.Assign sign → ⊥) → (f ≡ form.Increment → ⊥) → at_target a k sh env place f ≡ step_by (stepped false) (form_at sh.parts 0) env place
-down_says a k sh env place (form.Assign sign) not_assign not_up = absurd (not_assign sign refl)
-down_says a k sh env place form.Increment not_assign not_up = absurd (not_up refl)
-down_says a k sh env place f not_assign not_up = refl
-
 -- A value that is assigned, by its operator.
 pub to_plain : (k r : ℕ) (kept : List Value) (env : Env) (val : Value) (u u1 : Standing) (result : Outcome Move Halt) (v : Standing) → operator_in (shape_at u.world.setting.script k).form ≡ None → Passed (suffix_limit (target u k)) (suffix_counted (target u k)) u u1 → ComesTo k r (λ sh a. write_target (form_at sh.parts 0) kept env val) u1 result v → ComesTo k r (λ sh a. assign_by (operator_in sh.form) (form_at sh.parts 0) kept env val) u result v
 to_plain k r kept env val u u1 result v none p c =
@@ -210,16 +204,6 @@ of_property a k sh env f e h = absurd (cc h)
 pub of_entry : (a : Around) (k : ℕ) (sh : Shape) (env : Env) (f : NodeForm) (e : Ending) → is_property f ≡ false → after_receiver a k sh env f e ≡ on_value (λ of. under a (frame kind.TargetIndex k 0 env (of ∷ [])) (after (frame kind.TargetIndex k 0 env (of ∷ [])) sh a) (Inside 1) 0 env) e
 of_entry a k sh env (form.ToProperty p) e h = absurd (cc h)
 of_entry a k sh env f e h = refl
-
--- an entry is written
-pub entry_says : (f : NodeForm) (place : List Value) (env : Env) (val : Value) → ((x : List ℕ) → f ≡ form.ToName x → ⊥) → ((x : List ℕ) → f ≡ form.ToProperty x → ⊥) → write_target f place env val ≡ operating (λ w. set_at (limits w) (cells w) (value_at 0 place) (value_at 1 place) val) ended
-entry_says (form.ToName x) place env val not_name not_property = absurd (not_name x refl)
-entry_says (form.ToProperty x) place env val not_name not_property = absurd (not_property x refl)
-entry_says f place env val not_name not_property = refl
-
-pub to_entry : (k r : ℕ) (place : List Value) (env : Env) (val : Value) (u : Standing) (result : Outcome Move Halt) (v : Standing) → ((x : List ℕ) → target u k ≡ form.ToName x → ⊥) → ((x : List ℕ) → target u k ≡ form.ToProperty x → ⊥) → ComesTo k r (λ sh a. operating (λ w. set_at (limits w) (cells w) (value_at 0 place) (value_at 1 place) val) ended) u result v → ComesTo k r (λ sh a. write_target (form_at sh.parts 0) place env val) u result v
-to_entry k r place env val u result v not_name not_property =
-    to_as k r (λ sh a. write_target (form_at sh.parts 0) place env val) (λ sh a. operating (λ w. set_at (limits w) (cells w) (value_at 0 place) (value_at 1 place) val) ended) u result v (λ a rs. ap (λ m. m (state u.world rs)) (entry_says (target u k) place env val not_name not_property))
 
 -- A statement of this crate from its beginning.
 pub begun_says : (a : Around) (k : ℕ) (sh : Shape) (env : Env) (f : NodeForm) → starts_here f ≡ true → is_declaration f ≡ false → start a k sh env f ≡ tick (receiver a k sh env (form_at sh.parts 0))

@@ -1,6 +1,8 @@
 -- Targets: they stand behind what leaves their cells, and what is read of them or written to them.
 use Rattle.std.proofs.Common.{◌≡◌, ◌∙◌, ◌<◌, ◌≤◌, ◌&&◌, ℕ, zero, suc, Bool, true, false, List, [], ◌∷◌, ◌++◌, length, refl, sym, ap, subst, arith}
 use Rattle.std.proofs.lemmas.Bool.{eqb-true}
+use Rattle.std.proofs.Math.Bool.{Bool-set}
+use Rattle.std.proofs.Math.Logic.{∥∥₁_elim}
 use Rattle.std.specs.Prelude.{Result as Outcome, Ok, Err, IfOk, Some}
 use Rattle.std.specs.List.{AllByRecursion as AllAre}
 use Rattle.model_syntax.specs.declared.node.NodeForm.{NodeForm}
@@ -32,7 +34,8 @@ use Rattle.model_run.specs.declared.ending.Ending.{Ending}
 use Rattle.model_run.specs.declared.ending.Entry.TheVariants.{First}
 use Rattle.model_run.specs.declared.frame.Frame.{Frame}
 use Rattle.model_run.specs.declared.frame.FrameKind.TheVariants as kind
-use Rattle.script_laws.specs.NodeParts.{is_function}
+use Rattle.script_laws.specs.NodeParts.{HasParts, Stand, is_function, is_target, parts_asked}
+use Rattle.script_laws.proofs.ScriptParts.{script_parts}
 use Rattle.cps_assignments.specs.Kinds.{starts_here}
 use Rattle.cps_frames.specs.Places.{MayEnter, MayGoOn}
 use Rattle.cps_frames.specs.Parts.{least_parts}
@@ -55,6 +58,35 @@ target_part root k h =
     let one : 1 ≤ least_parts (shape_at root k).form = one_part (shape_at root k).form h.form in
     let le : least_parts (shape_at root k).form ≤ arity (shape_at root k) = parts_there root h.script k in
     omega (arith, one, le)
+
+-- the first of them is a target of one of the three forms
+first_target : (f : NodeForm) (fs : List NodeForm) → Stand (parts_asked f) fs → is_target_form f ≡ true → is_target (form_at fs 0) ≡ true
+first_target (form.Assign sign) [] h is = absurd h
+first_target (form.Assign sign) (g ∷ gs) h is = h.0
+first_target form.Increment [] h is = absurd h
+first_target form.Increment (g ∷ gs) h is = h.0
+first_target form.Decrement [] h is = absurd h
+first_target form.Decrement (g ∷ gs) h is = h.0
+first_target f fs h is = absurd (cc is)
+
+target_is : (root : Term) (k : ℕ) → HasTarget root k → is_target (form_at (shape_at root k).parts 0) ≡ true
+target_is root k h = ∥∥₁_elim h.script (hlevel (Bool-set)) (λ s. first_target (shape_at root k).form (shape_at root k).parts (subst (λ t. HasParts (shape_at t k)) (sym s.1) (script_parts s.0 k)) h.form)
+
+no_fourth : (f : NodeForm) → is_target f ≡ true → ((x : List ℕ) → f ≡ form.ToName x → ⊥) → ((x : List ℕ) → f ≡ form.ToProperty x → ⊥) → (f ≡ form.ToIndex → ⊥) → ⊥
+no_fourth (form.ToName x) is a b c = a x refl
+no_fourth (form.ToProperty x) is a b c = b x refl
+no_fourth form.ToIndex is a b c = c refl
+no_fourth f is a b c = cc is
+
+pub no_other_target : (root : Term) (k : ℕ) (f : NodeForm) → HasTarget root k → f ≡ form_at (shape_at root k).parts 0 → ((x : List ℕ) → f ≡ form.ToName x → ⊥) → ((x : List ℕ) → f ≡ form.ToProperty x → ⊥) → (f ≡ form.ToIndex → ⊥) → ⊥
+no_other_target root k f h is = no_fourth f (ap is_target is ∙ target_is root k h)
+
+-- and so is the statement that has it
+pub no_other_form : (f : NodeForm) → is_target_form f ≡ true → ((sign : AssignSign) → f ≡ form.Assign sign → ⊥) → (f ≡ form.Increment → ⊥) → (f ≡ form.Decrement → ⊥) → ⊥
+no_other_form (form.Assign sign) is a b c = a sign refl
+no_other_form form.Increment is a b c = b refl
+no_other_form form.Decrement is a b c = c refl
+no_other_form f is a b c = cc is
 
 two_parts : (f : NodeForm) → is_assignment f ≡ true → 2 ≤ least_parts f
 two_parts (form.Assign sign) h = (let le : 2 ≤ 2 = omega arith in le)
@@ -195,11 +227,6 @@ pub property_size : (f : NodeForm) (v : Value) → is_property f ≡ true → pl
 property_size (form.ToProperty p) v h = (let le : 1 ≤ 1 = omega arith in le)
 property_size f v h = absurd (cc h)
 
-pub entry_size : (f : NodeForm) (n : ℕ) → place_size f ≤ n → ((x : List ℕ) → f ≡ form.ToName x → ⊥) → ((x : List ℕ) → f ≡ form.ToProperty x → ⊥) → 2 ≤ n
-entry_size (form.ToName x) n le not_name not_property = absurd (not_name x refl)
-entry_size (form.ToProperty x) n le not_name not_property = absurd (not_property x refl)
-entry_size f n le not_name not_property = le
-
 -- Frames of targets.
 frame_stands : (u : Standing) (f : Frame) (e : Ending) (place : List Value) → MayGoOn u f e → is_target_form (shape_at u.world.setting.script f.node).form ≡ true → AllAre (There u.world.shared.cells) place → place_size (form_at (shape_at u.world.setting.script f.node).parts 0) ≤ length place → TargetStands u.world.setting.script u.world.shared f.node f.env place
 frame_stands u f e place may is all size = record {
@@ -239,11 +266,12 @@ index_kept u f e may is = (one_kept u.world.shared f.values (index_values u f e 
 
 pub index_stands : (u : Standing) (f : Frame) (e : Ending) (i : Value) (place : List Value) → MayGoOn u f e → f.kind ≡ kind.TargetIndex → There u.world.shared.cells i → place ≡ f.values ++ i ∷ [] → TargetStands u.world.setting.script u.world.shared f.node f.env place
 index_stands u f e i place may is there place_is =
+    let le : 2 ≤ 2 = omega arith in
     let one = one_kept u.world.shared f.values (index_values u f e may is) in
     let row = stands u f e kind.TargetIndex may is in
     let two : place_size (form_at (shape_at u.world.setting.script f.node).parts 0) ≡ 2 = eqb-true _ _ (and_right _ _ row) in
     subst (TargetStands u.world.setting.script u.world.shared f.node f.env) (sym (place_is ∙ ap (λ vs. vs ++ i ∷ []) one.0))
-    (frame_stands u f e (value_at 0 f.values ∷ i ∷ []) may (and_left _ _ row) (one.1, (there, tt)) (let le : 2 ≤ 2 = omega arith in subst (λ n. n ≤ 2) (sym two) le))
+    (frame_stands u f e (value_at 0 f.values ∷ i ∷ []) may (and_left _ _ row) (one.1, (there, tt)) (subst (λ n. n ≤ 2) (sym two) le))
 
 -- what the frame of an assigned value keeps
 all_there : (u : Common) (n : ℕ) (vs : List Value) → ValuesFit (known u) No_more (any_values n) vs → AllAre (There u.cells) vs

@@ -119,7 +119,8 @@ pub(crate) fn at_target(
             Some(_) => read_first(state, shared, node, env, place),
         },
         NodeForm::Increment => step_by(state, shared, node, env, place, true),
-        _ => step_by(state, shared, node, env, place, false),
+        NodeForm::Decrement => step_by(state, shared, node, env, place, false),
+        _ => unreachable!(),
     }
 }
 

@@ -29,7 +29,8 @@ pub(crate) fn place_size(code: &Code, node: u32) -> usize
     match part_form(code, node, 0) {
         NodeForm::ToName(_) => 0,
         NodeForm::ToProperty(_) => 1,
-        _ => 2,
+        NodeForm::ToIndex => 2,
+        _ => unreachable!(),
     }
 }
 
@@ -80,11 +81,12 @@ pub(crate) fn read_target(
             let of = kept_value(place, 0);
             get_property(alloc, heap, &of, name.as_slice())
         }
-        _ => {
+        NodeForm::ToIndex => {
             let holder = kept_value(place, 0);
             let index = kept_value(place, 1);
             get_at(alloc, heap, &holder, &index)
         }
+        _ => unreachable!(),
     }
 }
 
@@ -112,11 +114,12 @@ pub(crate) fn write_target(
             let value = set_property(alloc, heap, &of, name.as_slice(), value)?;
             Ok(Move::Ends(Ending::Normal(value)))
         }
-        _ => {
+        NodeForm::ToIndex => {
             let holder = kept_value(place, 0);
             let index = kept_value(place, 1);
             let value = set_at(alloc, heap, &holder, &index, value)?;
             Ok(Move::Ends(Ending::Normal(value)))
         }
+        _ => unreachable!(),
     }
 }

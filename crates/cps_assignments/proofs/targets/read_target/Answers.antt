@@ -2,14 +2,18 @@ use Rattle.std.proofs.Common.{◌∙◌, ◌≤◌, length, arith, refl, subst, 
 use Rattle.model_run.specs.Assignments.{place_size}
 use Rattle.model_run.specs.Names.{read_name}
 use Rattle.value_view.specs.Answers.{Answers}
+use Rattle.cps_code.specs.Script.{script_of}
 use Rattle.cps_frames.specs.Standing.{standing, world_of}
 use Rattle.cps_frames.proofs.MoveLaws.{done_answers}
 use Rattle.cps_assignments.specs.Targets.{read_answer}
-use Rattle.cps_assignments.proofs.TargetLaws.{entry_size, target_part}
+use Rattle.cps_assignments.proofs.TargetLaws.{no_other_target, target_part}
 use Rattle.cps_assignments.proofs.targets.read_target.Goals as goal
 
 pub part_form-requires-clause-part : goal.part_form-requires-clause-part
 part_form-requires-clause-part c = target_part _ _ c.requires.target
+
+pub unreachable-requires : goal.unreachable-requires
+unreachable-requires c = no_other_target (script_of c.args.shared.now.code) c.args.node c.part_form.result.now c.requires.target c.part_form.ensures c.in_default.not-ToName c.in_default.not-ToProperty c.in_default.not-ToIndex
 
 pub kept_value-of-requires : goal.kept_value-of-requires
 kept_value-of-requires c =
@@ -18,12 +22,12 @@ kept_value-of-requires c =
 
 pub kept_value-holder-requires : goal.kept_value-holder-requires
 kept_value-holder-requires c =
-    let le = entry_size _ (length c.args.place.now) c.requires.size (λ x g. c.in_default.not-ToName _ (c.part_form.ensures ∙ g)) (λ x g. c.in_default.not-ToProperty _ (c.part_form.ensures ∙ g)) in
+    let le : 2 ≤ length c.args.place.now = subst (λ f. place_size f ≤ length c.args.place.now) (sym c.part_form.ensures ∙ c.in-ToIndex.is) c.requires.size in
     omega (arith, le)
 
 pub kept_value-index-requires : goal.kept_value-index-requires
 kept_value-index-requires c =
-    let le = entry_size _ (length c.args.place.now) c.requires.size (λ x g. c.in_default.not-ToName _ (c.part_form.ensures ∙ g)) (λ x g. c.in_default.not-ToProperty _ (c.part_form.ensures ∙ g)) in
+    let le : 2 ≤ length c.args.place.now = subst (λ f. place_size f ≤ length c.args.place.now) (sym c.part_form.ensures ∙ c.in-ToIndex.is) c.requires.size in
     omega (arith, le)
 
 pub returns-in-ToName-clause-done : goal.returns-in-ToName-clause-done
