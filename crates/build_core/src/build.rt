@@ -89,9 +89,9 @@ impl<R: ScriptThread + Drop> Build<R> {
     /// else `Accepted`. Only `Accepted` changes anything: the thread that the event answers is ready, and threads go on until
     /// each waits or the build is over. Where it answers, what is unmarked behind it is as it was: of the cells each that is
     /// new or was written is marked, flow nodes, bytes of the log and binding variables are added alone, and of the frames of
-    /// a thread those are the same, from the outermost on, that count as untouched; a thread that is not touched is the same.
-    /// An open request with the number of one from before is the same, but for what was taken of its output and what came to
-    /// the output that is kept.
+    /// a thread those are the same, from the outermost on, that count as untouched; a thread that is not touched is the same
+    /// but for what it waits for. An open request with the number of one from before is the same, but for what was taken of
+    /// its output and what came to the output that is kept.
     ///
     /// # Errors
     ///
