@@ -4,17 +4,11 @@ use Rattle.std.specs.Option.{option_map}
 use Rattle.std.proofs.lemmas.List.{append-nil}
 use Rattle.model_text.specs.declared.pair.Pair.{Pair}
 use Rattle.model_run.specs.FlowNodes.{IsFront}
-use Rattle.model_run.specs.Requests.{IsSame, SameRequest}
+use Rattle.model_run.specs.Requests.{SameRequest}
 use Rattle.model_run.specs.declared.request.Request.{Request}
 use Rattle.model_run.specs.declared.request.Request.TheVariants as request
 use Rattle.model_run.specs.declared.request.OpenRequest.{OpenRequest}
-use Rattle.delta_form.specs.After.{grown, written_request}
-use Rattle.delta_form.specs.Numbers.{written_number}
-use Rattle.delta_form.specs.declared.delta.WrittenRequest.TheVariants as written
-use Rattle.image_changes.specs.Growing.{TaskGrows}
-use Rattle.image_changes.specs.Least.{IsShort}
-use Rattle.image_changes.specs.Walks.{Writes}
-use Rattle.image_changes.specs.declared.requests.Growth.{Growth}
+use Rattle.delta_form.specs.After.{grown}
 
 abbrev pub taken_of : Request → ℕ
 taken_of (request.Task executor workspace folder env script status keep_out taken out) = taken
@@ -75,24 +69,6 @@ grows (request.Task e w f v s t k was had) (request.Task e2 w2 f2 v2 s2 t2 k2 ta
 grows (request.Task e w f v s t k was had) r added same differs is = absurd same
 grows (request.Input a) (request.Input b) added same differs is = absurd (differs (ap (λ (i : List ℕ). request.Input i) same))
 grows (request.Input a) r added same differs is = absurd same
-
--- a request that stood is the same where its task is
-pub open_stays : (stood item : OpenRequest) → IsSame stood item → stood.request ≡ item.request → stood ≡ item
-open_stays stood item same is =
-    ap (λ (n : ℕ). record stood { number = n }) same.number
-    ∙ ap (λ (t : ℕ). record stood { number = item.number; thread = t }) same.thread
-    ∙ ap (λ (r : Request). record item { request = r }) is
-
--- else it is written short
-pub open_grows : (stood item : OpenRequest) (g : Growth) → IsSame stood item → TaskGrows stood.request item.request (Some g)
-    → Writes (λ r. r.number) written_number written_request IsShort stood item (Some (written.Grown item.number g.taken g.out))
-open_grows stood item g same is = (
-  λ e. is.0 (ap (λ (r : OpenRequest). r.request) e),
-  refl,
-  ap (λ (o : Option Request). option_map (λ q. Some (record stood { request = q })) o) is.1
-      ∙ ap (λ (r : OpenRequest). Some (Some r)) (ap (λ (n : ℕ). record stood { number = n; request = item.request }) same.number ∙ ap (λ (t : ℕ). record item { thread = t }) same.thread),
-  tt,
-)
 
 pub out_grown : (stood item : Request) (taken : ℕ) (added : List ℕ) → grown taken added stood ≡ Some item → out_of item ≡ out_of stood ++ added
 out_grown (request.Task e w f v s t k was had) item taken added is =

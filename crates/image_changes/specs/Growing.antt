@@ -10,7 +10,7 @@ use Rattle.delta_form.specs.declared.delta.WrittenThread.{WrittenThread}
 use Rattle.image_changes.specs.Least.{CannotGrowTo, IsShortCell}
 use Rattle.image_changes.specs.declared.requests.Growth.{Growth}
 
--- The task has grown to be the other, and is not it; or nothing has grown.
+-- A request that stood is not this one, and grown so it is; or it is this one.
 abbrev pub TaskGrows : Request → Request → Option Growth → Type 0
 TaskGrows stood item None = stood ≡ item
 TaskGrows stood item (Some g) = ¬ (stood ≡ item) × (grown g.taken g.out stood ≡ Some item)

@@ -52,7 +52,8 @@ pub record HasFront (stood : ImageThread) (frames : List ImageFrame) : Type 0 wh
   pub few : length frames ≤ 4294967295
   pub front : IsFront frames stood.frames
 
--- A thread now that took no turn is the one that stood, but for its parent and what it waits for; any other has the frames in front that it had.
+-- A thread now that took no turn is the one that stood, but for its parent and what it waits for; any other has the
+-- frames in front that it had.
 abbrev pub KeepsThread : ImageThread → NowThread → Type 0
 KeepsThread x (Untouched stood parent wait) = x ≡ stood.now
 KeepsThread x (Touched front thread) = HasFront x front.now

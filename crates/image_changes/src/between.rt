@@ -1,38 +1,35 @@
 //! The changes from an image to what stands in the build now.
 
-ghost use Rattle.std.specs.Prelude.{IfOk, map};
+ghost use Rattle.std.specs.Prelude.{IfOk};
 ghost use Rattle.model_run.specs.Among.{AreAmong};
-ghost use Rattle.model_run.specs.Fitting.{Rises};
 ghost use Rattle.model_run.specs.FlowNodes.{IsFront};
 ghost use Rattle.record_form.specs.Ordered.{IsInOrder};
-ghost use Rattle.delta_form.specs.After.{request_changes, written_request};
-ghost use Rattle.delta_form.specs.Numbers.{written_number};
-ghost use Rattle.image_changes.specs.Least.{AllNeeded, IsLeast, IsShort};
-ghost use Rattle.image_changes.specs.Parts.{LeadsTo, Renews};
+ghost use Rattle.image_changes.specs.Least.{IsLeast};
+ghost use Rattle.image_changes.specs.Parts.{LeadsTo};
 ghost use Rattle.image_changes.specs.Seen.{KeepsRequests, KeepsThreads, KeepsUnmarked, image_seen};
 
 use crate::lists::{added_bytes, changed_cells, new_bindings, new_nodes};
 use crate::now::Now;
-use crate::walk::{Walk, renewal};
-use delta_form::{Delta, WrittenRequest};
+use crate::walk::renewal;
+use delta_form::Delta;
 use image_form::Image;
-use model_run::{HeldExecutors, OpenRequest};
+use model_run::HeldExecutors;
 use std::alloc::{AllocError, Global};
 
 /// What leads from the image before to the build now. `AllocError` where the memory was refused.
 ///
-/// So much has to be known, as it is behind an event of which the image before is that in front of it, and is not compared: each
-/// variable from before stands now, each cell that is not marked stands in the image before, the flow nodes and the log before
-/// are the beginning of those now, an open request from before is the same but for what was taken of its task and came to the
-/// output, a thread that took no turn is the same but for its parent and what it waits for, and the frames in front of any other
-/// are those that it had.
+/// So much has to be known, as it is behind an event of which the image before is that in front of it, and is not
+/// compared: each variable from before stands now, each cell that is not marked stands in the image before, the flow nodes
+/// and the log before are the beginning of those now, an open request from before is the same but for what was taken of
+/// its task and came to the output, a thread that took no turn is the same but for its parent and what it waits for, and
+/// the frames in front of any other are those that it had.
 ///
-/// So it takes the time of the marked cells, of the numbers of the open requests and of the threads, of what threads wait for, of
-/// the contexts of those that took a turn and their frames that are not in front, and of what is new: variables, flow nodes,
-/// requests, and bytes of the log and of outputs. Where a variable is new it goes over all of them.
+/// So it takes the time of the marked cells, of the numbers of the open requests and of the threads, of what threads wait
+/// for, of the contexts of those that took a turn and their frames that are not in front, and of what is new: variables,
+/// flow nodes, requests, and bytes of the log and of outputs. Where a variable is new it goes over all of them.
 ///
-/// The delta holds what changed alone, so there is one such delta: cells, requests and threads that did not change are not
-/// listed, a thread keeps all its frames in front that are the same, and a task that has grown is written short.
+/// The delta holds what changed alone, so there is one such delta: cells, requests and threads that did not change are
+/// not listed, a thread keeps all its frames in front that are the same, and a task that has grown is written short.
 pub fn changes_between(alloc: Global, before: &Image, now: &Now<'_>) -> Result<Delta, AllocError>
     requires before { IsInOrder before.now }
     requires now { IsInOrder (image_seen now.now) }
@@ -45,7 +42,7 @@ pub fn changes_between(alloc: Global, before: &Image, now: &Now<'_>) -> Result<D
     ensures leads { IfOk result (LeadsTo before.now (image_seen now.now)) }
     ensures least { IfOk result (IsLeast before.now) }
 {
-    let requests = renewed(alloc, before.requests.as_slice(), now.requests)?;
+    let requests = renewal(alloc, before.requests.as_slice(), now.requests)?;
     let threads = renewal(alloc, before.threads.as_slice(), now.threads)?;
     Ok(Delta {
         next_request: now.next_request,
@@ -62,19 +59,4 @@ pub fn changes_between(alloc: Global, before: &Image, now: &Now<'_>) -> Result<D
         ended_threads: threads.gone,
         threads: threads.written,
     })
-}
-
-/// The walk that makes the open requests now of those before.
-fn renewed(
-    alloc: Global,
-    before: &[OpenRequest],
-    now: &[OpenRequest],
-) -> Result<Walk<WrittenRequest>, AllocError>
-    requires before { Rises (map (λ r. r.number) before.now) }
-    requires now { Rises (map (λ r. r.number) now.now) }
-    requires known { KeepsRequests before.now now.now }
-    ensures renews { IfOk result (λ walk. Renews (λ r. r.number) written_number request_changes before.now now.now walk.gone walk.written) }
-    ensures needed { IfOk result (λ walk. AllNeeded (λ r. r.number) written_number written_request IsShort before.now walk.written) }
-{
-    renewal(alloc, before, now)
 }

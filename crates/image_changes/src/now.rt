@@ -43,12 +43,12 @@ pub enum NowThread<'a> {
     Untouched {
         /// The thread, as the image before has it.
         stood: &'a ImageThread,
-        /// The number of its parent.
+        /// The number of its parent, as its seat has it.
         parent: Option<u32>,
         /// What it waits for. A branch that ends changes that of its parent.
         wait: &'a Wait,
     },
-    /// A thread of which the frames in front, from the outermost on, are those that stand in the image before.
+    /// A thread that took a turn, or is new: its frames in front, from the outermost on, stand in the image before.
     Touched {
         /// The frames in front, as the image before has them.
         front: &'a [ImageFrame],

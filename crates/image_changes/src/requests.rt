@@ -1,4 +1,5 @@
-//! Open requests that were changed: of one that stood only what was taken of a task and its output can have grown.
+//! Open requests that were changed: one that stood differs at most in what was taken of a task, and in what came to its
+//! output.
 
 ghost use Rattle.std.specs.Prelude.{◌≡◌, IfOk};
 ghost use Rattle.model_run.specs.Requests.{IsSame, SameRequest};
@@ -48,7 +49,8 @@ pub(crate) struct Growth {
     pub out: Bytes,
 }
 
-/// How a task has grown, or nothing where no more was taken of it and nothing came to its output.
+/// How a request that stood has grown to be this one; nothing where as much was taken of it and nothing came to its
+/// output.
 fn grown(alloc: Global, stood: &Request, item: &Request) -> Result<Option<Growth>, AllocError>
     requires { SameRequest stood.now item.now }
     ensures { IfOk result (TaskGrows stood.now item.now) }

@@ -10,7 +10,7 @@ ghost use Rattle.delta_form.specs.Numbers.{written_number};
 
 use crate::now::NowThread;
 use crate::requests::{copied_request, written_short};
-use crate::threads::{moved, new_thread, number_of, turned};
+use crate::threads::{new_thread, number_of, written_behind, written_in_place};
 use delta_form::{WrittenRequest, WrittenThread};
 use image_form::ImageThread;
 use model_run::OpenRequest;
@@ -119,8 +119,10 @@ impl<'a> Rewrite<ImageThread, NowThread<'a>> for WrittenThread {
         item: &NowThread<'a>,
     ) -> Result<Option<WrittenThread>, AllocError> {
         match item {
-            NowThread::Untouched { parent, wait, .. } => moved(alloc, stood, *parent, wait),
-            NowThread::Touched { front, thread } => turned(alloc, stood, front, thread),
+            NowThread::Untouched { parent, wait, .. } => {
+                written_in_place(alloc, stood, *parent, wait)
+            }
+            NowThread::Touched { front, thread } => written_behind(alloc, stood, front, thread),
         }
     }
 }

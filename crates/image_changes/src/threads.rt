@@ -1,6 +1,6 @@
 //! Green threads that are new or were changed.
 
-ghost use Rattle.std.specs.Prelude.{◌≡◌, ◌⊎◌, ◌↔◌, ◌≤◌, ◌++◌, IfOk, IsTrue, OnOk, Some, None, length, drop, min};
+ghost use Rattle.std.specs.Prelude.{◌≡◌, ◌↔◌, ◌≤◌, ◌++◌, IfOk, IsTrue, OnOk, Some, None, length, drop, min};
 ghost use Rattle.model_run.specs.FlowNodes.{IsFront};
 ghost use Rattle.delta_form.specs.After.{written_thread};
 ghost use Rattle.image_changes.specs.Growing.{HasSameNumbers, IsCommon, IsCounted, IsSameSeat, with_front};
@@ -46,9 +46,9 @@ pub(crate) fn new_thread(alloc: Global, item: &NowThread<'_>) -> Result<WrittenT
     }
 }
 
-/// How a thread that stood is written where it took no turn and has this parent and waits for this now, or nothing where it did so
-/// before. Nothing else of it is looked at.
-pub(crate) fn moved(
+/// How a thread that stood is written where it took no turn and has this parent and waits for this now, or nothing
+/// where it did so before. Nothing else of it is looked at.
+pub(crate) fn written_in_place(
     alloc: Global,
     stood: &ImageThread,
     parent: Option<u32>,
@@ -56,7 +56,7 @@ pub(crate) fn moved(
 ) -> Result<Option<WrittenThread>, AllocError>
     ensures { IfOk result (Writes (λ t. t.number) (λ w. w.number) written_thread KeepsMost stood.now (record stood.now { parent = parent; wait = wait.now })) }
 {
-    if has_same_place(stood, parent, wait) {
+    if waits_alike(stood, parent, wait) {
         return Ok(None);
     }
     let kept = stood.frames.len().min(4_294_967_295) as u32;
@@ -65,14 +65,15 @@ pub(crate) fn moved(
 }
 
 /// Whether a thread has this parent and waits for this.
-fn has_same_place(stood: &ImageThread, parent: Option<u32>, wait: &Wait) -> bool
+fn waits_alike(stood: &ImageThread, parent: Option<u32>, wait: &Wait) -> bool
     ensures { IsTrue result ↔ ((stood.now.parent ≡ parent) × (stood.now.wait ≡ wait.now)) }
 {
     stood.parent == parent && stood.wait.is_same(wait)
 }
 
-/// How a thread that stood is written that may have taken a turn and has these frames in front, or nothing where it is as it was.
-pub(crate) fn turned(
+/// How a thread that stood is written that may have taken a turn and has these frames in front, or nothing where it is
+/// as it was.
+pub(crate) fn written_behind(
     alloc: Global,
     stood: &ImageThread,
     front: &[ImageFrame],

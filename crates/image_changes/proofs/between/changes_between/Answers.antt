@@ -1,4 +1,5 @@
 use Rattle.std.proofs.Common.{◌∙◌, ◌++◌, ℕ, List, refl, ap, subst}
+use Rattle.std.proofs.lemmas.List.{map-id}
 use Rattle.model_values.specs.declared.cell.Binding.{Binding}
 use Rattle.model_values.specs.declared.cell.Cell.{Cell}
 use Rattle.model_run.specs.declared.flow.FlowNode.{FlowNode}
@@ -38,6 +39,7 @@ returns-clause-leads c =
     (subst (λ (cs : List Cell). PutsCells cs now.cells delta.cells) c.as_slice-4.ensures c.in_ok-changed_cells.ensures.puts)
     (subst (λ (ns : List FlowNode). PutsNodes ns now.nodes delta.nodes) c.as_slice-5.ensures c.in_ok-new_nodes.ensures)
     (c.in_ok-added_bytes.ensures ∙ ap (λ (l : List ℕ). l ++ delta.log) c.as_slice-6.ensures)
-    (subst (λ (rs : List OpenRequest). Renews (λ r. r.number) written_number request_changes rs now.requests requests.gone requests.written) c.as_slice.ensures c.in_ok-requests.ensures.renews)
+    (subst (λ (rs : List OpenRequest). Renews (λ r. r.number) written_number request_changes rs now.requests requests.gone requests.written) c.as_slice.ensures
+    (subst (λ (rs : List OpenRequest). Renews (λ (r : OpenRequest). r.number) written_number request_changes c.as_slice.result.now rs requests.gone requests.written) (map-id now.requests) c.in_ok-requests.ensures.renews))
     (subst (λ (ts : List ImageThread). Renews (λ t. t.number) (λ w. w.number) thread_changes ts now.threads threads.gone threads.written) c.as_slice-2.ensures c.in_ok-threads.ensures.renews)
     c.requires.now.held

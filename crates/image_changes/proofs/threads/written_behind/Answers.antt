@@ -7,7 +7,7 @@ use Rattle.image_changes.specs.Least.{KeepsMost}
 use Rattle.image_changes.specs.Seen.{behind_frames}
 use Rattle.image_changes.proofs.Gets.{first_behind}
 use Rattle.image_changes.proofs.KeptFrames.{written_kept}
-use Rattle.image_changes.proofs.threads.turned.Goals as goal
+use Rattle.image_changes.proofs.threads.written_behind.Goals as goal
 
 pub returns : goal.returns
 returns c =
