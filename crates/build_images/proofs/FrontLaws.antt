@@ -74,9 +74,6 @@ module _ (low : ℕ) (stood now front : List ImageFrame) (same : take low stood 
   front_now : front ≡ take (min low 4294967295) now
   front_now = is ∙ shorter_same (min low 4294967295) low stood now (omega arith) same
 
-  pub front_fits : length front ≤ length now
-  front_fits = omega (arith, ap length front_now, length-take (min low 4294967295) now)
-
   pub front_and_more : front ++ drop (length front) now ≡ now
   front_and_more = subst (λ (l : List ImageFrame). l ++ drop (length l) now ≡ now) (sym front_now) (front_whole (min low 4294967295) now)
 

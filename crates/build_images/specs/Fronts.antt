@@ -8,8 +8,8 @@ use Rattle.image_form.specs.declared.image.ImageThread.{ImageThread}
 use Rattle.saved_thread.specs.Lower.thread_fits.Seats.{as_seat}
 use Rattle.saved_thread.specs.Saving.{frame_told, thread_told}
 
--- Of a thread y it has in x the frames that count as untouched, and where y took no turn since it was marked, all but its parent and what it
--- waits for.
+-- In x stand the frames of y that count as untouched, and where y took no turn since it was marked all of y but its
+-- parent and what it waits for.
 pub record HasStood {T : Type 0} (low : T → ℕ) (touched : T → Bool) (stance : T → Stance) (root : Term) (y : Seated T) (x : ImageThread) : Type 0 where
   pub front : take (low y.thread) x.frames ≡ take (low y.thread) (map (frame_told root) (stance y.thread).frames)
   pub same : touched y.thread ≡ false → record x { parent = y.parent; wait = y.wait } ≡ thread_told root (as_seat stance y)

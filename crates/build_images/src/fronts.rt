@@ -23,9 +23,10 @@ use image_form::{ImageFrame, ImageThread};
 use saved_thread::SavedThread;
 use std::alloc::{AllocError, Global};
 
-/// The threads of a build that has begun, whether it has ended or not, as they stand behind an event. Those that took no turn since they
-/// were marked are those of the image before; of the others the frames that count as untouched are. It takes the time of the other frames
-/// of those that took a turn, of what these wait for and their contexts, and the square of how many threads there are, which are at most 256.
+/// The threads of a build that has begun, whether it has ended or not, as they stand behind an event. Those that took no
+/// turn since they were marked are those of the image before but for their parents and what they wait for; of the others
+/// the frames that count as untouched are. It takes the time of the other frames of those that took a turn, of what these
+/// wait for and their contexts, and the square of how many threads there are, which are at most 256.
 ///
 /// # Errors
 ///
@@ -106,7 +107,7 @@ fn thread_of<'a, R: SavedThread>(
     }
 }
 
-/// The thread of this number that stood.
+/// The thread of this number that stood, where there is one.
 fn stood_at(before: &[ImageThread], number: u32) -> Option<&ImageThread>
     ensures { option_copied result ≡ thread_at number before.now }
 {
@@ -118,7 +119,8 @@ fn stood_at(before: &[ImageThread], number: u32) -> Option<&ImageThread>
     None
 }
 
-/// A thread that stood so. `AllocError` where the memory was refused.
+/// This thread over the one of its number that stood: borrowed where it took no turn, else its frames in front.
+/// `AllocError` where the memory was refused.
 fn thread_over<'a, R: SavedThread>(
     alloc: Global,
     code: &Code,
@@ -141,7 +143,8 @@ fn thread_over<'a, R: SavedThread>(
     thread_behind(alloc, code, seat, front)
 }
 
-/// A thread that may have taken a turn, with these frames in front, of which it has no fewer. `AllocError` where the memory was refused.
+/// A thread that may have taken a turn, with these frames in front, of which it has no fewer. `AllocError` where the
+/// memory was refused.
 fn thread_behind<'a, R: SavedThread>(
     alloc: Global,
     code: &Code,

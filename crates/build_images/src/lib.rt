@@ -1,11 +1,10 @@
 //! The image of a build, and a build from its image.
 //!
 //! [`image_of`] puts all of a build into an image, and is proved to give the image of each build of the definitions that the
-//! build stands for (`specs/Images`), and one that passes `check` of `image_check`. [`threads_now`] makes anew the
-//! threads that took a turn since they were marked, but for the frames that count as untouched, for whoever looks at the rest where it
-//! stands. [`restored`] gives the build back: of an
-//! image that passes a sound build that has this image, and that stands for the build that any list of events makes, where
-//! that one has it too.
+//! build stands for (`specs/Images`), and one that passes `check` of `image_check`. [`threads_now`] makes anew the threads
+//! that took a turn since they were marked, but for the frames that count as untouched, for whoever looks at the rest
+//! where it stands. [`restored`] gives the build back: of an image that passes a sound build that has this image, and that
+//! stands for the build that any list of events makes, where that one has it too.
 //!
 //! ```text
 //! let image = image_of(&build)?;
