@@ -1,9 +1,9 @@
 -- Targets: they stand behind what leaves their cells, and what is read of them or written to them.
-use Rattle.std.proofs.Common.{◌≡◌, ◌∙◌, ◌<◌, ◌≤◌, ◌&&◌, ℕ, zero, suc, Bool, true, false, List, [], ◌∷◌, ◌++◌, length, refl, sym, ap, subst, arith}
+use Rattle.std.proofs.Common.{◌≡◌, ◌∙◌, ◌<◌, ◌≤◌, ℕ, zero, suc, Bool, true, false, List, [], ◌∷◌, ◌++◌, length, refl, sym, ap, subst, arith}
 use Rattle.std.proofs.lemmas.Bool.{eqb-true}
 use Rattle.std.proofs.Math.Bool.{Bool-set}
 use Rattle.std.proofs.Math.Logic.{∥∥₁_elim}
-use Rattle.std.specs.Prelude.{Result as Outcome, Ok, Err, IfOk, Some}
+use Rattle.std.specs.Prelude.{Ok, Some}
 use Rattle.std.specs.List.{AllByRecursion as AllAre}
 use Rattle.model_syntax.specs.declared.node.NodeForm.{NodeForm}
 use Rattle.model_syntax.specs.declared.node.NodeForm.TheVariants as form
@@ -25,8 +25,7 @@ use Rattle.model_run.specs.Terms.{Term}
 use Rattle.model_run.proofs.OperationLaws.{decremented_later, get_at_later, get_property_later, incremented_later, read_name_later}
 use Rattle.model_run.proofs.Relation.{KeepsAll, kept}
 use Rattle.model_run.proofs.Room.{keeps_count}
-use Rattle.value_view.specs.Answers.{ResultBelow}
-use Rattle.value_view.specs.declared.refusal.OpRefusal.{OpRefusal}
+use Rattle.model_run.proofs.Under.{second_of_both}
 use Rattle.cps_frames.specs.Changes.{Done, Met, Passed}
 use Rattle.model_syntax.specs.declared.tree.AssignSign.{AssignSign}
 use Rattle.model_run.specs.Fitting.{known}
@@ -42,7 +41,7 @@ use Rattle.cps_frames.specs.Parts.{least_parts}
 use Rattle.cps_frames.specs.Standing.{Standing}
 use Rattle.cps_frames.proofs.PartLaws.{parts_there}
 use Rattle.cps_variables.specs.Sight.{Sees}
-use Rattle.cps_variables.proofs.SightLaws.{below_there, sees, there_below}
+use Rattle.cps_variables.proofs.SightLaws.{below_there, sees}
 use Rattle.cps_variables.proofs.NodeLaws.{and_left, row_is, stands}
 use Rattle.cps_assignments.specs.Targets.{HasAssignment, HasTarget, TargetStands, is_name, is_property, kept_size, read_answer, stepped, suffix_counted, suffix_limit}
 
@@ -122,9 +121,6 @@ pub stands_done : (f : World → Answer) (u v : Standing) (x : Value) (k : ℕ) 
 stands_done f u v x k env place later d =
     stands_on u v k env place (ap (λ (w : World). w.setting.script) d.world) (ap (λ (w : World). w.shared.binding) d.world) (done_later f u v x later d)
 
-pub there_done : (f : World → Answer) (u v : Standing) (x y : Value) → AnswerLater (cells u.world) (f u.world) → Done f u (Ok x) v → There u.world.shared.cells y → There v.world.shared.cells y
-there_done f u v x y later d = there_later u.world.shared.cells v.world.shared.cells (done_later f u v x later d) y
-
 -- behind what counts
 pub stands_counted : (u v : Standing) (k : ℕ) (env : Env) (place : List Value) → Passed may_count counted u v → TargetStands u.world.setting.script u.world.shared k env place → TargetStands v.world.setting.script v.world.shared k env place
 stands_counted u v k env place p s = subst (λ (w : World). TargetStands w.setting.script w.shared k env place) (sym p.made) (record { target = s.target; sees = s.sees; there = s.there; size = s.size })
@@ -203,11 +199,6 @@ place_there h place i v is all = subst (There h) (sym is) (there_at h place i al
 pub place_below : (h : List Cell) (place : List Value) (i : ℕ) (v : Value) → v ≡ value_at i place → AllAre (There h) place → ValueBelow (length h) v
 place_below h place i v is all = below_there h v (place_there h place i v is all)
 
--- what is given is there
-pub given_there : (h : List Cell) (r : Outcome Value OpRefusal) → ResultBelow (length h) r → IfOk r (There h)
-given_there h (Ok v) b = there_below h v b
-given_there h (Err o) b = tt
-
 -- an assignment is still one behind what leaves the script
 pub assigns_on : (u v : Standing) (k : ℕ) → v.world.setting.script ≡ u.world.setting.script → HasAssignment u.world.setting.script k → HasAssignment v.world.setting.script k
 assigns_on u v k same h = subst (λ root. HasAssignment root k) (sym same) h
@@ -248,10 +239,6 @@ assigns_target : (f : NodeForm) → is_assignment f ≡ true → is_target_form 
 assigns_target (form.Assign sign) h = refl
 assigns_target f h = absurd (cc h)
 
-and_right : (a b : Bool) → (a && b) ≡ true → b ≡ true
-and_right true b h = h
-and_right false b h = absurd (cc h)
-
 -- what the frame of an index keeps
 one_kept : (u : Common) (vs : List Value) → ValuesFit (known u) No_more (Any ∷ []) vs → (vs ≡ value_at 0 vs ∷ []) × There u.cells (value_at 0 vs)
 one_kept u [] fits = absurd fits
@@ -269,7 +256,7 @@ index_stands u f e i place may is there place_is =
     let le : 2 ≤ 2 = omega arith in
     let one = one_kept u.world.shared f.values (index_values u f e may is) in
     let row = stands u f e kind.TargetIndex may is in
-    let two : place_size (form_at (shape_at u.world.setting.script f.node).parts 0) ≡ 2 = eqb-true _ _ (and_right _ _ row) in
+    let two : place_size (form_at (shape_at u.world.setting.script f.node).parts 0) ≡ 2 = eqb-true _ _ (second_of_both _ _ row) in
     subst (TargetStands u.world.setting.script u.world.shared f.node f.env) (sym (place_is ∙ ap (λ vs. vs ++ i ∷ []) one.0))
     (frame_stands u f e (value_at 0 f.values ∷ i ∷ []) may (and_left _ _ row) (one.1, (there, tt)) (subst (λ n. n ≤ 2) (sym two) le))
 
@@ -310,9 +297,6 @@ targets_else (form.Assign sign) here differs = refl
 targets_else form.Increment here differs = refl
 targets_else form.Decrement here differs = refl
 targets_else f here differs = absurd (cc here)
-
-pub is_assigned : (root : Term) (k : ℕ) (sign : AssignSign) → HasTarget root k → (shape_at root k).form ≡ form.Assign sign → HasAssignment root k
-is_assigned root k sign h is = record { script = h.script; node = h.node; form = ap is_assignment is }
 
 -- what a node that is entered sees, behind its count
 no_function : (f : NodeForm) → starts_here f ≡ true → is_function f ≡ false
