@@ -1,5 +1,5 @@
 -- The parts of operators and suffixes, as the grammar has them.
-use Rattle.std.proofs.Common.{◌≡◌, ◌∙◌, ◌<◌, ◌≤◌, ◌-◌, ◌&&◌, ℕ, zero, suc, Bool, List, [], ◌∷◌, ◌++◌, length, true, false, refl, sym, subst, arith}
+use Rattle.std.proofs.Common.{◌≡◌, ◌∙◌, ◌<◌, ◌≤◌, ◌-◌, ◌&&◌, ℕ, zero, suc, List, [], ◌∷◌, ◌++◌, length, true, false, refl, sym, subst, arith}
 use Rattle.std.proofs.Math.Bool.{Bool-set}
 use Rattle.std.proofs.Math.Logic.{∥∥₁_elim}
 use Rattle.model_syntax.specs.declared.node.NodeForm.{NodeForm}
@@ -9,6 +9,7 @@ use Rattle.model_run.specs.Around.{arity, form_at}
 use Rattle.model_run.specs.FrameTable.{current, is_choice, same_form}
 use Rattle.model_run.specs.Nesting.{shape_at}
 use Rattle.model_run.specs.Terms.{Term}
+use Rattle.model_run.proofs.Under.{first_of_both, second_of_both}
 use Rattle.run_laws.specs.Soundness.{Shaped, is_operand}
 use Rattle.run_laws.proofs.ShapedScripts.{script_shaped}
 use Rattle.script_laws.specs.NodeParts.{HasParts, One, Stand, is_expression, parts_asked}
@@ -60,15 +61,11 @@ chosen_last f fs h is = absurd (cc is)
 last_choice : (root : Term) → IsScript root → (k : ℕ) → same_form form.Chosen (shape_at root k).form ≡ true → is_choice (form_at (shape_at root k).parts (arity (shape_at root k) - 1)) ≡ false
 last_choice root script k is = ∥∥₁_elim script (hlevel (Bool-set)) (λ s. chosen_last (shape_at root k).form (shape_at root k).parts (subst (λ t. HasParts (shape_at t k)) (sym s.1) (script_parts s.0 k)) is)
 
-both_are : (a b : Bool) → (a && b) ≡ true → (a ≡ true) × (b ≡ true)
-both_are true b h = (refl, h)
-both_are false b h = absurd (cc h)
-
 -- so behind a test there is another part
 pub choice_behind : (root : Term) → IsScript root → (k m : ℕ) → (same_form form.Chosen (shape_at root k).form && is_choice (form_at (shape_at root k).parts (current (shape_at root k) m))) ≡ true → 0 < m
 choice_behind root script k zero h =
-    let are = both_are (same_form form.Chosen (shape_at root k).form) (is_choice (form_at (shape_at root k).parts (current (shape_at root k) 0))) h in
-    let e : false ≡ true = sym (last_choice root script k are.0) ∙ are.1 in
+    let chosen : same_form form.Chosen (shape_at root k).form ≡ true = first_of_both _ _ h in
+    let e : false ≡ true = sym (last_choice root script k chosen) ∙ second_of_both _ _ h in
     absurd (cc e)
 choice_behind root script k (suc m) h = omega arith
 
