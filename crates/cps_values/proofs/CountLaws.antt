@@ -12,7 +12,7 @@ none_past [] n e = omega arith
 none_past (v ∷ vs) zero e = absurd (cc e)
 none_past (v ∷ vs) (suc n) e = let le : length vs ≤ n = none_past vs n e in omega (arith, le)
 
-no_fewer : (f : NodeForm) (n : ℕ) → n ≤ count_with f n
+pub no_fewer : (f : NodeForm) (n : ℕ) → n ≤ count_with f n
 no_fewer (form.PlainPart t) n = omega arith
 no_fewer form.ComputedEntry n = omega arith
 no_fewer f n = omega arith
