@@ -1,5 +1,6 @@
 -- The bodies of closures and functions.
-use Rattle.std.proofs.Common.{◌≡◌, ◌∙◌, ◌≤◌, ℕ, List, Bool, true, false, sym, ap, subst, refl, arith}
+use Rattle.std.proofs.Common.{◌≡◌, ◌∙◌, ◌≤◌, ℕ, List, true, false, sym, ap, subst, refl, arith}
+use Rattle.std.proofs.lemmas.Bool.{false_from_ne_true}
 use Rattle.std.proofs.Math.Bool.{Bool-set}
 use Rattle.std.proofs.Math.Logic.{∥∥₁_elim}
 use Rattle.std.specs.Prelude.{Result as Outcome}
@@ -56,10 +57,6 @@ no_declaration (form.Closure heads) e = refl
 no_declaration (form.Function x names) e = refl
 no_declaration f e = absurd (cc e)
 
-never_true : (b : Bool) → (b ≡ true → ⊥) → b ≡ false
-never_true true h = absurd (h refl)
-never_true false h = refl
-
 ends_plain : (f : NodeForm) (u : Common) (e : Ending) → is_declaration f ≡ false → EndFits f u e → is_block_ending e ≡ true
 ends_plain f u (Normal v) plain h = refl
 ends_plain f u (Thrown c) plain h = refl
@@ -78,5 +75,5 @@ body_ends u f e may is =
     let none : may_declare (shape_in root k).form 0 ≡ false = no_declaration (shape_in root k).form (stands u f e kind.CallBody may is) in
     ∥∥₁_elim may.script (hlevel (Bool-set)) (λ s.
     let facts : ScriptFacts root = subst ScriptFacts (sym s.1) (tree_facts s.0) in
-    let plain : is_declaration (form_at (shape_in root k).parts 0) ≡ false = never_true _ (λ d. let both : false ≡ true = sym none ∙ facts.shaped.declares k 0 d in cc both) in
+    let plain : is_declaration (form_at (shape_in root k).parts 0) ≡ false = false_from_ne_true _ (λ d. let both : false ≡ true = sym none ∙ facts.shaped.declares k 0 d in cc both) in
     ends_plain (shape_in root (part_number root k 0)).form u.world.shared e (ap is_declaration (facts.forms k 0) ∙ plain) fits)

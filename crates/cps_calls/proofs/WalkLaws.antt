@@ -1,6 +1,6 @@
 -- Walks: how a turn begins, what its closure is, and what comes behind it.
 use Rattle.std.proofs.Common.{◌≡◌, ◌∙◌, ◌<◌, ◌≤◌, ◌+◌, ◌^◌, ℕ, zero, suc, Bool, true, false, List, [], ◌∷◌, ◌++◌, length, nat_eq, Option, Some, None, refl, sym, ap, subst, arith}
-use Rattle.std.specs.Prelude.{drop, pos, negsuc, slice_get, Result as Outcome, Ok, Err, ◌&&◌, ◌*◌}
+use Rattle.std.specs.Prelude.{drop, pos, negsuc, slice_get, Result as Outcome, Ok, Err, ◌*◌}
 use Rattle.std.specs.List.{All, AllByRecursion as AllAre}
 use Rattle.std.proofs.lemmas.List.Elements.{All-cons, All-nil}
 use Rattle.cell_heap.specs.Soundness.{ValueBelow}
@@ -17,7 +17,7 @@ use Rattle.model_values.specs.declared.limit.LimitKind.{LimitKind}
 use Rattle.model_values.specs.declared.value.Value.{Value}
 use Rattle.model_values.specs.declared.value.Value.TheVariants.{Null, Bool as Truth, Int as Whole, Cell as InCell}
 use Rattle.model_values.specs.Cells.{Answer}
-use Rattle.model_values.specs.Kinds.{cell_kind, closure, kind as kind_of}
+use Rattle.model_values.specs.Kinds.{kind as kind_of}
 use Rattle.model_values.specs.MethodNames.{Method, Each, Collect, Find, FindAll, Any as AnyOf, Every, Times}
 use Rattle.model_run.specs.declared.callee.Callee.{Callee}
 use Rattle.model_run.specs.declared.ending.Entry.TheVariants.{Body, Turn}
@@ -34,6 +34,7 @@ use Rattle.model_run.specs.Nesting.{FrameFits, FurtherFit, ValuesFit, anything, 
 use Rattle.model_run.specs.State.{Common, World, Reply, State, Env, Limited, choose, through, may_count, changed, counted, guarded, operating, seeing, unless_limit}
 use Rattle.model_run.specs.Terms.{Term, form_of, nodes_of, term_at}
 use Rattle.model_run.proofs.Room.{spends_count}
+use Rattle.model_run.proofs.Under.{first_of_both, second_of_both}
 use Rattle.value_view.specs.declared.refusal.OpRefusal.{OpRefusal}
 use Rattle.value_view.specs.declared.refusal.OpRefusal.TheVariants as op
 use Rattle.value_walks.specs.Turns.{TurnAnswers, has_turn}
@@ -48,8 +49,8 @@ use Rattle.cps_frames.specs.Ways.{value_of}
 use Rattle.cps_frames.specs.declared.halt.Halt.{Halt}
 use Rattle.cps_frames.specs.declared.thread.Move.{Move}
 use Rattle.cps_frames.specs.Standing.{Standing, Beside, state, shape_at, room_of}
-use Rattle.cps_frames.specs.declared.thread.Move.TheVariants.{Ends as Passes, Enter, Hits}
-use Rattle.cps_frames.proofs.MoveLaws.{Saying, comes_hits, comes_inside, comes_next, comes_no_value, to_as, to_kind, to_value, met, met_beside, passed}
+use Rattle.cps_frames.specs.declared.thread.Move.TheVariants.{Enter, Hits}
+use Rattle.cps_frames.proofs.MoveLaws.{Saying, comes_hits, comes_inside, comes_next, to_as, to_kind, to_value, met, met_beside, passed}
 
 -- a cell of a list that fits
 all_at : {X : Type 0} (P : X → Type 0) (xs : List X) → AllAre P xs → (i : ℕ) (x : X) → slice_get xs i ≡ Some x → P x
@@ -138,21 +139,6 @@ closure_of_body w Null callee e = absurd (cc e)
 closure_of_body w (Truth b) callee e = absurd (cc e)
 closure_of_body w (Whole z) callee e = absurd (cc e)
 
-by_kind : (h : List Cell) (n c : ℕ) (o : Option Cell) → slice_get h n ≡ o → cell_kind n o ≡ closure c → HasClosure (slice_get h c)
-by_kind h n c (Some (ClosureCell k env)) at e = let same : n ≡ c = cc e in subst (λ m. HasClosure (slice_get h m)) same (subst HasClosure (sym at) tt)
-by_kind h n c (Some (Variable v)) at e = absurd (cc e)
-by_kind h n c (Some (TextCell t)) at e = absurd (cc e)
-by_kind h n c (Some (ListCell vs)) at e = absurd (cc e)
-by_kind h n c (Some (MapCell es)) at e = absurd (cc e)
-by_kind h n c (Some (ThrownCell class m)) at e = absurd (cc e)
-by_kind h n c None at e = absurd (cc e)
-
-pub closure_of_kind : (h : List Cell) (v : Value) (c : ℕ) → kind_of h v ≡ closure c → HasClosure (slice_get h c)
-closure_of_kind h (InCell n) c e = by_kind h n c (slice_get h n) refl e
-closure_of_kind h Null c e = absurd (cc e)
-closure_of_kind h (Truth b) c e = absurd (cc e)
-closure_of_kind h (Whole z) c e = absurd (cc e)
-
 -- a turn as it was read of the cells of the world, and of its script
 pub turn_there : (w : World) (on : Value) (callee : Callee) (i : ℕ) (h : List Cell) (root : Term) (two : Bool) → h ≡ w.shared.cells → root ≡ w.setting.script → two ≡ nat_eq (length (parameters_of (form_of (term_at root callee.node)))) 2 → element_at product_limits h on two i ≡ element_at product_limits w.shared.cells on (takes_two w callee) i
 turn_there w on callee i h root two cells script is =
@@ -214,27 +200,19 @@ keeps_values u m (x ∷ []) is fits = absurd fits.1
 keeps_values u m (x ∷ y ∷ []) is fits = absurd fits.1.1
 keeps_values u m (x ∷ y ∷ z ∷ vs) is fits = record { walks_it = is; on = fits.0; closure = known_closure u y fits.1.0; count = a_count u z fits.1.1.0; kept = (kept_any u m vs fits.1.1.1).0; there = (kept_any u m vs fits.1.1.1).1; three = omega arith }
 
-walks_too : (b c : Bool) → (b && c) ≡ true → c ≡ true
-walks_too true c e = e
-walks_too false c e = absurd (cc e)
-
 pub keeps_turn : (root : Term) (u : Common) (f : Frame) → FrameFits (known u) root f → f.kind ≡ kind.WalkTurn → KeepsTurn u (walk_method (shape_in root f.node).form) f.values
 keeps_turn root u f fits is =
     let sh = shape_in root f.node in
     let stands : is_walk sh.form ≡ true = subst (λ d. (frame_row d sh f.left f.env).stands ≡ true) is fits.meets.stands in
-    keeps_values u (walk_method sh.form) f.values (walks_too (is_method sh.form) (walks (walk_method sh.form)) stands)
+    keeps_values u (walk_method sh.form) f.values (second_of_both (is_method sh.form) (walks (walk_method sh.form)) stands)
     (subst (λ d. ValuesFit (known u) (frame_row d sh f.left f.env).further (frame_row d sh f.left f.env).values f.values) is fits.meets.values)
-
-is_method_too : (b c : Bool) → (b && c) ≡ true → b ≡ true
-is_method_too true c e = refl
-is_method_too false c e = absurd (cc e)
 
 -- and its node calls a method
 pub turn_method : (root : Term) (u : Common) (f : Frame) → FrameFits (known u) root f → f.kind ≡ kind.WalkTurn → is_method (shape_in root f.node).form ≡ true
 turn_method root u f fits is =
     let sh = shape_in root f.node in
     let stands : is_walk sh.form ≡ true = subst (λ d. (frame_row d sh f.left f.env).stands ≡ true) is fits.meets.stands in
-    is_method_too (is_method sh.form) (walks (walk_method sh.form)) stands
+    first_of_both (is_method sh.form) (walks (walk_method sh.form)) stands
 
 pub there_below : (h : List Cell) (v : Value) → There h v → ValueBelow (length h) v
 there_below h (InCell n) there = there
@@ -269,9 +247,6 @@ walk_goes_on f e x i kept next u is value at front goes =
 
 pub turn_ranks : (f : Frame) → f.kind ≡ kind.WalkTurn → 0 < rank f
 turn_ranks f is = let h : 2 ^ 71 ≤ rank f = high f is in omega (arith, h)
-
-pub walk_passes : (f : Frame) (e x : Ending) (u : Standing) → f.kind ≡ kind.WalkTurn → value_of e ≡ Err x → Comes f.node (rank f) (λ sh a. after f sh a e) u (Passes x) u
-walk_passes f e x u is none = to_kind (rank f) f kind.WalkTurn e u (Ok (Passes x)) u is (comes_no_value f.node (rank f) (behind f) e x u none (turn_ranks f is))
 
 pub walk_ends : (f : Frame) (e : Ending) (x : Value) (answer : Answer) (u : Standing) (result : Outcome Move Halt) (v : Standing) → f.kind ≡ kind.WalkTurn → value_of e ≡ Ok x → walk_after u.world (walk_method (shape_at u.world f.node).form) (value_at 0 f.values) (drop 3 f.values) x ≡ Ends answer → ComesTo f.node (rank f) (λ sh a. operating (λ w. answer) ended) u result v → ComesTo f.node (rank f) (λ sh a. after f sh a e) u result v
 walk_ends f e x answer u result v is value ends c =

@@ -17,11 +17,9 @@ ghost use Rattle.model_run.specs.Terms.{nodes_of};
 ghost use Rattle.model_run.specs.declared.ending.Entry.TheVariants.{Branched, First};
 ghost use Rattle.model_run.specs.declared.frame.Frame.{Frame as OneFrame};
 ghost use Rattle.model_run.specs.declared.frame.FrameKind.TheVariants as kind;
-ghost use Rattle.cps_frames.specs.Changes.{Done};
 ghost use Rattle.cps_frames.specs.Moves.{ComesTo};
 ghost use Rattle.cps_frames.specs.Places.{MayEnter};
 ghost use Rattle.cps_frames.specs.Standing.{standing};
-ghost use Rattle.cps_frames.specs.declared.thread.ThreadState.{ThreadState as Thread};
 ghost use Rattle.cps_calls.specs.Calls.{body_of_values};
 
 use crate::bodies::{open_call, throw_unfit};

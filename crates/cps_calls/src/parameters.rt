@@ -1,6 +1,6 @@
 //! The parameters of closures and functions, and what they hold.
 
-ghost use Rattle.std.specs.Prelude.{◌≡◌, ◌+◌, ◌<◌, ◌≤◌, ◌^◌, ◌∷◌, [], codes, length, true, IfOk};
+ghost use Rattle.std.specs.Prelude.{◌≡◌, ◌+◌, ◌<◌, ◌≤◌, ◌^◌, ◌∷◌, [], length, true, IfOk};
 ghost use Rattle.model_run.specs.Callables.{arguments_for, parameters_of};
 ghost use Rattle.model_run.specs.FrameTable.{is_callable};
 ghost use Rattle.model_run.specs.Names.{bind_all};

@@ -1,26 +1,22 @@
 //! The methods that walk over a value with a closure.
 
-ghost use Rattle.std.specs.Prelude.{◌≡◌, ◌<◌, ◌^◌, Bool, ℕ, All, length, nat_eq, true};
-ghost use Rattle.cell_heap.specs.Soundness.{ValueBelow};
+ghost use Rattle.std.specs.Prelude.{◌≡◌, ◌<◌, ◌^◌, Bool, ℕ, length, nat_eq, true};
 ghost use Rattle.cps_code.specs.Script.{script_of};
 ghost use Rattle.method_names.specs.Names.{seen as table_method};
-ghost use Rattle.model_values.specs.Fitting.{CellsFit};
 ghost use Rattle.model_values.specs.Limits.{product_limits};
 ghost use Rattle.model_values.specs.Walks.{turn as element_at};
 ghost use Rattle.model_run.specs.Around.{position};
 ghost use Rattle.model_run.specs.Callables.{closure_of, parameters_of};
 ghost use Rattle.model_run.specs.Calls.{takes_two, walk, walk_method, walk_turn};
 ghost use Rattle.model_run.specs.FrameTable.{is_callable, is_method};
-ghost use Rattle.model_run.specs.Fitting.{closure_rule};
 ghost use Rattle.model_run.specs.Forms.{after, enter, turn};
 ghost use Rattle.model_run.specs.Nesting.{shape_at};
 ghost use Rattle.model_run.specs.Terms.{form_of, nodes_of, term_at};
 ghost use Rattle.model_run.specs.declared.ending.Entry.TheVariants.{Turn};
 ghost use Rattle.model_run.specs.declared.frame.FrameKind.TheVariants as kind;
 ghost use Rattle.value_walks.specs.Turns.{has_turn};
-ghost use Rattle.value_walks.specs.Walking.{walk_kept, walk_method as method_of};
+ghost use Rattle.value_walks.specs.Walking.{walk_kept};
 ghost use Rattle.cps_frames.specs.Moves.{ComesTo};
-ghost use Rattle.cps_frames.specs.Order.{rank};
 ghost use Rattle.cps_frames.specs.Places.{MayEnter, MayGoOn};
 ghost use Rattle.cps_frames.specs.Standing.{standing, world_of};
 ghost use Rattle.cps_calls.specs.Turns.{GoesOnTo};
