@@ -21,6 +21,7 @@ use Rattle.cps_frames.specs.Places.{MayGoOn}
 use Rattle.cps_frames.specs.Standing.{Standing, shape_at}
 use Rattle.cps_operators.proofs.FrameLaws.{row_left, row_stands, row_values}
 use Rattle.cps_values.specs.Values.{values_given}
+use Rattle.cps_values.proofs.CountLaws.{no_fewer}
 
 -- behind one part more
 pub count_next : (sh : Shape) (env : Env) (m : ℕ) → m < arity sh → count_of sh env (arity sh - m) ≡ count_behind sh m (count_of sh env (current sh m))
@@ -66,11 +67,6 @@ name_before f env is some = absurd (cc is)
 closed_some : (b : Bool) (names n : ℕ) → 0 < n → 0 < count_closed b names n
 closed_some true names n some = omega arith
 closed_some false names n some = some
-
-no_fewer : (f : NodeForm) (n : ℕ) → n ≤ count_with f n
-no_fewer (form.PlainPart t) n = omega arith
-no_fewer form.ComputedEntry n = omega arith
-no_fewer f n = omega arith
 
 pub count_some : (sh : Shape) (env : Env) (n : ℕ) → count_before sh.form env ≡ 1 → 0 < count_of sh env n
 count_some sh env zero before = omega (arith, before)
@@ -141,9 +137,6 @@ taken (suc n) [] h = absurd (omega arith)
 taken (suc n) (v ∷ vs) h = let e : length (take n vs) ≡ n = taken n vs (omega arith) in omega (arith, e)
 
 module _ (u : Standing) (f : Frame) (e : Ending) (v : Value) (ks : List Value) (may : MayGoOn u f e) (is : f.kind ≡ kind.Gathered) (kept : ks ≡ f.values ++ v ∷ []) where
-  here : Shape
-  here = shape_at u.world f.node
-
   with_value : length ks ≡ count_with (form_at (shape_at u.world f.node).parts (current (shape_at u.world f.node) f.left)) (count_of (shape_at u.world f.node) f.env (current (shape_at u.world f.node) f.left))
   with_value =
       let sh : Shape = shape_at u.world f.node in
