@@ -22,7 +22,6 @@ ghost use Rattle.model_run.specs.declared.ending.Entry.TheVariants.{Turn};
 use cps_frames::{Halt, Move, Shared, ThreadState, turn, turn_of, under, value_of};
 use cps_variables::{kept_value, new_variable, value_at};
 use model_run::{Ending, Entry, Frame, FrameKind};
-use model_syntax::NodeForm;
 use model_text::Text;
 use model_values::{Binding, Env, Value, Values};
 use value_walks::{LoopPlace, has_loop_turn, loop_turn};
