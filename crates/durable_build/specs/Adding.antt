@@ -29,10 +29,11 @@ use Rattle.store_laws.specs.Store.{last_image}
 use Rattle.durable_build.specs.Kinds.{is_whole_due, weights_of, weights_with}
 use Rattle.durable_build.specs.Taking.{IsDue, Puts, added}
 
--- What is known of the image before, and the marks of the cells and of the threads, tell what changed since: its binding variables stand now,
--- each unmarked cell stands as it stood in it, its flow nodes and its log are the beginning of those now, an open request that it has is the same
--- but for what was taken and came to the output, and of a thread that it has the frames are the same that count as untouched, and all but its
--- parent and what it waits for where it took no turn.
+-- What is known of the image before, and the marks of the cells and of the threads, tell what changed since: its
+-- binding variables stand now, each unmarked cell stands as it stood in it, its flow nodes and its log are the beginning
+-- of those now, an open request that it has is the same but for what was taken and came to the output, and of a thread
+-- that it has the frames are the same that count as untouched, and all but its parent and what it waits for where it took
+-- no turn.
 pub record MarksChanges {T : Type 0} (low : T → ℕ) (touched : T → Bool) (stance : T → Stance) (before : Image) (now : Parts T) : Type 0 where
   pub bindings : AreAmong before.bindings now.shared.binding.items
   pub cells : KeepsUnmarked before.cells now.shared.heap

@@ -19,7 +19,8 @@ use delta_records::delta_form::Delta;
 use image_form::Image;
 use std::alloc::{AllocError, Global};
 
-/// What changed from the image of the last record, where the next record is to hold that alone; `None` where it is to hold a whole image.
+/// What changed from the image of the last record, where the next record is to hold that alone; `None` where it is to
+/// hold a whole image.
 pub fn due_changes<R: SavedThread + Drop>(
     alloc: Global,
     build: &Build<R>,
@@ -45,9 +46,9 @@ pub fn due_changes<R: SavedThread + Drop>(
     }
 }
 
-/// What changed from this image. Cells that are not marked, flow nodes that stood and what was logged before are not looked at, nor what the
-/// open requests ask and what came to their outputs before.
-/// `AllocError` where the memory was refused.
+/// What changed from this image. Cells that are not marked, flow nodes that stood and what was logged before are not
+/// looked at, nor what the open requests ask and what came to their outputs before. `AllocError` where the memory was
+/// refused.
 fn changes_from<R: SavedThread + Drop>(
     alloc: Global,
     before: &Image,

@@ -1,5 +1,5 @@
 //! A build over a disk.
-ghost use Rattle.std.specs.Prelude.{◌≡◌, ◌≢◌, ◌⊎◌, ◌≤◌, ◌<◌, ◌+◌, ◌∷◌, List, [], ℕ, true, false, length, slice_index, IfOk, IfErr, OnOk, Some, MatchResult, IsErrOf};
+ghost use Rattle.std.specs.Prelude.{◌≡◌, ◌≢◌, ◌⊎◌, ◌<◌, ◌+◌, ◌∷◌, List, [], ℕ, true, false, length, slice_index, IfOk, IfErr, OnOk, Some, MatchResult, IsErrOf};
 ghost use Rattle.device_faults.specs.Faults.{CountsFault};
 ghost use Rattle.jp_disk.specs.Images.{after_write};
 ghost use Rattle.jp_disk.specs.Moments.{AtEachMoment};

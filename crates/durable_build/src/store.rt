@@ -10,7 +10,7 @@ ghost use Rattle.model_run.specs.Taking.{taken};
 ghost use Rattle.build_images.specs.Lower.build_core.Builds.{StandsFor, setting_in, standing_of};
 ghost use Rattle.build_images.specs.Lower.build_core.Phases.{has_begun};
 ghost use Rattle.image_form.specs.declared.image.Image.{Image as AnyImage};
-ghost use Rattle.delta_records.specs.Payloads.{CanBeWritten, payload_form};
+ghost use Rattle.delta_records.specs.Payloads.{payload_form};
 ghost use Rattle.delta_records.specs.declared.payload.Payload.TheVariants as payload;
 ghost use Rattle.delta_records.specs.Lower.record_form.Ordered.{IsInOrder};
 ghost use Rattle.delta_records.specs.Lower.record_form.Sizes.{size_in};
