@@ -284,6 +284,14 @@ assigned_stands u f e may is =
     let size : length f.values ≡ kept_size (shape_at u.world.setting.script f.node) = assigned_size u f e may is in
     frame_stands u f e f.values may (assigns_target _ (stands u f e kind.AssignValue may is)) (all_there u.world.shared _ f.values (assigned_values u f e may is)) (omega (arith, size))
 
+-- and its node is an assignment
+pub frame_assigns : (u : Standing) (f : Frame) (e : Ending) → MayGoOn u f e → f.kind ≡ kind.AssignValue → HasAssignment u.world.setting.script f.node
+frame_assigns u f e may is = record { script = may.script; node = may.frame.fits.node; form = stands u f e kind.AssignValue may is }
+
+pub only_assigns : (f : NodeForm) → is_assignment f ≡ true → ((sign : AssignSign) → f ≡ form.Assign sign → ⊥) → ⊥
+only_assigns (form.Assign sign) is never = never sign refl
+only_assigns f is never = cc is
+
 -- behind the values of a target stands what it has read, where there is an operator
 pub read_within : (sh : Shape) (o : Op) (n : ℕ) → operator_in sh.form ≡ Some o → n ≡ kept_size sh → place_size (form_at sh.parts 0) < n
 read_within sh o n some is =

@@ -63,7 +63,7 @@ pub record HasAssignment (root : Term) (k : ℕ) : Type 0 where
 abbrev pub kept_size : Shape → ℕ
 kept_size sh = place_size (form_at sh.parts 0) + operator_count (operator_in sh.form)
 
--- a target that is of these values, as many as it needs, seen from a place with these variables
+-- a target that is of these values, no fewer than it needs, seen from a place with these variables
 pub record TargetStands (root : Term) (u : Common) (k : ℕ) (env : Env) (place : List Value) : Type 0 where
   pub target : HasTarget root k
   pub sees : Sees u.cells u.binding env

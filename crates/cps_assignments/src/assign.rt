@@ -1,11 +1,12 @@
 //! What is done with a target once what it is of is known, and once its value is.
 
-ghost use Rattle.std.specs.Prelude.{◌≡◌, ◌<◌, ◌∷◌, ◌++◌, [], ℕ, IfOk, length};
+ghost use Rattle.std.specs.Prelude.{◌≡◌, ◌<◌, ◌∷◌, ◌++◌, [], ℕ, IfOk, length, true};
 ghost use Rattle.model_values.specs.Fitting.{There};
 ghost use Rattle.model_run.specs.Around.{form_at};
 ghost use Rattle.model_run.specs.Assignments.{assign_by, assign_value, at_target, operator_in, read_target, sign_operator, step_by};
 ghost use Rattle.cps_assignments.specs.Targets.{HasAssignment, TargetStands, kept_size, stepped};
 ghost use Rattle.model_run.specs.Forms.{after};
+ghost use Rattle.model_run.specs.FrameTable.{is_assignment};
 ghost use Rattle.model_run.specs.Nesting.{shape_at};
 ghost use Rattle.model_run.specs.declared.frame.FrameKind.TheVariants as kind;
 ghost use Rattle.cps_code.specs.Script.{script_of};
@@ -38,14 +39,15 @@ pub(crate) fn sign_operator(sign: AssignSign) -> Option<Op>
     }
 }
 
-/// The operator of an assignment that reads its target too; of `++` and `--` none.
+/// The operator of an assignment that reads its target too.
 fn operator_in(form: &NodeForm) -> Option<Op>
+    requires { is_assignment form.now ≡ true }
     ensures { result ≡ operator_in form.now }
 {
-    match form {
-        NodeForm::Assign(sign) => sign_operator(*sign),
-        _ => None,
-    }
+    let NodeForm::Assign(sign) = form else {
+        unreachable!()
+    };
+    sign_operator(*sign)
 }
 
 /// The value that is assigned, behind the values that the target needs.
@@ -153,6 +155,7 @@ fn assign_by(
     value: Value,
 ) -> Result<Move, Halt>
     requires stands { TargetStands (script_of shared.old.code) (common_of shared.old) node env kept }
+    requires assigns { HasAssignment (script_of shared.old.code) node }
     requires read { length kept ≡ kept_size (shape_at (script_of shared.old.code) node) }
     requires value { There shared.old.heap.cells value }
     ensures { (r : ℕ) → 0 < r → ComesTo node r (λ sh a. assign_by (operator_in sh.form) (form_at sh.parts 0) kept env value) (standing shared.old state.now) result (standing shared.new state.now) }

@@ -5,11 +5,14 @@ use Rattle.model_run.specs.declared.frame.FrameKind.TheVariants as kind
 use Rattle.cps_frames.specs.Order.{rank}
 use Rattle.cps_frames.specs.Standing.{standing}
 use Rattle.cps_variables.proofs.NodeLaws.{rank_some, value_frame}
-use Rattle.cps_assignments.proofs.TargetLaws.{assigned_size, assigned_stands}
+use Rattle.cps_assignments.proofs.TargetLaws.{assigned_size, assigned_stands, frame_assigns}
 use Rattle.cps_assignments.proofs.assign.after_assigned.Goals as goal
 
 pub assign_by-requires-clause-stands : goal.assign_by-requires-clause-stands
 assign_by-requires-clause-stands c = assigned_stands (standing c.args.shared.now c.args.state.now) c.args.frame c.args.ending c.requires.may c.requires.kind
+
+pub assign_by-requires-clause-assigns : goal.assign_by-requires-clause-assigns
+assign_by-requires-clause-assigns c = frame_assigns (standing c.args.shared.now c.args.state.now) c.args.frame c.args.ending c.requires.may c.requires.kind
 
 pub assign_by-requires-clause-read : goal.assign_by-requires-clause-read
 assign_by-requires-clause-read c = assigned_size (standing c.args.shared.now c.args.state.now) c.args.frame c.args.ending c.requires.may c.requires.kind

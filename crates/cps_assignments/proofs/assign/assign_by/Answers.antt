@@ -5,6 +5,7 @@ use Rattle.model_values.specs.Operators.{apply}
 use Rattle.model_run.proofs.OperationLaws.{apply_later}
 use Rattle.model_run.specs.Around.{form_at, value_at}
 use Rattle.model_run.specs.Assignments.{operator_in, place_size}
+use Rattle.model_run.specs.FrameTable.{is_assignment}
 use Rattle.model_run.specs.Nesting.{shape_at}
 use Rattle.value_view.specs.Answers.{Answers}
 use Rattle.cps_code.specs.Script.{script_of}
@@ -14,6 +15,9 @@ use Rattle.cps_variables.proofs.SightLaws.{below_there}
 use Rattle.cps_assignments.proofs.AssignLaws.{joined, to_join_uncounted, to_joined, to_not_joined, to_plain, to_plain_refused}
 use Rattle.cps_assignments.proofs.TargetLaws.{place_below, read_within, script_counted, stands_counted, stands_done, stands_suffix, there_counted, there_suffix}
 use Rattle.cps_assignments.proofs.assign.assign_by.Goals as goal
+
+pub operator_in-requires : goal.operator_in-requires
+operator_in-requires c = ap is_assignment c.kind.ensures ∙ c.requires.assigns.form
 
 pub returns-in_err-count_suffix-in-None : goal.returns-in_err-count_suffix-in-None
 returns-in_err-count_suffix-in-None c = λ r lt.
