@@ -38,7 +38,7 @@ pub fn due_changes<R: SavedThread + Drop>(
         return Ok(None);
     }
     match &last.image {
-        None => Ok(None),
+        None => unreachable!(),
         Some(before) => match changes_from(alloc, before, build) {
             Ok(changes) => Ok(Some(changes)),
             Err(_) => Err(TakeFault::Memory),

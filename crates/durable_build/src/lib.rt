@@ -1,10 +1,10 @@
 //! A build over a disk: each event that it accepts is durable, with the build's image after it, when it is answered.
 //!
 //! The disk holds a journal, a record for each event (`delta_records`): the event, and the image of the build after it or
-//! what changed alone of the image before. Which of the two is told by the bytes of the records before, so that whole
-//! images take together about as much as all else (`specs/Kinds`). [`DurableBuild::open`] goes on from the image of the
-//! last record, which it finds from the last whole image on; of the records before that one it reads the framing, and the
-//! whole of the first one, which has the script and the agents file.
+//! what changed alone of the image before. Which of the two is told by the bytes of the records before, so that the whole
+//! images but the last take together at most as much as all else (`specs/Kinds`). [`DurableBuild::open`] goes on from the
+//! image of the last record, which it finds from the last whole image on; of the records before that one it reads the
+//! framing, and the whole of the first one, which has the script and the agents file.
 //!
 //! ```text
 //! let mut build: DurableBuild<FileDisk, Thread> = DurableBuild::create(alloc, disk, Build::new(alloc, code, site)?)?;
