@@ -8,7 +8,7 @@ use Rattle.model_values.specs.declared.cell.Cell.{Cell}
 use Rattle.model_values.specs.declared.limit.LimitKind.{LimitKind}
 use Rattle.model_values.specs.declared.value.Value.{Value}
 use Rattle.model_run.specs.declared.ending.Ending.{Ending}
-use Rattle.model_run.specs.declared.ending.Ending.TheVariants.{Normal, Thrown}
+use Rattle.model_run.specs.declared.ending.Ending.TheVariants.{Thrown}
 use Rattle.model_run.specs.declared.ending.Entry.TheVariants.{First}
 use Rattle.model_run.specs.declared.frame.Frame.{Frame}
 use Rattle.model_run.specs.declared.frame.FrameKind.TheVariants as kind
@@ -37,10 +37,6 @@ module _ (k r : ℕ) (f : Frame) (go : Ending → State → Result) where
       to_after k r _ (λ sh a s. through f go (more x sh a s)) u u' result v
       (λ a rs. ap (λ b. through f go (answered b (λ y. more y (shape_at u.world k) a) (state u.world rs))) d.answers ∙ ap (λ y. through f go (more x (shape_at u.world k) a (state y rs))) (sym d.world))
       d.stack d.beside (ap (λ y. y.setting) d.world) (subst (λ y. room_of y ≤ room_of u.world) (sym d.world) (omega arith))
-
-  pub to_ended_inside : (w : World → Answer) (x : Value) (u u' : Standing) (result : Outcome Move Halt) (v : Standing) → Done w u (Ok x) u' → ComesTo k r (λ sh a. go (Normal x)) u' result v → ComesTo k r (λ sh a s. through f go (operating w ended s)) u result v
-  unfolding through
-  to_ended_inside w x u u' result v d h = to_given_inside w (λ y sh a. ended y) x u u' result v d h
 
   pub to_thrown_inside : (w : World → Answer) (c : ℕ) (u u' : Standing) (result : Outcome Move Halt) (v : Standing) → Done w u (Err (op.Thrown c)) u' → ComesTo k r (λ sh a. go (Thrown c)) u' result v → ComesTo k r (λ sh a s. through f go (operating w ended s)) u result v
   unfolding through

@@ -14,6 +14,7 @@ use Rattle.model_run.specs.Callables.{function_named}
 use Rattle.model_run.specs.Calls.{Meant, Callee_of, Step_of, Nothing, call_by, call_meant, call_name, call_on, call_value, is_null, meant_function}
 use Rattle.model_run.specs.FrameTable.{is_method, is_name_call}
 use Rattle.model_run.specs.Forms.{gathered}
+use Rattle.model_run.specs.Gathering.{is_call}
 use Rattle.model_run.specs.Names.{look}
 use Rattle.model_run.specs.State.{World, Reply, State, Env, Limited, counted, may_count, operating}
 use Rattle.model_run.specs.Steps.{begin_step}
@@ -54,6 +55,15 @@ not_first false c e = refl
 pub both : (b c : Bool) → b ≡ true → c ≡ true → (b && c) ≡ true
 both true c e f = f
 both false c e f = absurd (cc e)
+
+-- both forms of a call name a method
+pub method_called : (f : NodeForm) → is_method f ≡ true → is_call f ≡ true
+method_called (form.Method access x) e = refl
+method_called f e = absurd (cc e)
+
+pub name_called : (f : NodeForm) → is_name_call f ≡ true → is_call f ≡ true
+name_called (form.Call x) e = refl
+name_called f e = absurd (cc e)
 
 -- the value of a variable that is called has its method `call` called
 pub name_calls : (f : NodeForm) → is_name_call f ≡ true → method_name f ≡ codes "call"

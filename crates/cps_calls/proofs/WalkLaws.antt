@@ -1,6 +1,6 @@
 -- Walks: how a turn begins, what its closure is, and what comes behind it.
 use Rattle.std.proofs.Common.{◌≡◌, ◌∙◌, ◌<◌, ◌≤◌, ◌+◌, ◌^◌, ℕ, zero, suc, Bool, true, false, List, [], ◌∷◌, ◌++◌, length, nat_eq, Option, Some, None, refl, sym, ap, subst, arith}
-use Rattle.std.specs.Prelude.{drop, pos, negsuc, slice_get, Result as Outcome, Ok, Err, ◌*◌}
+use Rattle.std.specs.Prelude.{drop, pos, negsuc, slice_get, unwrap_or, Result as Outcome, Ok, Err, ◌*◌}
 use Rattle.std.specs.List.{All, AllByRecursion as AllAre}
 use Rattle.std.proofs.lemmas.List.Elements.{All-cons, All-nil}
 use Rattle.cell_heap.specs.Soundness.{ValueBelow}
@@ -18,7 +18,7 @@ use Rattle.model_values.specs.declared.value.Value.{Value}
 use Rattle.model_values.specs.declared.value.Value.TheVariants.{Null, Bool as Truth, Int as Whole, Cell as InCell}
 use Rattle.model_values.specs.Cells.{Answer}
 use Rattle.model_values.specs.Kinds.{kind as kind_of}
-use Rattle.model_values.specs.MethodNames.{Method, Each, Collect, Find, FindAll, Any as AnyOf, Every, Times}
+use Rattle.model_values.specs.MethodNames.{Method, method_named, ToString, Each, Collect, Find, FindAll, Any as AnyOf, Every, Times}
 use Rattle.model_run.specs.declared.callee.Callee.{Callee}
 use Rattle.model_run.specs.declared.ending.Entry.TheVariants.{Body, Turn}
 use Rattle.model_run.specs.declared.ending.Ending.{Ending}
@@ -41,6 +41,7 @@ use Rattle.value_walks.specs.Turns.{TurnAnswers, has_turn}
 use Rattle.cps_frames.specs.Changes.{Passed, Met, changed_by}
 use Rattle.cps_frames.specs.Halts.{halt_of}
 use Rattle.value_walks.specs.Walking.{frame_after, kept_between}
+use Rattle.cps_calls.specs.Calls.{method_name}
 use Rattle.cps_calls.specs.Walking.{IsCount}
 use Rattle.cps_calls.proofs.BodyLaws.{closure_callable}
 use Rattle.cps_frames.specs.Moves.{Comes, ComesTo}
@@ -113,9 +114,9 @@ has_body (Some (MapCell es)) h e = h
 has_body (Some (ThrownCell class m)) h e = h
 has_body None h e = h
 
--- what is not some callee is none
-pub none_left : (o : Option Callee) → ((callee : Callee) → o ≡ Some callee → ⊥) → o ≡ None
-none_left (Some callee) never = absurd (never callee refl)
+-- what is not some of anything is none
+pub none_left : {T : Type 0} (o : Option T) → ((x : T) → o ≡ Some x → ⊥) → o ≡ None
+none_left (Some x) never = absurd (never x refl)
 none_left None never = refl
 
 pub closure_has_body : (w : World) (v : Value) → IsIn HasClosure w.shared.cells v → closure_of w v ≡ None → ⊥
@@ -200,6 +201,24 @@ keeps_values u m (x ∷ []) is fits = absurd fits.1
 keeps_values u m (x ∷ y ∷ []) is fits = absurd fits.1.1
 keeps_values u m (x ∷ y ∷ z ∷ vs) is fits = record { walks_it = is; on = fits.0; closure = known_closure u y fits.1.0; count = a_count u z fits.1.1.0; kept = (kept_any u m vs fits.1.1.1).0; there = (kept_any u m vs fits.1.1.1).1; three = omega arith }
 
+-- The method of a node by its name.
+pub walk_calls : (f : NodeForm) → is_walk f ≡ true → is_method f ≡ true
+walk_calls f is = first_of_both (is_method f) (walks (walk_method f)) is
+
+pub named_method : (f : NodeForm) (m : Method) → is_method f ≡ true → Some m ≡ method_named (method_name f) → walk_method f ≡ m
+named_method (form.Method access x) m is e = ap (λ o. unwrap_or o ToString) (sym e)
+named_method f m is e = absurd (cc is)
+
+-- a name that no method has walks over nothing
+pub unnamed_method : (f : NodeForm) → is_method f ≡ true → None ≡ method_named (method_name f) → walks (walk_method f) ≡ false
+unnamed_method (form.Method access x) is e = ap (λ o. walks (unwrap_or o ToString)) (sym e)
+unnamed_method f is e = absurd (cc is)
+
+pub walk_named : (f : NodeForm) → is_walk f ≡ true → None ≡ method_named (method_name f) → ⊥
+walk_named f is e =
+    let none : false ≡ true = sym (unnamed_method f (walk_calls f is) e) ∙ second_of_both (is_method f) (walks (walk_method f)) is in
+    cc none
+
 pub keeps_turn : (root : Term) (u : Common) (f : Frame) → FrameFits (known u) root f → f.kind ≡ kind.WalkTurn → KeepsTurn u (walk_method (shape_in root f.node).form) f.values
 keeps_turn root u f fits is =
     let sh = shape_in root f.node in
@@ -207,12 +226,12 @@ keeps_turn root u f fits is =
     keeps_values u (walk_method sh.form) f.values (second_of_both (is_method sh.form) (walks (walk_method sh.form)) stands)
     (subst (λ d. ValuesFit (known u) (frame_row d sh f.left f.env).further (frame_row d sh f.left f.env).values f.values) is fits.meets.values)
 
--- and its node calls a method
+-- and its node walks, so it calls a method
+pub turn_walks : (root : Term) (u : Common) (f : Frame) → FrameFits (known u) root f → f.kind ≡ kind.WalkTurn → is_walk (shape_in root f.node).form ≡ true
+turn_walks root u f fits is = subst (λ d. (frame_row d (shape_in root f.node) f.left f.env).stands ≡ true) is fits.meets.stands
+
 pub turn_method : (root : Term) (u : Common) (f : Frame) → FrameFits (known u) root f → f.kind ≡ kind.WalkTurn → is_method (shape_in root f.node).form ≡ true
-turn_method root u f fits is =
-    let sh = shape_in root f.node in
-    let stands : is_walk sh.form ≡ true = subst (λ d. (frame_row d sh f.left f.env).stands ≡ true) is fits.meets.stands in
-    first_of_both (is_method sh.form) (walks (walk_method sh.form)) stands
+turn_method root u f fits is = walk_calls (shape_in root f.node).form (turn_walks root u f fits is)
 
 pub there_below : (h : List Cell) (v : Value) → There h v → ValueBelow (length h) v
 there_below h (InCell n) there = there

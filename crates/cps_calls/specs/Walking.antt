@@ -12,7 +12,7 @@ use Rattle.model_run.specs.Terms.{Term, nodes_of}
 use Rattle.value_walks.specs.Walking.{walk_kept, walk_method as method_of}
 use Rattle.cps_calls.specs.declared.walks.WalkAt.{WalkAt}
 
--- its method is that of its node, and what it names is there; and closures have bodies in the script
+-- its method is that of its node, its closure is one, and what it names is there; and closures have bodies in the script
 pub record WalkStands (root : Term) (h : List Cell) (p : WalkAt) : Type 0 where
   pub node : p.node < length (nodes_of root)
   pub method : method_of p.walk ≡ walk_method (shape_at root p.node).form

@@ -1,6 +1,6 @@
 //! The bodies of closures and functions.
 
-ghost use Rattle.std.specs.Prelude.{◌≡◌, ◌<◌, ◌^◌, ℕ, All, MatchResult, codes, length, true};
+ghost use Rattle.std.specs.Prelude.{◌≡◌, ◌<◌, ◌^◌, ℕ, All, Err, MatchResult, codes, length, true};
 ghost use Rattle.cell_heap.specs.Soundness.{ValueBelow};
 ghost use Rattle.model_values.specs.Kinds.{closure};
 ghost use Rattle.model_values.specs.Throws.{no_method};
@@ -61,16 +61,21 @@ pub fn enter_call(
 fn refuse_arguments(shared: &mut Shared) -> Result<Move, Halt>
     ensures { (t : Thread) (k r : ℕ) → 0 < r → ComesTo k r (λ sh a. operating (λ w. no_method (limits w) (cells w) (closure 0) (codes "call")) ended) (standing shared.old t) result (standing shared.new t) }
 {
-    let value = throw_unfit(shared)?;
-    Ok(Move::Ends(Ending::Normal(value)))
+    Err(Halt::from(throw_unfit(shared)))
 }
 
-/// Throws that there is no such call, with another number of arguments than there are parameters.
-pub(crate) fn throw_unfit(shared: &mut Shared) -> Result<Value, OpRefusal>
-    ensures { (t : Thread) → Done (λ w. no_method (limits w) (cells w) (closure 0) (codes "call")) (standing shared.old t) result (standing shared.new t) }
+/// Throws that there is no such call, with another number of arguments than there are parameters: it gives the throwable, or why there
+/// is none.
+pub(crate) fn throw_unfit(shared: &mut Shared) -> OpRefusal
+    ensures { (t : Thread) → Done (λ w. no_method (limits w) (cells w) (closure 0) (codes "call")) (standing shared.old t) (Err result) (standing shared.new t) }
 {
-    let refusal = no_method(shared.alloc(), &Kind::Closure(0), b"call")?;
-    perform(&mut shared.heap, refusal)
+    let Ok(effect) = no_method(shared.alloc(), &Kind::Closure(0), b"call") else {
+        return OpRefusal::Memory;
+    };
+    let Err(refusal) = perform(&mut shared.heap, effect) else {
+        unreachable!()
+    };
+    refusal
 }
 
 /// The body, with a new variable for each parameter.

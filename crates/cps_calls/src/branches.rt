@@ -62,10 +62,9 @@ fn refuse_branch(state: &mut ThreadState, shared: &mut Shared, start: u32) -> Re
     ensures { (k r : ℕ) (f : OneFrame) → 0 < r → ComesTo k r (λ sh a s. through f (after_branch start) (operating (λ w. no_method (limits w) (cells w) (closure 0) (codes "call")) ended s)) (standing shared.old state.old) result (standing shared.new state.new) }
 {
     match throw_unfit(shared) {
-        Ok(value) => end_branch(state, shared, start, Ending::Normal(value)),
-        Err(OpRefusal::Thrown(cell)) => end_branch(state, shared, start, Ending::Thrown(cell)),
-        Err(OpRefusal::Limit(limit)) => Ok(Move::Hits(limit)),
-        Err(OpRefusal::Memory) => Err(Halt::Memory),
+        OpRefusal::Thrown(cell) => end_branch(state, shared, start, Ending::Thrown(cell)),
+        OpRefusal::Limit(limit) => Ok(Move::Hits(limit)),
+        OpRefusal::Memory => Err(Halt::Memory),
     }
 }
 

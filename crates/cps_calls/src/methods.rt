@@ -15,6 +15,7 @@ ghost use Rattle.model_run.specs.Calls.{call_method, walk_method, walks};
 ghost use Rattle.model_run.specs.FrameTable.{is_method};
 ghost use Rattle.model_run.specs.Fitting.{closure_rule};
 ghost use Rattle.model_run.specs.Forms.{gathered};
+ghost use Rattle.model_run.specs.Gathering.{is_call};
 ghost use Rattle.model_run.specs.Nesting.{shape_at};
 ghost use Rattle.model_run.specs.State.{seeing};
 ghost use Rattle.model_run.specs.Terms.{nodes_of, term_at, form_of};
@@ -103,6 +104,7 @@ pub(crate) fn call_method(
     arguments: Values,
 ) -> Result<Move, Halt>
     requires node { node < length (nodes_of (script_of shared.old.code)) }
+    requires called { is_call (shape_at (script_of shared.old.code) node).form ≡ true }
     requires cells { CellsFit (closure_rule (script_of shared.old.code)) shared.old.heap.cells }
     requires on { ValueBelow (length shared.old.heap.cells) on }
     requires arguments { All (ValueBelow (length shared.old.heap.cells)) arguments }
@@ -144,6 +146,7 @@ fn own_call(
     arguments: &[Value],
 ) -> Result<Option<Value>, OpRefusal>
     requires node { node < length (nodes_of (script_of shared.old.code)) }
+    requires called { is_call (form_of (term_at (script_of shared.old.code) node)) ≡ true }
     requires on { ValueBelow (length shared.old.heap.cells) on.now }
     requires arguments { All (ValueBelow (length shared.old.heap.cells)) arguments.now }
     ensures answer { CallAnswers (own_call product_limits shared.old.heap.cells on.now (method_name (form_of (term_at (script_of shared.old.code) node))) arguments.now shared.old.count) shared.old.heap shared.new.heap shared.old.count shared.new.count result }
@@ -170,6 +173,7 @@ fn closure_call(
     arguments: &[Value],
 ) -> Result<ClosureCall, AllocError>
     requires node { node < length (nodes_of (script_of shared.now.code)) }
+    requires called { is_call (form_of (term_at (script_of shared.now.code) node)) ≡ true }
     requires on { ValueBelow (length shared.now.heap.cells) on.now }
     requires arguments { All (ValueBelow (length shared.now.heap.cells)) arguments.now }
     ensures called { (t : Thread) (n : ℕ) → IfOk result (IsCalled (world_of shared.now t) (form_of (term_at (script_of shared.now.code) node)) n (called_or_none product_limits shared.now.heap.cells None (closure_call product_limits shared.now.heap.cells on.now (method_name (form_of (term_at (script_of shared.now.code) node))) arguments.now n) (kind shared.now.heap.cells on.now) (method_name (form_of (term_at (script_of shared.now.code) node))) n)) }
@@ -217,20 +221,25 @@ fn walk_with(shared: &Shared, method: Method, closure: &Value) -> Result<Closure
     ensures fits { IfOk result (CallFits shared.now.heap.cells) }
 {
     let alloc = shared.alloc();
-    match (Walk::begun(alloc, method), kind_of(&shared.heap, closure)) {
-        (Some(walk), Kind::Closure(cell)) => Ok(ClosureCall::Walks(walk, cell)),
+    let Some(walk) = Walk::begun(alloc, method) else {
+        unreachable!()
+    };
+    match kind_of(&shared.heap, closure) {
+        Kind::Closure(cell) => Ok(ClosureCall::Walks(walk, cell)),
         _ => Ok(ClosureCall::Throws(bad_argument(alloc)?)),
     }
 }
 
 /// The name of the method that a node calls: a call of a name calls the method `call` of a variable's value.
 fn method_name(code: &Code, node: u32) -> &[u8]
-    requires { node < length (nodes_of (script_of code.now)) }
+    requires node { node < length (nodes_of (script_of code.now)) }
+    requires called { is_call (form_of (term_at (script_of code.now) node)) ≡ true }
     ensures { result.now ≡ method_name (form_of (term_at (script_of code.now) node)) }
 {
     match code.kind(node) {
         NodeForm::Method(_, name) => name.as_slice(),
-        _ => b"call",
+        NodeForm::Call(_) => b"call",
+        _ => unreachable!(),
     }
 }
 

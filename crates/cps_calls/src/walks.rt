@@ -1,24 +1,26 @@
 //! The methods that walk over a value with a closure.
 
-ghost use Rattle.std.specs.Prelude.{◌≡◌, ◌<◌, ◌^◌, Bool, ℕ, length, nat_eq, true};
+ghost use Rattle.std.specs.Prelude.{◌≡◌, ◌<◌, ◌^◌, Bool, IfSome, ℕ, is_some, length, nat_eq, option_map, true};
 ghost use Rattle.cps_code.specs.Script.{script_of};
 ghost use Rattle.method_names.specs.Names.{seen as table_method};
 ghost use Rattle.model_values.specs.Limits.{product_limits};
+ghost use Rattle.model_values.specs.MethodNames.{method_named};
 ghost use Rattle.model_values.specs.Walks.{turn as element_at};
 ghost use Rattle.model_run.specs.Around.{position};
 ghost use Rattle.model_run.specs.Callables.{closure_of, parameters_of};
-ghost use Rattle.model_run.specs.Calls.{takes_two, walk, walk_method, walk_turn};
-ghost use Rattle.model_run.specs.FrameTable.{is_callable, is_method};
+ghost use Rattle.model_run.specs.Calls.{takes_two, walk, walk_method, walk_turn, walks};
+ghost use Rattle.model_run.specs.FrameTable.{is_callable, is_method, is_walk};
 ghost use Rattle.model_run.specs.Forms.{after, enter, turn};
 ghost use Rattle.model_run.specs.Nesting.{shape_at};
 ghost use Rattle.model_run.specs.Terms.{form_of, nodes_of, term_at};
 ghost use Rattle.model_run.specs.declared.ending.Entry.TheVariants.{Turn};
 ghost use Rattle.model_run.specs.declared.frame.FrameKind.TheVariants as kind;
 ghost use Rattle.value_walks.specs.Turns.{has_turn};
-ghost use Rattle.value_walks.specs.Walking.{walk_kept};
+ghost use Rattle.value_walks.specs.Walking.{kept_between, walk_kept, walk_method as method_of};
 ghost use Rattle.cps_frames.specs.Moves.{ComesTo};
 ghost use Rattle.cps_frames.specs.Places.{MayEnter, MayGoOn};
 ghost use Rattle.cps_frames.specs.Standing.{standing, world_of};
+ghost use Rattle.cps_calls.specs.Calls.{method_name};
 ghost use Rattle.cps_calls.specs.Turns.{GoesOnTo};
 ghost use Rattle.cps_calls.specs.Walking.{IsCount, WalkStands};
 
@@ -61,7 +63,7 @@ pub fn walk_turn(
 {
     let on = value_at(&kept, 0);
     let closure = value_at(&kept, 1);
-    match Walk::of(walk_method(&shared.code, node), Tail::behind(kept, 2)) {
+    match walk_behind(&shared.code, node, Tail::behind(kept, 2)) {
         None => Ok(Move::Ends(Ending::Normal(Value::Null))),
         Some(walk) => match closure_of(shared, &closure)? {
             None => Ok(Move::Ends(Ending::Normal(Value::Null))),
@@ -78,6 +80,20 @@ pub fn walk_turn(
                 },
             ),
         },
+    }
+}
+
+/// The walk of a node that has kept these values so far, and `None` exactly where its method walks over nothing.
+fn walk_behind(code: &Code, node: u32, kept: Tail) -> Option<Walk>
+    requires node { node < length (nodes_of (script_of code.now)) }
+    requires form { is_method (form_of (term_at (script_of code.now) node)) ≡ true }
+    ensures walks { is_some result ≡ walks (walk_method (form_of (term_at (script_of code.now) node))) }
+    ensures method { IfSome result (λ walk. method_of walk ≡ walk_method (form_of (term_at (script_of code.now) node))) }
+    ensures kept { IfSome result (λ walk. walk_kept walk ≡ kept_between (walk_method (form_of (term_at (script_of code.now) node))) kept) }
+{
+    match called_method(code, node) {
+        None => None,
+        Some(method) => Walk::of(method, kept),
     }
 }
 
@@ -190,16 +206,28 @@ pub(crate) fn after_walk_turn(
     }
 }
 
-/// The method of a walk: `toString`, which walks over nothing, for a name that no method has.
+/// The method of a node that walks.
 fn walk_method(code: &Code, node: u32) -> Method
     requires node { node < length (nodes_of (script_of code.now)) }
-    requires form { is_method (form_of (term_at (script_of code.now) node)) ≡ true }
+    requires walks { is_walk (form_of (term_at (script_of code.now) node)) ≡ true }
     ensures { table_method result ≡ walk_method (form_of (term_at (script_of code.now) node)) }
 {
-    match code.kind(node) {
-        NodeForm::Method(_, name) => Method::named(name.as_slice()).unwrap_or(Method::ToString),
-        _ => unreachable!(),
-    }
+    let Some(method) = called_method(code, node) else {
+        unreachable!()
+    };
+    method
+}
+
+/// The method that a node calls by its name, and `None` exactly where no method has this name.
+fn called_method(code: &Code, node: u32) -> Option<Method>
+    requires node { node < length (nodes_of (script_of code.now)) }
+    requires form { is_method (form_of (term_at (script_of code.now) node)) ≡ true }
+    ensures { option_map table_method result ≡ method_named (method_name (form_of (term_at (script_of code.now) node))) }
+{
+    let NodeForm::Method(_, name) = code.kind(node) else {
+        unreachable!()
+    };
+    Method::named(name.as_slice())
 }
 
 /// Whether a closure has two parameters.

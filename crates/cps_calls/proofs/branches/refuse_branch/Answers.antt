@@ -7,27 +7,19 @@ use Rattle.model_run.specs.Steps.{after_branch}
 use Rattle.model_values.specs.Kinds.{closure}
 use Rattle.model_values.specs.Throws.{no_method}
 use Rattle.cps_frames.specs.Standing.{standing}
-use Rattle.cps_calls.proofs.BranchLaws.{met_inside, to_ended_inside, to_thrown_inside}
+use Rattle.cps_calls.proofs.BranchLaws.{met_inside, to_thrown_inside}
 use Rattle.cps_calls.proofs.branches.refuse_branch.Goals as goal
 
 pub end_branch-requires : goal.end_branch-requires
-end_branch-requires c = subst (λ ns. IsFlowNode ns c.args.start) (sym (ap (λ (w : World). w.shared.nodes) (c.in-Ok.ensures c.args.state.now).world)) c.requires
-
-pub end_branch-requires-in-Err-Thrown : goal.end_branch-requires-in-Err-Thrown
-end_branch-requires-in-Err-Thrown c =
-    let thrown = rw c.in-Err-Thrown.field-0-is at (c.in-Err-Thrown.ensures c.args.state.now) in
+end_branch-requires c =
+    let thrown = rw c.in-Thrown.is at (c.throw_unfit.ensures c.args.state.now) in
     subst (λ ns. IsFlowNode ns c.args.start) (sym (ap (λ (w : World). w.shared.nodes) thrown.world)) c.requires
 
-pub returns-in-Ok : goal.returns-in-Ok
-returns-in-Ok c = λ k r f pos.
-    to_ended_inside k r f (after_branch c.args.start) (λ w. no_method (limits w) (cells w) (closure 0) (codes "call")) c.in-Ok.value (standing c.args.shared.now c.args.state.now) (standing c.throw_unfit.new.shared c.args.state.now) _ _ (c.in-Ok.ensures c.args.state.now)
+pub returns-in-Thrown : goal.returns-in-Thrown
+returns-in-Thrown c = λ k r f pos.
+    to_thrown_inside k r f (after_branch c.args.start) (λ w. no_method (limits w) (cells w) (closure 0) (codes "call")) c.in-Thrown.cell (standing c.args.shared.now c.args.state.now) (standing c.throw_unfit.new.shared c.args.state.now) _ _ (rw c.in-Thrown.is at (c.throw_unfit.ensures c.args.state.now))
     (c.end_branch.ensures k r pos)
 
-pub returns-in-Err-Thrown : goal.returns-in-Err-Thrown
-returns-in-Err-Thrown c = λ k r f pos.
-    to_thrown_inside k r f (after_branch c.args.start) (λ w. no_method (limits w) (cells w) (closure 0) (codes "call")) c.in-Err-Thrown.cell (standing c.args.shared.now c.args.state.now) (standing c.throw_unfit.new.shared c.args.state.now) _ _ (rw c.in-Err-Thrown.field-0-is at (c.in-Err-Thrown.ensures c.args.state.now))
-    (c.end_branch-in-Err-Thrown.ensures k r pos)
-
-pub returns-in-Err-Limit : goal.returns-in-Err-Limit
-returns-in-Err-Limit c = λ k r f pos.
-    met_inside k r f (after_branch c.args.start) (λ w. no_method (limits w) (cells w) (closure 0) (codes "call")) (λ y sh a. ended y) c.in-Err-Limit.limit (standing c.args.shared.now c.args.state.now) (standing c.throw_unfit.new.shared c.args.state.now) (rw c.in-Err-Limit.field-0-is at (c.in-Err-Limit.ensures c.args.state.now)) pos
+pub returns-in-Limit : goal.returns-in-Limit
+returns-in-Limit c = λ k r f pos.
+    met_inside k r f (after_branch c.args.start) (λ w. no_method (limits w) (cells w) (closure 0) (codes "call")) (λ y sh a. ended y) c.in-Limit.limit (standing c.args.shared.now c.args.state.now) (standing c.throw_unfit.new.shared c.args.state.now) (rw c.in-Limit.is at (c.throw_unfit.ensures c.args.state.now)) pos

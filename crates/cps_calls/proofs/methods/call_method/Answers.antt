@@ -1,4 +1,4 @@
-use Rattle.std.proofs.Common.{◌≡◌, ◌∙◌, ◌<◌, ◌≤◌, List, length, Some, None, Ok, Err, refl, sym, ap, subst, arith}
+use Rattle.std.proofs.Common.{◌≡◌, ◌∙◌, ◌<◌, ◌≤◌, List, length, true, Some, None, Ok, Err, refl, sym, ap, subst, arith}
 use Rattle.std.specs.Prelude.{IfSome}
 use Rattle.std.specs.List.{All}
 use Rattle.std.proofs.lemmas.Result.{err_from_is_err_and}
@@ -12,6 +12,7 @@ use Rattle.model_values.specs.declared.value.Value.{Value}
 use Rattle.model_values.specs.declared.value.Value.TheVariants.{Cell as InCell}
 use Rattle.model_run.specs.Calls.{walk, walk_method}
 use Rattle.model_run.specs.Fitting.{closure_rule}
+use Rattle.model_run.specs.Gathering.{is_call}
 use Rattle.model_run.specs.declared.ending.Ending.TheVariants.{Normal}
 use Rattle.model_run.specs.State.{counted, may_count}
 use Rattle.model_run.specs.Terms.{form_of, nodes_of, term_at}
@@ -38,6 +39,10 @@ returns-in_err-tick c = λ r above.
 pub own_call-requires-clause-node : goal.own_call-requires-clause-node
 own_call-requires-clause-node c =
     subst (λ root. c.args.node < length (nodes_of root)) (sym (ap (λ w. w.setting.script) (c.in_ok-tick.ensures c.args.state.now).made)) c.requires.node
+
+pub own_call-requires-clause-called : goal.own_call-requires-clause-called
+own_call-requires-clause-called c =
+    subst (λ root. is_call (form_of (term_at root c.args.node)) ≡ true) (sym (ap (λ w. w.setting.script) (c.in_ok-tick.ensures c.args.state.now).made)) c.requires.called
 
 pub own_call-requires-clause-on : goal.own_call-requires-clause-on
 own_call-requires-clause-on c =
@@ -100,6 +105,18 @@ closure_call-requires-clause-node c =
     let none = own_none own s.heap new.heap s.count new.count (subst (λ x. CallAnswers own s.heap new.heap s.count new.count (Ok x)) c.in_default.is c.in_ok-value.ensures.answer) in
     let same : new ≡ s = c.in_ok-value.ensures.rest ∙ ap (λ h. record s { heap = h; count = new.count }) none.1 ∙ ap (λ n. record s { count = n }) none.2 in
     subst (λ x. k < length (nodes_of (script_of x.code))) (sym same) (subst (λ root. k < length (nodes_of root)) (sym script) c.requires.node)
+
+pub closure_call-requires-clause-called : goal.closure_call-requires-clause-called
+closure_call-requires-clause-called c =
+    let begun = c.in_ok-tick.ensures c.args.state.now in
+    let script = ap (λ w. w.setting.script) begun.made in
+    let k = c.args.node in
+    let s = c.tick.new.shared in
+    let new = c.own_call.new.shared in
+    let own = own_call product_limits s.heap.cells c.args.on (name_of (script_of s.code) k) c.as_slice.result.now s.count in
+    let none = own_none own s.heap new.heap s.count new.count (subst (λ x. CallAnswers own s.heap new.heap s.count new.count (Ok x)) c.in_default.is c.in_ok-value.ensures.answer) in
+    let same : new ≡ s = c.in_ok-value.ensures.rest ∙ ap (λ h. record s { heap = h; count = new.count }) none.1 ∙ ap (λ n. record s { count = n }) none.2 in
+    subst (λ x. is_call (form_of (term_at (script_of x.code) k)) ≡ true) (sym same) (subst (λ root. is_call (form_of (term_at root k)) ≡ true) (sym script) c.requires.called)
 
 pub closure_call-requires-clause-on : goal.closure_call-requires-clause-on
 closure_call-requires-clause-on c =

@@ -16,9 +16,12 @@ use Rattle.cps_frames.specs.declared.thread.Move.TheVariants.{Ends}
 use Rattle.cps_frames.proofs.MoveLaws.{comes_ended, comes_met, to_as, to_counted}
 use Rattle.cps_calls.specs.Calls.{method_name}
 use Rattle.cps_calls.specs.Kinds.{is_null_kind, is_null_safe}
-use Rattle.cps_calls.proofs.NameLaws.{both, method_says, not_both, not_first}
+use Rattle.cps_calls.proofs.NameLaws.{both, method_called, method_says, not_both, not_first}
 use Rattle.cps_calls.proofs.methods.method_step.Goals as goal
 use Rattle.cps_calls.proofs.methods.method_step.Goals.{else-is_null_safe-via-then-is_null_safe+else-is_null, else-is_null_safe-via-else-is_null_safe}
+
+pub call_method-requires-clause-called : goal.call_method-requires-clause-called
+call_method-requires-clause-called c = method_called (shape_at (script_of c.args.shared.now.code) c.args.node).form c.requires.form
 
 pub returns-in_err-tick : goal.returns-in_err-tick
 returns-in_err-tick c = λ r above.

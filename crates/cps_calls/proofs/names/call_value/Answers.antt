@@ -6,8 +6,11 @@ use Rattle.cps_code.specs.Script.{script_of}
 use Rattle.cps_frames.specs.Standing.{standing, state, world_of}
 use Rattle.cps_frames.proofs.MoveLaws.{to_as}
 use Rattle.cps_calls.specs.Calls.{method_name}
-use Rattle.cps_calls.proofs.NameLaws.{name_calls}
+use Rattle.cps_calls.proofs.NameLaws.{name_called, name_calls}
 use Rattle.cps_calls.proofs.names.call_value.Goals as goal
+
+pub call_method-requires-clause-called : goal.call_method-requires-clause-called
+call_method-requires-clause-called c = name_called (shape_at (script_of c.args.shared.now.code) c.args.node).form c.requires.form
 
 pub returns : goal.returns
 returns c = λ r above.

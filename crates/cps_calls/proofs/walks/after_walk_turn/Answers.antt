@@ -14,7 +14,7 @@ use Rattle.cps_code.specs.Script.{script_of}
 use Rattle.cps_frames.specs.Order.{rank}
 use Rattle.cps_frames.specs.Standing.{common_of, standing, world_of}
 use Rattle.cps_calls.proofs.TurnLaws.{by_one, by_two}
-use Rattle.cps_calls.proofs.WalkLaws.{all_below, enters_turn, keeps_turn, same_after, there_below, turn_method, turn_ranks, walk_ends, walk_goes_on}
+use Rattle.cps_calls.proofs.WalkLaws.{all_below, enters_turn, keeps_turn, same_after, there_below, turn_method, turn_ranks, turn_walks, walk_ends, walk_goes_on}
 use Rattle.cps_calls.proofs.walks.after_walk_turn.Goals as goal
 
 pub kept_value-on-requires : goal.kept_value-on-requires
@@ -32,8 +32,8 @@ kept_value-requires c =
     let row = keeps_turn (script_of c.args.shared.now.code) (common_of c.args.shared.now) c.args.frame c.requires.may.frame.fits c.requires.kind in
     omega (arith, row.three)
 
-pub walk_method-method-requires-clause-form : goal.walk_method-method-requires-clause-form
-walk_method-method-requires-clause-form c = turn_method (script_of c.args.shared.now.code) (common_of c.args.shared.now) c.args.frame c.requires.may.frame.fits c.requires.kind
+pub walk_method-method-requires-clause-walks : goal.walk_method-method-requires-clause-walks
+walk_method-method-requires-clause-walks c = turn_walks (script_of c.args.shared.now.code) (common_of c.args.shared.now) c.args.frame c.requires.may.frame.fits c.requires.kind
 
 pub of-walk-requires-clause-walks : goal.of-walk-requires-clause-walks
 of-walk-requires-clause-walks c =
