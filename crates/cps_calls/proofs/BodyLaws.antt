@@ -1,22 +1,11 @@
 -- The bodies of closures and functions.
-use Rattle.std.proofs.Common.{◌≡◌, ◌∙◌, ◌≤◌, ℕ, List, [], ◌∷◌, ◌++◌, length, nat_lt, Bool, true, false, if◌then◌else◌, sym, ap, subst, refl, arith}
+use Rattle.std.proofs.Common.{◌≡◌, ◌∙◌, ◌≤◌, ℕ, List, true, false, sym, ap, subst, refl, arith}
 use Rattle.std.proofs.lemmas.Bool.{false_from_ne_true}
 use Rattle.std.proofs.Math.Bool.{Bool-set}
 use Rattle.std.proofs.Math.Logic.{∥∥₁_elim}
-use Rattle.std.specs.Prelude.{Result as Outcome, Ok, Err, Option, Some, None, codes}
-use Rattle.cell_heap.specs.Region.{Region}
+use Rattle.std.specs.Prelude.{Result as Outcome}
 use Rattle.model_syntax.specs.declared.node.NodeForm.{NodeForm}
 use Rattle.model_syntax.specs.declared.node.NodeForm.TheVariants as form
-use Rattle.model_values.specs.Cells.{Gives, Meets, Throws, no_room, throw, unless_limit}
-use Rattle.model_values.specs.Kinds.{closure, kind_name}
-use Rattle.model_values.specs.Limits.{product_limits}
-use Rattle.model_values.specs.Throws.{no_method}
-use Rattle.model_values.specs.declared.cell.Cell.{Cell}
-use Rattle.model_values.specs.declared.cell.Cell.TheVariants.{Thrown as ThrownCell}
-use Rattle.model_values.specs.declared.limit.LimitKind.{LimitKind}
-use Rattle.model_values.specs.declared.limit.LimitKind.TheVariants.{TextLength}
-use Rattle.model_values.specs.declared.throwable.Class.{Class}
-use Rattle.model_values.specs.declared.throwable.Class.TheVariants.{MissingMethod}
 use Rattle.model_values.specs.declared.value.Value.{Value}
 use Rattle.model_run.specs.declared.ending.Ending.{Ending}
 use Rattle.model_run.specs.declared.ending.Ending.TheVariants.{Normal, Thrown, Returned, Broke, Continued, Declared, Answered}
@@ -30,8 +19,6 @@ use Rattle.model_run.specs.Forms.{body_of}
 use Rattle.model_run.specs.State.{Common, Env, State, guarded}
 use Rattle.run_laws.specs.Soundness.{EndFits, may_declare}
 use Rattle.run_laws.proofs.Evaluation.{ScriptFacts, tree_facts}
-use Rattle.value_view.specs.Answers.{Answers}
-use Rattle.value_view.specs.declared.refusal.OpRefusal.{OpRefusal}
 use Rattle.cps_frames.specs.Changes.{Passed}
 use Rattle.cps_frames.specs.Moves.{ComesTo}
 use Rattle.cps_frames.specs.Parts.{least_parts}
@@ -63,19 +50,6 @@ body_called f e a k sh env args s = absurd (cc e)
 pub closure_callable : (f : NodeForm) → is_closure_form f ≡ true → is_callable f ≡ true
 closure_callable (form.Closure heads) e = refl
 closure_callable f e = absurd (cc e)
-
--- A call with another number of arguments throws, or meets a limit: it gives nothing.
-throw_gives_none : (h g : List Cell) (class : Class) (m : List ℕ) (v : Value) → throw product_limits h class m ≡ Gives g v → ⊥
-throw_gives_none h g class m v e = gives_none (nat_lt product_limits.text (length m)) (no_room product_limits h (ThrownCell class (Some m) ∷ [])) (h ++ ThrownCell class (Some m) ∷ []) e
-  where
-    gives_none : (b : Bool) (o : Option LimitKind) (x : List Cell) → (if b then Meets TextLength else unless_limit o (Throws x (length h))) ≡ Gives g v → ⊥
-    gives_none true o x e = cc e
-    gives_none false (Some k) x e = cc e
-    gives_none false None x e = cc e
-
-pub unfit_throws : (old new : Region) (o : Outcome Value OpRefusal) → Answers (no_method product_limits old.cells (closure 0) (codes "call")) old new o → ((x : OpRefusal) → o ≡ Err x → ⊥) → ⊥
-unfit_throws old new (Err x) a never = never x refl
-unfit_throws old new (Ok v) a never = throw_gives_none old.cells new.cells MissingMethod (codes "No signature of method: " ++ kind_name (closure 0) ++ codes "." ++ codes "call" ++ codes "()") v a
 
 -- The body is no declaration, and ends as a block does.
 no_declaration : (f : NodeForm) → is_callable f ≡ true → may_declare f 0 ≡ false

@@ -5,6 +5,7 @@ pub mod CountLaws
 pub mod MeaningLaws
 pub mod MethodLaws
 pub mod NameLaws
+pub mod ThrowLaws
 pub mod TurnLaws
 pub mod VariableLemmas
 pub mod WalkLaws

@@ -65,6 +65,11 @@ IsCalled w f n called (does.Calls callee) = (c : ℕ) × (called ≡ CallsClosur
 IsCalled w f n called (does.Walks walk c) = (called ≡ Walks (method_of walk) c) × (method_of walk ≡ walk_method f) × (walk_kept walk ≡ [])
 IsCalled w f n called (does.Throws effect) = called ≡ Done (effect_answer product_limits (cells w) effect) n
 
+-- an answer without a value: it throws, or meets a limit
+abbrev pub GivesNothing : Answer → Type 0
+GivesNothing (Gives h v) = ⊥
+GivesNothing answer = Unit {0}
+
 -- what it names is among these cells, and what a walk has is a closure
 abbrev pub CallFits : List Cell → ClosureCall → Type 0
 CallFits h (does.Calls callee) = Unit {0}

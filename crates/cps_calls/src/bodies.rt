@@ -22,12 +22,13 @@ ghost use Rattle.cps_frames.specs.declared.shared.Shared.{Shared as Common};
 ghost use Rattle.cps_frames.specs.declared.thread.ThreadState.{ThreadState as Thread};
 ghost use Rattle.cps_calls.specs.Calls.{body_of_values};
 
+use crate::effects::throw_with;
 use crate::parameters::{arguments_for, bind_parameters};
 use crate::variables::new_variables;
 use cps_frames::{Halt, Move, Shared, ThreadState, under};
 use model_run::{Ending, Entry, Frame, FrameKind};
 use model_values::{Env, LimitKind, Value, Values};
-use value_ops::{no_method, perform};
+use value_ops::no_method;
 use value_view::{Kind, OpRefusal};
 
 /// The most calls that are open in one green thread.
@@ -69,13 +70,10 @@ fn refuse_arguments(shared: &mut Shared) -> Result<Move, Halt>
 pub(crate) fn throw_unfit(shared: &mut Shared) -> OpRefusal
     ensures { (t : Thread) → Done (λ w. no_method (limits w) (cells w) (closure 0) (codes "call")) (standing shared.old t) (Err result) (standing shared.new t) }
 {
-    let Ok(effect) = no_method(shared.alloc(), &Kind::Closure(0), b"call") else {
-        return OpRefusal::Memory;
-    };
-    let Err(refusal) = perform(&mut shared.heap, effect) else {
-        unreachable!()
-    };
-    refusal
+    match no_method(shared.alloc(), &Kind::Closure(0), b"call") {
+        Ok(effect) => throw_with(shared, effect),
+        Err(_) => OpRefusal::Memory,
+    }
 }
 
 /// The body, with a new variable for each parameter.

@@ -1,18 +1,21 @@
 //! What an operation on values does ends a node.
 
-ghost use Rattle.std.specs.Prelude.{◌≡◌, ◌<◌, ℕ, length};
+ghost use Rattle.std.specs.Prelude.{◌≡◌, ◌<◌, ℕ, Err, length};
 ghost use Rattle.model_values.specs.Cells.{Answer};
 ghost use Rattle.model_values.specs.Limits.{product_limits};
 ghost use Rattle.model_run.specs.Around.{ended};
 ghost use Rattle.model_run.specs.State.{World, operating};
 ghost use Rattle.value_ops.specs.Effects.{EffectBelow, effect_answer};
+ghost use Rattle.cps_frames.specs.Changes.{Done};
 ghost use Rattle.cps_frames.specs.Moves.{ComesTo};
 ghost use Rattle.cps_frames.specs.Standing.{standing, world_of};
 ghost use Rattle.cps_frames.specs.declared.thread.ThreadState.{ThreadState as Thread};
+ghost use Rattle.cps_calls.specs.Calls.{GivesNothing};
 
 use cps_frames::{Halt, Move, Shared};
 use model_run::Ending;
 use value_ops::{Effect, perform};
+use value_view::OpRefusal;
 
 /// Does what an operation has decided, and ends the node with what that gives or throws.
 pub(crate) fn end_with(shared: &mut Shared, effect: Effect) -> Result<Move, Halt>
@@ -21,4 +24,16 @@ pub(crate) fn end_with(shared: &mut Shared, effect: Effect) -> Result<Move, Halt
 {
     let value = perform(&mut shared.heap, effect)?;
     Ok(Move::Ends(Ending::Normal(value)))
+}
+
+/// Throws what an operation has decided to throw: the throwable, or why there is none.
+pub(crate) fn throw_with(shared: &mut Shared, effect: Effect) -> OpRefusal
+    requires fits { EffectBelow (length shared.old.heap.cells) effect }
+    requires throws { GivesNothing (effect_answer product_limits shared.old.heap.cells effect) }
+    ensures { (t : Thread) (f : World → Answer) → f (world_of shared.old t) ≡ effect_answer product_limits shared.old.heap.cells effect → Done f (standing shared.old t) (Err result) (standing shared.new t) }
+{
+    let Err(refusal) = perform(&mut shared.heap, effect) else {
+        unreachable!()
+    };
+    refusal
 }

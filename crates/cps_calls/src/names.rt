@@ -20,7 +20,7 @@ ghost use Rattle.cps_frames.specs.declared.thread.ThreadState.{ThreadState as Th
 ghost use Rattle.cps_calls.specs.Meanings.{name_at, unknown_at};
 
 use crate::callees::{Meant, meaning};
-use crate::effects::end_with;
+use crate::effects::throw_with;
 use crate::kept::split_first;
 use crate::methods::call_method;
 use cps_frames::{Halt, Move, Shared, ThreadState, tick};
@@ -84,8 +84,8 @@ fn refuse_name(shared: &mut Shared, node: u32) -> Result<Move, Halt>
     let NodeForm::Call(name) = shared.code.kind(node) else {
         unreachable!()
     };
-    let refusal = unknown_step(shared.alloc(), name.as_slice())?;
-    end_with(shared, refusal)
+    let effect = unknown_step(shared.alloc(), name.as_slice())?;
+    Err(Halt::from(throw_with(shared, effect)))
 }
 
 /// The value of a declared variable is called.
