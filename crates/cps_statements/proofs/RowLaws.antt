@@ -1,6 +1,8 @@
 -- Statements in a row, and the parts of an `if`: the last so many parts of a node.
-use Rattle.std.proofs.Common.{◌≡◌, ◌∙◌, ◌<◌, ◌≤◌, ◌+◌, ◌-◌, ◌^◌, ℕ, zero, suc, true, false, List, [], refl, sym, ap, ap₂, subst, arith}
-use Rattle.std.specs.Prelude.{Result as Outcome}
+use Rattle.std.proofs.Common.{◌≡◌, ◌∙◌, ◌<◌, ◌≤◌, ◌+◌, ◌-◌, ◌^◌, ℕ, zero, suc, Bool, true, false, List, [], ◌∷◌, ◌++◌, refl, sym, ap, ap₂, subst, arith, inl, inr}
+use Rattle.std.proofs.Math.Bool.{Bool-set}
+use Rattle.std.proofs.Math.Logic.{∥∥₁_elim}
+use Rattle.std.specs.Prelude.{◌⊎◌, Result as Outcome}
 use Rattle.model_syntax.specs.declared.node.NodeForm.{NodeForm}
 use Rattle.model_syntax.specs.declared.node.NodeForm.TheVariants as form
 use Rattle.model_values.specs.declared.value.Value.{Value}
@@ -21,10 +23,14 @@ use Rattle.cps_frames.specs.declared.thread.Move.{Move}
 use Rattle.cps_frames.specs.declared.thread.Move.TheVariants.{Ends, Hits}
 use Rattle.model_run.specs.declared.ending.Ending.TheVariants.{Broke, Continued, Returned}
 use Rattle.model_values.specs.declared.limit.LimitKind.{LimitKind}
-use Rattle.model_run.specs.FrameTable.{is_block}
+use Rattle.model_run.specs.FrameTable.{is_arm, is_block}
+use Rattle.model_run.specs.Terms.{Term}
+use Rattle.script_laws.specs.NodeParts.{AllOf, HasParts, Next, Stand, is_body, parts_asked}
+use Rattle.script_laws.proofs.ScriptParts.{script_parts}
 use Rattle.cps_statements.specs.Kinds.{begins_here, starts_here}
 use Rattle.cps_frames.specs.Changes.{Met, Passed}
 use Rattle.cps_frames.proofs.MoveLaws.{comes_as, comes_ended, comes_met, to_as}
+use Rattle.cps_variables.specs.Nodes.{HasForm}
 use Rattle.cps_variables.proofs.NodeLaws.{count_is, to_started}
 
 -- the next statement of the last so many
@@ -52,20 +58,54 @@ to_arm k (suc m) at env u result v some is arm_there h r lt =
     (h r (omega (arith, lt, e)))
 
 -- the block behind the arms
-other_part : (a : Around) (k : ℕ) (sh : Shape) (m : ℕ) (env : Env) (others : State → Result) (f : NodeForm) → (f ≡ form.Arm → ⊥) → arm a k sh m env others f ≡ a.part First (arity sh - suc m) env
-other_part a k sh m env others form.Arm differs = absurd (differs refl)
-other_part a k sh m env others f differs = refl
-
-pub to_block : (k left at : ℕ) (env : Env) (u : Standing) (result : Outcome Move Halt) (v : Standing) → (left ≡ 0 → ⊥) → at ≡ arity (shape_at u.world.setting.script k) - left → (form_at (shape_at u.world.setting.script k).parts at ≡ form.Arm → ⊥)
+pub to_block : (k left at : ℕ) (env : Env) (u : Standing) (result : Outcome Move Halt) (v : Standing) → (left ≡ 0 → ⊥) → at ≡ arity (shape_at u.world.setting.script k) - left → form_at (shape_at u.world.setting.script k).parts at ≡ form.Block
     → ((r : ℕ) → 0 < r → ComesTo k r (λ sh a. a.part First at env) u result v)
     → (r : ℕ) → left + left < r → ComesTo k r (λ sh a. arms a k sh left env) u result v
-to_block k zero at env u result v some is differs h r lt = absurd (some refl)
-to_block k (suc m) at env u result v some is differs h r lt =
+to_block k zero at env u result v some is block_there h r lt = absurd (some refl)
+to_block k (suc m) at env u result v some is block_there h r lt =
     to_as k r (λ sh a. arms a k sh (suc m) env) _ u result v
     (λ a rs. let sh = shape_at u.world.setting.script k in
-    ap (λ x. x (state u.world rs)) (other_part a k sh m env (arms a k sh m env) (form_at sh.parts (arity sh - suc m)) (subst (λ i. form_at sh.parts i ≡ form.Arm → ⊥) is differs))
+    ap (λ f. arm a k sh m env (arms a k sh m env) f (state u.world rs)) (ap (form_at sh.parts) (sym is) ∙ block_there)
     ∙ ap (λ i. a.part First i env (state u.world rs)) (sym is))
     (h r (omega (arith, lt)))
+
+-- An `if` has no other parts.
+abbrev in_if : NodeForm → Bool
+in_if form.Arm = true
+in_if form.Block = true
+in_if f = false
+
+arm_in_if : (f : NodeForm) → is_arm f ≡ true → in_if f ≡ true
+arm_in_if form.Arm is = refl
+arm_in_if f is = absurd (cc is)
+
+body_in_if : (f : NodeForm) → is_body f ≡ true → in_if f ≡ true
+body_in_if form.Block is = refl
+body_in_if f is = absurd (cc is)
+
+last_part : (fs : List NodeForm) (i : ℕ) → (fs ≡ []) ⊎ Next is_body (Stand []) fs → in_if (form_at fs i) ≡ true
+last_part [] i h = refl
+last_part (f ∷ fs) zero h = elim h [ inl e ↦ absurd (cc e) | inr q ↦ body_in_if f q.0 ]
+last_part (f ∷ fs) (suc i) h = elim h [ inl e ↦ absurd (cc e) | inr q ↦ ap (λ gs. in_if (form_at gs i)) q.1 ]
+
+arm_or_last : (gs fs : List NodeForm) (i : ℕ) → AllOf is_arm gs → (fs ≡ []) ⊎ Next is_body (Stand []) fs → in_if (form_at (gs ++ fs) i) ≡ true
+arm_or_last [] fs i all h = last_part fs i h
+arm_or_last (g ∷ gs) fs zero all h = arm_in_if g all.0
+arm_or_last (g ∷ gs) fs (suc i) all h = arm_or_last gs fs i all.1 h
+
+if_part : (fs : List NodeForm) (i : ℕ) → Stand (parts_asked form.If) fs → in_if (form_at fs i) ≡ true
+if_part fs i h = ap (λ gs. in_if (form_at gs i)) h.split ∙ arm_or_last h.these h.rest i h.kind h.behind
+
+part_in_if : (root : Term) (k i : ℕ) → HasForm root k form.If → in_if (form_at (shape_at root k).parts i) ≡ true
+part_in_if root k i h = ∥∥₁_elim h.script (hlevel (Bool-set)) (λ s. if_part (shape_at root k).parts i (subst (λ f. Stand (parts_asked f) (shape_at root k).parts) h.form (subst (λ t. HasParts (shape_at t k)) (sym s.1) (script_parts s.0 k))))
+
+no_third : (f : NodeForm) → in_if f ≡ true → (f ≡ form.Arm → ⊥) → (f ≡ form.Block → ⊥) → ⊥
+no_third form.Arm is a b = a refl
+no_third form.Block is a b = b refl
+no_third f is a b = cc is
+
+pub no_other_part : (root : Term) (k i : ℕ) (f : NodeForm) → HasForm root k form.If → f ≡ form_at (shape_at root k).parts i → (f ≡ form.Arm → ⊥) → (f ≡ form.Block → ⊥) → ⊥
+no_other_part root k i f h is = no_third f (ap in_if is ∙ part_in_if root k i h)
 
 -- all parts of an `if`, and all statements of a row
 pub all_arms : (k left : ℕ) (env : Env) (u : Standing) (result : Outcome Move Halt) (v : Standing) → left ≡ part_count u.world.setting.script k → left < 2 ^ 32 → ((r : ℕ) → left + left < r → ComesTo k r (λ sh a. arms a k sh left env) u result v) → ComesTo k (2 ^ 66) (λ sh a. arms a k sh (arity sh) env) u result v

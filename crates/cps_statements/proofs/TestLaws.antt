@@ -1,4 +1,4 @@
--- Tests of loops, and the forms that frames of loops stand at.
+-- The forms that frames of an `if`, of loops and of `try` stand at.
 use Rattle.std.proofs.Common.{◌≡◌, ◌∙◌, true, refl, sym}
 use Rattle.model_syntax.specs.declared.node.NodeForm.{NodeForm}
 use Rattle.model_syntax.specs.declared.node.NodeForm.TheVariants as form
@@ -16,6 +16,10 @@ use Rattle.cps_variables.proofs.NodeLaws.{and_left, stands}
 of_form : (u : Standing) (f : Frame) (e : Ending) (g : NodeForm) → MayGoOn u f e → (shape_at u.world.setting.script f.node).form ≡ g → HasForm u.world.setting.script f.node g
 of_form u f e g may is = record { script = may.script; node = may.frame.fits.node; form = is }
 
+is_if : (f : NodeForm) → same_form form.If f ≡ true → f ≡ form.If
+is_if form.If h = refl
+is_if f h = absurd (cc h)
+
 is_while : (f : NodeForm) → same_form form.While f ≡ true → f ≡ form.While
 is_while form.While h = refl
 is_while f h = absurd (cc h)
@@ -29,6 +33,9 @@ is_try form.Try h = refl
 is_try f h = absurd (cc h)
 
 -- the node of each frame
+pub if_form : (u : Standing) (f : Frame) (e : Ending) → MayGoOn u f e → f.kind ≡ kind.IfTest → HasForm u.world.setting.script f.node form.If
+if_form u f e may is = of_form u f e form.If may (is_if _ (and_left _ _ (stands u f e kind.IfTest may is)))
+
 pub while_body_form : (u : Standing) (f : Frame) (e : Ending) → MayGoOn u f e → f.kind ≡ kind.WhileBody → HasForm u.world.setting.script f.node form.While
 while_body_form u f e may is = of_form u f e form.While may (is_while _ (stands u f e kind.WhileBody may is))
 

@@ -1,17 +1,18 @@
 //! `if`.
 
-ghost use Rattle.std.specs.Prelude.{◌≡◌, ◌<◌, ◌≤◌, ◌+◌, ℕ, length};
+ghost use Rattle.std.specs.Prelude.{◌≡◌, ◌<◌, ◌≤◌, ◌+◌, ℕ};
+ghost use Rattle.model_syntax.specs.declared.node.NodeForm.TheVariants as form;
 ghost use Rattle.model_run.specs.Around.{arity};
 ghost use Rattle.model_run.specs.Forms.{after};
 ghost use Rattle.model_run.specs.Nesting.{shape_at};
 ghost use Rattle.model_run.specs.Statements.{arms};
-ghost use Rattle.model_run.specs.Terms.{nodes_of};
 ghost use Rattle.model_run.specs.declared.frame.FrameKind.TheVariants as kind;
 ghost use Rattle.cps_code.specs.Script.{script_of};
 ghost use Rattle.cps_frames.specs.Moves.{ComesTo};
 ghost use Rattle.cps_frames.specs.Order.{rank};
 ghost use Rattle.cps_frames.specs.Places.{MayGoOn};
 ghost use Rattle.cps_frames.specs.Standing.{standing};
+ghost use Rattle.cps_variables.specs.Nodes.{HasForm};
 
 use cps_frames::{Halt, Move, Shared, ThreadState, inside, part, value_of};
 use cps_variables::part_form;
@@ -28,7 +29,7 @@ pub(crate) fn arms(
     left: u32,
     env: Env,
 ) -> Result<Move, Halt>
-    requires node { node < length (nodes_of (script_of shared.now.code)) }
+    requires form { HasForm (script_of shared.now.code) node form.If }
     requires left { left ≤ arity (shape_at (script_of shared.now.code) node) }
     ensures { (r : ℕ) → left + left < r → ComesTo node r (λ sh a. arms a node sh left env) (standing shared.now state.old) result (standing shared.now state.new) }
 {
@@ -50,7 +51,8 @@ pub(crate) fn arms(
                 at,
             )
         }
-        _ => Ok(part(shared, node, Entry::First, at, env)),
+        NodeForm::Block => Ok(part(shared, node, Entry::First, at, env)),
+        _ => unreachable!(),
     }
 }
 

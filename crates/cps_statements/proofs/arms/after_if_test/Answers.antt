@@ -5,6 +5,7 @@ use Rattle.model_run.specs.declared.frame.FrameKind.TheVariants as kind
 use Rattle.cps_code.specs.Script.{script_of}
 use Rattle.cps_frames.specs.Order.{rank}
 use Rattle.cps_frames.specs.Standing.{standing}
+use Rattle.cps_statements.proofs.TestLaws.{if_form}
 use Rattle.cps_statements.proofs.WayLaws.{arm_fails, arm_holds, left_below}
 use Rattle.cps_variables.proofs.NodeLaws.{count_is, rank_is}
 use Rattle.cps_statements.proofs.arms.after_if_test.Goals as goal
@@ -34,6 +35,9 @@ returns-then-truth c =
     let p : c.parts.result - 1 - c.args.frame.left ≡ arity (shape_at (script_of c.args.shared.now.code) c.args.frame.node) - suc c.args.frame.left = omega (arith, lt, e) in
     let w : rank c.args.frame ≡ 0 * 2 ^ 34 + (c.args.frame.left + c.args.frame.left) + 1 = rank_is c.args.frame kind.IfTest c.requires.kind in
     arm_holds (rank c.args.frame) c.args.frame c.args.ending c.in_ok-test.test _ _ (Ok c.part.result) _ c.requires.kind (sym c.in_ok-test.ensures) (sym c.truth.ensures ∙ c.if-truth.true) p (c.part.ensures c.args.state.now (rank c.args.frame) (omega (arith, w)))
+
+pub arms-requires-clause-form : goal.arms-requires-clause-form
+arms-requires-clause-form c = if_form (standing c.args.shared.now c.args.state.now) c.args.frame c.args.ending c.requires.may c.requires.kind
 
 pub returns : goal.returns
 returns c =

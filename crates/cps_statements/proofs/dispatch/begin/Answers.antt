@@ -10,8 +10,10 @@ use Rattle.cps_statements.proofs.RowLaws.{all_arms, to_begun}
 use Rattle.cps_variables.proofs.NodeLaws.{count_is, part_within}
 use Rattle.cps_statements.proofs.dispatch.begin.Goals as goal
 
-pub arms-requires-clause-left : goal.arms-requires-clause-left
-arms-requires-clause-left c = let e = c.parts-left.ensures ∙ count_is (script_of c.args.shared.now.code) c.args.node in omega (arith, e)
+pub arms-requires : goal.arms-requires
+arms-requires c =
+    let e = c.parts-left.ensures ∙ count_is (script_of c.args.shared.now.code) c.args.node in
+    record { form = record { script = c.requires.script; node = c.requires.node; form = sym c.kind.ensures ∙ c.in-If.is }; left = omega (arith, e) }
 
 pub returns-in-If : goal.returns-in-If
 returns-in-If c = λ u passed.
