@@ -1,6 +1,6 @@
 -- What a thread's context is behind the end of a `node`.
 use Rattle.std.proofs.Common.{◌≡◌, ◌∙◌, ℕ, suc, ◌-◌, ◌≤◌, List, [], ◌∷◌, ◌++◌, length, take, get_or, Option, Some, None, refl, ap, sym, arith}
-use Rattle.std.specs.Prelude.{IfOk, MatchOption, Result as Outcome, Ok, Err}
+use Rattle.std.specs.Prelude.{IfOk, Result as Outcome, Ok, Err}
 use Rattle.std.proofs.lemmas.List.{length-append}
 use Rattle.model_run.specs.declared.held.Held.{Held}
 use Rattle.model_run.specs.Grants.{without_request}
@@ -16,9 +16,8 @@ take_front (y ∷ ys) x =
     let n : length ((y ∷ ys) ++ x ∷ []) - 1 ≡ suc (length (ys ++ x ∷ []) - 1) = omega (arith, length-append ys (x ∷ [])) in
     ap (λ k. take k (y ∷ (ys ++ x ∷ []))) n ∙ ap (λ zs. y ∷ zs) (take_front ys x)
 
-pub popped : {A : Type 0} (o : Option A) (old new : List A) → MatchOption o ((old ≡ []) × (new ≡ [])) (λ x. old ≡ new ++ x ∷ []) → new ≡ without_last 1 old
-popped None old new h = h.1 ∙ sym (ap (without_last 1) h.0)
-popped (Some x) old new h = sym (ap (without_last 1) h ∙ take_front new x)
+pub popped : {A : Type 0} (x : A) (old new : List A) → old ≡ new ++ x ∷ [] → new ≡ without_last 1 old
+popped x old new is = sym (ap (without_last 1) is ∙ take_front new x)
 
 pub last_of : (ns : List ℕ) (n : ℕ) → last_number (ns ++ n ∷ []) ≡ Some n
 last_of [] n = refl

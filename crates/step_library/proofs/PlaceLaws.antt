@@ -1,6 +1,6 @@
 -- Where the tasks of a thread run.
 use Rattle.std.proofs.Common.{◌≡◌, ◌∙◌, ℕ, Bor, Bool, true, false, List, [], ◌∷◌, ◌++◌, Option, Some, None, refl, ap, subst, sym}
-use Rattle.std.specs.Prelude.{codes, find, if◌then◌else◌, option_and_then, option_copied, option_map}
+use Rattle.std.specs.Prelude.{codes, find, if◌then◌else◌, nat_eq, option_and_then, option_copied, option_map}
 use Rattle.std.specs.List.{AllByRecursion as AllAre}
 use Rattle.model_values.specs.declared.value.Value.{Value}
 use Rattle.model_values.specs.declared.value.Value.TheVariants.{Null, Bool as Truth}
@@ -52,6 +52,10 @@ here P false y x more first rest e = rest e
 pub find_all : {A : Type 0} (P : A → Type 0) (p : A → Bool) (xs : List A) (x : A) → Some x ≡ find p xs → AllAre P xs → P x
 find_all P p [] x is all = absurd (cc is)
 find_all P p (y ∷ ys) x is all = here P (p y) y x (find p ys) all.0 (λ e. find_all P p ys x e all.1) is
+
+pub held_all : (P : Held → Type 0) (o : Option ℕ) (held : List Held) (h : Held) → Some h ≡ option_and_then (λ r. held_for r held) o → AllAre P held → P h
+held_all P None held h is all = absurd (cc is)
+held_all P (Some r) held h is all = find_all P (λ x. nat_eq x.request r) held h is all
 
 -- no executor was found
 pub no_executor : (o : Option (Bor Executor)) (there : Option Executor) → option_copied o ≡ there → o ≡ None → there ≡ None

@@ -3,6 +3,7 @@ use Rattle.std.proofs.Common.{◌≡◌, ◌∙◌, ℕ, ◌≤◌, ◌<◌, Lis
 use Rattle.std.specs.Prelude.{Result as Outcome, Err, codes}
 use Rattle.model_values.specs.declared.value.Value.{Value}
 use Rattle.model_values.specs.declared.value.Value.TheVariants.{Null}
+use Rattle.run_laws.specs.Evaluation.{AllOfSite}
 use Rattle.run_laws.specs.Soundness.{SoundWorld}
 use Rattle.model_run.specs.declared.callee.Callee.{Callee}
 use Rattle.model_run.specs.declared.ending.Ending.{Ending}
@@ -122,6 +123,10 @@ cells_logged u v o = ap (λ (w : World). w.shared.cells) o.made
 
 pub cells_noted : (kind : NodeKind) (name : List ℕ) (start : ℕ) (text : List ℕ) (u v : Standing) → Passed (noted_limit text) (noted_so kind name start text) u v → v.world.shared.cells ≡ u.world.shared.cells
 cells_noted kind name start text u v p = ap (λ (w : World). w.shared.cells) p.made
+
+-- the executors that are held stay the site's
+pub site_noted : (kind : NodeKind) (name : List ℕ) (start : ℕ) (text : List ℕ) (u v : Standing) → Passed (noted_limit text) (noted_so kind name start text) u v → AllOfSite u.world.setting.site u.world.shared.held → AllOfSite v.world.setting.site v.world.shared.held
+site_noted kind name start text u v p = subst (λ (w : World). AllOfSite w.setting.site w.shared.held) (sym p.made)
 
 -- a closure stays one where the cells stay
 pub closure_kept : (f : Value) (g h : List Cell) → h ≡ g → IsIn HasClosure g f → IsIn HasClosure h f

@@ -22,9 +22,12 @@ pub(crate) fn enter_folder(state: &mut ThreadState, folder: Text) -> Result<(), 
 
 /// The innermost folder is left.
 pub(crate) fn leave_folder(state: &mut ThreadState)
+    requires { 0 < length state.old.context.folders }
     ensures { (u : Common) → Changes without_folder (standing u state.old) (standing u state.new) }
 {
-    state.context.folders.pop();
+    let Some(_) = state.context.folders.pop() else {
+        unreachable!()
+    };
 }
 
 /// These variables are added. `AllocError` where the memory was refused.
@@ -68,13 +71,16 @@ pub(crate) fn enter_node(
 
 /// The body of a `node` is left, and its executor is given back.
 pub(crate) fn leave_node(state: &mut ThreadState, shared: &mut Shared)
-    requires { 0 < length state.old.context.held }
+    requires executor { 0 < length state.old.context.held }
+    requires folder { 0 < length state.old.context.folders }
     ensures { Changes left_node (standing shared.old state.old) (standing shared.new state.new) }
 {
     let Some(request) = state.context.held.pop() else {
         unreachable!()
     };
-    state.context.folders.pop();
+    let Some(_) = state.context.folders.pop() else {
+        unreachable!()
+    };
     let alloc = shared.alloc();
     release(&mut shared.held, alloc, request);
 }

@@ -3,6 +3,7 @@
 ghost use Rattle.std.specs.Prelude.{◌≡◌, IfOk, option_and_then, option_copied, option_map};
 ghost use Rattle.model_run.specs.Grants.{executor_of, workspace_text};
 ghost use Rattle.model_run.specs.Steps.{folder_of, held_by, held_for, last_number, last_text, place_of};
+ghost use Rattle.run_laws.specs.Evaluation.{AllOfSite};
 ghost use Rattle.cps_frames.specs.Standing.{world_of};
 ghost use Rattle.step_library.specs.Places.{place_seen};
 
@@ -26,13 +27,14 @@ pub(crate) fn place_of<'a>(
     state: &ThreadState,
     shared: &'a Shared,
 ) -> Result<Option<Place<'a>>, AllocError>
+    requires { AllOfSite shared.now.site shared.now.held }
     ensures { IfOk result (λ place. option_map place_seen place ≡ place_of (world_of shared.now state.now)) }
 {
     let Some(held) = innermost_held(state, shared) else {
         return Ok(None);
     };
     let Some(executor) = executor_of(&shared.site, held.executor) else {
-        return Ok(None);
+        unreachable!()
     };
     let alloc = shared.alloc();
     let workspace = workspace_text(alloc, executor, &shared.site, held.workspace)?;

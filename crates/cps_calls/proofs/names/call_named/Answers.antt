@@ -12,10 +12,11 @@ use Rattle.model_run.specs.FrameTable.{is_name_call}
 use Rattle.model_run.specs.Forms.{gathered}
 use Rattle.model_run.specs.Names.{look}
 use Rattle.model_run.specs.Nesting.{shape_at}
-use Rattle.model_run.specs.State.{counted, may_count, operating, tick}
+use Rattle.model_run.specs.State.{World, counted, may_count, operating, tick}
 use Rattle.model_run.specs.Steps.{begin_step}
 use Rattle.model_run.specs.Terms.{form_of, nodes_of, term_at}
 use Rattle.model_run.proofs.Room.{spends_count}
+use Rattle.run_laws.specs.Evaluation.{AllOfSite}
 use Rattle.cps_code.specs.Script.{script_of}
 use Rattle.cps_frames.specs.Standing.{room_of, standing, state, world_of}
 use Rattle.cps_frames.specs.declared.thread.Move.TheVariants.{Enter}
@@ -67,6 +68,7 @@ begin-requires c =
     record {
       may = record {
         sound = sound_counted (standing c.args.shared.now c.args.state.now) (standing c.tick.new.shared c.args.state.now) counted c.requires.may.sound;
+        executors = subst (λ (w : World). AllOfSite w.setting.site w.shared.held) (sym counted.made) c.requires.may.executors;
         arguments = subst (λ h. AllAre (There h) c.args.values) (sym (ap (λ x. x.cells) counted.heap)) c.requires.values;
       };
     }

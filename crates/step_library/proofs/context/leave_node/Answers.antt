@@ -5,7 +5,7 @@ use Rattle.step_library.proofs.context.leave_node.Goals as goal
 
 pub returns : goal.returns
 returns c = record {
-  made = left_made (standing c.args.shared.now c.args.state.now).world c.in-Some.request c.pop.new.self c.pop-2.new.self c.release.new.held c.in-Some.ensures (popped _ _ _ c.pop-2.ensures) c.release.ensures;
+  made = left_made (standing c.args.shared.now c.args.state.now).world c.in-Some.request c.pop.new.self c.pop-2.new.self c.release.new.held c.in-Some.ensures (popped _ _ _ c.in-Some-pop.ensures) c.release.ensures;
   stack = refl;
   parent = refl;
   heap = refl;

@@ -1,7 +1,7 @@
 use Rattle.std.proofs.Common.{◌≡◌, [], length, refl, ap, arith}
 use Rattle.std.specs.Prelude.{codes}
 use Rattle.model_run.specs.Around.{position, value_at}
-use Rattle.model_run.specs.Fitting.{holds_executor}
+use Rattle.model_run.specs.Fitting.{holds_executor, holds_folder}
 use Rattle.model_run.specs.FlowNodes.{end_block}
 use Rattle.model_run.specs.State.{Ended, World, changed}
 use Rattle.model_run.specs.declared.frame.FrameKind.TheVariants as kind
@@ -23,7 +23,11 @@ number_at-requires-2 c = let s = (starts_in (standing c.args.shared.now c.args.s
 pub leave_node-requires : goal.leave_node-requires
 leave_node-requires c =
     let same : length c.end_body.new.state.context.held ≡ length c.args.state.now.context.held = ap (λ (w : World). length w.own.context.held) c.in_ok-end_body.ensures.made in
-    omega (arith, same, c.requires.may.executor (ap holds_executor c.requires.kind))
+    let as_many : length c.end_body.new.state.context.folders ≡ length c.args.state.now.context.folders = ap (λ (w : World). length w.own.context.folders) c.in_ok-end_body.ensures.made in
+    record {
+      executor = omega (arith, same, c.requires.may.executor (ap holds_executor c.requires.kind));
+      folder = omega (arith, as_many, c.requires.may.folder (ap holds_folder c.requires.kind));
+    }
 
 pub returns : goal.returns
 returns c =

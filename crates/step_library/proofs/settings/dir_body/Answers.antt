@@ -1,8 +1,9 @@
-use Rattle.std.proofs.Common.{[], refl, arith}
+use Rattle.std.proofs.Common.{◌≡◌, [], ap, length, refl, arith}
 use Rattle.std.specs.Prelude.{codes}
 use Rattle.model_run.specs.Around.{position, value_at}
+use Rattle.model_run.specs.Fitting.{holds_folder}
 use Rattle.model_run.specs.FlowNodes.{end_block}
-use Rattle.model_run.specs.State.{Ended, changed}
+use Rattle.model_run.specs.State.{Ended, World, changed}
 use Rattle.model_run.specs.declared.frame.FrameKind.TheVariants as kind
 use Rattle.cps_frames.specs.Order.{rank}
 use Rattle.cps_frames.specs.Standing.{standing}
@@ -17,6 +18,11 @@ number_at-requires c = let s = (starts_in (standing c.args.shared.now c.args.sta
 
 pub number_at-requires-2 : goal.number_at-requires-2
 number_at-requires-2 c = let s = (starts_in (standing c.args.shared.now c.args.state.now) c.args.frame c.args.ending kind.DirBody [] c.requires.may c.requires.kind (λ sh left env. refl)) in record { within = omega (arith, s.many); natural = s.start }
+
+pub leave_folder-requires : goal.leave_folder-requires
+leave_folder-requires c =
+    let as_many : length c.end_body.new.state.context.folders ≡ length c.args.state.now.context.folders = ap (λ (w : World). length w.own.context.folders) c.in_ok-end_body.ensures.made in
+    omega (arith, as_many, c.requires.may.folder (ap holds_folder c.requires.kind))
 
 pub returns : goal.returns
 returns c =
