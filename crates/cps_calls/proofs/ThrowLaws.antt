@@ -3,15 +3,15 @@ use Rattle.std.proofs.Common.{◌≡◌, List, [], ◌∷◌, ◌++◌, ℕ, len
 use Rattle.std.specs.Prelude.{Result as Outcome, Ok, Err, Option, Some, None, codes}
 use Rattle.cell_heap.specs.Region.{Region}
 use Rattle.model_values.specs.Cells.{Answer, Meets, Throws, no_room, throw, unless_limit}
-use Rattle.model_values.specs.Kinds.{closure, kind_name}
+use Rattle.model_values.specs.Kinds.{Kind, kind_name, null}
 use Rattle.model_values.specs.Limits.{product_limits}
-use Rattle.model_values.specs.Throws.{no_method, unknown_step}
+use Rattle.model_values.specs.Throws.{bad_argument, no_method, unknown_step}
 use Rattle.model_values.specs.declared.cell.Cell.{Cell}
 use Rattle.model_values.specs.declared.cell.Cell.TheVariants.{Thrown as ThrownCell}
 use Rattle.model_values.specs.declared.limit.LimitKind.{LimitKind}
 use Rattle.model_values.specs.declared.limit.LimitKind.TheVariants.{TextLength}
 use Rattle.model_values.specs.declared.throwable.Class.{Class}
-use Rattle.model_values.specs.declared.throwable.Class.TheVariants.{MissingMethod, NoSuchMethodError}
+use Rattle.model_values.specs.declared.throwable.Class.TheVariants.{IllegalArgument, MissingMethod, NoSuchMethodError, NullPointer}
 use Rattle.model_values.specs.declared.value.Value.{Value}
 use Rattle.value_view.specs.Answers.{Answers}
 use Rattle.value_view.specs.declared.refusal.OpRefusal.{OpRefusal}
@@ -25,9 +25,13 @@ thrown_at_most false None g c = tt
 throws : (h : List Cell) (class : Class) (m : List ℕ) → GivesNothing (throw product_limits h class m)
 throws h class m = thrown_at_most (nat_lt product_limits.text (length m)) (no_room product_limits h (ThrownCell class (Some m) ∷ [])) (h ++ ThrownCell class (Some m) ∷ []) (length h)
 
--- a call with another number of arguments, and one of a name that means nothing
-pub unfit_throws : (h : List Cell) → GivesNothing (no_method product_limits h (closure 0) (codes "call"))
-unfit_throws h = throws h MissingMethod (codes "No signature of method: " ++ kind_name (closure 0) ++ codes "." ++ codes "call" ++ codes "()")
+-- a call of a method that is not there, of one that walks with what is no closure, and of a name that means nothing
+pub method_throws : (h : List Cell) (k : Kind) (f : List ℕ) → GivesNothing (no_method product_limits h k f)
+method_throws h null f = throws h NullPointer (codes "Cannot invoke method " ++ f ++ codes "() on null object")
+method_throws h k f = throws h MissingMethod (codes "No signature of method: " ++ kind_name k ++ codes "." ++ f ++ codes "()")
+
+pub argument_throws : (h : List Cell) → GivesNothing (bad_argument product_limits h)
+argument_throws h = throws h IllegalArgument (codes "bad argument")
 
 pub unknown_throws : (h : List Cell) (s : List ℕ) → GivesNothing (unknown_step product_limits h s)
 unknown_throws h s = throws h NoSuchMethodError (codes "No such DSL method '" ++ s ++ codes "' found among steps")

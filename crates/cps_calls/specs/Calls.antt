@@ -70,11 +70,11 @@ abbrev pub GivesNothing : Answer → Type 0
 GivesNothing (Gives h v) = ⊥
 GivesNothing answer = Unit {0}
 
--- what it names is among these cells, and what a walk has is a closure
+-- what it names is among these cells, what a walk has is a closure, and a throw gives no value
 abbrev pub CallFits : List Cell → ClosureCall → Type 0
 CallFits h (does.Calls callee) = Unit {0}
 CallFits h (does.Walks walk c) = HasClosure (slice_get h c)
-CallFits h (does.Throws effect) = EffectBelow (length h) effect
+CallFits h (does.Throws effect) = EffectBelow (length h) effect × GivesNothing (effect_answer product_limits h effect)
 
 -- the frames of this crate
 abbrev pub is_call_frame : FrameKind → Bool

@@ -30,7 +30,7 @@ ghost use Rattle.cps_calls.specs.Calls.{CallFits, IsCalled, called_closure, meth
 ghost use Rattle.cps_calls.specs.Kinds.{is_null_kind, is_null_safe};
 
 use crate::closures::closure_of;
-use crate::effects::end_with;
+use crate::effects::throw_with;
 use crate::kept::split_first;
 use crate::walks::{WalkAt, begin_turn};
 use cps_code::Code;
@@ -134,7 +134,7 @@ pub(crate) fn call_method(
                 },
             )
         }
-        ClosureCall::Throws(refusal) => end_with(shared, refusal),
+        ClosureCall::Throws(effect) => Err(Halt::from(throw_with(shared, effect))),
     }
 }
 

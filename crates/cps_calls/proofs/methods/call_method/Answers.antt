@@ -10,11 +10,12 @@ use Rattle.model_values.specs.MethodTable.{called_or_none, closure_call, own_cal
 use Rattle.model_values.specs.Methods.{CallsClosure, Done, Walks, method_call}
 use Rattle.model_values.specs.declared.value.Value.{Value}
 use Rattle.model_values.specs.declared.value.Value.TheVariants.{Cell as InCell}
+use Rattle.model_run.specs.Around.{ended}
 use Rattle.model_run.specs.Calls.{walk, walk_method}
 use Rattle.model_run.specs.Fitting.{closure_rule}
 use Rattle.model_run.specs.Gathering.{is_call}
 use Rattle.model_run.specs.declared.ending.Ending.TheVariants.{Normal}
-use Rattle.model_run.specs.State.{counted, may_count}
+use Rattle.model_run.specs.State.{counted, may_count, operating}
 use Rattle.model_run.specs.Terms.{form_of, nodes_of, term_at}
 use Rattle.text_methods.specs.Calls.{CallAnswers}
 use Rattle.value_ops.specs.Effects.{effect_answer}
@@ -26,6 +27,7 @@ use Rattle.std.proofs.lemmas.List.Elements.{All-nil}
 use Rattle.cps_frames.specs.Halts.{halt_of}
 use Rattle.cps_frames.specs.Standing.{standing, world_of}
 use Rattle.cps_frames.specs.declared.thread.Move.TheVariants.{Ends}
+use Rattle.cps_frames.proofs.MoveLaws.{to_thrown}
 use Rattle.cps_calls.specs.Calls.{CallFits, IsCalled}
 use Rattle.cps_calls.proofs.CallLaws.{call_ends, call_met, calls, name_of, no_own_call, own_call_is, own_gives, own_none, own_refuses, read_again, to_done, to_unraised, to_walks}
 use Rattle.cps_calls.proofs.CountLaws.{call_counts}
@@ -229,6 +231,12 @@ returns-in-Walks c = λ r above.
     to_walks k c.args.env on args r c.in-Walks.closure (method_of c.in-Walks.walk) u u2 c.begin_turn.result v refl begun2 table
     (subst (λ (vs : List Value). ComesTo k 1 (λ sh a. walk a k c.args.env (walk_method sh.form) 0 on (InCell c.in-Walks.closure) vs) u2 c.begin_turn.result v) is.2 (c.begin_turn.ensures 1 (omega arith)))
 
+pub throw_with-requires-clause-fits : goal.throw_with-requires-clause-fits
+throw_with-requires-clause-fits c = (subst (CallFits c.own_call.new.shared.heap.cells) c.in-Throws.is c.in_ok-callee.ensures.fits).0
+
+pub throw_with-requires-clause-throws : goal.throw_with-requires-clause-throws
+throw_with-requires-clause-throws c = (subst (CallFits c.own_call.new.shared.heap.cells) c.in-Throws.is c.in_ok-callee.ensures.fits).1
+
 pub returns-in-Throws : goal.returns-in-Throws
 returns-in-Throws c = λ r above.
     let begun = c.in_ok-tick.ensures c.args.state.now in
@@ -249,10 +257,12 @@ returns-in-Throws c = λ r above.
     let back : script_of new.code ≡ root = ap (λ x. script_of x.code) same ∙ script in
     let begun2 = subst (λ x. Passed may_count counted u (standing x c.args.state.now)) (sym same) begun in
     let is = subst (IsCalled (world_of new c.args.state.now) (form_of (term_at (script_of new.code) k)) n (called_or_none product_limits h None (closure_call product_limits h on (name_of (script_of new.code) k) c.as_slice-2.result.now n) (kind h on) (name_of (script_of new.code) k) n)) c.in-Throws.is (c.in_ok-callee.ensures.called c.args.state.now n) in
-    let answer = effect_answer product_limits h c.in-Throws.refusal in
+    let answer = effect_answer product_limits h c.in-Throws.effect in
     let alone = read_again (λ x vs. own_call product_limits h on (name_of x k) vs n ≡ None) (script_of new.code) root c.as_slice.result.now args back c.as_slice.ensures
     (subst (λ x. own_call product_limits x.heap.cells on (name_of (script_of x.code) k) c.as_slice.result.now x.count ≡ None) (sym same) none.0) in
     let table : method_call product_limits h on (name_of root k) args n ≡ Done answer n = no_own_call h on (name_of root k) args n alone
     ∙ read_again (λ x vs. called_or_none product_limits h None (closure_call product_limits h on (name_of x k) vs n) (kind h on) (name_of x k) n ≡ Done answer n) (script_of new.code) root c.as_slice-2.result.now args back c.as_slice-2.ensures is in
-    to_done k c.args.env on args r answer n u u2 _ _ refl begun2 table
-    (to_unraised k answer u2 _ _ (c.end_with.ensures c.args.state.now k 1 (λ w. answer) (omega arith) refl))
+    let v = standing c.throw_with.new.shared c.args.state.now in
+    to_done k c.args.env on args r answer n u u2 (Err c.from.result) v refl begun2 table
+    (to_unraised k answer u2 (Err c.from.result) v (subst (λ x. ComesTo k 1 (λ sh a. operating (λ w. answer) ended) u2 (Err x) v) (sym c.from.ensures)
+    (to_thrown k 1 (λ w. answer) (λ y sh a. ended y) c.throw_with.result u2 v (c.throw_with.ensures c.args.state.now (λ w. answer) refl) (omega arith))))

@@ -11,12 +11,15 @@ use Rattle.model_run.specs.Terms.{form_of, term_at}
 use Rattle.value_view.specs.Seen.{seen}
 use Rattle.cps_code.specs.Script.{script_of}
 use Rattle.cps_frames.specs.Standing.{world_of}
-use Rattle.cps_calls.specs.Calls.{IsCalled, method_name}
+use Rattle.cps_calls.specs.Calls.{GivesNothing, IsCalled, method_name}
 use Rattle.cps_calls.proofs.MethodLaws.{calls_named, closure_cell, is_call, not_called, right_of, throws_named, walk_is, walk_walks, walks_named}
+use Rattle.cps_calls.proofs.ThrowLaws.{method_throws}
 use Rattle.cps_calls.proofs.methods.closure_call.Goals as goal
 
 pub returns-in_default-clause-fits : goal.returns-in_default-clause-fits
-returns-in_default-clause-fits c = c.in_ok-refusal.ensures.below _
+returns-in_default-clause-fits c =
+    let h = c.args.shared.now.heap.cells in
+    (c.in_ok-refusal.ensures.below _, subst GivesNothing (sym (c.in_ok-refusal.ensures.answer h)) (method_throws h (seen c.kind_of-kind.result) c.method_name-name.result.now))
 
 pub returns-in-Some-2-clause-called : goal.returns-in-Some-2-clause-called
 returns-in-Some-2-clause-called c = λ t n.
@@ -41,7 +44,9 @@ returns-clause-called c = λ t n.
     ∙ ap (λ a. Done a n) (ap (λ k. no_method product_limits h k x) (sym c.kind_of-kind.ensures.kind) ∙ ap (no_method product_limits h (seen c.kind_of-kind.result)) (sym c.method_name-name.ensures) ∙ sym (c.in_ok-refusal-2.ensures.answer h))
 
 pub returns-clause-fits : goal.returns-clause-fits
-returns-clause-fits c = c.in_ok-refusal-2.ensures.below _
+returns-clause-fits c =
+    let h = c.args.shared.now.heap.cells in
+    (c.in_ok-refusal-2.ensures.below _, subst GivesNothing (sym (c.in_ok-refusal-2.ensures.answer h)) (method_throws h (seen c.kind_of-kind.result) c.method_name-name.result.now))
 
 pub walk_with-requires-clause-walks : goal.walk_with-requires-clause-walks
 walk_with-requires-clause-walks c =
