@@ -126,6 +126,11 @@ module _ (g : Base) (facts : ScriptFacts g.script) where
   inside_end k Person_wait plain u e h = answers_there u For_person e h
   inside_end k Branches_wait plain u e h = answers_there u For_branches e h
 
+  -- and so inside a frame that fits
+  pub inside_fits : (f : Frame) (u : Common) (e : Ending) → Sits g.script u f → EndsAt g.script u (spot_in g.script f) e → InsideFits (shape_at g.script f.node) (row_at g.script f).inside u e
+  inside_fits f u e sits =
+      inside_end f.node (row_at g.script f).inside (inside_plain g facts.shaped f.node (shape_at g.script f.node) (names_at g.script f.node) (node_here g facts f.node (sits.fits).node) f.kind f.left f.env f.values u (sits.fits).meets) u e
+
   here : (o : Open) (u : Standing) → SoundWorld (setting_of g) u.world → Same o u.world → At (within o g) u.world.shared (state u.world [])
   here o u sound same = record { later = later_self u.world.shared; sound = sound; alone = refl; same = same }
 
@@ -137,7 +142,7 @@ module _ (g : Base) (facts : ScriptFacts g.script) where
       (frame_goes g facts.real facts.shaped f.node (shape_at g.script f.node) (names_at g.script f.node) (node_here g facts f.node (sits.fits).node) (probe g.script (shape_at g.script f.node) (names_at g.script f.node))
       (probe_sources g facts.shaped f.node (shape_at g.script f.node) (names_at g.script f.node) (node_here g facts f.node (sits.fits).node))
       f.kind some never f.left f.env f.values u.world.shared (sits.fits).meets sits.names e (state u.world []) (here (open_in f.kind g.around) u sound same)
-      (inside_end f.node (row_at g.script f).inside (inside_plain g facts.shaped f.node (shape_at g.script f.node) (names_at g.script f.node) (node_here g facts f.node (sits.fits).node) f.kind f.left f.env f.values u.world.shared (sits.fits).meets) u.world.shared e ending)) c
+      (inside_fits f u.world.shared e sits ending)) c
 
   -- So goes the wait for an executor, which the answer grants, or there is none.
   pub wait_kept : (r : ℕ) (f : Frame) (e : Ending) (u : Standing) (m : Move) (v : Standing) → SoundWorld (setting_of g) u.world → Sits g.script u.world.shared f → IsAnswer u.world.shared e → f.kind ≡ kind.NodeWait → Same (record g.around { gone = [] }) u.world

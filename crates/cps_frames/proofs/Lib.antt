@@ -15,5 +15,6 @@ pub mod Bounds
 pub mod Opened
 pub mod Holding
 pub mod Kept
+pub mod EndLaws
 pub mod Poise
 pub mod Beginnings

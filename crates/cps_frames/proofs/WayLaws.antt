@@ -2,12 +2,11 @@
 use Rattle.std.proofs.Common.{◌≡◌, ◌∙◌, ℕ, refl, ap}
 use Rattle.std.specs.Prelude.{Result as Outcome, Ok, Err}
 use Rattle.model_values.specs.declared.value.Value.{Value}
-use Rattle.model_run.specs.State.{State, Env, Result, Ended, on_value, on_throw, on_answer}
+use Rattle.model_run.specs.State.{State, Env, Result, Ended, on_value, on_throw}
 use Rattle.model_run.specs.Statements.{on_turn, on_statement}
-use Rattle.model_run.specs.declared.wait.Answer.{Answer}
 use Rattle.model_run.specs.declared.ending.Ending.{Ending}
 use Rattle.model_run.specs.declared.ending.Ending.TheVariants.{Normal, Thrown, Returned, Broke, Continued, Declared, Answered}
-use Rattle.cps_frames.specs.Ways.{value_of, thrown_of, answer_of, turn_of, statement_of}
+use Rattle.cps_frames.specs.Ways.{value_of, thrown_of, turn_of, statement_of}
 
 -- goes one way with what is there, and another with an ending
 abbrev by : {T : Type 0} → (T → State → Result) → (Ending → State → Result) → Outcome T Ending → State → Result
@@ -43,21 +42,6 @@ throw_ok go other e c s h = throw_way go other e s ∙ ap (λ w. by go other w s
 
 pub throw_err : (go : ℕ → State → Result) (other : Ending → State → Result) (e x : Ending) (s : State) → thrown_of e ≡ Err x → on_throw go other e s ≡ other x s
 throw_err go other e x s h = throw_way go other e s ∙ ap (λ w. by go other w s) h
-
-answer_way : (go : Answer → State → Result) (e : Ending) (s : State) → on_answer go e s ≡ by go Ended (answer_of e) s
-answer_way go (Normal v) s = refl
-answer_way go (Thrown c) s = refl
-answer_way go (Returned v) s = refl
-answer_way go Broke s = refl
-answer_way go Continued s = refl
-answer_way go (Declared b) s = refl
-answer_way go (Answered x) s = refl
-
-pub answer_ok : (go : Answer → State → Result) (e : Ending) (x : Answer) (s : State) → answer_of e ≡ Ok x → on_answer go e s ≡ go x s
-answer_ok go e x s h = answer_way go e s ∙ ap (λ w. by go Ended w s) h
-
-pub answer_err : (go : Answer → State → Result) (e x : Ending) (s : State) → answer_of e ≡ Err x → on_answer go e s ≡ Ended x s
-answer_err go e x s h = answer_way go e s ∙ ap (λ w. by go Ended w s) h
 
 turn_way : (go : State → Result) (e : Ending) (s : State) → on_turn go e s ≡ by (λ u. go) Ended (turn_of e) s
 turn_way go (Normal v) s = refl

@@ -3,7 +3,6 @@ use Rattle.std.specs.Prelude.{ℕ, Bool, true, false, ◌∷◌, Result as Outco
 use Rattle.model_values.specs.declared.value.Value.{Value}
 use Rattle.model_values.specs.declared.value.Value.TheVariants.{Null}
 use Rattle.model_run.specs.State.{Env}
-use Rattle.model_run.specs.declared.wait.Answer.{Answer}
 use Rattle.model_run.specs.declared.ending.Ending.{Ending}
 use Rattle.model_run.specs.declared.ending.Ending.TheVariants.{Normal, Thrown, Returned, Broke, Continued, Declared, Answered}
 
@@ -27,15 +26,10 @@ thrown_of Continued = Err Continued
 thrown_of (Declared b) = Err (Declared b)
 thrown_of (Answered x) = Err (Answered x)
 
--- what a thread waited for
-abbrev pub answer_of : Ending → Outcome Answer Ending
-answer_of (Normal v) = Err (Normal v)
-answer_of (Thrown c) = Err (Thrown c)
-answer_of (Returned v) = Err (Returned v)
-answer_of Broke = Err Broke
-answer_of Continued = Err Continued
-answer_of (Declared b) = Err (Declared b)
-answer_of (Answered x) = Ok x
+-- what a wait has ended with, and no node
+abbrev pub is_answer : Ending → Bool
+is_answer (Answered x) = true
+is_answer e = false
 
 -- how a block may end, or any other node that declares nothing
 abbrev pub is_block_ending : Ending → Bool

@@ -1,43 +1,38 @@
 //! How a frame goes on by the ending inside it.
 
-ghost use Rattle.std.specs.Prelude.{◌≡◌, IfOk, true};
-ghost use Rattle.cps_frames.specs.Ways.{answer_of, is_block_ending, statement_of, thrown_of, turn_of, value_of};
+ghost use Rattle.std.specs.Prelude.{◌≡◌, IfOk, false, true};
+ghost use Rattle.cps_frames.specs.Ways.{is_answer, is_block_ending, statement_of, thrown_of, turn_of, value_of};
 
-use model_run::{Answer, Ending};
+use model_run::Ending;
 use model_values::{Env, Value};
 use std::alloc::AllocError;
 
-/// A value. `Err` is any other ending, which is passed on.
+/// A value, behind what ends as a block may. `Err` is any other such ending, which is passed on.
 pub fn value_of(ending: Ending) -> Result<Value, Ending>
+    requires { is_block_ending ending ≡ true }
     ensures { result ≡ value_of ending }
 {
     match ending {
         Ending::Normal(value) => Ok(value),
+        Ending::Declared(_) | Ending::Answered(_) => unreachable!(),
         other => Err(other),
     }
 }
 
-/// The cell of what was thrown. `Err` is any other ending.
+/// The cell of what was thrown, behind what ends as a block may. `Err` is any other such ending.
 pub fn thrown_of(ending: Ending) -> Result<u32, Ending>
+    requires { is_block_ending ending ≡ true }
     ensures { result ≡ thrown_of ending }
 {
     match ending {
         Ending::Thrown(cell) => Ok(cell),
+        Ending::Declared(_) | Ending::Answered(_) => unreachable!(),
         other => Err(other),
     }
 }
 
-/// What a thread waited for. `Err` is any other ending.
-pub fn answer_of(ending: Ending) -> Result<Answer, Ending>
-    ensures { result ≡ answer_of ending }
-{
-    match ending {
-        Ending::Answered(answer) => Ok(answer),
-        other => Err(other),
-    }
-}
-
-/// A turn of a loop has ended, and the loop goes on. `Err` is how the loop ends: with null behind `break`.
+/// A turn of a loop has ended, as a block may, and the loop goes on. `Err` is how the loop ends: with null behind
+/// `break`.
 pub fn turn_of(ending: Ending) -> Result<(), Ending>
     requires { is_block_ending ending ≡ true }
     ensures { result ≡ turn_of ending }
@@ -50,14 +45,16 @@ pub fn turn_of(ending: Ending) -> Result<(), Ending>
     }
 }
 
-/// The value of a statement, and the variables that are seen behind it: a declaration is one more. `Err` within is how
-/// the row of statements ends. `AllocError` where the memory was refused.
+/// The value of a statement, which has ended with no answer of a wait, and the variables that are seen behind it: a
+/// declaration is one more. `Err` within is how the row of statements ends. `AllocError` where the memory was refused.
 pub fn statement_of(env: Env, ending: Ending) -> Result<Result<(Value, Env), Ending>, AllocError>
+    requires { is_answer ending ≡ false }
     ensures { IfOk result (λ way. way ≡ statement_of env ending) }
 {
     match ending {
         Ending::Normal(value) => Ok(Ok((value, env))),
         Ending::Declared(binding) => Ok(Ok((Value::Null, env.with(binding)?))),
+        Ending::Answered(_) => unreachable!(),
         other => Ok(Err(other)),
     }
 }

@@ -27,7 +27,7 @@ mod thread;
 mod waits;
 
 pub use calls::{call, call_inside, run_body, turn};
-pub use endings::{answer_of, statement_of, thrown_of, turn_of, value_of};
+pub use endings::{statement_of, thrown_of, turn_of, value_of};
 pub use halt::{Halt, moved};
 pub use notes::{
     end_block, end_body, end_branches, note_atom, note_block, note_body, note_branch, say, tick,
