@@ -4,9 +4,13 @@ use Rattle.model_run.specs.Assignments.{assign_by, operator_in}
 use Rattle.model_run.specs.declared.frame.FrameKind.TheVariants as kind
 use Rattle.cps_frames.specs.Order.{rank}
 use Rattle.cps_frames.specs.Standing.{standing}
+use Rattle.cps_frames.proofs.EndLaws.{block_inside}
 use Rattle.cps_variables.proofs.NodeLaws.{rank_some, value_frame}
 use Rattle.cps_assignments.proofs.TargetLaws.{assigned_size, assigned_stands, frame_assigns}
 use Rattle.cps_assignments.proofs.assign.after_assigned.Goals as goal
+
+pub value_of-requires : goal.value_of-requires
+value_of-requires c = block_inside c.requires.may c.requires.kind refl
 
 pub assign_by-requires-clause-stands : goal.assign_by-requires-clause-stands
 assign_by-requires-clause-stands c = assigned_stands (standing c.args.shared.now c.args.state.now) c.args.frame c.args.ending c.requires.may c.requires.kind

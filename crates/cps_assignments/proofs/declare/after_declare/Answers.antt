@@ -4,9 +4,13 @@ use Rattle.model_run.specs.Names.{declare}
 use Rattle.model_run.specs.declared.frame.FrameKind.TheVariants as kind
 use Rattle.cps_frames.specs.Order.{rank}
 use Rattle.cps_frames.specs.Standing.{standing, state}
+use Rattle.cps_frames.proofs.EndLaws.{block_inside}
 use Rattle.cps_frames.proofs.MoveLaws.{to_as}
 use Rattle.cps_variables.proofs.NodeLaws.{rank_some, value_frame}
 use Rattle.cps_assignments.proofs.declare.after_declare.Goals as goal
+
+pub value_of-requires : goal.value_of-requires
+value_of-requires c = block_inside c.requires.may c.requires.kind refl
 
 pub returns : goal.returns
 returns c =

@@ -5,9 +5,13 @@ use Rattle.model_run.specs.declared.frame.FrameKind.TheVariants as kind
 use Rattle.cps_frames.specs.Moves.{ComesTo}
 use Rattle.cps_frames.specs.Order.{rank}
 use Rattle.cps_frames.specs.Standing.{standing}
+use Rattle.cps_frames.proofs.EndLaws.{block_inside}
 use Rattle.cps_variables.proofs.NodeLaws.{rank_is, value_frame, value_there}
 use Rattle.cps_assignments.proofs.TargetLaws.{index_kept, index_stands}
 use Rattle.cps_assignments.proofs.places.after_index.Goals as goal
+
+pub value_of-requires : goal.value_of-requires
+value_of-requires c = block_inside c.requires.may c.requires.kind refl
 
 pub at_target-requires : goal.at_target-requires
 at_target-requires c =

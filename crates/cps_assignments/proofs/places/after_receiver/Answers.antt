@@ -1,4 +1,4 @@
-use Rattle.std.proofs.Common.{◌≡◌, ◌∙◌, ◌<◌, ◌+◌, ◌*◌, ◌^◌, ◌++◌, ◌∷◌, [], ap, arith, subst, sym}
+use Rattle.std.proofs.Common.{◌≡◌, ◌∙◌, ◌<◌, ◌+◌, ◌*◌, ◌^◌, ◌++◌, ◌∷◌, [], ap, arith, refl, subst, sym}
 use Rattle.std.proofs.lemmas.Result.{err_from_is_err_and}
 use Rattle.model_run.specs.Around.{frame, under}
 use Rattle.model_run.specs.Assignments.{at_target}
@@ -8,11 +8,15 @@ use Rattle.model_run.specs.declared.frame.FrameKind.TheVariants as kind
 use Rattle.cps_frames.specs.Moves.{ComesTo}
 use Rattle.cps_frames.specs.Order.{rank}
 use Rattle.cps_frames.specs.Standing.{standing}
+use Rattle.cps_frames.proofs.EndLaws.{block_inside}
 use Rattle.cps_variables.proofs.NodeLaws.{rank_is, rank_some, value_there}
 use Rattle.cps_assignments.specs.Targets.{is_property}
 use Rattle.cps_assignments.proofs.AssignLaws.{entry_frame, no_receiver, property_frame}
 use Rattle.cps_assignments.proofs.TargetLaws.{property_stands, receiver_target, target_part}
 use Rattle.cps_assignments.proofs.places.after_receiver.Goals as goal
+
+pub value_of-requires : goal.value_of-requires
+value_of-requires c = block_inside c.requires.may c.requires.kind refl
 
 pub returns-in_err-of : goal.returns-in_err-of
 returns-in_err-of c =
