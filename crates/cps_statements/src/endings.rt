@@ -50,7 +50,8 @@ pub(crate) fn after_return(
     frame: Frame,
     ending: Ending,
 ) -> Result<Move, Halt>
-    requires { frame.kind ≡ kind.ReturnValue }
+    requires may { MayGoOn (standing shared.now state.now) frame ending }
+    requires kind { frame.kind ≡ kind.ReturnValue }
     ensures { ComesTo frame.node (rank frame) (λ sh a. after frame sh a ending) (standing shared.now state.now) result (standing shared.now state.now) }
 {
     let value = value_of(ending)?;

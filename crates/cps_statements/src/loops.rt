@@ -1,6 +1,6 @@
 //! `while`.
 
-ghost use Rattle.std.specs.Prelude.{◌≡◌, ◌<◌, ◌+◌, ◌^◌, ℕ};
+ghost use Rattle.std.specs.Prelude.{◌≡◌, ◌<◌, ◌+◌, ◌^◌, ℕ, true};
 ghost use Rattle.model_syntax.specs.declared.node.NodeForm.TheVariants as form;
 ghost use Rattle.model_run.specs.Forms.{after};
 ghost use Rattle.model_run.specs.Statements.{after_test, while_test, while_turn};
@@ -10,6 +10,7 @@ ghost use Rattle.cps_frames.specs.Moves.{ComesTo};
 ghost use Rattle.cps_frames.specs.Order.{rank};
 ghost use Rattle.cps_frames.specs.Places.{MayGoOn};
 ghost use Rattle.cps_frames.specs.Standing.{standing};
+ghost use Rattle.cps_frames.specs.Ways.{is_block_ending};
 ghost use Rattle.cps_frames.specs.declared.thread.ThreadState.{ThreadState as Thread};
 ghost use Rattle.cps_variables.specs.Nodes.{HasForm};
 
@@ -69,7 +70,8 @@ pub(crate) fn after_test(
     frame: Frame,
     ending: Ending,
 ) -> Result<Move, Halt>
-    requires { MayGoOn (standing shared.old state.now) frame ending }
+    requires may { MayGoOn (standing shared.old state.now) frame ending }
+    requires ending { is_block_ending ending ≡ true }
     ensures { (r : ℕ) → 0 < r → ComesTo frame.node r (λ sh a. after_test a frame.env ending) (standing shared.old state.now) result (standing shared.new state.now) }
 {
     let test = value_of(ending)?;

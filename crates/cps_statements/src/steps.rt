@@ -1,6 +1,6 @@
 //! `for (first; test; next)`.
 
-ghost use Rattle.std.specs.Prelude.{◌≡◌, ◌<◌, ◌+◌, ◌*◌, ◌^◌, ℕ};
+ghost use Rattle.std.specs.Prelude.{◌≡◌, ◌<◌, ◌+◌, ◌*◌, ◌^◌, false, ℕ};
 ghost use Rattle.model_syntax.specs.declared.node.NodeForm.TheVariants as form;
 ghost use Rattle.model_run.specs.Forms.{after};
 ghost use Rattle.model_run.specs.Statements.{after_steps_first, steps_next, steps_test, steps_turn};
@@ -10,6 +10,7 @@ ghost use Rattle.cps_frames.specs.Moves.{ComesTo};
 ghost use Rattle.cps_frames.specs.Order.{rank};
 ghost use Rattle.cps_frames.specs.Places.{MayGoOn};
 ghost use Rattle.cps_frames.specs.Standing.{standing};
+ghost use Rattle.cps_frames.specs.Ways.{is_answer};
 ghost use Rattle.cps_variables.specs.Nodes.{HasForm};
 
 use cps_frames::{Halt, Move, Shared, ThreadState, inside, statement_of, turn_of};
@@ -79,7 +80,8 @@ pub(crate) fn after_step(
     frame: Frame,
     ending: Ending,
 ) -> Result<Move, Halt>
-    requires { HasForm (script_of shared.now.code) frame.node form.ForSteps }
+    requires form { HasForm (script_of shared.now.code) frame.node form.ForSteps }
+    requires ending { is_answer ending ≡ false }
     ensures { (r : ℕ) → 1 < r → ComesTo frame.node r (λ sh a. after_steps_first a frame.node frame.env ending) (standing shared.now state.old) result (standing shared.now state.new) }
 {
     let (_, env) = statement_of(frame.env, ending)??;

@@ -5,10 +5,14 @@ use Rattle.model_run.specs.declared.frame.FrameKind.TheVariants as kind
 use Rattle.cps_code.specs.Script.{script_of}
 use Rattle.cps_frames.specs.Order.{rank}
 use Rattle.cps_frames.specs.Standing.{standing}
+use Rattle.cps_frames.proofs.EndLaws.{block_inside}
 use Rattle.cps_statements.proofs.TestLaws.{if_form}
 use Rattle.cps_statements.proofs.WayLaws.{arm_fails, arm_holds, left_below}
 use Rattle.cps_variables.proofs.NodeLaws.{count_is, rank_is}
 use Rattle.cps_statements.proofs.arms.after_if_test.Goals as goal
+
+pub value_of-requires : goal.value_of-requires
+value_of-requires c = block_inside c.requires.may c.requires.kind refl
 
 pub overflow_sub-at : goal.overflow_sub-at
 overflow_sub-at c =

@@ -1,14 +1,17 @@
-use Rattle.std.proofs.Common.{◌≡◌, ◌+◌, ◌*◌, ◌^◌, arith, sym, ◌∙◌}
+use Rattle.std.proofs.Common.{◌≡◌, ◌+◌, ◌*◌, ◌^◌, arith, refl, sym, ◌∙◌}
 use Rattle.model_run.specs.declared.frame.FrameKind.TheVariants as kind
 use Rattle.cps_frames.specs.Order.{rank}
-use Rattle.cps_frames.specs.Standing.{standing}
-use Rattle.cps_statements.proofs.BlockLaws.{passed_on, try_block_ends}
+use Rattle.cps_frames.proofs.EndLaws.{block_inside}
+use Rattle.cps_statements.proofs.BlockLaws.{passed_on}
 use Rattle.cps_statements.proofs.TryLaws.{other_frame, thrown_frame}
 use Rattle.cps_variables.proofs.NodeLaws.{rank_is}
 use Rattle.cps_statements.proofs.attempts.after_try.Goals as goal
 
+pub thrown_of-requires : goal.thrown_of-requires
+thrown_of-requires c = block_inside c.requires.may c.requires.kind refl
+
 pub after_catch-requires-clause-ending : goal.after_catch-requires-clause-ending
-after_catch-requires-clause-ending c = passed_on c.args.ending c.in-Err.ending (sym c.thrown_of.ensures ∙ c.in-Err.is) (try_block_ends (standing c.args.shared.now c.args.state.now) c.args.frame c.args.ending c.requires.may c.requires.kind)
+after_catch-requires-clause-ending c = passed_on c.args.ending c.in-Err.ending (sym c.thrown_of.ensures ∙ c.in-Err.is) (block_inside c.requires.may c.requires.kind refl)
 
 pub returns-in-Ok : goal.returns-in-Ok
 returns-in-Ok c =

@@ -6,14 +6,14 @@ use Rattle.model_run.specs.declared.frame.FrameKind.TheVariants as kind
 use Rattle.cps_frames.specs.Moves.{ComesTo}
 use Rattle.cps_frames.specs.Order.{rank}
 use Rattle.cps_frames.specs.Standing.{common_of, standing}
-use Rattle.cps_statements.proofs.BlockLaws.{each_body_ends}
+use Rattle.cps_frames.proofs.EndLaws.{block_inside}
 use Rattle.cps_statements.proofs.EachLaws.{each_values, kept_on, kept_position, kept_two}
 use Rattle.cps_statements.proofs.WayLaws.{turn_frame}
 use Rattle.cps_variables.proofs.NodeLaws.{rank_some}
 use Rattle.cps_statements.proofs.each.after_each_body.Goals as goal
 
 pub turn_of-requires : goal.turn_of-requires
-turn_of-requires c = each_body_ends (standing c.args.shared.now c.args.state.now) c.args.frame c.args.ending c.requires.may c.requires.kind
+turn_of-requires c = block_inside c.requires.may c.requires.kind refl
 
 pub kept_position-at-requires : goal.kept_position-at-requires
 kept_position-at-requires c =

@@ -2,8 +2,12 @@ use Rattle.std.proofs.Common.{◌≡◌, ◌+◌, ◌*◌, ◌^◌, arith, refl,
 use Rattle.model_run.specs.Statements.{each_from}
 use Rattle.model_run.specs.declared.frame.FrameKind.TheVariants as kind
 use Rattle.cps_frames.specs.Order.{rank}
+use Rattle.cps_frames.proofs.EndLaws.{block_inside}
 use Rattle.cps_variables.proofs.NodeLaws.{rank_is, value_frame}
 use Rattle.cps_statements.proofs.each.after_each_over.Goals as goal
+
+pub value_of-requires : goal.value_of-requires
+value_of-requires c = block_inside c.requires.may c.requires.kind refl
 
 pub returns : goal.returns
 returns c =

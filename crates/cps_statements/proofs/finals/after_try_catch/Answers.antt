@@ -1,14 +1,13 @@
-use Rattle.std.proofs.Common.{◌≡◌, ◌+◌, ◌*◌, ◌^◌, arith}
+use Rattle.std.proofs.Common.{◌≡◌, ◌+◌, ◌*◌, ◌^◌, arith, refl}
 use Rattle.model_run.specs.declared.frame.FrameKind.TheVariants as kind
 use Rattle.cps_frames.specs.Order.{rank}
+use Rattle.cps_frames.proofs.EndLaws.{block_inside}
 use Rattle.cps_frames.proofs.MoveLaws.{to_kind}
 use Rattle.cps_variables.proofs.NodeLaws.{rank_is}
-use Rattle.cps_frames.specs.Standing.{standing}
-use Rattle.cps_statements.proofs.BlockLaws.{catch_block_ends}
 use Rattle.cps_statements.proofs.finals.after_try_catch.Goals as goal
 
 pub after_catch-requires-clause-ending : goal.after_catch-requires-clause-ending
-after_catch-requires-clause-ending c = catch_block_ends (standing c.args.shared.now c.args.state.now) c.args.frame c.args.ending c.requires.may c.requires.kind
+after_catch-requires-clause-ending c = block_inside c.requires.may c.requires.kind refl
 
 pub returns : goal.returns
 returns c =

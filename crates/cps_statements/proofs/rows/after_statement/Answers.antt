@@ -1,12 +1,16 @@
-use Rattle.std.proofs.Common.{◌≡◌, ◌+◌, ◌*◌, ◌^◌, ◌∙◌, arith, sym}
+use Rattle.std.proofs.Common.{◌≡◌, ◌+◌, ◌*◌, ◌^◌, ◌∙◌, arith, refl, sym}
 use Rattle.model_run.specs.Around.{arity}
 use Rattle.model_run.specs.Statements.{statements}
 use Rattle.model_run.specs.declared.frame.FrameKind.TheVariants as kind
 use Rattle.cps_frames.specs.Order.{rank}
+use Rattle.cps_frames.proofs.EndLaws.{no_answer_inside}
 use Rattle.cps_frames.proofs.MoveLaws.{to_kind}
 use Rattle.cps_statements.proofs.WayLaws.{behind_statement}
 use Rattle.cps_variables.proofs.NodeLaws.{rank_is}
 use Rattle.cps_statements.proofs.rows.after_statement.Goals as goal
+
+pub statement_of-requires : goal.statement_of-requires
+statement_of-requires c = no_answer_inside c.requires.may c.requires.kind (λ sh left env. refl)
 
 pub returns : goal.returns
 returns c =

@@ -2,14 +2,13 @@ use Rattle.std.proofs.Common.{◌≡◌, ◌+◌, ◌*◌, ◌^◌, arith, refl,
 use Rattle.model_run.specs.Statements.{steps_next}
 use Rattle.model_run.specs.declared.frame.FrameKind.TheVariants as kind
 use Rattle.cps_frames.specs.Order.{rank}
-use Rattle.cps_frames.specs.Standing.{standing}
-use Rattle.cps_statements.proofs.BlockLaws.{steps_body_ends}
+use Rattle.cps_frames.proofs.EndLaws.{block_inside}
 use Rattle.cps_statements.proofs.WayLaws.{turn_frame}
 use Rattle.cps_variables.proofs.NodeLaws.{rank_is}
 use Rattle.cps_statements.proofs.steps.after_steps_body.Goals as goal
 
 pub turn_of-requires : goal.turn_of-requires
-turn_of-requires c = steps_body_ends (standing c.args.shared.now c.args.state.now) c.args.frame c.args.ending c.requires.may c.requires.kind
+turn_of-requires c = block_inside c.requires.may c.requires.kind refl
 
 pub returns : goal.returns
 returns c =
