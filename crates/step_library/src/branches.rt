@@ -1,6 +1,6 @@
 //! The branches of `parallel`: what they are, how they begin, and how each of them ends.
 
-ghost use Rattle.std.specs.Prelude.{◌≡◌, ◌-◌, ◌++◌, ◌∷◌, ◌^◌, ◌<◌, [], ℕ, All, IfOk, IfSome, OnOk, Some, codes, drop, length, slice_get};
+ghost use Rattle.std.specs.Prelude.{◌≡◌, ◌-◌, ◌++◌, ◌∷◌, ◌^◌, ◌<◌, [], ℕ, All, IfOk, IfSome, OnOk, Some, codes, drop, length, slice_get, true};
 ghost use Rattle.cell_heap.specs.Soundness.{ValueBelow};
 ghost use Rattle.flow_graph.specs.Numbers.{AreNumbered};
 ghost use Rattle.model_values.specs.TextOf.{key_text};
@@ -17,6 +17,7 @@ ghost use Rattle.cps_frames.specs.Moves.{ComesTo};
 ghost use Rattle.cps_frames.specs.Order.{rank};
 ghost use Rattle.cps_frames.specs.Places.{MayGoOn};
 ghost use Rattle.cps_frames.specs.Standing.{standing, world_of};
+ghost use Rattle.cps_frames.specs.Ways.{is_block_ending};
 ghost use Rattle.cps_frames.specs.declared.thread.ThreadState.{ThreadState as Thread};
 ghost use Rattle.step_library.specs.Branches.{Begins};
 
@@ -188,7 +189,8 @@ pub fn end_branch(
     start: u32,
     ending: Ending,
 ) -> Result<Move, Halt>
-    requires { IsFlowNode shared.old.graph start }
+    requires start { IsFlowNode shared.old.graph start }
+    requires ending { is_block_ending ending ≡ true }
     ensures { (k r : ℕ) → 0 < r → ComesTo k r (λ sh a. after_branch start ending) (standing shared.old state.old) result (standing shared.new state.new) }
 {
     end_body(state, shared, start)?;
@@ -197,7 +199,8 @@ pub fn end_branch(
 
 /// What a branch throws is logged.
 fn branch_failed(shared: &mut Shared, start: u32, ending: Ending) -> Result<Move, Halt>
-    requires { IsFlowNode shared.old.graph start }
+    requires start { IsFlowNode shared.old.graph start }
+    requires ending { is_block_ending ending ≡ true }
     ensures { (t : Thread) (k r : ℕ) → 0 < r → ComesTo k r (λ sh a. branch_failed start ending) (standing shared.old t) result (standing shared.new t) }
 {
     match thrown_of(ending) {

@@ -1,6 +1,6 @@
 //! `catchError`.
 
-ghost use Rattle.std.specs.Prelude.{◌≡◌, ◌<◌, ◌≤◌, ◌∷◌, ◌++◌, [], ℕ, codes, length, slice_get, IfOk, IfSome, OnOk};
+ghost use Rattle.std.specs.Prelude.{◌≡◌, ◌<◌, ◌≤◌, ◌∷◌, ◌++◌, [], ℕ, codes, length, slice_get, true, IfOk, IfSome, OnOk};
 ghost use Rattle.cell_heap.specs.Soundness.{ValueBelow};
 ghost use Rattle.model_values.specs.Fitting.{HasClosure, HasThrowable, IsIn};
 ghost use Rattle.model_values.specs.Kinds.{kind};
@@ -20,6 +20,7 @@ ghost use Rattle.cps_frames.specs.Moves.{ComesTo};
 ghost use Rattle.cps_frames.specs.Order.{rank};
 ghost use Rattle.cps_frames.specs.Places.{MayGoOn};
 ghost use Rattle.cps_frames.specs.Standing.{standing, world_of};
+ghost use Rattle.cps_frames.specs.Ways.{is_block_ending};
 ghost use Rattle.cps_frames.specs.declared.thread.ThreadState.{ThreadState as Thread};
 ghost use Rattle.step_library.specs.Kept.{IsKept};
 ghost use Rattle.step_library.specs.Numbers.{Countable};
@@ -155,6 +156,7 @@ fn caught(
     requires least { least ≤ 4 }
     requires message { ValueBelow (length shared.old.heap.cells) message.now }
     requires thrown { Throws shared.old.heap.cells ending }
+    requires ending { is_block_ending ending ≡ true }
     ensures { (k r : ℕ) → 0 < r → ComesTo k r (λ sh a. caught start least message.now ending) (standing shared.old state.old) result (standing shared.new state.new) }
 {
     match thrown_in(ending) {
@@ -163,13 +165,15 @@ fn caught(
     }
 }
 
-/// The cell of what was thrown.
+/// The cell of what was thrown, behind what ends as a block may.
 fn thrown_in(ending: Ending) -> Option<u32>
+    requires { is_block_ending ending ≡ true }
     ensures { result ≡ thrown_in ending }
 {
     match ending {
         Ending::Thrown(cell) => Some(cell),
-        _ => None,
+        Ending::Normal(_) | Ending::Returned(_) | Ending::Broke | Ending::Continued => None,
+        Ending::Declared(_) | Ending::Answered(_) => unreachable!(),
     }
 }
 

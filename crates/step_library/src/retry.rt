@@ -1,6 +1,6 @@
 //! `retry`.
 
-ghost use Rattle.std.specs.Prelude.{◌≡◌, ◌++◌, ◌∷◌, [], ◌+◌, ◌^◌, ℕ, ◌<◌, codes, length, slice_get, IfOk};
+ghost use Rattle.std.specs.Prelude.{◌≡◌, ◌++◌, ◌∷◌, [], ◌+◌, ◌^◌, ℕ, ◌<◌, codes, length, slice_get, true, IfOk};
 ghost use Rattle.model_values.specs.Fitting.{HasClosure, HasThrowable, IsIn};
 ghost use Rattle.model_run.specs.Around.{whole};
 ghost use Rattle.model_run.specs.FlowNodes.{block};
@@ -12,6 +12,7 @@ ghost use Rattle.cps_frames.specs.Moves.{ComesTo};
 ghost use Rattle.cps_frames.specs.Order.{rank};
 ghost use Rattle.cps_frames.specs.Places.{MayGoOn};
 ghost use Rattle.cps_frames.specs.Standing.{standing};
+ghost use Rattle.cps_frames.specs.Ways.{is_block_ending};
 ghost use Rattle.step_library.specs.Numbers.{Countable};
 ghost use Rattle.step_library.specs.Retries.{FailsSo, Throws};
 
@@ -122,7 +123,8 @@ pub(crate) fn retry_body(
 /// The throwable behind which a body is begun again. `Err` is how `retry` ends: its body was no failure, or was an
 /// interruption, or was begun often enough.
 fn failure(heap: &Heap, more: u32, ending: Ending) -> Result<u32, Ending>
-    requires { Throws heap.now.cells ending }
+    requires thrown { Throws heap.now.cells ending }
+    requires ending { is_block_ending ending ≡ true }
     ensures { FailsSo heap.now.cells more ending result }
 {
     match ending {
@@ -133,6 +135,7 @@ fn failure(heap: &Heap, more: u32, ending: Ending) -> Result<u32, Ending>
                 Ok(cell)
             }
         }
+        Ending::Declared(_) | Ending::Answered(_) => unreachable!(),
         other => Err(other),
     }
 }

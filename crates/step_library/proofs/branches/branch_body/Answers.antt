@@ -5,6 +5,7 @@ use Rattle.model_run.specs.declared.frame.FrameKind.TheVariants as kind
 use Rattle.cps_frames.specs.Moves.{ComesTo}
 use Rattle.cps_frames.specs.Order.{rank}
 use Rattle.cps_frames.specs.Standing.{standing}
+use Rattle.cps_frames.proofs.EndLaws.{block_inside}
 use Rattle.cps_frames.proofs.MoveLaws.{to_kind}
 use Rattle.step_library.proofs.FrameFacts.{start_in}
 use Rattle.step_library.proofs.StepMoves.{low_rank}
@@ -16,7 +17,10 @@ number_at-start-requires c = let s = start_in (standing c.args.shared.now c.args
 pub end_branch-requires : goal.end_branch-requires
 end_branch-requires c =
     let s = start_in (standing c.args.shared.now c.args.state.now) c.args.frame c.args.ending kind.BranchBody c.requires.may c.requires.kind (λ sh left env. refl) in
-    subst (IsFlowNode c.args.shared.now.graph) (sym c.number_at-start.ensures.number) s.there
+    record {
+      start = subst (IsFlowNode c.args.shared.now.graph) (sym c.number_at-start.ensures.number) s.there;
+      ending = block_inside c.requires.may c.requires.kind refl;
+    }
 
 pub returns : goal.returns
 returns c =

@@ -7,8 +7,8 @@ use Rattle.step_library.proofs.BranchLaws.{still_flow_node}
 use Rattle.step_library.proofs.StepMoves.{to_body_end}
 use Rattle.step_library.proofs.branches.end_branch.Goals as goal
 
-pub branch_failed-requires : goal.branch_failed-requires
-branch_failed-requires c = subst (λ ns. IsFlowNode ns c.args.start) (sym (ap (λ (w : World). w.shared.nodes) c.in_ok-end_body.ensures.made)) (still_flow_node c.args.start c.args.shared.now.graph _ c.requires)
+pub branch_failed-requires-clause-start : goal.branch_failed-requires-clause-start
+branch_failed-requires-clause-start c = subst (λ ns. IsFlowNode ns c.args.start) (sym (ap (λ (w : World). w.shared.nodes) c.in_ok-end_body.ensures.made)) (still_flow_node c.args.start c.args.shared.now.graph _ c.requires.start)
 
 pub returns : goal.returns
 returns c = λ k r above.

@@ -12,6 +12,7 @@ use Rattle.model_run.specs.declared.frame.FrameKind.TheVariants as kind
 use Rattle.cps_frames.specs.Moves.{ComesTo}
 use Rattle.cps_frames.specs.Order.{rank}
 use Rattle.cps_frames.specs.Standing.{standing}
+use Rattle.cps_frames.proofs.EndLaws.{block_inside}
 use Rattle.cps_frames.proofs.MoveLaws.{to_kind}
 use Rattle.step_library.specs.Retries.{Throws}
 use Rattle.step_library.proofs.FrameFacts.{body_throws, bounded_in, messages_in, starts_in, text_below}
@@ -41,6 +42,7 @@ caught-requires c =
       least = omega (arith, b.low, c.number_at-least.ensures.number);
       message = subst (λ (h : List Cell). ValueBelow (length h) c.value_at-message.result) (sym cells) (subst (ValueBelow (length u.world.shared.cells)) (sym c.value_at-message.ensures) (text_below u.world.shared (value_at 3 c.args.frame.values) s.message));
       thrown = subst (λ (h : List Cell). Throws h c.args.ending) (sym cells) (body_throws u c.args.frame c.args.ending kind.CatchErrorBody c.requires.may c.requires.kind (λ root k sh left env. refl));
+      ending = block_inside c.requires.may c.requires.kind refl;
     }
 
 pub returns : goal.returns

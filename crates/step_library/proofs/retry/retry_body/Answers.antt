@@ -9,6 +9,7 @@ use Rattle.model_run.specs.declared.frame.FrameKind.TheVariants as kind
 use Rattle.cps_frames.specs.Moves.{ComesTo}
 use Rattle.cps_frames.specs.Order.{rank}
 use Rattle.cps_frames.specs.Standing.{standing, state}
+use Rattle.cps_frames.proofs.EndLaws.{block_inside}
 use Rattle.cps_frames.proofs.MoveLaws.{to_as, to_kind}
 use Rattle.step_library.specs.Retries.{FailsSo, after_try}
 use Rattle.step_library.proofs.FrameFacts.{starts_in}
@@ -30,6 +31,9 @@ returns-in_err-end_body c =
     let p = err_from_is_err_and c.from_residual.result c.from_residual.ensures.1 in
     rw (p.1, p.2) (to_kind (rank f) f kind.RetryBody c.args.ending _ (Err c.in_err-end_body.field-0.0) _ c.requires.kind (to_tries f.node (rank f) f.env s v m b c.args.ending _ (Err c.in_err-end_body.field-0.0) _
     (no_body_end f.node (rank f) b c.number_at.result (λ sh a. after_try a f.node f.env s v m c.args.ending) c.in_err-end_body.field-0.0 _ _ c.number_at.ensures.number c.in_err-end_body.ensures pos)))
+
+pub failure-requires-clause-ending : goal.failure-requires-clause-ending
+failure-requires-clause-ending c = block_inside c.requires.may c.requires.kind refl
 
 pub returns-in-Ok : goal.returns-in-Ok
 returns-in-Ok c =
