@@ -10,8 +10,8 @@ use Rattle.cps_frames.specs.Standing.{standing}
 use Rattle.cps_calls.proofs.BranchLaws.{met_inside, to_thrown_inside}
 use Rattle.cps_calls.proofs.branches.refuse_branch.Goals as goal
 
-pub end_branch-requires : goal.end_branch-requires
-end_branch-requires c =
+pub end_branch-requires-clause-start : goal.end_branch-requires-clause-start
+end_branch-requires-clause-start c =
     let thrown = rw c.in-Thrown.is at (c.throw_unfit.ensures c.args.state.now) in
     subst (λ ns. IsFlowNode ns c.args.start) (sym (ap (λ (w : World). w.shared.nodes) thrown.world)) c.requires
 

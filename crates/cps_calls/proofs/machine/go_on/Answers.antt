@@ -1,14 +1,14 @@
-use Rattle.std.proofs.Common.{◌≡◌, ◌+◌, ◌*◌, ◌^◌, Ok, ap, arith}
+use Rattle.std.proofs.Common.{◌≡◌, ◌+◌, ◌*◌, ◌^◌, Ok, ap, arith, refl}
 use Rattle.model_run.specs.declared.frame.FrameKind.TheVariants as kind
 use Rattle.cps_frames.specs.Order.{extra, rank, tier}
 use Rattle.cps_frames.specs.Standing.{standing}
+use Rattle.cps_frames.proofs.EndLaws.{block_inside}
 use Rattle.cps_frames.proofs.MoveLaws.{to_kind}
-use Rattle.cps_calls.proofs.BodyLaws.{body_ends}
 use Rattle.cps_calls.proofs.TurnLaws.{by_one}
 use Rattle.cps_calls.proofs.machine.go_on.Goals as goal
 
 pub after_body-requires : goal.after_body-requires
-after_body-requires c = body_ends (standing c.args.shared.now c.args.state.now) c.args.frame c.args.ending c.requires.may c.in-CallBody.is
+after_body-requires c = block_inside c.requires.may c.in-CallBody.is refl
 
 pub returns-in-CallBody : goal.returns-in-CallBody
 returns-in-CallBody c =

@@ -13,9 +13,13 @@ use Rattle.value_walks.specs.Walking.{IsAfter, NextBelow, held_after, held_metho
 use Rattle.cps_code.specs.Script.{script_of}
 use Rattle.cps_frames.specs.Order.{rank}
 use Rattle.cps_frames.specs.Standing.{common_of, standing, world_of}
+use Rattle.cps_frames.proofs.EndLaws.{block_inside}
 use Rattle.cps_calls.proofs.TurnLaws.{by_one, by_two}
 use Rattle.cps_calls.proofs.WalkLaws.{all_below, enters_turn, keeps_turn, same_after, there_below, turn_method, turn_ranks, turn_walks, walk_ends, walk_goes_on}
 use Rattle.cps_calls.proofs.walks.after_walk_turn.Goals as goal
+
+pub value_of-requires : goal.value_of-requires
+value_of-requires c = block_inside c.requires.may c.requires.kind refl
 
 pub kept_value-on-requires : goal.kept_value-on-requires
 kept_value-on-requires c =
