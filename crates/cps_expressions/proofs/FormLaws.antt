@@ -1,5 +1,5 @@
 -- How each frame of an expression goes on where there is no value, and where there is one.
-use Rattle.std.proofs.Common.{◌≡◌, ◌<◌, ◌-◌, ℕ, suc, true, List, [], ◌∷◌, ◌++◌, ap, sym, subst}
+use Rattle.std.proofs.Common.{◌≡◌, ◌<◌, ◌-◌, ℕ, suc, true, List, [], ◌∷◌, ◌++◌, ap, refl, sym, subst}
 use Rattle.std.specs.Prelude.{reverse, Result as Outcome, Ok, Err}
 use Rattle.model_syntax.specs.declared.node.NodeForm.{NodeForm}
 use Rattle.model_syntax.specs.declared.node.NodeForm.TheVariants as form
@@ -21,6 +21,7 @@ use Rattle.cps_frames.specs.Ways.{value_of}
 use Rattle.cps_frames.specs.declared.halt.Halt.{Halt}
 use Rattle.cps_frames.specs.declared.halt.Halt.TheVariants.{Ends as HaltEnds}
 use Rattle.cps_frames.specs.declared.thread.Move.{Move}
+use Rattle.cps_frames.proofs.EndLaws.{is_quiet}
 use Rattle.cps_frames.proofs.MoveLaws.{comes_ended}
 use Rattle.cps_frames.proofs.WayLaws.{value_err}
 use Rattle.cps_expressions.specs.Frames.{is_expression_frame}
@@ -41,6 +42,20 @@ no_value_law a k sh left env vs kind.PrefixedOperand e x s is h = value_err (pre
 no_value_law a k sh left env vs kind.SuffixedPart e x s is h = value_err (suffixed a k sh env left) e x s h
 no_value_law a k sh left env vs kind.IndexValue e x s is h = value_err (index (value_at 0 vs)) e x s h
 no_value_law a k sh left env vs d e x s is h = absurd (cc is)
+
+-- inside each stands a part that is no declaration
+pub expression_quiet : (d : FrameKind) → is_expression_frame d ≡ true → is_quiet d ≡ true
+expression_quiet kind.Gathered is = refl
+expression_quiet kind.GatheredKey is = refl
+expression_quiet kind.GroupValue is = refl
+expression_quiet kind.ChosenTest is = refl
+expression_quiet kind.ChainOperand is = refl
+expression_quiet kind.JoinedFirst is = refl
+expression_quiet kind.JoinedOperand is = refl
+expression_quiet kind.PrefixedOperand is = refl
+expression_quiet kind.SuffixedPart is = refl
+expression_quiet kind.IndexValue is = refl
+expression_quiet d is = absurd (cc is)
 
 -- what is no value ends the expression too
 pub passes_on : (r : ℕ) (f : Frame) (e x : Ending) (u : Standing) → is_expression_frame f.kind ≡ true → value_of e ≡ Err x → 0 < r → ComesTo f.node r (λ sh a. after f sh a e) u (Err (HaltEnds x)) u

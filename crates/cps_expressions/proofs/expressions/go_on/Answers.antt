@@ -2,9 +2,13 @@ use Rattle.std.proofs.Common.{◌∙◌, sym}
 use Rattle.std.proofs.lemmas.Result.{err_from_is_err_and}
 use Rattle.cps_frames.specs.Order.{rank}
 use Rattle.cps_frames.specs.Standing.{standing}
+use Rattle.cps_frames.proofs.EndLaws.{ends_as_block}
 use Rattle.cps_operators.proofs.OperandLaws.{rank_pos}
-use Rattle.cps_expressions.proofs.FormLaws.{as_normal, passes_on}
+use Rattle.cps_expressions.proofs.FormLaws.{as_normal, expression_quiet, passes_on}
 use Rattle.cps_expressions.proofs.expressions.go_on.Goals as goal
+
+pub value_of-requires : goal.value_of-requires
+value_of-requires c = ends_as_block c.requires.may (expression_quiet c.args.frame.kind c.requires.kind)
 
 pub returns-in_err-value : goal.returns-in_err-value
 returns-in_err-value c =
