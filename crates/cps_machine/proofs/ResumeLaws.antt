@@ -4,14 +4,12 @@ use Rattle.std.specs.Prelude.{find, is_some, nat_eq, slice_get}
 use Rattle.std.specs.List.{AllByRecursion as AllAre}
 use Rattle.std.proofs.Math.Bool.{Bool-set}
 use Rattle.std.proofs.Math.Logic.{∥∥₁_elim}
-use Rattle.model_syntax.specs.declared.node.NodeForm.{NodeForm}
 use Rattle.model_syntax.specs.declared.node.NodeForm.TheVariants as form
 use Rattle.model_values.specs.declared.value.Outcome.{Outcome}
 use Rattle.model_run.specs.declared.context.Context.{Context}
 use Rattle.model_run.specs.declared.ending.Asked.TheVariants.{ForBranches, ForRequest}
 use Rattle.model_run.specs.declared.ending.Branch.{Branch}
 use Rattle.model_run.specs.declared.ending.Ending.{Ending}
-use Rattle.model_run.specs.declared.ending.Ending.TheVariants.{Normal, Thrown, Returned, Broke, Continued, Declared, Answered}
 use Rattle.model_run.specs.declared.ending.Entry.TheVariants.{Branched}
 use Rattle.model_run.specs.declared.frame.Frame.{Frame}
 use Rattle.model_run.specs.declared.request.OpenRequest.{OpenRequest}
@@ -33,7 +31,7 @@ use Rattle.model_run.specs.World.{join_wait, outcome_of}
 use Rattle.model_values.proofs.CellGrowth.{all_append}
 use Rattle.model_values.proofs.LaterLaws.{all_weaker}
 use Rattle.run_laws.specs.Evaluation.{turn_open}
-use Rattle.run_laws.specs.Soundness.{BranchFits, EndFits, Open, Pausing, declares_as}
+use Rattle.run_laws.specs.Soundness.{BranchFits, Open, Pausing}
 use Rattle.run_laws.specs.Worlds.{EndIf, SharedSound}
 use Rattle.seat_laws.specs.Seats.{Holding}
 use Rattle.green_threads.specs.declared.runner.NewBranch.{NewBranch}
@@ -52,6 +50,7 @@ use Rattle.cps_frames.specs.declared.thread.Move.{Move}
 use Rattle.cps_frames.specs.declared.thread.Move.TheVariants as move
 use Rattle.cps_frames.specs.declared.thread.ThreadState.{ThreadState}
 use Rattle.cps_frames.proofs.Beginnings.{branch_poised, thread_with}
+use Rattle.cps_frames.proofs.EndLaws.{plain_ends}
 use Rattle.cps_machine.specs.Resuming.{BeginsAs, ResumesAs, stopping}
 use Rattle.thread_fits.specs.Seats.{Family, Fits, HasBegun, IsAlone, IsGranted, IsReady, SeatStands, StartStands, WaitStands, as_seat, first_of, nodes_left, waiting_move}
 use Rattle.cps_machine.specs.Stops.{Begins as May_begin, MayRun, Stops}
@@ -476,19 +475,6 @@ turn_runs t u a may =
     ((may.3).script, (above stance_of may.0 (may.1).parent, outermost (may.1).parent, b, first_begins (stance_of t).runs a))
 
 -- What it runs ends as a block does.
-plain_ends : (f : NodeForm) (u : Common) (e : Ending) → is_declaration f ≡ false → EndFits f u e → is_block_ending e ≡ true
-plain_ends f u (Normal v) plain h = refl
-plain_ends f u (Thrown c) plain h = refl
-plain_ends f u (Returned v) plain h = refl
-plain_ends f u Broke plain h = refl
-plain_ends f u Continued plain h = refl
-plain_ends f u (Declared b) plain h = absurd (never f plain h.0)
-  where
-    never : (f : NodeForm) → is_declaration f ≡ false → declares_as f b.name → ⊥
-    never (form.Declare x) plain d = absurd (cc)
-    never f plain d = d
-plain_ends f u (Answered x) plain h = absurd h
-
 script_plain : (root : Term) → IsScript root → is_declaration (shape_at root 0).form ≡ false
 script_plain root script =
     subst (λ t. is_declaration (form_of t) ≡ false) (sym (script_at root script))
