@@ -1,3 +1,4 @@
 pub mod Rests
 pub mod Faults
 pub mod Arguments
+pub mod Branches

@@ -1,7 +1,8 @@
 -- What binding the arguments of a call comes to, as the program has it.
-use Rattle.std.specs.Prelude.{◌≡◌, ◌<◌, ◌^◌, length, IfSome, List, Option, Some, None, Result as Outcome, Ok, Err, unwrap_or, codes}
+use Rattle.std.specs.Prelude.{◌≡◌, ◌<◌, ◌^◌, All, length, IfSome, List, Option, Some, None, Result as Outcome, Ok, Err, unwrap_or, codes}
 use Rattle.cell_heap.specs.Soundness.{ValueBelow}
 use Rattle.model_values.specs.Fitting.{HasClosure, IsIn}
+use Rattle.model_values.specs.Kinds.{Kind, pairs, kind}
 use Rattle.model_values.specs.declared.cell.Cell.{Cell}
 use Rattle.model_values.specs.declared.value.Value.{Value}
 use Rattle.model_run.specs.Around.{cells}
@@ -38,10 +39,15 @@ IsBound w Dir args (Some f) b = b ≡ bound.Dir (text_or_empty w (codes "path") 
 IsBound w WithEnv args (Some f) b = b ≡ bound.WithEnv (overrides_of (cells w) (given (codes "overrides") args)) f
 IsBound w Sh args None b = b ≡ bound.Sh (text_or_empty w (codes "script") args) (is_true (cells w) (given (codes "returnStatus") args)) (is_true (cells w) (given (codes "returnStdout") args))
 IsBound w Input args None b = b ≡ bound.Input (text_or_empty w (codes "message") args) (unwrap_or (text_given w (codes "ok") args) (codes "Proceed")) (text_given w (codes "id") args)
-IsBound w Parallel args None b = b ≡ bound.Parallel (given (codes "branches") args)
+IsBound w Parallel args None (bound.Parallel branches) = given (codes "branches") args ≡ Some branches
 IsBound w s args body b = ⊥
 
--- What a step uses is there: its body is a closure, and what is counted of it a script can count.
+-- It is a map whose entries are closures.
+abbrev pub AreBranches : List Cell → Kind → Type 0
+AreBranches h (pairs c es) = All (λ e. IsIn HasClosure h e.1) es
+AreBranches h k = ⊥
+
+-- What a step uses is there: its body and its branches are closures, and what is counted of it a script can count.
 abbrev pub IsUsable : List Cell → Bound → Type 0
 IsUsable h (bound.Stage name f) = IsIn HasClosure h f
 IsUsable h (bound.CatchError message result f) = IsIn HasClosure h f × IfSome message (ValueBelow (length h))
@@ -49,7 +55,7 @@ IsUsable h (bound.Retry more f) = IsIn HasClosure h f × (more < 2 ^ 31)
 IsUsable h (bound.Node label f) = IsIn HasClosure h f
 IsUsable h (bound.Dir path f) = IsIn HasClosure h f
 IsUsable h (bound.WithEnv overrides f) = IsIn HasClosure h f × (length overrides < 2 ^ 31)
-IsUsable h (bound.Parallel branches) = IfSome branches (ValueBelow (length h))
+IsUsable h (bound.Parallel branches) = ValueBelow (length h) branches × AreBranches h (kind h branches)
 IsUsable h b = Unit {0}
 
 -- A refusal tells what a call comes to; nothing is said where the memory was refused.

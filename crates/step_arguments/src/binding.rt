@@ -4,7 +4,7 @@ ghost use Rattle.std.specs.Prelude.{◌≡◌, All, IfSome, Some, None, true, fa
 ghost use Rattle.cell_heap.specs.Soundness.{ValueBelow};
 ghost use Rattle.model_values.specs.Fitting.{HasClosure, IsIn};
 ghost use Rattle.model_run.specs.State.{World};
-ghost use Rattle.model_run.specs.StepTable.{bind_step, bind_given, has_body};
+ghost use Rattle.model_run.specs.StepTable.{Fits, all_fit, bind_step, bind_given, has_body, missing, parameters};
 ghost use Rattle.step_arguments.specs.Binding.{BindsTo, IsBound, IsUsable, seen_with};
 
 use crate::bound::Bound;
@@ -12,7 +12,8 @@ use crate::checks::{check, fault};
 use crate::given::{Given, given, named_or_main, split_last};
 use crate::refusal::BindRefusal;
 use crate::uses::{
-    is_true, label, ok_word, overrides_given, result_given, text_given, text_or_empty, tries_given,
+    branches_given, is_true, label, ok_word, overrides_given, result_given, text_given,
+    text_or_empty, tries_given,
 };
 use cell_heap::Heap;
 use model_run::Step;
@@ -76,6 +77,8 @@ fn without_body(
 ) -> Result<Bound, AllocError>
     requires below { All (λ g. ValueBelow (length heap.now.cells) g.1) arguments.now }
     requires none { has_body step ≡ false }
+    requires fits { (w : World) → all_fit (seen_with heap.now.cells w) (parameters step) arguments.now ≡ Fits }
+    requires needed { missing arguments.now (parameters step) ≡ None }
     ensures bound { (w : World) → IfOk result (IsBound (seen_with heap.now.cells w) step arguments.now None) }
     ensures usable { IfOk result (IsUsable heap.now.cells) }
 {
@@ -103,7 +106,7 @@ fn without_body(
             id: text_given(alloc, heap, arguments, "id")?,
         }),
         Step::Parallel => Ok(Bound::Parallel {
-            branches: given(arguments, "branches"),
+            branches: branches_given(arguments),
         }),
         _ => unreachable!(),
     }

@@ -63,7 +63,7 @@ pub enum Bound {
         id: Option<Text>,
     },
     Parallel {
-        /// The map of the branches.
-        branches: Option<Value>,
+        /// The map of the branches: closures by their names.
+        branches: Value,
     },
 }

@@ -32,6 +32,8 @@ pub(crate) fn check(
 ) -> Result<(), BindRefusal>
     requires { All (λ g. ValueBelow (length heap.now.cells) g.1) arguments.now }
     ensures checked { (w : World) → Checks (bind_given (seen_with heap.now.cells w) step arguments.now body) (Binds arguments.now body) result }
+    ensures fits { (w : World) → OnOk result (all_fit (seen_with heap.now.cells w) (parameters step) arguments.now ≡ Fits) }
+    ensures needed { OnOk result (missing arguments.now (parameters step) ≡ None) }
     ensures body { OnOk result (is_some body ≡ has_body step) }
 {
     check_names(alloc, step, arguments)?;
@@ -66,7 +68,8 @@ fn check_values(
     arguments: &[(Text, Value)],
 ) -> Result<(), BindRefusal>
     requires { All (λ g. ValueBelow (length heap.now.cells) g.1) arguments.now }
-    ensures { (w : World) (body : Option AValue) → Checks (bind_fit (seen_with heap.now.cells w) step arguments.now body (all_fit (seen_with heap.now.cells w) (parameters step) arguments.now)) (bind_returned (seen_with heap.now.cells w) step arguments.now body (both_returned heap.now.cells step arguments.now)) result }
+    ensures fits { (w : World) → OnOk result (all_fit (seen_with heap.now.cells w) (parameters step) arguments.now ≡ Fits) }
+    ensures checked { (w : World) (body : Option AValue) → Checks (bind_fit (seen_with heap.now.cells w) step arguments.now body (all_fit (seen_with heap.now.cells w) (parameters step) arguments.now)) (bind_returned (seen_with heap.now.cells w) step arguments.now body (both_returned heap.now.cells step arguments.now)) result }
 {
     for (name, value) in arguments {
         check_argument(alloc, heap, step, name.as_slice(), value)?;
@@ -140,7 +143,8 @@ fn check_returned(
 
 /// The main parameter is given where it has to be.
 fn check_main(alloc: Global, step: Step, arguments: &[(Text, Value)]) -> Result<(), BindRefusal>
-    ensures { (w : World) (body : Option AValue) → Checks (bind_missing w step arguments.now body (missing arguments.now (parameters step))) (bind_body w step arguments.now body (has_body step)) result }
+    ensures needed { OnOk result (missing arguments.now (parameters step) ≡ None) }
+    ensures checked { (w : World) (body : Option AValue) → Checks (bind_missing w step arguments.now body (missing arguments.now (parameters step))) (bind_body w step arguments.now body (has_body step)) result }
 {
     let main = main_name(step);
     if needs_main(step) && given(arguments, main).is_none() {

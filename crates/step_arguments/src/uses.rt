@@ -1,11 +1,12 @@
 //! The arguments as a step uses them.
 
-ghost use Rattle.std.specs.Prelude.{◌≡◌, ◌<◌, ◌^◌, All, IfOk, [], length, map, unwrap_or, codes};
+ghost use Rattle.std.specs.Prelude.{◌≡◌, ◌<◌, ◌^◌, All, IfOk, None, Some, [], length, map, unwrap_or, codes};
 ghost use Rattle.cell_heap.specs.Soundness.{ValueBelow};
 ghost use Rattle.model_run.specs.Labels.{kept_label};
 ghost use Rattle.model_run.specs.State.{World};
 ghost use Rattle.model_run.specs.Steps.{further_tries, named_result, override_of, override_text, overrides_in, overrides_of, text_or_empty, tries_given};
-ghost use Rattle.model_run.specs.StepTable.{flag_of, given, is_true, text_given, written_or};
+ghost use Rattle.model_run.specs.StepTable.{flag_of, given, is_true, missing, parameters, text_given, written_or};
+ghost use Rattle.model_run.specs.declared.step.Step.TheVariants.{Parallel};
 ghost use Rattle.std.specs.List.{list_all};
 ghost use Rattle.model_run.specs.LabelTokens.{is_blank};
 ghost use Rattle.model_values.specs.Kinds.{kind};
@@ -157,6 +158,17 @@ fn further_tries(kind: &Kind<'_>) -> u32
     match kind {
         Kind::Number(number) if *number > 0 => (*number - 1) as u32,
         _ => 0,
+    }
+}
+
+/// The map of the branches of `parallel`, which has to be given.
+pub(crate) fn branches_given(arguments: &[(Text, Value)]) -> Value
+    requires { missing arguments.now (parameters Parallel) ≡ None }
+    ensures { given (codes "branches") arguments.now ≡ Some result }
+{
+    match given(arguments, "branches") {
+        Some(branches) => branches,
+        None => unreachable!(),
     }
 }
 

@@ -6,8 +6,8 @@ use Rattle.step_arguments.proofs.Faults.{tells_on}
 use Rattle.step_arguments.proofs.Rests.{next_item}
 use Rattle.step_arguments.proofs.checks.check_values.Goals as goal
 
-pub returns-in_err-check_argument : goal.returns-in_err-check_argument
-returns-in_err-check_argument c = λ w body.
+pub returns-in_err-check_argument-clause-checked : goal.returns-in_err-check_argument-clause-checked
+returns-in_err-check_argument-clause-checked c = λ w body.
     let u = seen_with c.args.heap.now.cells w in
     let ps = parameters c.args.step in
     let args = c.args.arguments.now in
