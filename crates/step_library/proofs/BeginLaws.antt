@@ -1,5 +1,6 @@
 -- How a step begins, by what binding its arguments comes to.
 use Rattle.std.proofs.Common.{◌≡◌, ℕ, List, [], ◌∷◌, Option, Some, None, ap, sym, length, arith}
+use Rattle.std.specs.Prelude.{codes}
 use Rattle.std.specs.List.{All, AllByRecursion as AllAre}
 use Rattle.std.proofs.lemmas.List.Elements.{All-cons}
 use Rattle.cell_heap.specs.Soundness.{ValueBelow}
@@ -8,14 +9,16 @@ use Rattle.model_values.specs.declared.cell.Cell.{Cell}
 use Rattle.model_values.specs.declared.value.Value.{Value}
 use Rattle.model_values.specs.declared.value.Value.TheVariants.{Null, Bool as Truth, Int as Whole, Cell as InCell}
 use Rattle.model_run.specs.Around.{Around}
-use Rattle.model_run.specs.State.{World, Reply, State, Env}
-use Rattle.model_run.specs.Steps.{begin_step, bound_step}
+use Rattle.model_run.specs.FlowNodes.{block}
+use Rattle.model_run.specs.State.{World, Reply, State, Env, seeing}
+use Rattle.model_run.specs.Steps.{begin_branches, begin_step, bound_step, branches_given}
 use Rattle.model_run.specs.StepTable as table
 use Rattle.model_run.specs.StepTable.{Given, bind_step}
 use Rattle.model_run.specs.declared.step.Step.{Step}
 use Rattle.model_run.specs.declared.step.Step.TheVariants.{Println, Echo, Error, MakeUnstable, Stage, CatchError, Retry, Node, Dir, WithEnv, Sh, Input, Parallel}
 use Rattle.step_arguments.specs.Binding.{Comes_to, IsBound}
 use Rattle.step_arguments.specs.declared.bound.Bound.{Bound}
+use Rattle.step_arguments.specs.declared.bound.Bound.TheVariants as bound
 use Rattle.step_library.specs.Beginning.{bound_says}
 
 there_below : (h : List Cell) (v : Value) → There h v → ValueBelow (length h) v
@@ -35,7 +38,8 @@ bound_is a k env Error w args None b st is = ap (λ x. bound_says a k env x st) 
 bound_is a k env MakeUnstable w args None b st is = ap (λ x. bound_says a k env x st) (sym is)
 bound_is a k env Sh w args None b st is = ap (λ x. bound_says a k env x st) (sym is)
 bound_is a k env Input w args None b st is = ap (λ x. bound_says a k env x st) (sym is)
-bound_is a k env Parallel w args None b st is = ap (λ x. bound_says a k env x st) (sym is)
+bound_is a k env Parallel w args None (bound.Parallel m) st is = ap (λ o. block (codes "parallel") (seeing (λ u. begin_branches k env u.own.head [] (branches_given u o))) st) is
+bound_is a k env Parallel w args None b st is = absurd is
 bound_is a k env Stage w args None b st is = absurd is
 bound_is a k env CatchError w args None b st is = absurd is
 bound_is a k env Retry w args None b st is = absurd is

@@ -5,6 +5,8 @@ use Rattle.std.proofs.lemmas.List.{length-append}
 use Rattle.std.specs.List.{All, AllByRecursion as AllAre}
 use Rattle.std.proofs.lemmas.List.Elements.{All-cons}
 use Rattle.cell_heap.specs.Soundness.{ValueBelow}
+use Rattle.model_values.specs.TextOf.{key_text}
+use Rattle.model_values.specs.declared.key.Key.{Key}
 use Rattle.model_values.specs.declared.value.Value.{Value}
 use Rattle.model_values.specs.declared.value.Value.TheVariants.{Null, Bool as Truth, Int as Whole, Cell as InCell}
 use Rattle.model_values.specs.declared.value.Outcome.{Outcome as Outcome_of}
@@ -16,6 +18,7 @@ use Rattle.model_run.specs.declared.frame.FrameKind.TheVariants.{ParallelWait}
 use Rattle.model_run.specs.Around.{frame, position, value_at, whole}
 use Rattle.model_run.specs.Fitting.{EndFits, IsFlowNode, OutcomeFits}
 use Rattle.model_run.proofs.Room.{keeps_node}
+use Rattle.model_run.specs.Callables.{closure_of}
 use Rattle.model_run.specs.declared.callee.Callee.{Callee}
 use Rattle.model_run.specs.declared.ending.Branch.{Branch}
 use Rattle.model_run.specs.declared.flow.FlowNode.{FlowNode}
@@ -32,9 +35,9 @@ use Rattle.cps_frames.specs.declared.thread.Move.TheVariants.{Asks}
 use Rattle.step_library.specs.Branches.{Begun, OutcomeBelow}
 use Rattle.cps_frames.proofs.MoveLaws.{Saying, beside_on, comes_waits, passed, passed_beside, passed_setting, to_after, to_as, to_passed, to_refused}
 
-pub callee_in_front : (name : List ℕ) (o : Option Callee) (rest : List (List ℕ × Callee)) → with_callee name o [] ++ rest ≡ with_callee name o rest
-callee_in_front name None rest = refl
-callee_in_front name (Some c) rest = refl
+-- a closure under its name
+pub callee_in_front : (w : World) (e : Key × Value) (name : List ℕ) (c : Callee) (rest : List (List ℕ × Callee)) → name ≡ key_text e.0 → closure_of w e.1 ≡ Some c → (name, c) ∷ rest ≡ with_callee (key_text e.0) (closure_of w e.1) rest
+callee_in_front w e name c rest named is = ap (λ n. (n, c) ∷ rest) named ∙ ap (λ o. with_callee (key_text e.0) o rest) (sym is)
 
 abbrev pub the_branch : List ℕ → Callee → ℕ → Branch
 the_branch name c head = record { name = name; closure = c.node; env = c.env; head = head }

@@ -1,5 +1,5 @@
 -- A step that begins, by its arguments as it uses them.
-use Rattle.std.specs.Prelude.{◌<◌, ◌+◌, ◌^◌, ℕ, List, [], ◌∷◌, ◌++◌, codes, length}
+use Rattle.std.specs.Prelude.{◌<◌, ◌+◌, ◌^◌, ℕ, List, [], ◌∷◌, ◌++◌, Some, codes, length}
 use Rattle.std.specs.List.{AllByRecursion as AllAre}
 use Rattle.model_values.specs.Fitting.{There}
 use Rattle.model_values.specs.declared.throwable.Class.TheVariants.{Abort}
@@ -35,7 +35,7 @@ bound_says a k env (bound.Dir path f) = block (codes "dir") (seeing (λ u. dir_i
 bound_says a k env (bound.WithEnv ps f) = block (codes "withEnv") (seeing (λ u. changed (with_overrides ps) (calling (closure_of u f) (ended Null) (with_env_body a k env (length ps) u))))
 bound_says a k env (bound.Sh script status keep) = atom (codes "sh") (seeing (λ u. sh_in k env script status keep u (place_of u)))
 bound_says a k env (bound.Input message ok id) = atom (codes "input") (logging message (logging (ok ++ codes " or Abort") (seeing (input_asks k env id))))
-bound_says a k env (bound.Parallel branches) = block (codes "parallel") (seeing (λ w. begin_branches k env w.own.head [] (branches_given w branches)))
+bound_says a k env (bound.Parallel branches) = block (codes "parallel") (seeing (λ w. begin_branches k env w.own.head [] (branches_given w (Some branches))))
 
 -- A request can be numbered, and the executors that are held are the site's.
 pub record MayTake (u : Standing) : Type 0 where

@@ -82,6 +82,6 @@ fn begin_bound(
         Bound::Input { message, ok, id } => {
             input(state, shared, node, env, message.as_slice(), ok, id)
         }
-        Bound::Parallel { branches } => parallel(state, shared, node, env, branches),
+        Bound::Parallel { branches } => parallel(state, shared, node, env, &branches),
     }
 }

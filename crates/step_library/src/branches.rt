@@ -1,16 +1,17 @@
 //! The branches of `parallel`: what they are, how they begin, and how each of them ends.
 
-ghost use Rattle.std.specs.Prelude.{◌≡◌, ◌-◌, ◌++◌, ◌∷◌, ◌^◌, ◌<◌, [], ℕ, All, IfOk, IfSome, OnOk, Some, codes, drop, length, slice_get, true};
+ghost use Rattle.std.specs.Prelude.{◌≡◌, ◌-◌, ◌++◌, ◌∷◌, ◌^◌, ◌<◌, [], ℕ, All, IfOk, Some, codes, drop, length, slice_get, true};
 ghost use Rattle.cell_heap.specs.Soundness.{ValueBelow};
 ghost use Rattle.flow_graph.specs.Numbers.{AreNumbered};
+ghost use Rattle.model_values.specs.Fitting.{HasClosure, IsIn};
+ghost use Rattle.model_values.specs.Kinds.{kind as kind_in};
 ghost use Rattle.model_values.specs.TextOf.{key_text};
 ghost use Rattle.model_run.specs.Around.{frame, whole};
-ghost use Rattle.model_run.specs.Callables.{closure_of};
 ghost use Rattle.model_run.specs.FlowNodes.{branch_name, logging};
 ghost use Rattle.model_run.specs.Fitting.{IsFlowNode};
 ghost use Rattle.model_run.specs.Forms.{after};
 ghost use Rattle.model_run.specs.State.{Ended, Env as Scope, World, put_cells};
-ghost use Rattle.model_run.specs.Steps.{after_branch, branch_failed, branches_given, branches_of, with_callee};
+ghost use Rattle.model_run.specs.Steps.{after_branch, branch_failed, branches_given, branches_of};
 ghost use Rattle.model_run.specs.declared.ending.Ending.TheVariants.{Thrown};
 ghost use Rattle.model_run.specs.declared.frame.FrameKind.TheVariants as kind;
 ghost use Rattle.cps_frames.specs.Moves.{ComesTo};
@@ -19,44 +20,42 @@ ghost use Rattle.cps_frames.specs.Places.{MayGoOn};
 ghost use Rattle.cps_frames.specs.Standing.{standing, world_of};
 ghost use Rattle.cps_frames.specs.Ways.{is_block_ending};
 ghost use Rattle.cps_frames.specs.declared.thread.ThreadState.{ThreadState as Thread};
+ghost use Rattle.step_arguments.specs.Binding.{AreBranches};
 ghost use Rattle.step_library.specs.Branches.{Begins};
 
-use crate::bodies::{number_at, whole};
+use crate::bodies::{callee_of, number_at, whole};
 use crate::lines::joined;
 use cell_heap::Heap;
 use cps_frames::{Halt, Move, Shared, ThreadState, end_body, note_branch, say, thrown_of};
 use itoa::Buffer;
 use model_run::{Branch, Branches, Callee, Ending, FlowNode, Frame, FrameKind};
 use model_text::Text;
-use model_values::{Cell, Entries, Env, Key, Value, Values};
+use model_values::{Entries, Env, Key, Value, Values};
 use std::alloc::{AllocError, Global};
 use value_view::{Kind, kind_of};
 
-/// The branches that a map gives, by their names: its closures. `AllocError` where the memory was refused.
+/// The branches that a map of closures gives, by their names. `AllocError` where the memory was refused.
 pub(crate) fn branches_given(
     shared: &Shared,
-    map: Option<Value>,
+    map: &Value,
 ) -> Result<Vec<(Text, Callee)>, AllocError>
-    requires { IfSome map (ValueBelow (length shared.now.heap.cells)) }
-    ensures { (t : Thread) → IfOk result (λ named. named.items ≡ branches_given (world_of shared.now t) map) }
+    requires below { ValueBelow (length shared.now.heap.cells) map.now }
+    requires closures { AreBranches shared.now.heap.cells (kind_in shared.now.heap.cells map.now) }
+    ensures { (t : Thread) → IfOk result (λ named. named.items ≡ branches_given (world_of shared.now t) (Some map.now)) }
 {
-    let alloc = shared.alloc();
-    let Some(value) = map else {
-        return Ok(Vec::new(alloc));
-    };
-    match kind_of(&shared.heap, &value) {
-        Kind::Map(_, entries) => branches_of(alloc, &shared.heap, entries),
-        _ => Ok(Vec::new(alloc)),
+    match kind_of(&shared.heap, map) {
+        Kind::Map(_, entries) => branches_of(shared.alloc(), &shared.heap, entries),
+        _ => unreachable!(),
     }
 }
 
-/// The closures of a map, by their names. `AllocError` where the memory was refused.
+/// Closures by their names. `AllocError` where the memory was refused.
 fn branches_of(
     alloc: Global,
     heap: &Heap,
     entries: &Entries,
 ) -> Result<Vec<(Text, Callee)>, AllocError>
-    requires { All (λ entry. ValueBelow (length heap.now.cells) entry.1) entries.now }
+    requires { All (λ entry. IsIn HasClosure heap.now.cells entry.1) entries.now }
     ensures { (w : World) → IfOk result (λ named. named.items ≡ branches_of (put_cells heap.now.cells w) entries.now) }
 {
     let mut named = Vec::new(alloc);
@@ -64,46 +63,9 @@ fn branches_of(
         let Some((key, value)) = entries.entry_at(at) else {
             unreachable!()
         };
-        add_branch(alloc, heap, key, value, &mut named)?;
+        named.push((key_text(alloc, key)?, callee_of(heap, value)?))?;
     }
     Ok(named)
-}
-
-/// Puts an entry behind other branches where it is a closure. `AllocError` where the memory was refused.
-fn add_branch(
-    alloc: Global,
-    heap: &Heap,
-    key: &Key,
-    value: &Value,
-    named: &mut Vec<(Text, Callee)>,
-) -> Result<(), AllocError>
-    requires { ValueBelow (length heap.now.cells) value.now }
-    ensures { (w : World) → OnOk result (named.new.items ≡ named.old.items ++ with_callee (key_text key.now) (closure_of (put_cells heap.now.cells w) value.now) []) }
-{
-    match closure_of(heap, value)? {
-        Some(callee) => {
-            named.push((key_text(alloc, key)?, callee))?;
-            Ok(())
-        }
-        None => Ok(()),
-    }
-}
-
-/// The closure that a value is. `AllocError` where the memory was refused.
-fn closure_of(heap: &Heap, value: &Value) -> Result<Option<Callee>, AllocError>
-    requires { ValueBelow (length heap.now.cells) value.now }
-    ensures { (w : World) → IfOk result (λ callee. callee ≡ closure_of (put_cells heap.now.cells w) value.now) }
-{
-    let Value::Cell(id) = value else {
-        return Ok(None);
-    };
-    match heap.get(*id) {
-        Cell::Closure { node, env } => Ok(Some(Callee {
-            node: *node,
-            env: env.clone()?,
-        })),
-        _ => Ok(None),
-    }
 }
 
 /// The text of a key. `AllocError` where the memory was refused.

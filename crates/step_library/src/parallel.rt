@@ -1,9 +1,10 @@
 //! `parallel`.
 
-ghost use Rattle.std.specs.Prelude.{◌≡◌, ◌∷◌, ◌^◌, ◌<◌, [], ℕ, All, Some, true, false, codes, length, map, option_copied, IfOk, IfSome, OnOk};
+ghost use Rattle.std.specs.Prelude.{◌≡◌, ◌∷◌, ◌^◌, ◌<◌, [], ℕ, All, Some, true, false, codes, length, map, option_copied, IfOk, OnOk};
 ghost use Rattle.cell_heap.specs.Soundness.{ValueBelow};
 ghost use Rattle.indexmap.specs.IndexMap.{insert_all, insert_entry};
 ghost use Rattle.model_values.specs.Cells.{new_map};
+ghost use Rattle.model_values.specs.Kinds.{kind as kind_in};
 ghost use Rattle.model_values.specs.Keys.{same_key};
 ghost use Rattle.model_values.specs.declared.key.Key.TheVariants.{Text as TextKey};
 ghost use Rattle.model_run.specs.Around.{cells, ended, limits, whole};
@@ -19,6 +20,7 @@ ghost use Rattle.cps_frames.specs.Order.{rank};
 ghost use Rattle.cps_frames.specs.Places.{MayGoOn};
 ghost use Rattle.cps_frames.specs.Standing.{standing};
 ghost use Rattle.cps_frames.specs.declared.thread.ThreadState.{ThreadState as Thread};
+ghost use Rattle.step_arguments.specs.Binding.{AreBranches};
 ghost use Rattle.step_library.specs.Branches.{OutcomeBelow};
 ghost use Rattle.step_library.specs.Numbers.{Countable};
 ghost use Rattle.step_library.specs.Waits.{IsJoined};
@@ -38,10 +40,11 @@ pub(crate) fn parallel(
     shared: &mut Shared,
     node: u32,
     env: Env,
-    branches: Option<Value>,
+    branches: &Value,
 ) -> Result<Move, Halt>
-    requires { IfSome branches (ValueBelow (length shared.old.heap.cells)) }
-    ensures { ComesTo node (2 ^ 66) (λ sh a. block (codes "parallel") (seeing (λ w. begin_branches node env w.own.head [] (branches_given w branches)))) (standing shared.old state.old) result (standing shared.new state.new) }
+    requires below { ValueBelow (length shared.old.heap.cells) branches.now }
+    requires closures { AreBranches shared.old.heap.cells (kind_in shared.old.heap.cells branches.now) }
+    ensures { ComesTo node (2 ^ 66) (λ sh a. block (codes "parallel") (seeing (λ w. begin_branches node env w.own.head [] (branches_given w (Some branches.now))))) (standing shared.old state.old) result (standing shared.new state.new) }
 {
     note_block(state, shared, b"parallel")?;
     let named = branches_given(shared, branches)?;

@@ -1,6 +1,6 @@
 use Rattle.std.proofs.Common.{◌∙◌, [], ◌^◌, List, ℕ, ap, sym, arith}
 use Rattle.std.proofs.lemmas.Result.{err_from_is_err_and}
-use Rattle.std.specs.Prelude.{Ok, Err, codes}
+use Rattle.std.specs.Prelude.{Ok, Err, Some, codes}
 use Rattle.model_run.specs.declared.callee.Callee.{Callee}
 use Rattle.model_run.specs.declared.ending.Asked.TheVariants.{ForBranches}
 use Rattle.model_run.specs.declared.flow.NodeKind.TheVariants.{Block}
@@ -19,7 +19,7 @@ pub returns-in_err-begun : goal.returns-in_err-begun
 returns-in_err-begun c =
     let u = standing c.note_block.new.shared c.note_block.new.state in
     let start = c.note_block.new.state.head in
-    let go = λ (sh : Shape) (a : Around). seeing (λ w. begin_branches c.args.node c.args.env w.own.head [] (branches_given w c.args.branches)) in
+    let go = λ (sh : Shape) (a : Around). seeing (λ w. begin_branches c.args.node c.args.env w.own.head [] (branches_given w (Some c.args.branches.now))) in
     let named = c.as_slice.ensures.value ∙ c.in_ok-named.ensures c.note_block.new.state in
     let p = err_from_is_err_and c.from_residual-in_err-begun.result c.from_residual-in_err-begun.ensures.1 in
     rw (p.1, p.2) (to_note c.args.node (2 ^ 66) Block (codes "parallel") 0 (pipeline (codes "parallel")) go _ u (Err c.in_err-begun.field-0.0) _ c.in_ok-note_block.ensures
@@ -30,7 +30,7 @@ pub returns-then-is_empty : goal.returns-then-is_empty
 returns-then-is_empty c =
     let u = standing c.note_block.new.shared c.note_block.new.state in
     let start = c.note_block.new.state.head in
-    let go = λ (sh : Shape) (a : Around). seeing (λ w. begin_branches c.args.node c.args.env w.own.head [] (branches_given w c.args.branches)) in
+    let go = λ (sh : Shape) (a : Around). seeing (λ w. begin_branches c.args.node c.args.env w.own.head [] (branches_given w (Some c.args.branches.now))) in
     let named = c.as_slice.ensures.value ∙ c.in_ok-named.ensures c.note_block.new.state in
     let mid = standing c.begin_branches.new.shared c.note_block.new.state in
     (to_note c.args.node (2 ^ 66) Block (codes "parallel") 0 (pipeline (codes "parallel")) go _ u _ _ c.in_ok-note_block.ensures
@@ -41,7 +41,7 @@ pub returns : goal.returns
 returns c =
     let u = standing c.note_block.new.shared c.note_block.new.state in
     let start = c.note_block.new.state.head in
-    let go = λ (sh : Shape) (a : Around). seeing (λ w. begin_branches c.args.node c.args.env w.own.head [] (branches_given w c.args.branches)) in
+    let go = λ (sh : Shape) (a : Around). seeing (λ w. begin_branches c.args.node c.args.env w.own.head [] (branches_given w (Some c.args.branches.now))) in
     let named = c.as_slice.ensures.value ∙ c.in_ok-named.ensures c.note_block.new.state in
     let mid = standing c.begin_branches.new.shared c.note_block.new.state in
     (to_note c.args.node (2 ^ 66) Block (codes "parallel") 0 (pipeline (codes "parallel")) go _ u (Ok (Asks (ForBranches c.in_ok-begun.begun))) _ c.in_ok-note_block.ensures
