@@ -2,6 +2,7 @@ pub mod WayLaws
 pub mod PartLaws
 pub mod RequestRoom
 pub mod MoveLaws
+pub mod ThrowLaws
 pub mod NoteLaws
 pub mod Runs
 pub mod Weights

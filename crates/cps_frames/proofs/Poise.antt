@@ -316,22 +316,24 @@ module _ (g : Setting) (facts : ScriptFacts g.script) where
       }
 
   -- So the frame may go on, and the node be entered.
-  pub may_go_on : (above : Context) (outer : Spot) (u : Standing) (f : Frame) (e : Ending) → IsScript u.world.setting.script → u.world.setting ≡ g → Taken above outer u f e → MayGoOn u f e
-  may_go_on above outer u f e script is taken = record {
+  pub may_go_on : (above : Context) (outer : Spot) (u : Standing) (f : Frame) (e : Ending) → IsScript u.world.setting.script → u.world.setting ≡ g → Taken above outer u f e → Holding u.world (Ends e) → MayGoOn u f e
+  may_go_on above outer u f e script is taken held = record {
     script = script;
     sound = subst (λ (s : Setting). SoundWorld s u.world) (sym is) taken.sound;
     frame = subst (λ (s : Setting). FrameStands s.script u.world.shared f) (sym is) taken.frame;
     ending = subst (λ (s : Setting). EndsAt s.script u.world.shared (spot_in s.script f) e) (sym is) taken.ending;
     executors = subst (λ (s : Setting). AllOfSite s.site u.world.shared.held) (sym is) taken.executors;
+    holds = held.holds;
     executor = (taken.behind).executor;
     folder = (taken.behind).folder;
   }
 
-  pub may_enter : (above : Context) (outer : Spot) (u : Standing) (e : Entry) (k : ℕ) (env : Env) → IsScript u.world.setting.script → u.world.setting ≡ g → Poised g above outer u (Enter e k env) → MayEnter u e k env
-  may_enter above outer u e k env script is poised = record {
+  pub may_enter : (above : Context) (outer : Spot) (u : Standing) (e : Entry) (k : ℕ) (env : Env) → IsScript u.world.setting.script → u.world.setting ≡ g → Poised g above outer u (Enter e k env) → Holding u.world (Enter e k env) → MayEnter u e k env
+  may_enter above outer u e k env script is poised held = record {
     script = script;
     sound = subst (λ (s : Setting). SoundWorld s u.world) (sym is) poised.sound;
     node = subst (λ (s : Setting). k < length (nodes_of s.script)) (sym is) (poised.move).1;
     entry = subst (λ (s : Setting). EntersWith s.script u.world.shared e k env) (sym is) (poised.move).2;
     executors = subst (λ (s : Setting). AllOfSite s.site u.world.shared.held) (sym is) poised.executors;
+    holds = held.holds;
   }

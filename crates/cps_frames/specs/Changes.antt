@@ -12,6 +12,11 @@ use Rattle.cps_frames.specs.Standing.{Standing, Beside}
 use Rattle.cps_frames.specs.declared.halt.Halt.{Halt}
 use Rattle.cps_frames.specs.declared.halt.Halt.TheVariants.{Memory, Ends, Limit}
 
+-- an answer without a value: it throws, or meets a limit
+abbrev pub GivesNothing : Answer → Type 0
+GivesNothing (Gives h v) = ⊥
+GivesNothing answer = Unit {0}
+
 -- what a change makes of a world, whose setting stays
 abbrev pub changed_by : (World → World) → World → World
 changed_by g w = record { setting = w.setting; shared = (g w).shared; own = (g w).own }

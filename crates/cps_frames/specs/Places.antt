@@ -103,26 +103,32 @@ granted_by held m = []
 abbrev pub IsHeld : List Held → ℕ → Type 0
 IsHeld held r = held_for r held ≡ None → ⊥
 
--- The executor of each request in a thread's context is held, and they differ, the one that is about to be given included.
+-- the executor of each request in a thread's context is held
+abbrev pub HoldsExecutors : World → Type 0
+HoldsExecutors w = AllAre (IsHeld w.shared.held) w.own.context.held
+
+-- They are held, and they differ, the one that is about to be given included.
 pub record Holding (w : World) (m : Move) : Type 0 where
-  pub holds : AllAre (IsHeld w.shared.held) w.own.context.held
+  pub holds : HoldsExecutors w
   pub differ : Distinct (w.own.context.held ++ granted_by w.shared.held m)
 
--- A frame may go on with this ending: it stood innermost in such a thread. Behind a `node` body the context has its request, behind a
--- body with a folder that folder.
+-- A frame may go on with this ending: it stood innermost in such a thread, and the executors of the requests in its context are held.
+-- Behind a `node` body the context has its request, behind a body with a folder that folder.
 pub record MayGoOn (u : Standing) (f : Frame) (e : Ending) : Type 0 where
   pub script : IsScript u.world.setting.script
   pub sound : SoundWorld u.world.setting u.world
   pub frame : FrameStands u.world.setting.script u.world.shared f
   pub ending : EndsAt u.world.setting.script u.world.shared (spot_in u.world.setting.script f) e
   pub executors : AllOfSite u.world.setting.site u.world.shared.held
+  pub holds : HoldsExecutors u.world
   pub executor : holds_executor f.kind ≡ true → 0 < length u.world.own.context.held
   pub folder : holds_folder f.kind ≡ true → 0 < length u.world.own.context.folders
 
--- A node may be entered so.
+-- A node may be entered so, in a thread whose executors are held.
 pub record MayEnter (u : Standing) (e : Entry) (k : ℕ) (env : Env) : Type 0 where
   pub script : IsScript u.world.setting.script
   pub sound : SoundWorld u.world.setting u.world
   pub node : k < length (nodes_of u.world.setting.script)
   pub entry : EntersWith u.world.setting.script u.world.shared e k env
   pub executors : AllOfSite u.world.setting.site u.world.shared.held
+  pub holds : HoldsExecutors u.world
