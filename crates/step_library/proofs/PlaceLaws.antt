@@ -10,6 +10,7 @@ use Rattle.model_run.specs.Around.{Around, ended, frame}
 use Rattle.model_run.specs.Callables.{calling, closure_of}
 use Rattle.model_run.specs.FlowNodes.{end_block, logging}
 use Rattle.model_run.specs.declared.held.Held.{Held}
+use Rattle.cps_frames.specs.Places.{IsHeld}
 use Rattle.model_run.specs.declared.site.Executor.{Executor}
 use Rattle.model_run.specs.Grants.{executor_of}
 use Rattle.model_run.specs.State.{World, State, Env, changed}
@@ -56,6 +57,15 @@ find_all P p (y ∷ ys) x is all = here P (p y) y x (find p ys) all.0 (λ e. fin
 pub held_all : (P : Held → Type 0) (o : Option ℕ) (held : List Held) (h : Held) → Some h ≡ option_and_then (λ r. held_for r held) o → AllAre P held → P h
 held_all P None held h is all = absurd (cc is)
 held_all P (Some r) held h is all = find_all P (λ x. nat_eq x.request r) held h is all
+
+-- the innermost request of a thread whose executors are held has one
+pub last_held : (held : List Held) (ns : List ℕ) (r : ℕ) → Some r ≡ last_number ns → AllAre (IsHeld held) ns → IsHeld held r
+last_held held [] r is all = absurd (cc is)
+last_held held (n ∷ []) r is all = let same : n ≡ r = cc is in subst (IsHeld held) same all.0
+last_held held (n ∷ m ∷ ns) r is all = last_held held (m ∷ ns) r is all.1
+
+pub held_last : (o : Option ℕ) (r : ℕ) (held : List Held) (h : Held) → Some r ≡ o → Some h ≡ held_for r held → Some h ≡ option_and_then (λ n. held_for n held) o
+held_last o r held h last is = is ∙ ap (option_and_then (λ n. held_for n held)) last
 
 -- no executor was found
 pub no_executor : (o : Option (Bor Executor)) (there : Option Executor) → option_copied o ≡ there → o ≡ None → there ≡ None

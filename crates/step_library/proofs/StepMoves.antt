@@ -4,6 +4,7 @@ use Rattle.std.specs.Prelude.{Result as Outcome, Err, codes}
 use Rattle.model_values.specs.declared.value.Value.{Value}
 use Rattle.model_values.specs.declared.value.Value.TheVariants.{Null}
 use Rattle.run_laws.specs.Evaluation.{AllOfSite}
+use Rattle.cps_frames.specs.Places.{HoldsExecutors}
 use Rattle.run_laws.specs.Soundness.{SoundWorld}
 use Rattle.model_run.specs.declared.callee.Callee.{Callee}
 use Rattle.model_run.specs.declared.ending.Ending.{Ending}
@@ -127,6 +128,10 @@ cells_noted kind name start text u v p = ap (λ (w : World). w.shared.cells) p.m
 -- the executors that are held stay the site's
 pub site_noted : (kind : NodeKind) (name : List ℕ) (start : ℕ) (text : List ℕ) (u v : Standing) → Passed (noted_limit text) (noted_so kind name start text) u v → AllOfSite u.world.setting.site u.world.shared.held → AllOfSite v.world.setting.site v.world.shared.held
 site_noted kind name start text u v p = subst (λ (w : World). AllOfSite w.setting.site w.shared.held) (sym p.made)
+
+-- and those of the thread's requests stay held
+pub holds_noted : (kind : NodeKind) (name : List ℕ) (start : ℕ) (text : List ℕ) (u v : Standing) → Passed (noted_limit text) (noted_so kind name start text) u v → HoldsExecutors u.world → HoldsExecutors v.world
+holds_noted kind name start text u v p = subst HoldsExecutors (sym p.made)
 
 -- a closure stays one where the cells stay
 pub closure_kept : (f : Value) (g h : List Cell) → h ≡ g → IsIn HasClosure g f → IsIn HasClosure h f

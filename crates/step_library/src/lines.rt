@@ -30,8 +30,10 @@ pub(crate) fn last_line(shared: &mut Shared, text: &[u8]) -> Result<Move, Halt>
 pub(crate) fn throwing(shared: &mut Shared, class: Class, message: Text) -> Result<Move, Halt>
     ensures { (t : Thread) (k r : ℕ) → 0 < r → ComesTo k r (λ sh a. throwing class message) (standing shared.old t) result (standing shared.new t) }
 {
-    let value = perform(&mut shared.heap, Effect::Throw(class, message))?;
-    Ok(Move::Ends(Ending::Normal(value)))
+    let Err(refusal) = perform(&mut shared.heap, Effect::Throw(class, message)) else {
+        unreachable!()
+    };
+    Err(Halt::from(refusal))
 }
 
 /// The result only gets worse.

@@ -1,9 +1,10 @@
 //! Where the tasks of a thread run: the executor that it holds, its workspace and its folder.
 
-ghost use Rattle.std.specs.Prelude.{◌≡◌, IfOk, option_and_then, option_copied, option_map};
+ghost use Rattle.std.specs.Prelude.{◌≡◌, IfOk, option_copied, option_map};
 ghost use Rattle.model_run.specs.Grants.{executor_of, workspace_text};
 ghost use Rattle.model_run.specs.Steps.{folder_of, held_by, held_for, last_number, last_text, place_of};
 ghost use Rattle.run_laws.specs.Evaluation.{AllOfSite};
+ghost use Rattle.cps_frames.specs.Places.{HoldsExecutors};
 ghost use Rattle.cps_frames.specs.Standing.{world_of};
 ghost use Rattle.step_library.specs.Places.{place_seen};
 
@@ -27,11 +28,15 @@ pub(crate) fn place_of<'a>(
     state: &ThreadState,
     shared: &'a Shared,
 ) -> Result<Option<Place<'a>>, AllocError>
-    requires { AllOfSite shared.now.site shared.now.held }
+    requires executors { AllOfSite shared.now.site shared.now.held }
+    requires holds { HoldsExecutors (world_of shared.now state.now) }
     ensures { IfOk result (λ place. option_map place_seen place ≡ place_of (world_of shared.now state.now)) }
 {
-    let Some(held) = innermost_held(state, shared) else {
+    let Some(request) = innermost_request(state) else {
         return Ok(None);
+    };
+    let Some(held) = held_for(shared.held.as_slice(), request) else {
+        unreachable!()
     };
     let Some(executor) = executor_of(&shared.site, held.executor) else {
         unreachable!()
@@ -56,12 +61,12 @@ fn last_text(alloc: Global, texts: &[Text]) -> Result<Text, AllocError>
     }
 }
 
-/// What the innermost open `node` of a thread holds.
-fn innermost_held(state: &ThreadState, shared: &Shared) -> Option<Held>
-    ensures { result ≡ option_and_then (λ r. held_for r shared.now.held) (last_number state.now.context.held) }
+/// The request of the innermost open `node` of a thread.
+fn innermost_request(state: &ThreadState) -> Option<u32>
+    ensures { result ≡ last_number state.now.context.held }
 {
     match state.context.held.as_slice() {
-        [.., request] => held_for(shared.held.as_slice(), *request),
+        [.., request] => Some(*request),
         [] => None,
     }
 }

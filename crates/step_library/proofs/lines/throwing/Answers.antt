@@ -1,18 +1,22 @@
-use Rattle.std.proofs.Common.{refl}
-use Rattle.std.proofs.lemmas.Result.{err_from_is_err_and}
-use Rattle.std.specs.Prelude.{Ok, Err}
-use Rattle.model_values.specs.Cells.{throw}
+use Rattle.std.proofs.Common.{refl, subst, sym}
+use Rattle.std.specs.Prelude.{Err}
+use Rattle.model_values.specs.Cells.{Answer, throw}
 use Rattle.model_run.specs.Around.{cells, ended, limits}
-use Rattle.model_run.specs.declared.ending.Ending.TheVariants.{Normal}
-use Rattle.cps_frames.specs.declared.thread.Move.TheVariants.{Ends}
-use Rattle.cps_frames.proofs.MoveLaws.{comes_ended, done_answers, to_given, to_thrown}
+use Rattle.model_run.specs.State.{World}
+use Rattle.model_run.specs.Steps.{throwing}
+use Rattle.cps_frames.specs.Moves.{ComesTo}
+use Rattle.cps_frames.specs.Standing.{standing}
+use Rattle.cps_frames.proofs.MoveLaws.{done_answers, to_thrown}
+use Rattle.cps_frames.proofs.ThrowLaws.{no_value, throws}
 use Rattle.step_library.proofs.lines.throwing.Goals as goal
 
-pub returns-in_err-value : goal.returns-in_err-value
-returns-in_err-value c = λ t k r pos.
-    let p = err_from_is_err_and c.from_residual.result c.from_residual.ensures.1 in
-    rw (p.1, p.2) (to_thrown k r (λ w. throw (limits w) (cells w) c.args.class c.args.message) (λ v sh a. ended v) c.in_err-value.field-0.0 _ _ (done_answers (λ w. throw (limits w) (cells w) c.args.class c.args.message) c.args.shared.now.heap c.perform.new.heap _ (Err c.in_err-value.field-0.0) _ refl refl refl (record { parent = refl; heap = c.in_err-value.ensures.leaves.follows }) c.in_err-value.ensures.answer) pos)
+pub unreachable-requires : goal.unreachable-requires
+unreachable-requires c = no_value _ c.args.shared.now.heap c.perform.new.heap c.perform.result (throws c.args.shared.now.heap.cells c.args.class c.args.message) c.perform.ensures.answer c.in_default.not-Err
 
 pub returns : goal.returns
 returns c = λ t k r pos.
-    to_given k r (λ w. throw (limits w) (cells w) c.args.class c.args.message) (λ v sh a. ended v) c.in_ok-value.value _ _ (Ok (Ends (Normal c.in_ok-value.value))) _ (done_answers (λ w. throw (limits w) (cells w) c.args.class c.args.message) c.args.shared.now.heap c.perform.new.heap _ (Ok c.in_ok-value.value) _ refl refl refl (record { parent = refl; heap = c.in_ok-value.ensures.leaves.follows }) c.in_ok-value.ensures.answer) (comes_ended k r _ _ _ pos (λ a rs. refl))
+    let u = standing c.args.shared.now t in
+    let v = standing (record c.args.shared.now { heap = c.perform.new.heap }) t in
+    let says : World → Answer = λ w. throw (limits w) (cells w) c.args.class c.args.message in
+    subst (λ x. ComesTo k r (λ sh a. throwing c.args.class c.args.message) u (Err x) v) (sym c.from.ensures)
+    (to_thrown k r says (λ y sh a. ended y) c.in-Err.refusal u v (done_answers says c.args.shared.now.heap c.perform.new.heap u (Err c.in-Err.refusal) v refl refl refl (record { parent = refl; heap = c.in-Err.ensures.leaves.follows }) c.in-Err.ensures.answer) pos)

@@ -10,11 +10,17 @@ use Rattle.model_run.specs.declared.flow.NodeKind.TheVariants.{Block}
 use Rattle.cps_frames.specs.Standing.{standing, state}
 use Rattle.cps_frames.proofs.MoveLaws.{to_as}
 use Rattle.step_library.proofs.PlaceLaws.{dir_nowhere, dir_there}
-use Rattle.step_library.proofs.StepMoves.{site_noted, to_note}
+use Rattle.step_library.proofs.StepMoves.{holds_noted, site_noted, to_note}
 use Rattle.step_library.proofs.settings.dir.Goals as goal
 
 pub folder_here-requires : goal.folder_here-requires
-folder_here-requires c = site_noted Block (codes "dir") 0 (pipeline (codes "dir")) (standing c.args.shared.now c.args.state.now) (standing c.note_block.new.shared c.note_block.new.state) c.in_ok-note_block.ensures c.requires.executors
+folder_here-requires c =
+    let u = standing c.args.shared.now c.args.state.now in
+    let v = standing c.note_block.new.shared c.note_block.new.state in
+    record {
+      executors = site_noted Block (codes "dir") 0 (pipeline (codes "dir")) u v c.in_ok-note_block.ensures c.requires.executors;
+      holds = holds_noted Block (codes "dir") 0 (pipeline (codes "dir")) u v c.in_ok-note_block.ensures c.requires.holds;
+    }
 
 pub returns-in-Some : goal.returns-in-Some
 returns-in-Some c = λ r pos.

@@ -12,11 +12,17 @@ use Rattle.cps_frames.specs.Moves.{ComesTo}
 use Rattle.cps_frames.specs.Standing.{standing, state}
 use Rattle.cps_frames.proofs.MoveLaws.{to_as}
 use Rattle.step_library.proofs.PlaceLaws.{sh_nowhere, sh_there}
-use Rattle.step_library.proofs.StepMoves.{site_noted, to_note}
+use Rattle.step_library.proofs.StepMoves.{holds_noted, site_noted, to_note}
 use Rattle.step_library.proofs.shell.sh.Goals as goal
 
 pub task_here-requires : goal.task_here-requires
-task_here-requires c = site_noted Atom (codes "sh") 0 (pipeline (codes "sh")) (standing c.args.shared.now c.args.state.now) (standing c.note_atom.new.shared c.note_atom.new.state) c.in_ok-note_atom.ensures c.requires.executors
+task_here-requires c =
+    let u = standing c.args.shared.now c.args.state.now in
+    let v = standing c.note_atom.new.shared c.note_atom.new.state in
+    record {
+      executors = site_noted Atom (codes "sh") 0 (pipeline (codes "sh")) u v c.in_ok-note_atom.ensures c.requires.executors;
+      holds = holds_noted Atom (codes "sh") 0 (pipeline (codes "sh")) u v c.in_ok-note_atom.ensures c.requires.holds;
+    }
 
 pub returns-in_ok-values-in-Some : goal.returns-in_ok-values-in-Some
 returns-in_ok-values-in-Some c =
