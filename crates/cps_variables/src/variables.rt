@@ -67,7 +67,10 @@ pub fn read_name(
         Some(cell) => Ok(variable(heap, cell)),
         None => {
             let effect = unknown_name(alloc, name)?;
-            perform(heap, effect)
+            let Err(refusal) = perform(heap, effect) else {
+                unreachable!()
+            };
+            Err(refusal)
         }
     }
 }
