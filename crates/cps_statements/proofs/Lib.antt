@@ -5,3 +5,4 @@ pub mod WayLaws
 pub mod EachLaws
 pub mod TryLaws
 pub mod FinalLaws
+pub mod ThrowLaws

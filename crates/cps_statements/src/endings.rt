@@ -70,6 +70,8 @@ pub(crate) fn after_throw(
     ensures { ComesTo frame.node (rank frame) (λ sh a. after frame sh a ending) (standing shared.old state.now) result (standing shared.new state.now) }
 {
     let value = value_of(ending)?;
-    let value = throw_value(shared.alloc(), &mut shared.heap, &value)?;
-    Ok(Move::Ends(Ending::Normal(value)))
+    let Err(refusal) = throw_value(shared.alloc(), &mut shared.heap, &value) else {
+        unreachable!()
+    };
+    Err(Halt::from(refusal))
 }
