@@ -23,6 +23,7 @@ use Rattle.model_run.specs.State.{World, State, Env, Result, answered, changed, 
 use Rattle.value_ops.specs.Effects.{EffectBelow, effect_answer}
 use Rattle.value_view.specs.declared.refusal.OpRefusal.{OpRefusal}
 use Rattle.value_walks.specs.Walking.{walk_kept, walk_method as method_of}
+use Rattle.cps_frames.specs.Changes.{GivesNothing}
 use Rattle.cps_calls.specs.declared.methods.ClosureCall.{ClosureCall}
 use Rattle.cps_calls.specs.declared.methods.ClosureCall.TheVariants as does
 
@@ -64,11 +65,6 @@ abbrev pub IsCalled : World → NodeForm → ℕ → Called → ClosureCall → 
 IsCalled w f n called (does.Calls callee) = (c : ℕ) × (called ≡ CallsClosure c) × (closure_of w (InCell c) ≡ Some callee)
 IsCalled w f n called (does.Walks walk c) = (called ≡ Walks (method_of walk) c) × (method_of walk ≡ walk_method f) × (walk_kept walk ≡ [])
 IsCalled w f n called (does.Throws effect) = called ≡ Done (effect_answer product_limits (cells w) effect) n
-
--- an answer without a value: it throws, or meets a limit
-abbrev pub GivesNothing : Answer → Type 0
-GivesNothing (Gives h v) = ⊥
-GivesNothing answer = Unit {0}
 
 -- what it names is among these cells, what a walk has is a closure, and a throw gives no value
 abbrev pub CallFits : List Cell → ClosureCall → Type 0

@@ -6,11 +6,10 @@ ghost use Rattle.model_values.specs.Limits.{product_limits};
 ghost use Rattle.model_run.specs.Around.{ended};
 ghost use Rattle.model_run.specs.State.{World, operating};
 ghost use Rattle.value_ops.specs.Effects.{EffectBelow, effect_answer};
-ghost use Rattle.cps_frames.specs.Changes.{Done};
+ghost use Rattle.cps_frames.specs.Changes.{Done, GivesNothing};
 ghost use Rattle.cps_frames.specs.Moves.{ComesTo};
 ghost use Rattle.cps_frames.specs.Standing.{standing, world_of};
 ghost use Rattle.cps_frames.specs.declared.thread.ThreadState.{ThreadState as Thread};
-ghost use Rattle.cps_calls.specs.Calls.{GivesNothing};
 
 use cps_frames::{Halt, Move, Shared};
 use model_run::Ending;

@@ -3,7 +3,7 @@ use Rattle.std.specs.Prelude.{codes}
 use Rattle.model_run.specs.Around.{cells, limits}
 use Rattle.model_values.specs.Kinds.{closure}
 use Rattle.model_values.specs.Throws.{no_method}
-use Rattle.cps_calls.specs.Calls.{GivesNothing}
+use Rattle.cps_frames.specs.Changes.{GivesNothing}
 use Rattle.cps_calls.proofs.ThrowLaws.{method_throws}
 use Rattle.cps_calls.proofs.bodies.throw_unfit.Goals as goal
 

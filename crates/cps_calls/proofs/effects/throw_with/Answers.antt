@@ -4,7 +4,7 @@ use Rattle.model_values.specs.Cells.{Answer}
 use Rattle.value_view.specs.Answers.{Answers}
 use Rattle.cps_frames.specs.Standing.{standing}
 use Rattle.cps_frames.proofs.MoveLaws.{done_answers}
-use Rattle.cps_calls.proofs.ThrowLaws.{no_value}
+use Rattle.cps_frames.proofs.ThrowLaws.{no_value}
 use Rattle.cps_calls.proofs.effects.throw_with.Goals as goal
 
 pub unreachable-requires : goal.unreachable-requires

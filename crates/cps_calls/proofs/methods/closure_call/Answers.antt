@@ -11,7 +11,8 @@ use Rattle.model_run.specs.Terms.{form_of, term_at}
 use Rattle.value_view.specs.Seen.{seen}
 use Rattle.cps_code.specs.Script.{script_of}
 use Rattle.cps_frames.specs.Standing.{world_of}
-use Rattle.cps_calls.specs.Calls.{GivesNothing, IsCalled, method_name}
+use Rattle.cps_frames.specs.Changes.{GivesNothing}
+use Rattle.cps_calls.specs.Calls.{IsCalled, method_name}
 use Rattle.cps_calls.proofs.MethodLaws.{calls_named, closure_cell, is_call, not_called, right_of, throws_named, walk_is, walk_walks, walks_named}
 use Rattle.cps_calls.proofs.ThrowLaws.{method_throws}
 use Rattle.cps_calls.proofs.methods.closure_call.Goals as goal

@@ -1,5 +1,5 @@
 use Rattle.std.proofs.Common.{subst, sym}
-use Rattle.cps_calls.specs.Calls.{GivesNothing}
+use Rattle.cps_frames.specs.Changes.{GivesNothing}
 use Rattle.cps_calls.proofs.ThrowLaws.{argument_throws}
 use Rattle.cps_calls.proofs.methods.walk_with.Goals as goal
 

@@ -9,7 +9,7 @@ use Rattle.cps_code.specs.Script.{script_of}
 use Rattle.cps_frames.specs.Moves.{ComesTo}
 use Rattle.cps_frames.specs.Standing.{standing}
 use Rattle.cps_frames.proofs.MoveLaws.{to_thrown}
-use Rattle.cps_calls.specs.Calls.{GivesNothing}
+use Rattle.cps_frames.specs.Changes.{GivesNothing}
 use Rattle.cps_calls.specs.Meanings.{name_at, unknown_at}
 use Rattle.cps_calls.proofs.ThrowLaws.{unknown_throws}
 use Rattle.cps_calls.proofs.names.refuse_name.Goals as goal
