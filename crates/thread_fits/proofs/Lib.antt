@@ -9,6 +9,7 @@ pub mod FamilyLaws
 pub mod FinishLaws
 pub mod GoingLaws
 pub mod TurnLaws
+pub mod ChainLaws
 pub mod BeginLaws
 pub mod EventLaws
 pub mod MarkLaws

@@ -42,7 +42,7 @@ use Rattle.thread_fits.proofs.RoomLaws.{above, above_more, above_with, above_wit
 use Rattle.thread_fits.proofs.SeatRows.{all_at, all_both, found, found_now, found_with, ready_above, same_seat_as, with_all, without_all}
 
 -- what an answer opens is what it grants, or nothing
-granted_same : (xs : List Held) (x : Answer) → granted_of xs x ≡ granted_request xs (Ready x)
+pub granted_same : (xs : List Held) (x : Answer) → granted_of xs x ≡ granted_request xs (Ready x)
 granted_same xs (Granted y) = refl
 granted_same xs Begin = refl
 granted_same xs (Done code out) = refl
@@ -53,7 +53,7 @@ opened_front : (at : Spot) (xs : List Held) (x : Answer) → (more : List ℕ) �
 opened_front For_executor xs x = ([], sym (granted_same xs x) ∙ sym (append-nil (granted_of xs x)))
 opened_front at xs x = (granted_request xs (Ready x), refl)
 
-all_in : (ns : List ℕ) → AllAre (λ a. In a ns) ns
+pub all_in : (ns : List ℕ) → AllAre (λ a. In a ns) ns
 all_in [] = tt
 all_in (n ∷ ns) = (inl refl, all_weaker _ _ (λ a i. inr i) ns (all_in ns))
 
