@@ -25,12 +25,12 @@ use Rattle.cps_frames.specs.Measure.{weight}
 use Rattle.cps_frames.specs.Order.{rank}
 use Rattle.cps_frames.specs.Standing.{Standing}
 use Rattle.cps_frames.specs.Moves.{Comes}
-use Rattle.cps_frames.specs.Places.{EndsAt, EntersBy, EntersWith, FrameStands, MayEnter, MayGoOn, Poised}
+use Rattle.cps_frames.specs.Places.{EndsAt, EntersBy, EntersWith, FrameStands, Holding, MayEnter, MayGoOn, Poised}
 use Rattle.cps_frames.specs.Runs.{Onward}
 use Rattle.cps_frames.specs.declared.thread.Move.{Move}
 use Rattle.cps_frames.specs.declared.thread.Move.TheVariants.{Ends, Hits, Enter, Asks}
 use Rattle.cps_frames.proofs.Kept.{GoesOn, branched}
-use Rattle.cps_frames.proofs.Poise.{Taken, ends_keep, ends_spend, enters_keep, enters_spend, may_enter, may_go_on, taken_off}
+use Rattle.cps_frames.proofs.Poise.{Taken, ends_hold, ends_keep, ends_spend, enters_hold, enters_keep, enters_spend, may_enter, may_go_on, taken_off}
 use Rattle.cps_frames.proofs.MoveLaws.{beside_same}
 use Rattle.cps_frames.proofs.Runs.{onward_ends, onward_enters, onward_here, onward_on}
 use Rattle.cps_frames.proofs.Weights.{ends_lower, enters_lower}
@@ -138,6 +138,7 @@ IsHit m = ⊥
 pub record Reached (u : Standing) (first : Move) (v : Standing) (m : Move) : Type 0 where
   pub on : Onward u.world.setting.script u first v m
   pub keeps : Keeps u first v m
+  pub holds : GoesOn m → Holding v.world m
   pub halts : (above : Context) (at : Spot) → Poised u.world.setting above at u first → IsHit m → SoundWorld u.world.setting v.world
   pub leaves : Leaves u v m
   pub ends : (above : Context) → Poised u.world.setting above Any_branch u first → IsEnd v m → suc (nodes_left v.world) ≤ nodes_left u.world
@@ -156,7 +157,7 @@ no_hit_here (Enter e p env) b hit = hit
 no_hit_here (Asks asked) b hit = hit
 
 pub reached_here : (u : Standing) (first : Move) → MayRun u first → Reached u first u first
-reached_here u first may = record { on = onward_here u.world.setting.script u first; keeps = λ above at poised on. poised; halts = λ above at poised hit. absurd (no_hit_here first may.3 hit); leaves = leaves_here u first may.3; ends = λ above poised none. absurd (no_end_here u.world.setting above u first may.3 poised none) }
+reached_here u first may = record { on = onward_here u.world.setting.script u first; keeps = λ above at poised on. poised; holds = λ on. may.4; halts = λ above at poised hit. absurd (no_hit_here first may.3 hit); leaves = leaves_here u first may.3; ends = λ above poised none. absurd (no_end_here u.world.setting above u first may.3 poised none) }
 
 -- how the loop stops
 pub stops_ended : (u : Standing) (first : Move) (v : Standing) (fs : List Frame) (e : Ending) → Reached u first v (Ends e) → v.stack ≡ [] → fs ≡ [] → Stops u first (stopped.Ended e) (with_stack fs v)
@@ -191,7 +192,7 @@ module _ (u : Standing) (first : Move) (script : IsScript u.world.setting.script
     taken_in above at poised = taken_off u.world.setting facts above at v (with_stack fs v) f e (h.keeps above at poised tt) refl at_top
 
     pub frame_may : MayGoOn (with_stack fs v) f e
-    frame_may = may_go_on u.world.setting facts may.0 may.1 (with_stack fs v) f e (script_stays v (Ends e) h) (h.on).setting (taken_in may.0 may.1 may.2)
+    frame_may = may_go_on u.world.setting facts may.0 may.1 (with_stack fs v) f e (script_stays v (Ends e) h) (h.on).setting (taken_in may.0 may.1 may.2) (h.holds tt)
 
     frame_over : (m : Move) (w : Standing) → Comes f.node (rank f) (λ sh a. after f sh a e) (with_stack fs v) m w → (above : Context) → Poised u.world.setting above Any_branch u first → IsEnd w m → suc (nodes_left w.world) ≤ nodes_left v.world
     frame_over (Ends e') w c above poised none =
@@ -222,6 +223,7 @@ module _ (u : Standing) (first : Move) (script : IsScript u.world.setting.script
         record {
           on = onward_on u.world.setting.script u first v (Ends e) w m h.on (onward_ends u.world.setting.script (rank f) v (with_stack fs v) f e m w (sym (ap (λ s. s.script) (h.on).setting)) refl at_top (beside_same v (with_stack fs v) refl refl) c);
           keeps = λ above at poised goes. ends_keep u.world.setting facts above at (rank f) (with_stack fs v) f e m w (taken_in above at poised) goes c;
+          holds = λ goes. ends_hold u.world.setting facts may.0 may.1 (rank f) (with_stack fs v) f e m w (taken_in may.0 may.1 may.2) (h.holds tt) goes c;
           halts = λ above at poised hit. frame_hit m w c (taken_in above at poised) hit;
           leaves = leaves_on u v (Ends e) fs w m h.leaves (h.on).setting c.frames c.pushed (script_stays v (Ends e) h) left made ((h.leaves).waits Any_branch);
           ends = λ above poised none.
@@ -239,7 +241,7 @@ module _ (u : Standing) (first : Move) (script : IsScript u.world.setting.script
     node_there = ((h.keeps may.0 may.1 may.2 tt).move).1
 
     pub entry_may : MayEnter v e k env
-    entry_may = may_enter u.world.setting facts may.0 may.1 v e k env (script_stays v (Enter e k env) h) (h.on).setting (h.keeps may.0 may.1 may.2 tt)
+    entry_may = may_enter u.world.setting facts may.0 may.1 v e k env (script_stays v (Enter e k env) h) (h.on).setting (h.keeps may.0 may.1 may.2 tt) (h.holds tt)
 
     pub entry_inside : HasPart v.world.setting.script (Enter e k env)
     entry_inside = subst (λ (s : Setting). HasPart s.script (Enter e k env)) (sym (h.on).setting) (h.leaves).inside
@@ -280,6 +282,7 @@ module _ (u : Standing) (first : Move) (script : IsScript u.world.setting.script
     entry_reached m w c = record {
       on = onward_on u.world.setting.script u first v (Enter e k env) w m h.on (onward_enters u.world.setting.script (2 ^ 66) v e k env m w (sym (ap (λ s. s.script) (h.on).setting)) (facts.numbers k node_there) c);
       keeps = λ above at poised goes. enters_keep u.world.setting facts above at (2 ^ 66) v e k env m w (h.keeps above at poised tt) goes c;
+      holds = λ goes. enters_hold u.world.setting facts may.0 may.1 (2 ^ 66) v e k env m w (h.keeps may.0 may.1 may.2 tt) (h.holds tt) goes c;
       halts = λ above at poised hit. entry_hit m w c (h.keeps above at poised tt) hit;
       leaves = leaves_on u v (Enter e k env) v.stack w m h.leaves (h.on).setting c.frames c.pushed (script_stays v (Enter e k env) h) (entry_leaves (2 ^ 66) v (script_stays v (Enter e k env) h) e k env m w c) (entry_made m w c) ((h.leaves).waits Any_branch);
       ends = λ above poised none.
