@@ -3,14 +3,14 @@ use Rattle.std.proofs.Common.{◌≡◌, ◌<◌, ◌≤◌, ℕ, suc, Bool, fal
 use Rattle.std.specs.List.{AllByRecursion as AllAre}
 use Rattle.model_values.proofs.LaterLaws.{all_weaker}
 use Rattle.model_run.specs.Fitting.{Rise, SharedFits, Some_of}
-use Rattle.model_run.specs.Requests.{IsSame, RequestsGoOn, WasOpen, numbers_of}
+use Rattle.model_run.specs.Requests.{IsSame, RequestsGoOn, RequestsStay, WasOpen, numbers_of}
 use Rattle.model_run.specs.State.{Common}
 use Rattle.model_run.proofs.RequestLaws.{rise_below, rise_from, some_all}
 use Rattle.green_threads.specs.declared.runner.Seated.{Seated}
 use Rattle.green_threads.specs.Threads.{Threads}
 use Rattle.cps_frames.specs.declared.shared.Shared.{Shared}
 use Rattle.cps_frames.specs.Standing.{common_of, setting_of}
-use Rattle.script_thread.specs.Marks.{GoesOnFrom, RequestsStay}
+use Rattle.script_thread.specs.Marks.{GoesOnFrom}
 use Rattle.script_thread.specs.Names.{OpenRequest}
 use Rattle.build_core.specs.declared.phase.Phase.{Phase}
 use Rattle.build_core.specs.declared.phase.Phase.TheVariants.{Unbegun, Running, Ended, Stopped}

@@ -3,12 +3,13 @@ ghost use Rattle.std.specs.Prelude.{◌≡◌, ◌⊎◌, Ok, IfOk, OnOk, OnErr}
 ghost use Rattle.model_run.specs.declared.event.Event.{Event};
 ghost use Rattle.model_run.specs.declared.taken.Taken.TheVariants.{Accepted, Finished};
 ghost use Rattle.model_run.specs.Grants.{grant};
+ghost use Rattle.model_run.specs.Requests.{RequestsStay};
 ghost use Rattle.model_run.specs.GraphText.{graph_text};
 ghost use Rattle.model_run.specs.Taking.{taken};
 ghost use Rattle.model_run.specs.World as W;
 ghost use Rattle.cps_code.specs.Script.{script_of};
 ghost use Rattle.green_threads.specs.Threads.{marked_group};
-ghost use Rattle.script_thread.specs.Marks.{GoesOnFrom, RequestsStay, ThreadsStay, marked};
+ghost use Rattle.script_thread.specs.Marks.{GoesOnFrom, ThreadsStay, marked};
 ghost use Rattle.build_requests.specs.Waiting.{waiting_inputs, open_tasks, input_of};
 ghost use Rattle.build_core.specs.declared.phase.Phase.TheVariants.{Running, Ended, Stopped};
 ghost use Rattle.build_core.specs.Phases.{SoundIn, has_begun, has_ended};

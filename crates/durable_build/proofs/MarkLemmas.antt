@@ -4,9 +4,10 @@ use Rattle.std.specs.Prelude.{IfSome, if◌then◌else◌}
 use Rattle.settle_laws.specs.Stances.{Stance}
 use Rattle.image_form.specs.declared.image.Image.{Image}
 use Rattle.cps_code.specs.Script.{script_of}
+use Rattle.model_run.specs.Requests.{RequestsStay}
 use Rattle.model_run.specs.State.{Setting}
 use Rattle.model_run.specs.Terms.{Term}
-use Rattle.build_images.specs.Lower.script_thread.Marks.{GoesOnFrom, RequestsStay, ThreadsStay}
+use Rattle.build_images.specs.Lower.script_thread.Marks.{GoesOnFrom, ThreadsStay}
 use Rattle.build_images.specs.Lower.build_core.Builds.{Parts, setting_in}
 use Rattle.build_images.specs.Lower.build_core.Phases.{has_begun}
 use Rattle.build_images.specs.Images.{HasImage, image_in}

@@ -13,9 +13,10 @@ use Rattle.delta_records.specs.declared.payload.Payload.{Payload}
 use Rattle.delta_records.specs.declared.payload.Payload.TheVariants as payload
 use Rattle.delta_records.specs.declared.weights.Weights.{Weights}
 use Rattle.build_images.specs.Lower.image_changes.Least.{IsLeast}
-use Rattle.build_images.specs.Lower.image_changes.Seen.{KeepsRequests, KeepsUnmarked}
+use Rattle.build_images.specs.Lower.image_changes.Seen.{KeepsUnmarked}
 use Rattle.model_run.specs.Among.{AreAmong}
 use Rattle.model_run.specs.FlowNodes.{IsFront}
+use Rattle.model_run.specs.Requests.{RequestsStay}
 use Rattle.model_run.specs.World.{Build}
 use Rattle.settle_laws.specs.Stances.{Stance}
 use Rattle.cps_code.specs.Script.{script_of}
@@ -39,7 +40,7 @@ pub record MarksChanges {T : Type 0} (low : T → ℕ) (touched : T → Bool) (s
   pub cells : KeepsUnmarked before.cells now.shared.heap
   pub nodes : IsFront before.nodes now.shared.graph
   pub log : IsFront before.log now.shared.log
-  pub requests : KeepsRequests before.requests now.shared.requests
+  pub requests : RequestsStay before.requests now.shared.requests
   pub threads : ThreadsStand low touched stance (script_of now.shared.code) before.threads now.group.seats
 
 -- The build is the same but for the marks of its cells and of its threads, which nothing else hangs on.

@@ -7,8 +7,6 @@ use Rattle.image_form.specs.declared.image.Image.{Image}
 use Rattle.image_form.specs.declared.image.ImageFrame.{ImageFrame}
 use Rattle.image_form.specs.declared.image.ImageThread.{ImageThread}
 use Rattle.model_run.specs.FlowNodes.{IsFront}
-use Rattle.model_run.specs.Requests.{IsSame}
-use Rattle.model_run.specs.declared.request.OpenRequest.{OpenRequest}
 use Rattle.image_changes.specs.declared.now.Now.{Now}
 use Rattle.image_changes.specs.declared.now.NowThread.{NowThread}
 use Rattle.image_changes.specs.declared.now.NowThread.TheVariants.{Touched, Untouched}
@@ -42,10 +40,6 @@ image_seen n = record {
 pub record KeepsUnmarked (before : List Cell) (now : Region) : Type 0 where
   pub grows : length before ≤ length now.cells
   pub same : (id : ℕ) → slice_index_or now.changed id true ≡ false → slice_get now.cells id ≡ slice_get before id
-
--- An open request now with the number of one from before is the same, but for what was taken of it and came to its output.
-abbrev pub KeepsRequests : List OpenRequest → List OpenRequest → Type 0
-KeepsRequests before now = AllAre (λ (r : OpenRequest). AllAre (λ (q : OpenRequest). q.number ≡ r.number → IsSame q r) before) now
 
 -- These frames are the first ones of the thread that stood, and a delta can count them.
 pub record HasFront (stood : ImageThread) (frames : List ImageFrame) : Type 0 where

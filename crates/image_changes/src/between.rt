@@ -3,10 +3,11 @@
 ghost use Rattle.std.specs.Prelude.{IfOk};
 ghost use Rattle.model_run.specs.Among.{AreAmong};
 ghost use Rattle.model_run.specs.FlowNodes.{IsFront};
+ghost use Rattle.model_run.specs.Requests.{RequestsStay};
 ghost use Rattle.record_form.specs.Ordered.{IsInOrder};
 ghost use Rattle.image_changes.specs.Least.{IsLeast};
 ghost use Rattle.image_changes.specs.Parts.{LeadsTo};
-ghost use Rattle.image_changes.specs.Seen.{KeepsRequests, KeepsThreads, KeepsUnmarked, image_seen};
+ghost use Rattle.image_changes.specs.Seen.{KeepsThreads, KeepsUnmarked, image_seen};
 
 use crate::lists::{added_bytes, changed_cells, new_bindings, new_nodes};
 use crate::now::Now;
@@ -37,7 +38,7 @@ pub fn changes_between(alloc: Global, before: &Image, now: &Now<'_>) -> Result<D
     requires cells { KeepsUnmarked before.now.cells now.now.cells.now }
     requires nodes { IsFront before.now.nodes now.now.nodes.now }
     requires log { IsFront before.now.log now.now.log.now }
-    requires requests { KeepsRequests before.now.requests now.now.requests.now }
+    requires requests { RequestsStay before.now.requests now.now.requests.now }
     requires threads { KeepsThreads before.now.threads now.now.threads.now }
     ensures leads { IfOk result (LeadsTo before.now (image_seen now.now)) }
     ensures least { IfOk result (IsLeast before.now) }

@@ -43,6 +43,11 @@ pub record IsSame (old new : OpenRequest) : Type 0 where
   pub thread : old.thread ≡ new.thread
   pub request : SameRequest old.request new.request
 
+-- From open requests to those of later: one that is open then with the number of one from before is the same, but for what was taken of its
+-- output, and what came to the output that is kept.
+abbrev pub RequestsStay : List OpenRequest → List OpenRequest → Type 0
+RequestsStay before now = AllAre (λ (r : OpenRequest). AllAre (λ (q : OpenRequest). q.number ≡ r.number → IsSame q r) before) now
+
 -- a request that is open now was open before, or its number is new
 abbrev pub WasOpen : Common → OpenRequest → Type 0
 WasOpen before r = Some_of (λ q. IsSame q r) before.requests ⊎ (before.next_request ≤ r.number)

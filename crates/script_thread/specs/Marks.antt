@@ -4,13 +4,12 @@ use Rattle.std.specs.List.{AllByRecursion as AllAre}
 use Rattle.cell_heap.specs.Follows.{Follows}
 use Rattle.model_run.specs.Among.{AreAmong}
 use Rattle.model_run.specs.FlowNodes.{IsFront}
-use Rattle.model_run.specs.Requests.{IsSame, RequestsGoOn}
+use Rattle.model_run.specs.Requests.{RequestsGoOn}
 use Rattle.model_run.specs.declared.frame.Frame.{Frame}
 use Rattle.green_threads.specs.declared.runner.Seated.{Seated}
 use Rattle.settle_laws.specs.Stances.{Stance}
 use Rattle.cps_frames.specs.declared.shared.Shared.{Shared}
 use Rattle.cps_frames.specs.Standing.{common_of}
-use Rattle.script_thread.specs.Names.{OpenRequest}
 
 -- What threads share has come from u to v: cells, flow nodes, bytes of the log and binding variables are added alone, a cell that is
 -- unmarked in v was unmarked in u and is the same, and a request that is open in v was open in u or has a new number.
@@ -20,11 +19,6 @@ pub record GoesOnFrom (u v : Shared) : Type 0 where
   pub log : IsFront u.log v.log
   pub binding : AreAmong u.binding.items v.binding.items
   pub requests : RequestsGoOn (common_of u) (common_of v)
-
--- From the open requests of before to those of now: one that is open now with the number of one from before is the same, but for what was
--- taken of its output, and what came to the output that is kept.
-abbrev pub RequestsStay : List OpenRequest → List OpenRequest → Type 0
-RequestsStay before now = AllAre (λ (r : OpenRequest). AllAre (λ (q : OpenRequest). q.number ≡ r.number → IsSame q r) before) now
 
 -- the same of what threads share, with no cell marked
 abbrev pub marked : Shared → Shared

@@ -1,11 +1,12 @@
 use Rattle.std.proofs.Common.{◌∙◌, List, map, sym, subst}
 use Rattle.model_run.specs.Among.{AreAmong}
 use Rattle.model_run.specs.Fitting.{Rises}
+use Rattle.model_run.specs.Requests.{RequestsStay}
 use Rattle.model_run.specs.declared.request.OpenRequest.{OpenRequest}
 use Rattle.model_values.specs.declared.cell.Binding.{Binding}
 use Rattle.cps_code.specs.Script.{script_of}
 use Rattle.image_form.specs.declared.image.ImageThread.{ImageThread}
-use Rattle.build_images.specs.Lower.image_changes.Seen.{KeepsRequests, KeepsThreads}
+use Rattle.build_images.specs.Lower.image_changes.Seen.{KeepsThreads}
 use Rattle.build_images.specs.Lower.image_changes.declared.now.NowThread.{NowThread}
 use Rattle.delta_records.specs.Lower.record_form.Ordered.{IsInOrder}
 use Rattle.build_images.specs.Lower.build_core.Builds.{setting_in}
@@ -21,7 +22,7 @@ pub changes_between-requires-clause-bindings : goal.changes_between-requires-cla
 changes_between-requires-clause-bindings g c = subst (λ (bs : List Binding). AreAmong c.args.before.now.bindings bs) (sym c.seen.ensures.bindings) c.requires.marks.bindings
 
 pub changes_between-requires-clause-requests : goal.changes_between-requires-clause-requests
-changes_between-requires-clause-requests g c = subst (λ (rs : List OpenRequest). KeepsRequests c.args.before.now.requests rs) (sym c.seen.ensures.requests) c.requires.marks.requests
+changes_between-requires-clause-requests g c = subst (λ (rs : List OpenRequest). RequestsStay c.args.before.now.requests rs) (sym c.seen.ensures.requests) c.requires.marks.requests
 
 pub changes_between-requires-clause-threads : goal.changes_between-requires-clause-threads
 changes_between-requires-clause-threads g c =
