@@ -1,11 +1,12 @@
 -- What is open around a thread: behind a frame that is taken off, around a node that is entered, and after a move.
-use Rattle.std.proofs.Common.{arith, ◌≡◌, ◌∙◌, ◌+◌, ◌<◌, ℕ, zero, suc, Bool, true, false, List, [], ◌∷◌, ◌++◌, length, append_assoc, refl, sym, ap}
+use Rattle.std.proofs.Common.{arith, ◌≡◌, ◌∙◌, ◌+◌, ◌<◌, ◌≤◌, ℕ, zero, suc, Bool, true, false, List, [], ◌∷◌, ◌++◌, length, append_assoc, refl, sym, ap}
 use Rattle.std.specs.Prelude.{filter, if◌then◌else◌, nat_eq, not}
 use Rattle.std.proofs.lemmas.List.{append-nil, length-append}
 use Rattle.std.proofs.lemmas.List.Elements.{filter-append}
 use Rattle.model_run.specs.declared.context.Context.{Context}
 use Rattle.model_run.specs.declared.frame.Frame.{Frame}
 use Rattle.model_run.specs.declared.frame.FrameKind.{FrameKind}
+use Rattle.model_run.specs.declared.frame.FrameKind.TheVariants.{DirBody, NodeBody}
 use Rattle.model_run.specs.declared.held.Held.{Held}
 use Rattle.model_run.specs.declared.site.Site.{Site}
 use Rattle.model_run.specs.Fitting.{holds_executor, holds_folder}
@@ -14,7 +15,7 @@ use Rattle.model_run.specs.State.{World}
 use Rattle.run_laws.specs.Evaluation.{AllOfSite}
 use Rattle.run_laws.specs.Soundness.{Open, Pausing, Same, in_folder, in_node, open_folders, open_nodes, without_all}
 use Rattle.run_laws.proofs.Flow.{HasGone}
-use Rattle.cps_frames.specs.Places.{HasOpened}
+use Rattle.cps_frames.specs.Places.{HasFolders, HasOpened}
 use Rattle.cps_frames.specs.Standing.{Standing}
 
 -- of frames one behind the other
@@ -27,6 +28,22 @@ open_one keep f = by (keep f.kind)
     by : (b : Bool) → length (if b then f ∷ [] else []) ≡ (if b then 1 else 0)
     by true = refl
     by false = refl
+
+-- Each frame that holds an executor holds a folder.
+fewer_nodes : (fs : List Frame) → open_nodes fs ≤ open_folders fs
+fewer_nodes [] = omega arith
+fewer_nodes (f ∷ fs) = with_one f.kind (filter (λ x. holds_executor x.kind) fs) (filter (λ x. holds_folder x.kind) fs) (fewer_nodes fs)
+  where
+    with_one : (d : FrameKind) (nodes folders : List Frame) → length nodes ≤ length folders → length (if holds_executor d then f ∷ nodes else nodes) ≤ length (if holds_folder d then f ∷ folders else folders)
+    with_one NodeBody nodes folders fewer = omega (arith, fewer)
+    with_one DirBody nodes folders fewer = omega (arith, fewer)
+    with_one d nodes folders fewer = fewer
+
+-- So a thread has a folder for each request, where the context above it has.
+pub folders_enough : (above : Context) (u : Standing) → HasFolders above → HasOpened above u → HasFolders u.world.own.context
+folders_enough above u enough h =
+    let requests : length u.world.own.context.held ≡ length above.held + length h.own = ap length h.held ∙ length-append above.held h.own in
+    omega (arith, enough, requests, h.many, h.folders, fewer_nodes u.stack)
 
 -- executors of the site, of which some are given back
 site_without : (site : Site) (r : ℕ) (held : List Held) → AllOfSite site held → AllOfSite site (without_request r held)

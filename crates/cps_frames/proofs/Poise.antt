@@ -32,7 +32,7 @@ use Rattle.run_laws.proofs.SoundBodies.{called_plain}
 use Rattle.cps_frames.specs.Standing.{Standing}
 use Rattle.cps_frames.specs.Moves.{How, IsNew, Placed, Comes}
 use Rattle.cps_code.specs.Script.{IsScript}
-use Rattle.cps_frames.specs.Places.{Holding, IsHeld, granted_by, FrameStands, EndsAt, EntersBy, EntersWith, MayEnter, MayGoOn, MoveFits, Poised}
+use Rattle.cps_frames.specs.Places.{HasFolders, Holding, IsHeld, granted_by, FrameStands, EndsAt, EntersBy, EntersWith, MayEnter, MayGoOn, MoveFits, Poised}
 use Rattle.cps_frames.specs.declared.thread.Move.{Move}
 use Rattle.cps_frames.specs.declared.thread.Move.TheVariants.{Ends, Hits, Enter, Asks}
 use Rattle.cps_frames.proofs.Bounds.{stands_exactly, sits_loosely}
@@ -42,7 +42,7 @@ use Rattle.cps_frames.proofs.Holding.{all_split, distinct_front, granted_held, s
 use Rattle.cps_frames.proofs.Keeping.{node_here}
 use Rattle.cps_frames.proofs.MoveLaws.{Saying}
 use Rattle.cps_frames.proofs.Kept.{GoesOn, Kept, NextFits, branched, answers_there, entry_kept, frame_kept, quiet_inner, quiet_part, wait_kept}
-use Rattle.cps_frames.proofs.Opened.{Behind, IsAround, all_open, behind, open_here, opened_on, same_here, site_without_all}
+use Rattle.cps_frames.proofs.Opened.{Behind, IsAround, all_open, behind, folders_enough, open_here, opened_on, same_here, site_without_all}
 
 -- rows of frames
 chained_append : (root : Term) (at : Spot) (fs gs : List Frame) → Chained root at fs → Chained root (innermost root at fs) gs → Chained root at (fs ++ gs)
@@ -213,6 +213,7 @@ module _ (g : Setting) (facts : ScriptFacts g.script) where
     pub sound : SoundWorld g u.world
     pub executors : AllOfSite g.site u.world.shared.held
     pub behind : Behind above u.stack (holds_executor f.kind) (holds_folder f.kind) u.world
+    pub enough : HasFolders above → HasFolders u.world.own.context
     pub frames : AllAre (FrameStands g.script u.world.shared) u.stack
     pub chain : Chained g.script at u.stack
     pub frame : FrameStands g.script u.world.shared f
@@ -308,6 +309,7 @@ module _ (g : Setting) (facts : ScriptFacts g.script) where
         sound = subst (SoundWorld g) (sym world) poised.sound;
         executors = subst (λ (w : World). AllOfSite g.site w.shared.held) (sym world) poised.executors;
         behind = behind above u u' f poised.opened world at;
+        enough = λ enough. subst (λ (w : World). HasFolders w.own.context) (sym world) (folders_enough above u enough poised.opened);
         frames = subst (λ w. AllAre (FrameStands g.script w.shared) u'.stack) (sym world) frames.0;
         chain = chain.0;
         frame = subst (λ w. FrameStands g.script w.shared f) (sym world) (frames.1).0;
@@ -316,8 +318,8 @@ module _ (g : Setting) (facts : ScriptFacts g.script) where
       }
 
   -- So the frame may go on, and the node be entered.
-  pub may_go_on : (above : Context) (outer : Spot) (u : Standing) (f : Frame) (e : Ending) → IsScript u.world.setting.script → u.world.setting ≡ g → Taken above outer u f e → Holding u.world (Ends e) → MayGoOn u f e
-  may_go_on above outer u f e script is taken held = record {
+  pub may_go_on : (above : Context) (outer : Spot) (u : Standing) (f : Frame) (e : Ending) → IsScript u.world.setting.script → u.world.setting ≡ g → Taken above outer u f e → Holding u.world (Ends e) → HasFolders above → MayGoOn u f e
+  may_go_on above outer u f e script is taken held enough = record {
     script = script;
     sound = subst (λ (s : Setting). SoundWorld s u.world) (sym is) taken.sound;
     frame = subst (λ (s : Setting). FrameStands s.script u.world.shared f) (sym is) taken.frame;
@@ -326,14 +328,16 @@ module _ (g : Setting) (facts : ScriptFacts g.script) where
     holds = held.holds;
     executor = (taken.behind).executor;
     folder = (taken.behind).folder;
+    enough = taken.enough enough;
   }
 
-  pub may_enter : (above : Context) (outer : Spot) (u : Standing) (e : Entry) (k : ℕ) (env : Env) → IsScript u.world.setting.script → u.world.setting ≡ g → Poised g above outer u (Enter e k env) → Holding u.world (Enter e k env) → MayEnter u e k env
-  may_enter above outer u e k env script is poised held = record {
+  pub may_enter : (above : Context) (outer : Spot) (u : Standing) (e : Entry) (k : ℕ) (env : Env) → IsScript u.world.setting.script → u.world.setting ≡ g → Poised g above outer u (Enter e k env) → Holding u.world (Enter e k env) → HasFolders above → MayEnter u e k env
+  may_enter above outer u e k env script is poised held enough = record {
     script = script;
     sound = subst (λ (s : Setting). SoundWorld s u.world) (sym is) poised.sound;
     node = subst (λ (s : Setting). k < length (nodes_of s.script)) (sym is) (poised.move).1;
     entry = subst (λ (s : Setting). EntersWith s.script u.world.shared e k env) (sym is) (poised.move).2;
     executors = subst (λ (s : Setting). AllOfSite s.site u.world.shared.held) (sym is) poised.executors;
     holds = held.holds;
+    enough = folders_enough above u enough poised.opened;
   }

@@ -1,7 +1,7 @@
 -- Where a thread may stand between two moves: its frames meet the table exactly and stand one inside the other, each with its
 -- variables, over a sound world; its context holds what the frames have opened; and what is done next may stand inside the last of
 -- them. Each move that meets no limit keeps it so. Of how many of its frames are bodies, which it counts, nothing is said here.
-use Rattle.std.specs.Prelude.{◌≡◌, ◌<◌, ◌+◌, ◌++◌, ℕ, true, false, List, [], None, length}
+use Rattle.std.specs.Prelude.{◌≡◌, ◌<◌, ◌≤◌, ◌+◌, ◌++◌, ℕ, true, false, List, [], None, length}
 use Rattle.std.specs.List.{AllByRecursion as AllAre}
 use Rattle.model_syntax.specs.declared.node.NodeForm.TheVariants as form
 use Rattle.model_values.specs.Fitting.{There}
@@ -112,8 +112,12 @@ pub record Holding (w : World) (m : Move) : Type 0 where
   pub holds : HoldsExecutors w
   pub differ : Distinct (w.own.context.held ++ granted_by w.shared.held m)
 
--- A frame may go on with this ending: it stood innermost in such a thread, and the executors of the requests in its context are held.
--- Behind a `node` body the context has its request, behind a body with a folder that folder.
+-- a context has no fewer folders than requests: a `node` body opens one of both, `dir` a folder alone
+abbrev pub HasFolders : Context → Type 0
+HasFolders c = length c.held ≤ length c.folders
+
+-- A frame may go on with this ending: it stood innermost in such a thread, the executors of the requests in its context are held, and for
+-- each of these requests it has a folder. Behind a `node` body the context has its request, behind a body with a folder that folder.
 pub record MayGoOn (u : Standing) (f : Frame) (e : Ending) : Type 0 where
   pub script : IsScript u.world.setting.script
   pub sound : SoundWorld u.world.setting u.world
@@ -123,8 +127,9 @@ pub record MayGoOn (u : Standing) (f : Frame) (e : Ending) : Type 0 where
   pub holds : HoldsExecutors u.world
   pub executor : holds_executor f.kind ≡ true → 0 < length u.world.own.context.held
   pub folder : holds_folder f.kind ≡ true → 0 < length u.world.own.context.folders
+  pub enough : HasFolders u.world.own.context
 
--- A node may be entered so, in a thread whose executors are held.
+-- A node may be entered so, in a thread whose executors are held, with a folder for each.
 pub record MayEnter (u : Standing) (e : Entry) (k : ℕ) (env : Env) : Type 0 where
   pub script : IsScript u.world.setting.script
   pub sound : SoundWorld u.world.setting u.world
@@ -132,3 +137,4 @@ pub record MayEnter (u : Standing) (e : Entry) (k : ℕ) (env : Env) : Type 0 wh
   pub entry : EntersWith u.world.setting.script u.world.shared e k env
   pub executors : AllOfSite u.world.setting.site u.world.shared.held
   pub holds : HoldsExecutors u.world
+  pub enough : HasFolders u.world.own.context
