@@ -9,7 +9,9 @@ pub mod FamilyLaws
 pub mod FinishLaws
 pub mod GoingLaws
 pub mod TurnLaws
+pub mod ParentLaws
 pub mod ChainLaws
+pub mod FolderLaws
 pub mod BeginLaws
 pub mod EventLaws
 pub mod MarkLaws
