@@ -1,5 +1,5 @@
 -- Where the tasks of a thread run.
-use Rattle.std.proofs.Common.{◌≡◌, ◌∙◌, ℕ, Bor, Bool, true, false, List, [], ◌∷◌, ◌++◌, Option, Some, None, refl, ap, subst, sym}
+use Rattle.std.proofs.Common.{arith, ◌≡◌, ◌∙◌, ◌<◌, ℕ, Bor, Bool, true, false, List, [], ◌∷◌, ◌++◌, length, Option, Some, None, refl, ap, subst, sym}
 use Rattle.std.specs.Prelude.{codes, find, if◌then◌else◌, nat_eq, option_and_then, option_copied, option_map}
 use Rattle.std.specs.List.{AllByRecursion as AllAre}
 use Rattle.model_values.specs.declared.value.Value.{Value}
@@ -9,8 +9,9 @@ use Rattle.model_run.specs.declared.request.Request.{Request}
 use Rattle.model_run.specs.Around.{Around, ended, frame}
 use Rattle.model_run.specs.Callables.{calling, closure_of}
 use Rattle.model_run.specs.FlowNodes.{end_block, logging}
+use Rattle.model_run.specs.declared.context.Context.{Context}
 use Rattle.model_run.specs.declared.held.Held.{Held}
-use Rattle.cps_frames.specs.Places.{IsHeld}
+use Rattle.cps_frames.specs.Places.{HasFolders, IsHeld}
 use Rattle.model_run.specs.declared.site.Executor.{Executor}
 use Rattle.model_run.specs.Grants.{executor_of}
 use Rattle.model_run.specs.State.{World, State, Env, changed}
@@ -63,6 +64,14 @@ pub last_held : (held : List Held) (ns : List ℕ) (r : ℕ) → Some r ≡ last
 last_held held [] r is all = absurd (cc is)
 last_held held (n ∷ []) r is all = let same : n ≡ r = cc is in subst (IsHeld held) same all.0
 last_held held (n ∷ m ∷ ns) r is all = last_held held (m ∷ ns) r is all.1
+
+-- and the thread has a folder
+some_request : (ns : List ℕ) (r : ℕ) → Some r ≡ last_number ns → 0 < length ns
+some_request [] r is = absurd (cc is)
+some_request (n ∷ ns) r is = omega arith
+
+pub some_folder : (c : Context) (r : ℕ) → Some r ≡ last_number c.held → HasFolders c → 0 < length c.folders
+some_folder c r is enough = omega (arith, enough, some_request c.held r is)
 
 pub held_last : (o : Option ℕ) (r : ℕ) (held : List Held) (h : Held) → Some r ≡ o → Some h ≡ held_for r held → Some h ≡ option_and_then (λ n. held_for n held) o
 held_last o r held h last is = is ∙ ap (option_and_then (λ n. held_for n held)) last

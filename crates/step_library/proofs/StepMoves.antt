@@ -4,7 +4,7 @@ use Rattle.std.specs.Prelude.{Result as Outcome, Err, codes}
 use Rattle.model_values.specs.declared.value.Value.{Value}
 use Rattle.model_values.specs.declared.value.Value.TheVariants.{Null}
 use Rattle.run_laws.specs.Evaluation.{AllOfSite}
-use Rattle.cps_frames.specs.Places.{HoldsExecutors}
+use Rattle.cps_frames.specs.Places.{HasFolders, HoldsExecutors}
 use Rattle.run_laws.specs.Soundness.{SoundWorld}
 use Rattle.model_run.specs.declared.callee.Callee.{Callee}
 use Rattle.model_run.specs.declared.ending.Ending.{Ending}
@@ -132,6 +132,10 @@ site_noted kind name start text u v p = subst (λ (w : World). AllOfSite w.setti
 -- and those of the thread's requests stay held
 pub holds_noted : (kind : NodeKind) (name : List ℕ) (start : ℕ) (text : List ℕ) (u v : Standing) → Passed (noted_limit text) (noted_so kind name start text) u v → HoldsExecutors u.world → HoldsExecutors v.world
 holds_noted kind name start text u v p = subst HoldsExecutors (sym p.made)
+
+-- with the folders of the thread
+pub enough_noted : (kind : NodeKind) (name : List ℕ) (start : ℕ) (text : List ℕ) (u v : Standing) → Passed (noted_limit text) (noted_so kind name start text) u v → HasFolders u.world.own.context → HasFolders v.world.own.context
+enough_noted kind name start text u v p = subst (λ (w : World). HasFolders w.own.context) (sym p.made)
 
 -- a closure stays one where the cells stay
 pub closure_kept : (f : Value) (g h : List Cell) → h ≡ g → IsIn HasClosure g f → IsIn HasClosure h f

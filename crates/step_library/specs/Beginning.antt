@@ -16,7 +16,7 @@ use Rattle.model_run.specs.State.{State, Env, Result, changed, operating, seeing
 use Rattle.model_run.specs.Steps.{after_node_wait, after_retry, begin_branches, branches_given, catch_error_body, dir_in, input_asks, kept_text, place_of, retry_body, sh_in, stage_body, throwing, waiting_for, with_env_body, with_overrides, worsened}
 use Rattle.run_laws.specs.Evaluation.{AllOfSite}
 use Rattle.run_laws.specs.Soundness.{SoundWorld}
-use Rattle.cps_frames.specs.Places.{HoldsExecutors}
+use Rattle.cps_frames.specs.Places.{HasFolders, HoldsExecutors}
 use Rattle.cps_frames.specs.Standing.{Standing}
 use Rattle.step_arguments.specs.declared.bound.Bound.{Bound}
 use Rattle.step_arguments.specs.declared.bound.Bound.TheVariants as bound
@@ -38,16 +38,19 @@ bound_says a k env (bound.Sh script status keep) = atom (codes "sh") (seeing (λ
 bound_says a k env (bound.Input message ok id) = atom (codes "input") (logging message (logging (ok ++ codes " or Abort") (seeing (input_asks k env id))))
 bound_says a k env (bound.Parallel branches) = block (codes "parallel") (seeing (λ w. begin_branches k env w.own.head [] (branches_given w (Some branches))))
 
--- A request can be numbered; the executors that are held are the site's, and those of the thread's requests are held.
+-- A request can be numbered; the executors that are held are the site's, those of the thread's requests are held, and the thread has a
+-- folder for each.
 pub record MayTake (u : Standing) : Type 0 where
   pub room : u.world.shared.next_request + 1 < 2 ^ 32
   pub executors : AllOfSite u.world.setting.site u.world.shared.held
   pub holds : HoldsExecutors u.world
+  pub enough : HasFolders u.world.own.context
 
--- A step may begin: in a sound world, where the executors that are held are the site's and those of the thread's requests are held, with
--- arguments that are there.
+-- A step may begin: in a sound world, where the executors that are held are the site's, those of the thread's requests are held, and the
+-- thread has a folder for each, with arguments that are there.
 pub record MayBegin (u : Standing) (args : List Value) : Type 0 where
   pub sound : SoundWorld u.world.setting u.world
   pub executors : AllOfSite u.world.setting.site u.world.shared.held
   pub holds : HoldsExecutors u.world
+  pub enough : HasFolders u.world.own.context
   pub arguments : AllAre (There u.world.shared.cells) args

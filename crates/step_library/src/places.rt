@@ -1,10 +1,10 @@
 //! Where the tasks of a thread run: the executor that it holds, its workspace and its folder.
 
-ghost use Rattle.std.specs.Prelude.{◌≡◌, IfOk, option_copied, option_map};
+ghost use Rattle.std.specs.Prelude.{◌≡◌, ◌<◌, IfOk, length, option_copied, option_map};
 ghost use Rattle.model_run.specs.Grants.{executor_of, workspace_text};
 ghost use Rattle.model_run.specs.Steps.{folder_of, held_by, held_for, last_number, last_text, place_of};
 ghost use Rattle.run_laws.specs.Evaluation.{AllOfSite};
-ghost use Rattle.cps_frames.specs.Places.{HoldsExecutors};
+ghost use Rattle.cps_frames.specs.Places.{HasFolders, HoldsExecutors};
 ghost use Rattle.cps_frames.specs.Standing.{world_of};
 ghost use Rattle.step_library.specs.Places.{place_seen};
 
@@ -30,6 +30,7 @@ pub(crate) fn place_of<'a>(
 ) -> Result<Option<Place<'a>>, AllocError>
     requires executors { AllOfSite shared.now.site shared.now.held }
     requires holds { HoldsExecutors (world_of shared.now state.now) }
+    requires enough { HasFolders state.now.context }
     ensures { IfOk result (λ place. option_map place_seen place ≡ place_of (world_of shared.now state.now)) }
 {
     let Some(request) = innermost_request(state) else {
@@ -51,14 +52,13 @@ pub(crate) fn place_of<'a>(
     }))
 }
 
-/// The last of texts, and the empty one where there is none. `AllocError` where the memory was refused.
+/// The last of some texts. `AllocError` where the memory was refused.
 fn last_text(alloc: Global, texts: &[Text]) -> Result<Text, AllocError>
+    requires some { 0 < length texts.now }
     ensures { IfOk result (λ text. text ≡ last_text texts.now) }
 {
-    match texts {
-        [.., text] => Text::from_slice(alloc, text.as_slice()),
-        [] => Ok(Text::new(alloc)),
-    }
+    let [.., text] = texts else { unreachable!() };
+    Text::from_slice(alloc, text.as_slice())
 }
 
 /// The request of the innermost open `node` of a thread.

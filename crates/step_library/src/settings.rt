@@ -11,7 +11,7 @@ ghost use Rattle.model_run.specs.Steps.{dir_body, dir_in, folder_of, no_node, pl
 ghost use Rattle.model_run.specs.declared.frame.FrameKind.TheVariants as kind;
 ghost use Rattle.model_values.specs.declared.value.Value.TheVariants.{Null};
 ghost use Rattle.run_laws.specs.Evaluation.{AllOfSite};
-ghost use Rattle.cps_frames.specs.Places.{HoldsExecutors};
+ghost use Rattle.cps_frames.specs.Places.{HasFolders, HoldsExecutors};
 ghost use Rattle.cps_frames.specs.Moves.{ComesTo};
 ghost use Rattle.cps_frames.specs.Order.{rank};
 ghost use Rattle.cps_frames.specs.Places.{MayGoOn};
@@ -42,6 +42,7 @@ pub(crate) fn dir(
     requires body { IsIn HasClosure shared.old.heap.cells body.now }
     requires executors { AllOfSite shared.old.site shared.old.held }
     requires holds { HoldsExecutors (world_of shared.old state.old) }
+    requires enough { HasFolders state.old.context }
     ensures { (r : ℕ) → 0 < r → ComesTo node r (λ sh a. block (codes "dir") (seeing (λ u. dir_in a node env path body.now u (place_of u)))) (standing shared.old state.old) result (standing shared.new state.new) }
 {
     note_block(state, shared, b"dir")?;
@@ -55,6 +56,7 @@ pub(crate) fn dir(
 fn folder_here(state: &ThreadState, shared: &Shared, path: Text) -> Result<Option<Text>, AllocError>
     requires executors { AllOfSite shared.now.site shared.now.held }
     requires holds { HoldsExecutors (world_of shared.now state.now) }
+    requires enough { HasFolders state.now.context }
     ensures { IfOk result (λ folder. folder ≡ option_map (λ p. folder_of p.folder path) (place_of (world_of shared.now state.now))) }
 {
     match place_of(state, shared)? {

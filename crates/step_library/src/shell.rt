@@ -15,7 +15,7 @@ ghost use Rattle.model_run.specs.declared.frame.FrameKind.TheVariants as kind;
 ghost use Rattle.model_run.specs.declared.wait.Answer.TheVariants.{Done};
 ghost use Rattle.model_values.specs.declared.value.Value.TheVariants.{Bool as Truth};
 ghost use Rattle.run_laws.specs.Evaluation.{AllOfSite};
-ghost use Rattle.cps_frames.specs.Places.{HoldsExecutors};
+ghost use Rattle.cps_frames.specs.Places.{HasFolders, HoldsExecutors};
 ghost use Rattle.cps_frames.specs.Moves.{ComesTo};
 ghost use Rattle.cps_frames.specs.Order.{rank};
 ghost use Rattle.cps_frames.specs.Places.{MayGoOn};
@@ -49,6 +49,7 @@ pub(crate) fn sh(
     requires room { shared.old.next_request + 1 < 2 ^ 32 }
     requires executors { AllOfSite shared.old.site shared.old.held }
     requires holds { HoldsExecutors (world_of shared.old state.old) }
+    requires enough { HasFolders state.old.context }
     ensures { ComesTo node (2 ^ 66) (λ sh a. atom (codes "sh") (seeing (λ u. sh_in node env script status keep_out u (place_of u)))) (standing shared.old state.old) result (standing shared.new state.new) }
 {
     note_atom(state, shared, b"sh")?;
@@ -99,6 +100,7 @@ fn task_here(
 ) -> Result<Option<Request>, AllocError>
     requires executors { AllOfSite shared.now.site shared.now.held }
     requires holds { HoldsExecutors (world_of shared.now state.now) }
+    requires enough { HasFolders state.now.context }
     ensures { IfOk result (λ request. request ≡ option_map (λ p. task_of (world_of shared.now state.now) p script status keep_out) (place_of (world_of shared.now state.now))) }
 {
     match place_of(state, shared)? {

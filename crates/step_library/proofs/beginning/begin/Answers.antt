@@ -17,7 +17,7 @@ pub bind-requires : goal.bind-requires
 bind-requires c = subst (All (ValueBelow (length c.args.shared.now.heap.cells))) (sym c.as_slice.ensures) (all_below c.args.shared.now.heap.cells c.args.arguments c.requires.may.arguments)
 
 pub begin_bound-requires : goal.begin_bound-requires
-begin_bound-requires c = record { may = record { room = request_room (setting_of c.args.shared.now) (standing c.args.shared.now c.args.state.now).world c.requires.may.sound; executors = c.requires.may.executors; holds = c.requires.may.holds }; usable = c.in-Ok.ensures.usable }
+begin_bound-requires c = record { may = record { room = request_room (setting_of c.args.shared.now) (standing c.args.shared.now c.args.state.now).world c.requires.may.sound; executors = c.requires.may.executors; holds = c.requires.may.holds; enough = c.requires.may.enough }; usable = c.in-Ok.ensures.usable }
 
 pub returns-in-Ok : goal.returns-in-Ok
 returns-in-Ok c =

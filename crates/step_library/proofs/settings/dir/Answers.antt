@@ -10,7 +10,7 @@ use Rattle.model_run.specs.declared.flow.NodeKind.TheVariants.{Block}
 use Rattle.cps_frames.specs.Standing.{standing, state}
 use Rattle.cps_frames.proofs.MoveLaws.{to_as}
 use Rattle.step_library.proofs.PlaceLaws.{dir_nowhere, dir_there}
-use Rattle.step_library.proofs.StepMoves.{holds_noted, site_noted, to_note}
+use Rattle.step_library.proofs.StepMoves.{enough_noted, holds_noted, site_noted, to_note}
 use Rattle.step_library.proofs.settings.dir.Goals as goal
 
 pub folder_here-requires : goal.folder_here-requires
@@ -20,6 +20,7 @@ folder_here-requires c =
     record {
       executors = site_noted Block (codes "dir") 0 (pipeline (codes "dir")) u v c.in_ok-note_block.ensures c.requires.executors;
       holds = holds_noted Block (codes "dir") 0 (pipeline (codes "dir")) u v c.in_ok-note_block.ensures c.requires.holds;
+      enough = enough_noted Block (codes "dir") 0 (pipeline (codes "dir")) u v c.in_ok-note_block.ensures c.requires.enough;
     }
 
 pub returns-in-Some : goal.returns-in-Some

@@ -12,7 +12,7 @@ use Rattle.cps_frames.specs.Moves.{ComesTo}
 use Rattle.cps_frames.specs.Standing.{standing, state}
 use Rattle.cps_frames.proofs.MoveLaws.{to_as}
 use Rattle.step_library.proofs.PlaceLaws.{sh_nowhere, sh_there}
-use Rattle.step_library.proofs.StepMoves.{holds_noted, site_noted, to_note}
+use Rattle.step_library.proofs.StepMoves.{enough_noted, holds_noted, site_noted, to_note}
 use Rattle.step_library.proofs.shell.sh.Goals as goal
 
 pub task_here-requires : goal.task_here-requires
@@ -22,6 +22,7 @@ task_here-requires c =
     record {
       executors = site_noted Atom (codes "sh") 0 (pipeline (codes "sh")) u v c.in_ok-note_atom.ensures c.requires.executors;
       holds = holds_noted Atom (codes "sh") 0 (pipeline (codes "sh")) u v c.in_ok-note_atom.ensures c.requires.holds;
+      enough = enough_noted Atom (codes "sh") 0 (pipeline (codes "sh")) u v c.in_ok-note_atom.ensures c.requires.enough;
     }
 
 pub returns-in_ok-values-in-Some : goal.returns-in_ok-values-in-Some
