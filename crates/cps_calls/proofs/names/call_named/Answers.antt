@@ -18,7 +18,7 @@ use Rattle.model_run.specs.Terms.{form_of, nodes_of, term_at}
 use Rattle.model_run.proofs.Room.{spends_count}
 use Rattle.run_laws.specs.Evaluation.{AllOfSite}
 use Rattle.cps_code.specs.Script.{script_of}
-use Rattle.cps_frames.specs.Places.{HoldsExecutors}
+use Rattle.cps_frames.specs.Places.{HasFolders, HoldsExecutors}
 use Rattle.cps_frames.specs.Standing.{room_of, standing, state, world_of}
 use Rattle.cps_frames.specs.declared.thread.Move.TheVariants.{Enter}
 use Rattle.cps_frames.proofs.MoveLaws.{comes_as, comes_call, comes_hits, met_beside, to_as, to_counted}
@@ -71,6 +71,7 @@ begin-requires c =
         sound = sound_counted (standing c.args.shared.now c.args.state.now) (standing c.tick.new.shared c.args.state.now) counted c.requires.may.sound;
         executors = subst (λ (w : World). AllOfSite w.setting.site w.shared.held) (sym counted.made) c.requires.may.executors;
         holds = subst HoldsExecutors (sym counted.made) c.requires.may.holds;
+        enough = subst (λ (w : World). HasFolders w.own.context) (sym counted.made) c.requires.may.enough;
         arguments = subst (λ h. AllAre (There h) c.args.values) (sym (ap (λ x. x.cells) counted.heap)) c.requires.values;
       };
     }
