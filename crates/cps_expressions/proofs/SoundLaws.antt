@@ -39,11 +39,12 @@ gathered_enters u f e may is = record {
   entry = λ plain. subst (λ d. EnvFits u.world.shared.cells (frame_names d (shape_at u.world.setting.script f.node) f.left (names_at u.world.setting.script f.node)) f.env) is (may.frame).names;
   executors = may.executors;
   holds = may.holds;
+  enough = may.enough;
 }
 
 -- what is entered on a value may be entered
 pub on_enters : (u : Standing) (v : Value) (k : ℕ) (env : Env) → MayEnter u (On v) k env → MayEnter u First k env
-on_enters u v k env may = record { script = may.script; sound = may.sound; node = may.node; entry = (may.entry).1; executors = may.executors; holds = may.holds }
+on_enters u v k env may = record { script = may.script; sound = may.sound; node = may.node; entry = (may.entry).1; executors = may.executors; holds = may.holds; enough = may.enough }
 
 nothing : Open
 nothing = record { nodes = []; folders = 0; was = []; gone = [] }
@@ -73,6 +74,7 @@ map_made u v x k n env ks vs d there may =
         entry = λ plain. env_later w.shared (put_cells h w).shared m.later (names_at w.setting.script k) env (may.entry plain);
         executors = may.executors;
         holds = may.holds;
+        enough = may.enough;
       });
       there = map_there h x fits.1;
       kept = λ ws a. all_there_then w.shared (put_cells h w).shared m.later ws a;
