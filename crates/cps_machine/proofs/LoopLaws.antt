@@ -157,7 +157,7 @@ no_hit_here (Enter e p env) b hit = hit
 no_hit_here (Asks asked) b hit = hit
 
 pub reached_here : (u : Standing) (first : Move) → MayRun u first → Reached u first u first
-reached_here u first may = record { on = onward_here u.world.setting.script u first; keeps = λ above at poised on. poised; holds = λ on. may.4; halts = λ above at poised hit. absurd (no_hit_here first may.3 hit); leaves = leaves_here u first may.3; ends = λ above poised none. absurd (no_end_here u.world.setting above u first may.3 poised none) }
+reached_here u first may = record { on = onward_here u.world.setting.script u first; keeps = λ above at poised on. poised; holds = λ on. may.holds; halts = λ above at poised hit. absurd (no_hit_here first may.begins hit); leaves = leaves_here u first may.begins; ends = λ above poised none. absurd (no_end_here u.world.setting above u first may.begins poised none) }
 
 -- how the loop stops
 pub stops_ended : (u : Standing) (first : Move) (v : Standing) (fs : List Frame) (e : Ending) → Reached u first v (Ends e) → v.stack ≡ [] → fs ≡ [] → Stops u first (stopped.Ended e) (with_stack fs v)
@@ -192,7 +192,7 @@ module _ (u : Standing) (first : Move) (script : IsScript u.world.setting.script
     taken_in above at poised = taken_off u.world.setting facts above at v (with_stack fs v) f e (h.keeps above at poised tt) refl at_top
 
     pub frame_may : MayGoOn (with_stack fs v) f e
-    frame_may = may_go_on u.world.setting facts may.0 may.1 (with_stack fs v) f e (script_stays v (Ends e) h) (h.on).setting (taken_in may.0 may.1 may.2) (h.holds tt)
+    frame_may = may_go_on u.world.setting facts may.above may.at (with_stack fs v) f e (script_stays v (Ends e) h) (h.on).setting (taken_in may.above may.at may.poised) (h.holds tt) may.enough
 
     frame_over : (m : Move) (w : Standing) → Comes f.node (rank f) (λ sh a. after f sh a e) (with_stack fs v) m w → (above : Context) → Poised u.world.setting above Any_branch u first → IsEnd w m → suc (nodes_left w.world) ≤ nodes_left v.world
     frame_over (Ends e') w c above poised none =
@@ -212,18 +212,18 @@ module _ (u : Standing) (first : Move) (script : IsScript u.world.setting.script
     pub frame_reached : (m : Move) (w : Standing) → Comes f.node (rank f) (λ sh a. after f sh a e) (with_stack fs v) m w → Reached u first w m
     frame_reached m w c =
         let meets : MeetsRow anything (shape_at v.world.setting.script f.node) f =
-        subst (λ s. MeetsRow anything (shape_at s.script f.node) f) (sym (h.on).setting) (meets_anything u.world.setting.script v.world.shared f (taken_in may.0 may.1 may.2).frame) in
+        subst (λ s. MeetsRow anything (shape_at s.script f.node) f) (sym (h.on).setting) (meets_anything u.world.setting.script v.world.shared f (taken_in may.above may.at may.poised).frame) in
         let left : Left v.world.setting.script (script_stays v (Ends e) h) v.world.setting v.world.shared v.world.own.number c.frames m w = frame_leaves (rank f) (with_stack fs v) (script_stays v (Ends e) h) f e m w meets c in
         let made : nodes_left w.world + made_for m ≤ nodes_left v.world =
         made_by m (nodes_left w.world) (nodes_left v.world) (left_later v.world w.world c.setting left.follows)
         (λ on.
         let spend : (u.world.setting.limits.flow_nodes - length w.world.shared.nodes) + branched m ≤ u.world.setting.limits.flow_nodes - length v.world.shared.nodes =
-        ends_spend u.world.setting facts may.0 may.1 (rank f) (with_stack fs v) f e m w (taken_in may.0 may.1 may.2) on c in
+        ends_spend u.world.setting facts may.above may.at (rank f) (with_stack fs v) f e m w (taken_in may.above may.at may.poised) on c in
         omega (arith, spend, left_is u.world.setting w.world (c.setting ∙ (h.on).setting), left_is u.world.setting v.world (h.on).setting)) in
         record {
           on = onward_on u.world.setting.script u first v (Ends e) w m h.on (onward_ends u.world.setting.script (rank f) v (with_stack fs v) f e m w (sym (ap (λ s. s.script) (h.on).setting)) refl at_top (beside_same v (with_stack fs v) refl refl) c);
           keeps = λ above at poised goes. ends_keep u.world.setting facts above at (rank f) (with_stack fs v) f e m w (taken_in above at poised) goes c;
-          holds = λ goes. ends_hold u.world.setting facts may.0 may.1 (rank f) (with_stack fs v) f e m w (taken_in may.0 may.1 may.2) (h.holds tt) goes c;
+          holds = λ goes. ends_hold u.world.setting facts may.above may.at (rank f) (with_stack fs v) f e m w (taken_in may.above may.at may.poised) (h.holds tt) goes c;
           halts = λ above at poised hit. frame_hit m w c (taken_in above at poised) hit;
           leaves = leaves_on u v (Ends e) fs w m h.leaves (h.on).setting c.frames c.pushed (script_stays v (Ends e) h) left made ((h.leaves).waits Any_branch);
           ends = λ above poised none.
@@ -238,10 +238,10 @@ module _ (u : Standing) (first : Move) (script : IsScript u.world.setting.script
   -- a node is entered
   module _ (v : Standing) (e : Entry) (k : ℕ) (env : Env) (h : Reached u first v (Enter e k env)) where
     node_there : k < length (nodes_of u.world.setting.script)
-    node_there = ((h.keeps may.0 may.1 may.2 tt).move).1
+    node_there = ((h.keeps may.above may.at may.poised tt).move).1
 
     pub entry_may : MayEnter v e k env
-    entry_may = may_enter u.world.setting facts may.0 may.1 v e k env (script_stays v (Enter e k env) h) (h.on).setting (h.keeps may.0 may.1 may.2 tt) (h.holds tt)
+    entry_may = may_enter u.world.setting facts may.above may.at v e k env (script_stays v (Enter e k env) h) (h.on).setting (h.keeps may.above may.at may.poised tt) (h.holds tt) may.enough
 
     pub entry_inside : HasPart v.world.setting.script (Enter e k env)
     entry_inside = subst (λ (s : Setting). HasPart s.script (Enter e k env)) (sym (h.on).setting) (h.leaves).inside
@@ -251,7 +251,7 @@ module _ (u : Standing) (first : Move) (script : IsScript u.world.setting.script
         made_by m (nodes_left w.world) (nodes_left v.world) (left_later v.world w.world c.setting (entry_leaves (2 ^ 66) v (script_stays v (Enter e k env) h) e k env m w c).follows)
         (λ on.
         let spend : (u.world.setting.limits.flow_nodes - length w.world.shared.nodes) + branched m ≤ u.world.setting.limits.flow_nodes - length v.world.shared.nodes =
-        enters_spend u.world.setting facts may.0 may.1 (2 ^ 66) v e k env m w (h.keeps may.0 may.1 may.2 tt) on c in
+        enters_spend u.world.setting facts may.above may.at (2 ^ 66) v e k env m w (h.keeps may.above may.at may.poised tt) on c in
         omega (arith, spend, left_is u.world.setting w.world (c.setting ∙ (h.on).setting), left_is u.world.setting v.world (h.on).setting))
 
     entry_over : (m : Move) (w : Standing) → Comes k (2 ^ 66) (λ sh a. enter e a k sh env) v m w → (above : Context) → Poised u.world.setting above Any_branch u first → IsEnd w m → suc (nodes_left w.world) ≤ nodes_left v.world
@@ -282,7 +282,7 @@ module _ (u : Standing) (first : Move) (script : IsScript u.world.setting.script
     entry_reached m w c = record {
       on = onward_on u.world.setting.script u first v (Enter e k env) w m h.on (onward_enters u.world.setting.script (2 ^ 66) v e k env m w (sym (ap (λ s. s.script) (h.on).setting)) (facts.numbers k node_there) c);
       keeps = λ above at poised goes. enters_keep u.world.setting facts above at (2 ^ 66) v e k env m w (h.keeps above at poised tt) goes c;
-      holds = λ goes. enters_hold u.world.setting facts may.0 may.1 (2 ^ 66) v e k env m w (h.keeps may.0 may.1 may.2 tt) (h.holds tt) goes c;
+      holds = λ goes. enters_hold u.world.setting facts may.above may.at (2 ^ 66) v e k env m w (h.keeps may.above may.at may.poised tt) (h.holds tt) goes c;
       halts = λ above at poised hit. entry_hit m w c (h.keeps above at poised tt) hit;
       leaves = leaves_on u v (Enter e k env) v.stack w m h.leaves (h.on).setting c.frames c.pushed (script_stays v (Enter e k env) h) (entry_leaves (2 ^ 66) v (script_stays v (Enter e k env) h) e k env m w c) (entry_made m w c) ((h.leaves).waits Any_branch);
       ends = λ above poised none.

@@ -71,6 +71,7 @@ use Rattle.thread_fits.proofs.RoomLaws.{above, rooms, rooms_differ, rooms_hold}
 use Rattle.thread_fits.proofs.SeatRows.{IsAwaited, all_at, all_both, all_more, below_with, differ_more, differ_with, differ_without, found, found_at, found_more, found_now, found_with, found_without, numbers, ready_above, ready_awaits, same_parent, with_all, without_all}
 use Rattle.thread_fits.proofs.SharedLaws.{turn_shared}
 use Rattle.thread_fits.proofs.ChainLaws.{first_holds}
+use Rattle.thread_fits.proofs.FolderLaws.{above_has_folders}
 use Rattle.thread_fits.proofs.TurnLaws.{above_new, ends_holding, ends_under, forks_holding, forks_under, own, turn_left, waits_holding, waits_under}
 
 abbrev pub Seat : Type 0
@@ -473,8 +474,22 @@ first_begins (Some (Closure k env head)) a = tt
 pub turn_runs : (t : MachineThread) (u : Shared) (a : Answer) → MayResume (Fits stance_of) t u a → IsScript (script_of u.code) × MayRun (standing u t.state) (first_move t a)
 turn_runs t u a may =
     let b = first_poised may.0 u may.1 may.2 t a may.3 may.4 may.5 may.6 in
-    let holds : HoldsAll (standing u t.state).world (first_move t a) = subst (λ (y : MachineThread). HoldsAll (standing u y.state).world (first_move y a)) may.5 (first_holds stance_of u may.0 may.3 may.2 may.1 may.4 a may.6) in
-    ((may.3).script, (above stance_of may.0 (may.1).parent, outermost (may.1).parent, b, first_begins (stance_of t).runs a, holds))
+    let holds : HoldsAll (standing u t.state).world (first_move t a) = subst (λ (y : MachineThread). HoldsAll (standing u y.state).world (first_move y a)) may.5 (first_holds stance_of u may.0 may.3 may.2 may.1 may.4 a may.6) in (
+      (may.3).script,
+      record {
+        above = above stance_of may.0 (may.1).parent;
+        at = outermost (may.1).parent;
+        poised = b;
+        begins = first_begins (stance_of t).runs a;
+        holds = holds;
+        enough = above_has_folders stance_of u may.0 may.3 may.2 may.1 may.4;
+      },
+    )
+
+-- so it may run what it does first
+pub first_runs : (t t1 : MachineThread) (u : Shared) (a : Answer) (first : Move) → MayResume (Fits stance_of) t u a → t1 ≡ record t { start = None } → first ≡ first_move t a → MayRun (standing u t1.state) first
+first_runs t t1 u a first may e is =
+    subst (λ (m : Move). MayRun (standing u t1.state) m) (sym is) (subst (λ (y : MachineThread). MayRun (standing u y.state) (first_move t a)) (sym e) (turn_runs t u a may).1)
 
 -- What it runs ends as a block does.
 script_plain : (root : Term) → IsScript root → is_declaration (shape_at root 0).form ≡ false

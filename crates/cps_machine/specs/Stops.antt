@@ -8,7 +8,7 @@ use Rattle.model_run.specs.Since.{Follows}
 use Rattle.model_run.specs.State.{World}
 use Rattle.run_laws.specs.Soundness.{SoundWorld, branching}
 use Rattle.cps_frames.specs.Standing.{Standing}
-use Rattle.cps_frames.specs.Places.{Holding, Poised}
+use Rattle.cps_frames.specs.Places.{HasFolders, Holding, Poised}
 use Rattle.cps_frames.specs.Runs.{Onward}
 use Rattle.cps_frames.specs.declared.thread.Move.{Move}
 use Rattle.cps_frames.specs.declared.thread.Move.TheVariants.{Ends, Hits, Enter, Asks}
@@ -43,9 +43,15 @@ abbrev pub IsEnd : Standing → Move → Type 0
 IsEnd v (Ends e) = v.stack ≡ []
 IsEnd v m = ⊥
 
--- the thread stands where this move may be made, under some context and from some spot on, and holds the executors of its requests
-abbrev pub MayRun : Standing → Move → Type 0
-MayRun u m = (above : Context) × (at : Spot) × Poised u.world.setting above at u m × Begins m × Holding u.world m
+-- The thread stands where this move may be made, under some context with a folder for each of its requests and from some spot on, and holds
+-- the executors of its own requests.
+pub record MayRun (u : Standing) (m : Move) : Type 0 where
+  pub above : Context
+  pub at : Spot
+  pub poised : Poised u.world.setting above at u m
+  pub begins : Begins m
+  pub holds : Holding u.world m
+  pub enough : HasFolders above
 
 -- What a thread leaves to the others by its moves: the shared state is a later one, in which it has opened the request that it waits
 -- for, and no other; and each branch that begins or ends has made a flow node.

@@ -2,7 +2,7 @@ use Rattle.std.proofs.Common.{true}
 use Rattle.cps_machine.specs.Threads.{IsTurn}
 use Rattle.cps_machine.specs.declared.thread.MachineThread.{MachineThread}
 use Rattle.cps_frames.specs.Standing.{standing}
-use Rattle.cps_machine.proofs.ResumeLaws.{turn_begins, turn_branch, turn_ends, turn_keeps, turn_lowers, turn_made}
+use Rattle.cps_machine.proofs.ResumeLaws.{first_runs, turn_begins, turn_branch, turn_ends, turn_keeps, turn_lowers, turn_made}
 use Rattle.cps_machine.proofs.StanceLaws.{turn_is}
 use Rattle.script_thread.proofs.Stays.{stays_less}
 use Rattle.cps_machine.proofs.thread.MachineThreadRunner.resume.Goals as goal
@@ -33,6 +33,9 @@ pub returns-clause-branch : goal.returns-clause-branch
 returns-clause-branch c =
     turn_branch c.args.self.now _ c.args.shared.now c.run.new.shared c.args.answer c.in_ok-stop.stop c.requires.ready
     (turn_made c.args.self.now c.first_move-first.new.self c.args.shared.now c.run.new.shared c.args.answer _ c.in_ok-stopped.stopped c.run.new.state c.in_ok-stop.stop c.first_move-first.ensures.begun c.first_move-first.ensures.first c.in_ok-stopped.ensures.stops c.in_ok-stop.ensures c.run.new.low (stays_less c.first_move-first.new.self.low c.lowest-self.result c.first_move-first.new.self.state.stack.items c.run.new.low c.run.new.state.stack.items c.lowest-self.ensures.0 c.in_ok-stopped.ensures.stays))
+
+pub run-requires-clause-may : goal.run-requires-clause-may
+run-requires-clause-may c = first_runs c.args.self.now c.first_move-first.new.self c.args.shared.now c.args.answer c.first_move-first.result c.requires.ready c.first_move-first.ensures.begun c.first_move-first.ensures.first
 
 pub stop-requires : goal.stop-requires
 stop-requires c =
