@@ -22,6 +22,9 @@ pub(crate) fn changed<T: Drop, C: Change<T>>(
     requires { EachBelow C.changing.order changes }
     ensures { Applies result (changed C.changing changes items) }
 {
+    if changes.is_empty() {
+        return Ok(items);
+    }
     let mut done = Sequence::new(alloc);
     let mut rest = VecDeque::from_vec(items.into_vec());
     merge(&mut done, &mut rest, changes)?;
