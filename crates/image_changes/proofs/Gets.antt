@@ -1,20 +1,27 @@
 -- When lists are the same.
-use Rattle.std.proofs.Common.{◌≡◌, ◌∙◌, ◌<◌, ◌≤◌, ℕ, zero, suc, List, [], ◌∷◌, ◌++◌, ◌-◌, length, slice_get, take, drop, get_or, Some, None, refl, sym, ap, subst, arith, length-append, length-drop}
-use Rattle.std.specs.Prelude.{map}
-use Rattle.std.specs.List.{AllByRecursion as AllAre}
-use Rattle.std.proofs.lemmas.List.{same_lists, drop_all, take_all}
+use Rattle.std.proofs.Common.{◌≡◌, ◌∙◌, ◌<◌, ◌≤◌, ℕ, zero, suc, List, [], ◌∷◌, ◌++◌, ◌-◌, length, slice_get, take, drop, get_or, Option, Some, None, refl, sym, ap, subst, arith, length-append, length-drop}
+use Rattle.std.specs.Prelude.{MatchOption}
+use Rattle.std.specs.Borrow.{Bor}
+use Rattle.std.specs.List.{AllByRecursion as AllAre, HoldsAt}
+use Rattle.std.specs.Option.{option_copied}
+use Rattle.std.proofs.lemmas.List.{drop_all, take_all}
 use Rattle.std.proofs.Math.Seq.{drop-append_seam}
 use Rattle.model_run.specs.FlowNodes.{IsFront}
 use Rattle.std.proofs.lemmas.Option.{slice_get-get_or, slice_get_past}
 
--- items that are there, at each place
-pub from_gets : {X : Type 0} (xs ys : List X) (n : ℕ) → length xs ≡ length ys → length xs ≤ n → ((k : ℕ) → k < n → slice_get xs k ≡ slice_get ys k) → xs ≡ ys
-from_gets xs ys n same all gets = same_lists xs ys same λ k d lt.
-    let a = slice_get-get_or xs k d lt in
-    let b = slice_get-get_or ys k d (omega (arith, same, lt)) in
-    let e = gets k (omega (arith, lt, all)) in
-    let is : Some (get_or xs k d) ≡ Some (get_or ys k d) = sym a ∙ e ∙ b in
-    cc
+-- what a look-up lends, or that it lends nothing
+pub lent : {X : Type 0} (xs : List X) (k : ℕ) (o : Option (Bor X)) → MatchOption o (length xs ≤ k) (λ x. (k < length xs) × HoldsAt (λ y. x.now ≡ y) xs k) → option_copied o ≡ slice_get xs k
+lent [] k (Some b) is = absurd (omega (arith, is.0))
+lent (x ∷ xs) zero (Some b) is = ap Some (is.1 x)
+lent (x ∷ xs) (suc k) (Some b) is = let lt = is.0 in lent xs k (Some b) (omega (arith, lt), is.1)
+lent [] k None is = refl
+lent (x ∷ xs) zero None is = absurd (omega (arith, is))
+lent (x ∷ xs) (suc k) None is = lent xs k None (omega (arith, is))
+
+-- nothing is there of which there is no item
+pub no_item : {X : Type 0} (o : Option X) → ((x : X) → o ≡ Some x → ⊥) → o ≡ None
+no_item None none = refl
+no_item (Some x) none = absurd (none x refl)
 
 -- a list from an item on
 pub from_item : {X : Type 0} (xs : List X) (k : ℕ) (x : X) → slice_get xs k ≡ Some x → drop k xs ≡ x ∷ drop (suc k) xs
@@ -63,12 +70,7 @@ shorter_front (suc n) (suc k) (x ∷ xs) (y ∷ ys) le e =
     let others : take n xs ≡ take n ys = cc in
     ap (λ (z : _). z ∷ take k xs) first ∙ ap (λ (l : _). y ∷ l) (shorter_front n k xs ys (omega (arith, le)) others)
 
--- fronts that were made item by item
-pub mapped_more : {X Y : Type 0} (f : X → Y) (xs : List X) (k : ℕ) (x : X) → slice_get xs k ≡ Some x → map f (take (suc k) xs) ≡ map f (take k xs) ++ f x ∷ []
-mapped_more f [] k x e = absurd cc
-mapped_more f (y ∷ ys) zero x e = let same : y ≡ x = cc in ap (λ (z : _). f z ∷ []) same
-mapped_more f (y ∷ ys) (suc k) x e = ap (λ (l : _). f y ∷ l) (mapped_more f ys k x e)
-
+-- a front with one item more that has a property
 pub all_more : {X : Type 0} (P : X → Type 0) (xs : List X) (k : ℕ) (x : X) → slice_get xs k ≡ Some x → AllAre P (take k xs) → P x → AllAre P (take (suc k) xs)
 all_more P [] k x e all one = absurd cc
 all_more P (y ∷ ys) zero x e all one = let same : x ≡ y = cc in (subst P same one, tt)
@@ -83,12 +85,6 @@ behind_front (x ∷ xs) (y ∷ ys) (suc n) le e =
     let first : y ≡ x = cc in
     let others : take n xs ≡ take n ys = cc in
     ap (λ (z : _). z ∷ ys) first ∙ ap (λ (l : _). x ∷ l) (behind_front xs ys n (omega (arith, le)) others)
-
--- where one list goes on as the other, they have the same items as far as the other has
-pub front_gets : {X : Type 0} (xs more : List X) (k : ℕ) → k < length xs → slice_get xs k ≡ slice_get (xs ++ more) k
-front_gets [] more k lt = absurd (omega (arith, lt))
-front_gets (x ∷ xs) more zero lt = refl
-front_gets (x ∷ xs) more (suc k) lt = front_gets xs more k (omega (arith, lt))
 
 -- a list begins with another that has the same items as far as it goes
 pub front_from_gets : {X : Type 0} (xs ys : List X) (n : ℕ) → length xs ≤ n → ((k : ℕ) → k < n → slice_get xs k ≡ slice_get ys k) → take (length xs) ys ≡ xs

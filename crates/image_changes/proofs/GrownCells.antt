@@ -1,5 +1,5 @@
 -- Lists and maps that have grown.
-use Rattle.std.proofs.Common.{◌≡◌, ◌∙◌, ◌<◌, ℕ, suc, Bool, true, false, List, [], ◌∷◌, ◌++◌, length, drop, take, slice_get, Option, Some, None, refl, sym, ap, subst, append_assoc, cond}
+use Rattle.std.proofs.Common.{◌≡◌, ◌∙◌, ◌<◌, ◌≤◌, ℕ, suc, Bool, true, false, List, [], ◌∷◌, ◌++◌, length, drop, take, slice_get, Option, Some, None, refl, sym, ap, subst, append_assoc, arith, cond}
 use Rattle.std.specs.Prelude.{if◌then◌else◌}
 use Rattle.std.specs.List.{AllByRecursion as AllAre, IsDistinct}
 use Rattle.std.specs.Map.{keys_of, lookup}
@@ -18,6 +18,7 @@ use Rattle.delta_form.specs.After.{put_entry, written_cell}
 use Rattle.delta_form.specs.declared.delta.WrittenCell.{WrittenCell}
 use Rattle.delta_form.specs.declared.delta.WrittenCell.TheVariants as now
 use Rattle.delta_form.proofs.PutCells.{item_at}
+use Rattle.image_changes.specs.Growing.{CellChanges}
 use Rattle.image_changes.specs.Least.{CannotGrowTo, IsShortCell}
 
 -- ---- keys
@@ -99,10 +100,10 @@ map_now entries (Some (cell.Map had)) n is = go (in_turn put_entry entries had) 
         (had, refl, sym same ∙ ap (λ (l : List Entry). cell.Map l) (entries_behind had entries all e))
 map_now entries (Some c) n is = absurd cc
 
-pub list_grows : (had more has : Values) → has ≡ had ++ more → written_cell (now.GrownList more) (Some (cell.List had)) ≡ Some (cell.List has)
+list_grows : (had more has : Values) → has ≡ had ++ more → written_cell (now.GrownList more) (Some (cell.List had)) ≡ Some (cell.List has)
 list_grows had more has is = ap (λ (l : Values). Some (cell.List l)) (sym is)
 
-pub map_grows : (had es has : List Entry) → IsDistinct same_key (keys_of has) → has ≡ had ++ es → written_cell (now.GrownMap es) (Some (cell.Map had)) ≡ Some (cell.Map has)
+map_grows : (had es has : List Entry) → IsDistinct same_key (keys_of has) → has ≡ had ++ es → written_cell (now.GrownMap es) (Some (cell.Map had)) ≡ Some (cell.Map has)
 map_grows had es has distinct is =
     ap (option_map (λ all. cell.Map all)) (entries_put had es (subst (λ (l : List Entry). IsDistinct same_key (keys_of l)) is distinct))
     ∙ ap (λ (l : List Entry). Some (cell.Map l)) (sym is)
@@ -115,13 +116,13 @@ same_lists_of vs ws is = cc
 same_maps_of : (es fs : List Entry) → cell.Map es ≡ cell.Map fs → es ≡ fs
 same_maps_of es fs is = cc
 
-pub list_cannot : (had has : Values) → ((more : Values) → ¬ (has ≡ had ++ more)) → CannotGrowTo (Some (cell.List had)) (cell.List has)
+list_cannot : (had has : Values) → ((more : Values) → ¬ (has ≡ had ++ more)) → CannotGrowTo (Some (cell.List had)) (cell.List has)
 list_cannot had has none = (
   λ values is. let made : cell.List (had ++ values) ≡ cell.List has = cc in none values (sym (same_lists_of (had ++ values) has made)),
   λ entries is. absurd cc,
 )
 
-pub map_cannot : (had has : List Entry) → ((more : List Entry) → ¬ (has ≡ had ++ more)) → CannotGrowTo (Some (cell.Map had)) (cell.Map has)
+map_cannot : (had has : List Entry) → ((more : List Entry) → ¬ (has ≡ had ++ more)) → CannotGrowTo (Some (cell.Map had)) (cell.Map has)
 map_cannot had has none = (
   λ values is. absurd cc,
   λ entries is.
@@ -130,6 +131,41 @@ map_cannot had has none = (
       let stood : cell.Map had ≡ cell.Map made.0 = cc in
       none entries (same_maps_of has (made.0 ++ entries) made.2 ∙ ap (λ (l : List Entry). l ++ entries) (sym (same_maps_of had made.0 stood))),
 )
+
+-- ---- how a list or a map that stood is written
+
+module _ {X : Type 0} (whole : List X → Cell) (one : (xs ys : List X) → whole xs ≡ whole ys → xs ≡ ys) where
+  unlike_longer : (had more has : List X) → has ≡ had ++ more → 1 ≤ length more → ¬ (Some (whole had) ≡ Some (whole has))
+  unlike_longer had more has is some same =
+      let stood : whole had ≡ whole has = cc in
+      let none : more ≡ [] = append_cancel_left had more [] (sym is ∙ sym (one had has stood) ∙ sym (append-nil had)) in
+      omega (arith, some, ap length none)
+
+  unlike_other : (had has : List X) → ((more : List X) → ¬ (has ≡ had ++ more)) → ¬ (Some (whole had) ≡ Some (whole has))
+  unlike_other had has none same = let stood : whole had ≡ whole has = cc in none [] (sym (one had has stood) ∙ sym (append-nil had))
+
+  -- nothing stands behind what it had
+  stands : (had more has : List X) → has ≡ had ++ more → length more < 1 → CellChanges (Some (whole had)) (whole has) None
+  stands had [] has is few = ap (λ l. Some (whole l)) (sym (is ∙ append-nil had))
+  stands had (x ∷ more) has is few = absurd (omega (arith, few))
+
+pub list_grown : (had more has : Values) → has ≡ had ++ more → 1 ≤ length more → CellChanges (Some (cell.List had)) (cell.List has) (Some (now.GrownList more))
+list_grown had more has is some = (unlike_longer (λ l. cell.List l) same_lists_of had more has is some, (list_grows had more has is, tt))
+
+pub list_replaced : (had has : Values) → ((more : Values) → ¬ (has ≡ had ++ more)) → CellChanges (Some (cell.List had)) (cell.List has) (Some (now.Whole (cell.List has)))
+list_replaced had has none = (unlike_other (λ l. cell.List l) same_lists_of had has none, (refl, list_cannot had has none))
+
+pub list_stands : (had more has : Values) → has ≡ had ++ more → length more < 1 → CellChanges (Some (cell.List had)) (cell.List has) None
+list_stands = stands (λ l. cell.List l) same_lists_of
+
+pub map_grown : (had es has : List Entry) → IsDistinct same_key (keys_of has) → has ≡ had ++ es → 1 ≤ length es → CellChanges (Some (cell.Map had)) (cell.Map has) (Some (now.GrownMap es))
+map_grown had es has distinct is some = (unlike_longer (λ l. cell.Map l) same_maps_of had es has is some, (map_grows had es has distinct is, tt))
+
+pub map_replaced : (had has : List Entry) → ((more : List Entry) → ¬ (has ≡ had ++ more)) → CellChanges (Some (cell.Map had)) (cell.Map has) (Some (now.Whole (cell.Map has)))
+map_replaced had has none = (unlike_other (λ l. cell.Map l) same_maps_of had has none, (refl, map_cannot had has none))
+
+pub map_stands : (had es has : List Entry) → has ≡ had ++ es → length es < 1 → CellChanges (Some (cell.Map had)) (cell.Map has) None
+map_stands = stands (λ l. cell.Map l) same_maps_of
 
 -- ---- one cell is written in one way
 

@@ -7,7 +7,7 @@ use Rattle.image_form.specs.declared.image.ImageThread.{ImageThread}
 use Rattle.delta_form.specs.After.{grown, written_cell}
 use Rattle.delta_form.specs.declared.delta.WrittenCell.{WrittenCell}
 use Rattle.delta_form.specs.declared.delta.WrittenThread.{WrittenThread}
-use Rattle.image_changes.specs.Least.{CannotGrowTo, IsShortCell}
+use Rattle.image_changes.specs.Least.{IsShortCell}
 use Rattle.image_changes.specs.declared.requests.Growth.{Growth}
 
 -- A request that stood is not this one, and grown so it is; or it is this one.
@@ -19,10 +19,10 @@ TaskGrows stood item (Some g) = ¬ (stood ≡ item) × (grown g.taken g.out stoo
 abbrev pub WritesCell : Option Cell → Cell → WrittenCell → Type 0
 WritesCell stood cell w = (written_cell w stood ≡ Some cell) × IsShortCell w stood
 
--- What stood grows so to the cell; or nothing behind it makes the cell.
-abbrev pub CellGrows : Option Cell → Cell → Option WrittenCell → Type 0
-CellGrows stood cell None = CannotGrowTo stood cell
-CellGrows stood cell (Some w) = WritesCell stood cell w
+-- What stood is this cell; or it is not, and this makes the cell of it and is the shortest that does.
+abbrev pub CellChanges : Option Cell → Cell → Option WrittenCell → Type 0
+CellChanges stood cell None = stood ≡ Some cell
+CellChanges stood cell (Some w) = ¬ (stood ≡ Some cell) × WritesCell stood cell w
 
 -- two threads differ at most in their frames
 abbrev pub HasSameNumbers : ImageThread → ImageThread → Type 0

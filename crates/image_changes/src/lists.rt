@@ -114,8 +114,7 @@ fn note_cell(
 ) -> Result<(), AllocError>
     ensures { OnOk result (NotesCell before.now place cell.now changed.old changed.new) }
 {
-    if !is_at(before, place as usize, cell) {
-        let written = written_cell(alloc, before.get(place as usize), cell)?;
+    if let Some(written) = written_cell(alloc, before.get(place as usize), cell)? {
         changed.push(NumberedCell {
             number: place,
             cell: written,

@@ -1,6 +1,6 @@
 //! Whether two parts of images are the same.
 
-ghost use Rattle.std.specs.Prelude.{◌≡◌, ◌↔◌, ◌<◌, ◌≤◌, ◌++◌, IsTrue, List, MatchOption, Some, length, option_map, slice_get, take};
+ghost use Rattle.std.specs.Prelude.{◌≡◌, ◌↔◌, ◌<◌, ◌≤◌, IsTrue, Some, length, option_map, slice_get, take};
 ghost use Rattle.std.specs.Map.Iter.{deref_pair};
 
 use image_form::ImageFrame;
@@ -113,6 +113,9 @@ impl Same for Entries {
 pub(crate) fn begins_with(entries: &Entries, front: &Entries) -> bool
     ensures { IsTrue result ↔ (take (length front.now) entries.now ≡ front.now) }
 {
+    if entries.len() < front.len() {
+        return false;
+    }
     for place in 0..front.len() {
         if !is_same_entry(front.entry_at(place), entries.entry_at(place)) {
             return false;
@@ -168,16 +171,6 @@ pub(crate) fn common_length<T: Same>(had: &[T], has: &[T]) -> usize
         }
     }
     has.len()
-}
-
-/// What stands behind the list before, where that is the front of the list now.
-pub(crate) fn behind<'a, T: Same>(before: &[T], now: &'a [T]) -> Option<&'a [T]>
-    ensures { MatchOption result ((more : List _) → ¬ (now.now ≡ before.now ++ more)) (λ rest. now.now ≡ before.now ++ rest.now) }
-{
-    if common_length(before, now) < before.len() {
-        return None;
-    }
-    Some(&now[before.len()..])
 }
 
 /// Whether the same item stands at this place.

@@ -6,42 +6,29 @@ ghost use Rattle.std.specs.Map.{keys_of, lookup};
 ghost use Rattle.std.specs.Option.{option_copied};
 ghost use Rattle.model_values.specs.Keys.{same_key};
 ghost use Rattle.model_values.specs.declared.cell.Cell.TheVariants.{List as ListCell, Map as MapCell};
-ghost use Rattle.image_changes.specs.Growing.{CellGrows, WritesCell};
+ghost use Rattle.image_changes.specs.Growing.{CellChanges};
 
-use crate::same::{begins_with, behind};
+use crate::same::{Same, begins_with};
 use delta_form::WrittenCell;
 use model_text::Sequence;
 use model_values::{Cell, Entries, Value};
 use std::alloc::{AllocError, Global};
 
-/// What makes the cell of what stood, as short as it can be written.
+/// What makes the cell of what stood, as short as it can be written, or nothing where it stood so.
 pub(crate) fn written_cell(
     alloc: Global,
     stood: Option<&Cell>,
     cell: &Cell,
-) -> Result<WrittenCell, AllocError>
-    ensures { IfOk result (WritesCell (option_copied stood.entry) cell.now) }
-{
-    match grown(alloc, stood, cell)? {
-        Some(grown) => Ok(grown),
-        None => Ok(WrittenCell::Whole(copied_cell(cell)?)),
-    }
-}
-
-/// How a list or a map has grown.
-fn grown(
-    alloc: Global,
-    stood: Option<&Cell>,
-    cell: &Cell,
 ) -> Result<Option<WrittenCell>, AllocError>
-    ensures { IfOk result (CellGrows (option_copied stood.entry) cell.now) }
+    ensures { IfOk result (CellChanges (option_copied stood.entry) cell.now) }
 {
     match (stood, cell) {
         (Some(Cell::List(had)), Cell::List(has)) => {
-            grown_list(alloc, had.as_slice(), has.as_slice())
+            written_list(alloc, had.as_slice(), has.as_slice())
         }
-        (Some(Cell::Map(had)), Cell::Map(has)) => grown_map(alloc, had, has),
-        _ => Ok(None),
+        (Some(Cell::Map(had)), Cell::Map(has)) => written_map(alloc, had, has),
+        (Some(old), _) if old.is_same(cell) => Ok(None),
+        _ => Ok(Some(WrittenCell::Whole(copied_cell(cell)?))),
     }
 }
 
@@ -53,28 +40,40 @@ fn copied_cell(cell: &Cell) -> Result<Cell, AllocError>
     Ok(copy)
 }
 
-/// The values that a list has behind those that it had, where it had no others.
-fn grown_list(
+/// How a list is written that stood: by the values behind those that it had, where it has kept them all.
+fn written_list(
     alloc: Global,
     had: &[Value],
     has: &[Value],
 ) -> Result<Option<WrittenCell>, AllocError>
-    ensures { IfOk result (CellGrows (Some (ListCell had.now)) (ListCell has.now)) }
+    ensures { IfOk result (CellChanges (Some (ListCell had.now)) (ListCell has.now)) }
 {
-    match behind(had, has) {
+    match has.strip_prefix(had) {
+        Some([]) => Ok(None),
         Some(more) => {
             let values = Sequence::from_slice(alloc, more)?;
             Ok(Some(WrittenCell::GrownList(values)))
         }
-        None => Ok(None),
+        None => {
+            let values = Sequence::from_slice(alloc, has)?;
+            Ok(Some(WrittenCell::Whole(Cell::List(values))))
+        }
     }
 }
 
-/// The entries that a map has behind those that it had, where it had no others.
-fn grown_map(alloc: Global, had: &Entries, has: &Entries) -> Result<Option<WrittenCell>, AllocError>
-    ensures { IfOk result (CellGrows (Some (MapCell had.now)) (MapCell has.now)) }
+/// How a map is written that stood: by the entries behind those that it had, where it has kept them all.
+fn written_map(
+    alloc: Global,
+    had: &Entries,
+    has: &Entries,
+) -> Result<Option<WrittenCell>, AllocError>
+    ensures { IfOk result (CellChanges (Some (MapCell had.now)) (MapCell has.now)) }
 {
     if !begins_with(has, had) {
+        let entries = has.clone()?;
+        return Ok(Some(WrittenCell::Whole(Cell::Map(entries))));
+    }
+    if has.len() == had.len() {
         return Ok(None);
     }
     let entries = entries_from(alloc, has, had.len())?;
