@@ -1,5 +1,5 @@
--- The first element that passes a test, by its place and after a push.
-use Rattle.std.proofs.Common.{◌≡◌, ◌<◌, ℕ, zero, suc, ◌+◌, Bool, true, false, cond, List, [], ◌∷◌, ◌++◌, length, get_or, Option, Some, None, refl, sym, ◌∙◌, ap, arith}
+-- The first element that passes a test, by its place.
+use Rattle.std.proofs.Common.{◌≡◌, ◌<◌, ℕ, zero, suc, ◌+◌, Bool, true, false, cond, List, [], ◌∷◌, length, get_or, Some, None, refl, sym, ◌∙◌, ap, arith}
 use Rattle.std.specs.Prelude.{find, position}
 use Rattle.std.specs.List.{position_from}
 use Rattle.std.proofs.lemmas.Iterator.Adapters.{position_from-zero}
@@ -26,17 +26,3 @@ none_from {X} p (x ∷ xs) n is = by (p x) is (none_from p xs (n + 1))
 
 pub find-position-None : {X : Type 0} (p : X → Bool) (xs : List X) → position p xs ≡ None → find p xs ≡ None
 find-position-None p xs is = none_from p xs 0 (sym (position_from-zero p xs) ∙ is)
-
--- one more behind, which does not pass
-pub find-push_other : {X : Type 0} (q : X → Bool) (xs : List X) (y : X) → q y ≡ false → find q (xs ++ y ∷ []) ≡ find q xs
-find-push_other q [] y fails = rw fails refl
-find-push_other q (x ∷ xs) y fails = ap (λ (o : Option _). cond (q x) (Some x) o) (find-push_other q xs y fails)
-
--- one more behind the one that was found
-pub find-push_Some : {X : Type 0} (p : X → Bool) (xs : List X) (x y : X) → find p xs ≡ Some x → find p (xs ++ y ∷ []) ≡ Some x
-find-push_Some p [] x y is = absurd cc
-find-push_Some {X} p (z ∷ xs) x y is = by (p z) is (find-push_Some p xs x y)
-  where
-    by : (b : Bool) → cond b (Some z) (find p xs) ≡ Some x → (find p xs ≡ Some x → find p (xs ++ y ∷ []) ≡ Some x) → cond b (Some z) (find p (xs ++ y ∷ [])) ≡ Some x
-    by true e rest = e
-    by false e rest = rest e

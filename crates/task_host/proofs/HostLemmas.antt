@@ -1,5 +1,5 @@
 -- What a host promises, of one in memory: it follows from what its calls make of folders and tasks.
-use Rattle.std.proofs.Common.{◌≡◌, ◌-◌, ℕ, ℤ, Bool, true, false, cond, List, [], ◌∷◌, ◌++◌, length, take, min, Option, Result, Ok, Err, inl, inr, refl, sym, ◌∙◌, ap, subst, arith}
+use Rattle.std.proofs.Common.{◌≡◌, ◌-◌, ℕ, ℤ, List, length, take, min, Option, Result, Ok, Err, inl, inr, sym, ◌∙◌, ap, subst, arith}
 use Rattle.std.proofs.Math.Seq.{take-length}
 use Rattle.device_faults.specs.declared.faults.Failed.{Failed}
 use Rattle.task_host.specs.declared.answers.Made.{Made}
@@ -9,22 +9,22 @@ use Rattle.task_host.specs.declared.answers.Started.TheVariants as started
 use Rattle.task_host.specs.declared.answers.Look.{Look}
 use Rattle.task_host.specs.declared.answers.Look.TheVariants as look
 use Rattle.task_host.specs.declared.order.Stream.{Stream}
-use Rattle.task_host.specs.declared.outcome.TaskOutcome.{TaskOutcome}
+use Rattle.task_host.specs.declared.memory.behavior.Behavior.{Behavior}
 use Rattle.task_host.specs.Host.{MakesFolder, RemovesFolder, LaunchesAtMost, Launches, TellsState, Stays, GoesOn, Reads}
-use Rattle.task_host.specs.Tasks.{State, written_by, ended_with, echo_of, MakesDir, Starts, Looks, Removes}
-use Rattle.task_host.proofs.OutcomeLemmas.{AddsOutcome, launch_goes_on, look_goes_on, not_ended, ended_now}
+use Rattle.task_host.specs.Tasks.{State, written_by, ended_with, MakesDir, Starts, Looks, Removes}
+use Rattle.task_host.proofs.OutcomeLemmas.{launch_goes_on, look_goes_on, not_ended, ended_now}
 
 abbrev output : State → ℕ → Stream → List ℕ
-output s = written_by s.launches s.outcomes
+output s = written_by s.launches s.behavior
 
 abbrev exited : State → ℕ → Option ℤ
-exited s = ended_with s.launches s.outcomes
+exited s = ended_with s.launches s.behavior
 
--- a call that leaves launches and outcomes alone
-stays : (old new : State) → new.launches ≡ old.launches → new.outcomes ≡ old.outcomes → Stays (exited old) (exited new) (output old) (output new)
-stays old new launches outcomes = record {
-  output = λ task stream. ap (λ (l : List ℕ). written_by l new.outcomes task stream) launches ∙ ap (λ (o : List TaskOutcome). written_by old.launches o task stream) outcomes;
-  exited = λ task. ap (λ (l : List ℕ). ended_with l new.outcomes task) launches ∙ ap (λ (o : List TaskOutcome). ended_with old.launches o task) outcomes;
+-- a call that leaves launches alone, and what the tasks do
+stays : (old new : State) → new.launches ≡ old.launches → new.behavior ≡ old.behavior → Stays (exited old) (exited new) (output old) (output new)
+stays old new launches behavior = record {
+  output = λ task stream. ap (λ (l : List ℕ). written_by l new.behavior task stream) launches ∙ ap (λ (b : Behavior). written_by old.launches b task stream) behavior;
+  exited = λ task. ap (λ (l : List ℕ). ended_with l new.behavior task) launches ∙ ap (λ (b : Behavior). ended_with old.launches b task) behavior;
 }
 
 goes_on_at : (task : ℕ) (old new : State) → Stays (exited old) (exited new) (output old) (output new) → GoesOn task (exited old) (exited new) (output old) (output new)
@@ -38,7 +38,7 @@ goes_on_at task old new same = record {
 
 -- a call that leaves folders and tasks alone
 pub same_goes_on : (task : ℕ) (old new : State) → new ≡ old → GoesOn task (exited old) (exited new) (output old) (output new)
-same_goes_on task old new same = goes_on_at task old new (stays old new (ap (λ (s : State). s.launches) same) (ap (λ (s : State). s.outcomes) same))
+same_goes_on task old new same = goes_on_at task old new (stays old new (ap (λ (s : State). s.launches) same) (ap (λ (s : State). s.behavior) same))
 
 -- ---- make_dir
 
@@ -53,13 +53,13 @@ module _ (task : ℕ) (old new : State) where
   make_launches made.Exists is = ap (λ (s : State). s.launches) is.1
   make_launches made.Failed is = ap (λ (s : State). s.launches) is
 
-  make_outcomes : (answer : Made) → MakesDir task old new answer → new.outcomes ≡ old.outcomes
-  make_outcomes made.Made is = ap (λ (s : State). s.outcomes) is.1
-  make_outcomes made.Exists is = ap (λ (s : State). s.outcomes) is.1
-  make_outcomes made.Failed is = ap (λ (s : State). s.outcomes) is
+  make_behavior : (answer : Made) → MakesDir task old new answer → new.behavior ≡ old.behavior
+  make_behavior made.Made is = ap (λ (s : State). s.behavior) is.1
+  make_behavior made.Exists is = ap (λ (s : State). s.behavior) is.1
+  make_behavior made.Failed is = ap (λ (s : State). s.behavior) is
 
   pub make_stays : (answer : Made) → MakesDir task old new answer → Stays (exited old) (exited new) (output old) (output new)
-  make_stays answer is = stays old new (make_launches answer is) (make_outcomes answer is)
+  make_stays answer is = stays old new (make_launches answer is) (make_behavior answer is)
 
 -- ---- start
 
@@ -76,16 +76,14 @@ module _ (task : ℕ) (old new : State) where
   start_dirs started.Started is = ap (λ (s : State). s.dirs) is.1
   start_dirs started.Failed is = ap (λ (s : State). s.dirs) is
 
-  adds : (answer : Started) → Starts task old new answer → AddsOutcome task old.outcomes new.outcomes
-  adds started.Started is = by old.echoes (ap (λ (s : State). s.outcomes) is.1)
-    where
-      by : (b : Bool) → new.outcomes ≡ cond b (old.outcomes ++ echo_of task ∷ []) old.outcomes → AddsOutcome task old.outcomes new.outcomes
-      by true more = inr (echo_of task, refl, more)
-      by false same = inl same
-  adds started.Failed is = inl (ap (λ (s : State). s.outcomes) is)
+  start_behavior : (answer : Started) → Starts task old new answer → new.behavior ≡ old.behavior
+  start_behavior started.Started is = ap (λ (s : State). s.behavior) is.1
+  start_behavior started.Failed is = ap (λ (s : State). s.behavior) is
 
   pub start_goes_on : (answer : Started) → Starts task old new answer → GoesOn task (exited old) (exited new) (output old) (output new)
-  start_goes_on answer is = launch_goes_on task old.launches new.launches old.outcomes new.outcomes (starts_at_most answer is) (adds answer is)
+  start_goes_on answer is =
+      subst (λ (b : Behavior). GoesOn task (exited old) (ended_with new.launches b) (output old) (written_by new.launches b)) (sym (start_behavior answer is))
+      (launch_goes_on task old.launches new.launches old.behavior (starts_at_most answer is))
 
 -- ---- look
 
@@ -93,8 +91,8 @@ module _ (task : ℕ) (old new : State) where
   pub look_state : (answer : Look) → Looks task old new answer → TellsState task old.dirs old.launches (exited old task) (exited new task) answer
   look_state look.Absent is = is.0
   look_state look.NotStarted is = (is.0, is.1)
-  look_state look.Running is = (is.0, is.1, not_ended task old.launches old.outcomes is.2)
-  look_state (look.Exited code) is = (is.0, is.1, ap (λ (s : State). exited s task) is.3 ∙ ended_now task code old.launches old.outcomes is.1 is.2)
+  look_state look.Running is = (is.0, is.1, not_ended task old.launches old.behavior is.2)
+  look_state (look.Exited code) is = (is.0, is.1, ap (λ (s : State). exited s task) is.3 ∙ ended_now task code old.launches old.behavior is.1 is.2)
   look_state look.Failed is = tt
 
   pub look_launches : (answer : Look) → Looks task old new answer → new.launches ≡ old.launches
@@ -115,7 +113,7 @@ module _ (task : ℕ) (old new : State) where
   looks_go_on look.Absent is = same_goes_on task old new is.1
   looks_go_on look.NotStarted is = same_goes_on task old new is.2
   looks_go_on look.Running is =
-      subst (λ (s : State). GoesOn task (exited old) (exited s) (output old) (output s)) (sym is.3) (look_goes_on task old.launches old.outcomes is.2)
+      subst (λ (s : State). GoesOn task (exited old) (exited s) (output old) (output s)) (sym is.3) (look_goes_on task old.launches old.behavior is.2)
   looks_go_on (look.Exited code) is = same_goes_on task old new is.3
   looks_go_on look.Failed is = same_goes_on task old new is
 
@@ -135,9 +133,9 @@ module _ (task : ℕ) (old new : State) where
   remove_launches (Ok done) is = ap (λ (s : State). s.launches) is
   remove_launches (Err failed) is = ap (λ (s : State). s.launches) is
 
-  remove_outcomes : (answer : Result (Unit {0}) Failed) → Removes task old new answer → new.outcomes ≡ old.outcomes
-  remove_outcomes (Ok done) is = ap (λ (s : State). s.outcomes) is
-  remove_outcomes (Err failed) is = ap (λ (s : State). s.outcomes) is
+  remove_behavior : (answer : Result (Unit {0}) Failed) → Removes task old new answer → new.behavior ≡ old.behavior
+  remove_behavior (Ok done) is = ap (λ (s : State). s.behavior) is
+  remove_behavior (Err failed) is = ap (λ (s : State). s.behavior) is
 
   pub remove_stays : (answer : Result (Unit {0}) Failed) → Removes task old new answer → Stays (exited old) (exited new) (output old) (output new)
-  remove_stays answer is = stays old new (remove_launches answer is) (remove_outcomes answer is)
+  remove_stays answer is = stays old new (remove_launches answer is) (remove_behavior answer is)

@@ -20,8 +20,8 @@ calls_of host = option_map (λ calls. calls.items) host.calls
 
 -- what a task has written
 abbrev pub output_of : MemoryHost → ℕ → Stream → List ℕ
-output_of host = written_by (tasks_of host).launches (tasks_of host).outcomes
+output_of host = written_by (tasks_of host).launches (tasks_of host).behavior
 
 -- the code of a task that has ended
 abbrev pub exited_of : MemoryHost → ℕ → Option ℤ
-exited_of host = ended_with (tasks_of host).launches (tasks_of host).outcomes
+exited_of host = ended_with (tasks_of host).launches (tasks_of host).behavior

@@ -5,7 +5,7 @@ use Rattle.std.proofs.Common.{refl, ap, ◌∙◌}
 use Rattle.std.proofs.lemmas.Bool.{eqb-true}
 use Rattle.std.proofs.lemmas.List.{get_or_default}
 use Rattle.std.proofs.lemmas.List.Folds.{Any-from_list_any}
-use Rattle.task_host.specs.declared.outcome.TaskOutcome.{TaskOutcome}
+use Rattle.task_host.specs.declared.memory.behavior.Behavior.{Behavior}
 use Rattle.task_host.specs.Host.{IsIdle}
 use Rattle.task_host.specs.Tasks.{outcome_of, text_of, code_of, is_launched, written_by, ended_with}
 
@@ -16,12 +16,12 @@ contains_from task launches is =
     (any.0, any.2, get_or_default launches any.0 task any.1 any.2 ∙ any.3 ∙ same)
 
 -- A task that was not launched has written nothing and has not ended.
-pub idle_before_launch : (launches : List ℕ) (outcomes : List TaskOutcome) (task : ℕ) → ¬ Contains launches task → IsIdle (ended_with launches outcomes task) (written_by launches outcomes task)
-idle_before_launch launches outcomes task not_there = by (is_launched task launches) refl
+pub idle_before_launch : (launches : List ℕ) (behavior : Behavior) (task : ℕ) → ¬ Contains launches task → IsIdle (ended_with launches behavior task) (written_by launches behavior task)
+idle_before_launch launches behavior task not_there = by (is_launched task launches) refl
   where
-    by : (b : Bool) → is_launched task launches ≡ b → IsIdle (ended_with launches outcomes task) (written_by launches outcomes task)
+    by : (b : Bool) → is_launched task launches ≡ b → IsIdle (ended_with launches behavior task) (written_by launches behavior task)
     by true is = absurd (not_there (contains_from task launches is))
     by false is = record {
-      output = λ stream. ap (λ b. if b then option_map_or (text_of stream) (outcome_of task outcomes) [] else []) is;
-      exited = ap (λ b. if b then option_and_then code_of (outcome_of task outcomes) else None) is;
+      output = λ stream. ap (λ b. if b then option_map_or (text_of stream) (outcome_of task behavior) [] else []) is;
+      exited = ap (λ b. if b then option_and_then code_of (outcome_of task behavior) else None) is;
     }

@@ -13,22 +13,28 @@ use Rattle.task_host.specs.declared.answers.Look.TheVariants as look
 use Rattle.task_host.specs.declared.order.Stream.{Stream}
 use Rattle.task_host.specs.declared.order.Stream.TheVariants.{Log, Out}
 use Rattle.task_host.specs.declared.outcome.TaskOutcome.{TaskOutcome}
+use Rattle.task_host.specs.declared.memory.behavior.Behavior.{Behavior}
+use Rattle.task_host.specs.declared.memory.behavior.Behavior.TheVariants.{Listed, Echo}
 use Rattle.task_host.specs.Host.{without}
 
--- the folders that stand, the launches in order, what the tasks do, and whether each launched task gets an outcome
+-- the folders that stand, the launches in order, and what the tasks do
 pub record State : Type 0 where
   pub dirs : List ℕ
   pub launches : List ℕ
-  pub outcomes : List TaskOutcome
-  pub echoes : Bool
+  pub behavior : Behavior
 
 -- no folders and no launches
-abbrev pub unused : List TaskOutcome → Bool → State
-unused outcomes echoes = record { dirs = []; launches = []; outcomes = outcomes; echoes = echoes }
+abbrev pub unused : Behavior → State
+unused behavior = record { dirs = []; launches = []; behavior = behavior }
 
--- the first outcome of this task
-abbrev pub outcome_of : ℕ → List TaskOutcome → Option TaskOutcome
-outcome_of task outcomes = find (λ o. nat_eq o.task task) outcomes
+-- A task that echoes writes `out`, its number and a newline to the log, and has ended with code 0 at once.
+abbrev pub echo_of : ℕ → TaskOutcome
+echo_of task = record { task = task; log = codes "out " ++ decimal task ++ codes "\n"; out = []; running = 0; code = pos 0 }
+
+-- what this task does once it was launched: the first outcome that is listed of it
+abbrev pub outcome_of : ℕ → Behavior → Option TaskOutcome
+outcome_of task (Listed outcomes) = find (λ o. nat_eq o.task task) outcomes
+outcome_of task Echo = Some (echo_of task)
 
 -- what it writes to this stream
 abbrev pub text_of : Stream → TaskOutcome → List ℕ
@@ -44,18 +50,14 @@ abbrev pub is_launched : ℕ → List ℕ → Bool
 is_launched task launches = list_any (λ t. nat_eq t task) launches
 
 -- A task writes all that it is to write when it is launched.
-abbrev pub written_by : List ℕ → List TaskOutcome → ℕ → Stream → List ℕ
-written_by launches outcomes task stream =
-    if is_launched task launches then option_map_or (text_of stream) (outcome_of task outcomes) [] else []
+abbrev pub written_by : List ℕ → Behavior → ℕ → Stream → List ℕ
+written_by launches behavior task stream =
+    if is_launched task launches then option_map_or (text_of stream) (outcome_of task behavior) [] else []
 
 -- A task has ended when it was launched and no look is to say that it is running.
-abbrev pub ended_with : List ℕ → List TaskOutcome → ℕ → Option ℤ
-ended_with launches outcomes task =
-    if is_launched task launches then option_and_then code_of (outcome_of task outcomes) else None
-
--- On a host that echoes a task writes `out`, its number and a newline to the log, and has ended with code 0 at once.
-abbrev pub echo_of : ℕ → TaskOutcome
-echo_of task = record { task = task; log = codes "out " ++ decimal task ++ codes "\n"; out = []; running = 0; code = pos 0 }
+abbrev pub ended_with : List ℕ → Behavior → ℕ → Option ℤ
+ended_with launches behavior task =
+    if is_launched task launches then option_and_then code_of (outcome_of task behavior) else None
 
 -- A folder is made where it is not there.
 abbrev pub MakesDir : ℕ → State → State → Made → Type 0
@@ -63,13 +65,9 @@ MakesDir task old new made.Made = (¬ Contains old.dirs task) × (new ≡ record
 MakesDir task old new made.Exists = Contains old.dirs task × (new ≡ old)
 MakesDir task old new made.Failed = new ≡ old
 
--- one launch more, and on a host that echoes one outcome more
-abbrev pub after_launch : ℕ → State → State
-after_launch task s = record s { launches = s.launches ++ task ∷ []; outcomes = if s.echoes then s.outcomes ++ echo_of task ∷ [] else s.outcomes }
-
 -- A task is launched where its folder is there.
 abbrev pub Starts : ℕ → State → State → Started → Type 0
-Starts task old new started.Started = Contains old.dirs task × (new ≡ after_launch task old)
+Starts task old new started.Started = Contains old.dirs task × (new ≡ record old { launches = old.launches ++ task ∷ [] })
 Starts task old new started.Failed = new ≡ old
 
 -- this outcome, with one look less that says that it is running
@@ -77,9 +75,14 @@ abbrev pub one_less : TaskOutcome → TaskOutcome
 one_less o = record o { running = o.running - 1 }
 
 -- the first outcome of this task with one look less
-abbrev pub after_look : ℕ → List TaskOutcome → List TaskOutcome
-after_look task [] = []
-after_look task (o ∷ outcomes) = if nat_eq o.task task then one_less o ∷ outcomes else o ∷ after_look task outcomes
+abbrev pub first_less : ℕ → List TaskOutcome → List TaskOutcome
+first_less task [] = []
+first_less task (o ∷ outcomes) = if nat_eq o.task task then one_less o ∷ outcomes else o ∷ first_less task outcomes
+
+-- what the tasks do after a look at this one
+abbrev pub after_look : ℕ → Behavior → Behavior
+after_look task (Listed outcomes) = Listed (first_less task outcomes)
+after_look task Echo = Echo
 
 -- one look at a launched task with this outcome
 abbrev pub LooksOnce : TaskOutcome → TaskOutcome → Look → Type 0
@@ -99,13 +102,21 @@ abbrev pub HasEnded : ℤ → Option TaskOutcome → Type 0
 HasEnded code None = ⊥
 HasEnded code (Some o) = (o.running ≡ 0) × (code ≡ o.code)
 
+-- one look at a launched task
+abbrev pub LooksAt : ℕ → Behavior → Behavior → Look → Type 0
+LooksAt task old new look.Running = IsRunning (outcome_of task old) × (new ≡ after_look task old)
+LooksAt task old new (look.Exited code) = HasEnded code (outcome_of task old) × (new ≡ old)
+LooksAt task old new look.Absent = ⊥
+LooksAt task old new look.NotStarted = ⊥
+LooksAt task old new look.Failed = ⊥
+
 -- A look tells a task's state: a launched one is running for as many looks as its outcome says, and has then ended.
 abbrev pub Looks : ℕ → State → State → Look → Type 0
 Looks task old new look.Absent = (¬ Contains old.dirs task) × (new ≡ old)
 Looks task old new look.NotStarted = Contains old.dirs task × (¬ Contains old.launches task) × (new ≡ old)
 Looks task old new look.Running =
-    Contains old.dirs task × Contains old.launches task × IsRunning (outcome_of task old.outcomes) × (new ≡ record old { outcomes = after_look task old.outcomes })
-Looks task old new (look.Exited code) = Contains old.dirs task × Contains old.launches task × HasEnded code (outcome_of task old.outcomes) × (new ≡ old)
+    Contains old.dirs task × Contains old.launches task × IsRunning (outcome_of task old.behavior) × (new ≡ record old { behavior = after_look task old.behavior })
+Looks task old new (look.Exited code) = Contains old.dirs task × Contains old.launches task × HasEnded code (outcome_of task old.behavior) × (new ≡ old)
 Looks task old new look.Failed = new ≡ old
 
 -- A folder is removed; one that is not there is removed already.

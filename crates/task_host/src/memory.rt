@@ -4,16 +4,19 @@ ghost use Rattle.std.specs.Prelude.{◌≡◌, ◌⊎◌, ◌≤◌, ◌-◌, �
 ghost use Rattle.device_faults.specs.Calls.{begun, NextFails, after_call, IsOneCall};
 ghost use Rattle.device_faults.specs.Faults.{CountsFault};
 ghost use Rattle.task_host.specs.Host.{MakesFolder, RemovesFolder, LaunchesAtMost, Launches, TellsState, Stays, GoesOn, Reads, HasRead, Records, bytes_read};
+ghost use Rattle.task_host.specs.declared.memory.behavior.Behavior.TheVariants.{Listed, Echo};
 ghost use Rattle.task_host.specs.Tasks.{unused, MakesDir, Starts, Looks, Removes};
 ghost use Rattle.task_host.specs.MemoryHost.{tasks_of, counts_of, calls_of, output_of, exited_of};
 ghost use Rattle.task_host.specs.MemoryHostLaws.{idle_before_launch};
 
 use crate::{Call, Failed, Host, Look, Made, Numbers, Order, Started, Stream, TaskOutcomes};
+use behavior::Behavior;
 use calls::{keep, look_call, make_dir_call, read_call, remove_call, start_call};
 use device_faults::FailingCalls;
 use std::alloc::Global;
 use tasks::Tasks;
 
+mod behavior;
 mod calls;
 mod tasks;
 
@@ -38,13 +41,13 @@ impl MemoryHost {
     /// A host with no folders and no launches, whose tasks do as these outcomes say, and on which the calls of these
     /// numbers fail.
     pub fn new(alloc: Global, fail_at: Numbers, outcomes: TaskOutcomes) -> MemoryHost
-        ensures tasks { tasks_of result ≡ unused outcomes false }
+        ensures tasks { tasks_of result ≡ unused (Listed outcomes) }
         ensures counts { counts_of result ≡ begun fail_at }
         ensures calls { calls_of result ≡ Some [] }
     {
         MemoryHost {
             alloc,
-            tasks: Tasks::new(alloc, outcomes, false),
+            tasks: Tasks::new(alloc, Behavior::listed(outcomes)),
             counts: FailingCalls::new(fail_at.into_vec()),
             calls: Some(Vec::new(alloc)),
         }
@@ -53,13 +56,13 @@ impl MemoryHost {
     /// The same with no failing call, on which each task writes `out T` and a newline to the log, T its number, and has
     /// ended with code 0 at the first look.
     pub fn echoing(alloc: Global) -> MemoryHost
-        ensures tasks { tasks_of result ≡ unused [] true }
+        ensures tasks { tasks_of result ≡ unused Echo }
         ensures counts { counts_of result ≡ begun [] }
         ensures calls { calls_of result ≡ Some [] }
     {
         MemoryHost {
             alloc,
-            tasks: Tasks::new(alloc, TaskOutcomes::new(alloc), true),
+            tasks: Tasks::new(alloc, Behavior::Echo),
             counts: FailingCalls::new(Vec::new(alloc)),
             calls: Some(Vec::new(alloc)),
         }
@@ -112,7 +115,7 @@ impl Host for MemoryHost {
 
     ghost faults = { λ host. (counts_of host).faults };
 
-    ghost nothing_before_launch = { λ host task honest not_there. idle_before_launch (tasks_of host).launches (tasks_of host).outcomes task not_there };
+    ghost nothing_before_launch = { λ host task honest not_there. idle_before_launch (tasks_of host).launches (tasks_of host).behavior task not_there };
 
     /// As the trait says. Beside it, in each of these calls: it fails where it is listed, and else only where memory for
     /// it was refused (`one_call`), which a call that takes none never says (`only_listed`); and what it makes of folders
@@ -144,7 +147,7 @@ impl Host for MemoryHost {
         ensures calls { Records (calls_of self.old) (calls_of self.new) (Call.Start order.now result) }
         ensures cause { CountsFault (counts_of self.old).faults (counts_of self.new).faults (result ≡ Started.Failed) }
     {
-        let answer = self.tasks.start(&mut self.counts, self.alloc, order.task);
+        let answer = self.tasks.start(&mut self.counts, order.task);
         keep(&mut self.calls, start_call(order, answer));
         answer
     }

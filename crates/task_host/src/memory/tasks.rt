@@ -1,14 +1,15 @@
 //! The folders and tasks of a host in memory.
 
-ghost use Rattle.std.specs.Prelude.{◌≡◌, ◌⊎◌, ◌≤◌, ◌-◌, ◌++◌, ◌∷◌, [], length, min, nat_eq, position, Contains, IfOk, IsErr, MatchResult};
+ghost use Rattle.std.specs.Prelude.{◌≡◌, ◌⊎◌, ◌≤◌, ◌-◌, length, min, Contains, IfOk, IsErr};
 ghost use Rattle.device_faults.specs.Calls.{NextFails, IsOneCall};
 ghost use Rattle.device_faults.specs.Faults.{CountsFault};
 ghost use Rattle.task_host.specs.Host.{HasRead};
-ghost use Rattle.task_host.specs.Tasks.{unused, written_by, echo_of, MakesDir, after_launch, Starts, LooksOnce, Looks, Removes};
+ghost use Rattle.task_host.specs.Tasks.{unused, is_launched, written_by, MakesDir, Starts, Looks, Removes};
 
-use crate::{Bytes, Failed, Look, Made, Started, Stream, TaskOutcome, TaskOutcomes};
+use super::behavior::{Behavior, LONGEST_ECHO};
+use crate::{Failed, Look, Made, Started, Stream};
 use device_faults::FailingCalls;
-use std::alloc::{AllocError, Global};
+use std::alloc::Global;
 use std::marker::Model;
 
 /// Folders that stand, launches in order, and what the tasks do.
@@ -16,9 +17,7 @@ use std::marker::Model;
 pub struct Tasks {
     dirs: Vec<u32>,
     launches: Vec<u32>,
-    outcomes: Vec<TaskOutcome>,
-    /// Whether each task that is launched gets an outcome.
-    echoes: bool,
+    behavior: Behavior,
 }
 
 impl Model for Tasks {
@@ -26,18 +25,17 @@ impl Model for Tasks {
 
     ghost Value = { State };
 
-    ghost view = { λ t. record { dirs = t.dirs.items; launches = t.launches.items; outcomes = t.outcomes.items; echoes = t.echoes } };
+    ghost view = { λ t. record { dirs = t.dirs.items; launches = t.launches.items; behavior = t.behavior } };
 }
 
 impl Tasks {
-    pub fn new(alloc: Global, outcomes: TaskOutcomes, echoes: bool) -> Tasks
-        ensures { result ≡ unused outcomes echoes }
+    pub fn new(alloc: Global, behavior: Behavior) -> Tasks
+        ensures { result ≡ unused behavior }
     {
         Tasks {
             dirs: Vec::new(alloc),
             launches: Vec::new(alloc),
-            outcomes: outcomes.into_vec(),
-            echoes,
+            behavior,
         }
     }
 
@@ -73,7 +71,7 @@ impl Tasks {
         Made::Made
     }
 
-    pub fn start(&mut self, counts: &mut FailingCalls, alloc: Global, task: u32) -> Started
+    pub fn start(&mut self, counts: &mut FailingCalls, task: u32) -> Started
         ensures one_call { IsOneCall (NextFails counts.old ⊎ (¬ Contains self.old.dirs task)) (result ≡ Started.Failed) counts.old counts.new }
         ensures starts { Starts task self.old self.new result }
         ensures cause { CountsFault counts.old.faults counts.new.faults (result ≡ Started.Failed) }
@@ -86,30 +84,11 @@ impl Tasks {
             counts.fail();
             return Started::Failed;
         }
-        match self.launch(alloc, task) {
-            Ok(()) => Started::Started,
-            Err(_) => {
-                counts.refuse();
-                Started::Failed
-            }
+        if self.launches.push(task).is_err() {
+            counts.refuse();
+            return Started::Failed;
         }
-    }
-
-    fn launch(&mut self, alloc: Global, task: u32) -> Result<(), AllocError>
-        ensures { MatchResult result (λ _. self.new ≡ after_launch task self.old) (λ _. self.new ≡ self.old) }
-    {
-        let before = self.launches.len();
-        self.launches.push(task)?;
-        if !self.echoes {
-            return Ok(());
-        }
-        match push_echo(alloc, &mut self.outcomes, task) {
-            Ok(()) => Ok(()),
-            Err(refusal) => {
-                self.launches.truncate(before);
-                Err(refusal)
-            }
-        }
+        Started::Started
     }
 
     pub fn look(&mut self, counts: &mut FailingCalls, task: u32) -> Look
@@ -125,13 +104,10 @@ impl Tasks {
         if !self.dirs.contains(&task) {
             return Look::Absent;
         }
-        if !self.launches.contains(&task) {
+        if !self.was_launched(task) {
             return Look::NotStarted;
         }
-        match place_of(&self.outcomes, task) {
-            Some(place) => look_once(&mut self.outcomes[place]),
-            None => Look::Running,
-        }
+        self.behavior.look(task)
     }
 
     /// Reads what a task wrote from a place on, as much as there is and the buffer has room for.
@@ -145,26 +121,31 @@ impl Tasks {
     ) -> Result<usize, Failed>
         ensures one_call { IsOneCall (NextFails counts.old) (IsErr result) counts.old counts.new }
         ensures only_listed { IsErr result → NextFails counts.old }
-        ensures all_there_is { IfOk result (λ n. n ≡ min (length buf.old) (length (written_by self.now.launches self.now.outcomes task stream) - from)) }
-        ensures bytes { IfOk result (λ n. HasRead (written_by self.now.launches self.now.outcomes task stream) from n buf.old buf.new) }
+        ensures all_there_is { IfOk result (λ n. n ≡ min (length buf.old) (length (written_by self.now.launches self.now.behavior task stream) - from)) }
+        ensures bytes { IfOk result (λ n. HasRead (written_by self.now.launches self.now.behavior task stream) from n buf.old buf.new) }
         ensures cause { CountsFault counts.old.faults counts.new.faults (IsErr result) }
     {
         if counts.next_fails() {
             return Err(counts.fail());
         }
-        Ok(copy(self.output(task, stream), from, buf))
+        let mut line = [0; LONGEST_ECHO];
+        Ok(copy(self.output(task, stream, &mut line), from, buf))
     }
 
-    fn output(&self, task: u32, stream: Stream) -> &[u8]
-        ensures { result.now ≡ written_by self.now.launches self.now.outcomes task stream }
+    fn output<'a>(&'a self, task: u32, stream: Stream, line: &'a mut [u8; LONGEST_ECHO]) -> &'a [u8]
+        ensures { result.now ≡ written_by self.now.launches self.now.behavior task stream }
     {
-        if !self.launches.contains(&task) {
+        if !self.was_launched(task) {
             return &[];
         }
-        match place_of(&self.outcomes, task) {
-            Some(place) => self.outcomes[place].text(stream),
-            None => &[],
-        }
+        self.behavior.output(task, stream, line)
+    }
+
+    // Looked for from the last launch back, since a task that is asked for was mostly launched just now.
+    fn was_launched(&self, task: u32) -> bool
+        ensures { result ≡ is_launched task self.now.launches }
+    {
+        self.launches.iter().rev().any(|launch| *launch == task)
     }
 
     pub fn remove(&mut self, counts: &mut FailingCalls, task: u32) -> Result<(), Failed>
@@ -179,39 +160,6 @@ impl Tasks {
         self.dirs.retain(|dir| *dir != task);
         Ok(())
     }
-}
-
-// Puts the outcome of a task on a host that echoes behind.
-fn push_echo(alloc: Global, outcomes: &mut Vec<TaskOutcome>, task: u32) -> Result<(), AllocError>
-    ensures { MatchResult result (λ _. outcomes.new.items ≡ outcomes.old.items ++ echo_of task ∷ []) (λ _. outcomes.new.items ≡ outcomes.old.items) }
-{
-    let log = format!(in alloc; "out {task}\n")?;
-    let outcome = TaskOutcome {
-        task,
-        log: Bytes::from_vec(log.into_bytes()),
-        out: Bytes::new(alloc),
-        running: 0,
-        code: 0,
-    };
-    outcomes.push(outcome)?;
-    Ok(())
-}
-
-fn look_once(outcome: &mut TaskOutcome) -> Look
-    ensures { LooksOnce outcome.old outcome.new result }
-{
-    if outcome.running > 0 {
-        outcome.running -= 1;
-        return Look::Running;
-    }
-    Look::Exited(outcome.code)
-}
-
-// Where the first outcome of a task stands.
-fn place_of(outcomes: &[TaskOutcome], task: u32) -> Option<usize>
-    ensures { result ≡ position (λ o. nat_eq o.task task) outcomes.now }
-{
-    outcomes.iter().position(|outcome| outcome.task == task)
 }
 
 // Copies what stands from a place on, as much as there is room for.
