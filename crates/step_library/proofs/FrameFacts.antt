@@ -5,7 +5,9 @@ use Rattle.std.specs.Prelude.{Option, Some, None, slice_get}
 use Rattle.std.proofs.lemmas.Option.{slice_get_within}
 use Rattle.cell_heap.specs.Soundness.{ValueBelow}
 use Rattle.model_values.specs.Fitting.{HasClosure, HasText, IsIn}
+use Rattle.model_values.specs.Kinds.{cell_kind, kind as kind_in}
 use Rattle.model_values.specs.declared.cell.Cell.{Cell}
+use Rattle.model_values.specs.declared.cell.Cell.TheVariants as cell
 use Rattle.model_values.specs.declared.value.Value.{Value}
 use Rattle.model_values.specs.declared.value.Value.TheVariants.{Null, Bool as Truth, Int as Whole, Cell as InCell}
 use Rattle.model_run.specs.declared.frame.Frame.{Frame}
@@ -22,6 +24,7 @@ use Rattle.model_run.specs.State.{Common, Env}
 use Rattle.model_run.specs.Terms.{Term}
 use Rattle.model_syntax.specs.declared.node.NodeForm.TheVariants as form
 use Rattle.run_laws.specs.Soundness.{EndFits}
+use Rattle.step_library.specs.Kept.{IsMessage}
 use Rattle.step_library.specs.Retries.{Throws}
 use Rattle.cps_frames.specs.Places.{AnswersAt, EndsAt, MayGoOn}
 use Rattle.cps_frames.specs.Standing.{Standing}
@@ -230,6 +233,22 @@ text_below u Null h = tt
 text_below u (Truth b) h = tt
 text_below u (Whole z) h = tt
 text_below u (InCell c) h = text_within u.cells c (slice_get u.cells c) refl h
+
+text_kept : (c : ℕ) (o : Option Cell) → HasText o → IsMessage (cell_kind c o)
+text_kept c (Some (cell.Text t)) h = tt
+text_kept c (Some (cell.List vs)) h = absurd h
+text_kept c (Some (cell.Map es)) h = absurd h
+text_kept c (Some (cell.Closure node env)) h = absurd h
+text_kept c (Some (cell.Thrown class m)) h = absurd h
+text_kept c (Some (cell.Variable v)) h = absurd h
+text_kept c None h = absurd h
+
+-- and it is a message
+pub text_message : (u : Common) (v : Value) → known u Text_or_null v → IsMessage (kind_in u.cells v)
+text_message u Null h = tt
+text_message u (Truth b) h = absurd h
+text_message u (Whole z) h = absurd h
+text_message u (InCell c) h = text_kept c (slice_get u.cells c) h
 
 -- what a body has thrown is there
 thrown_there : (u : Common) (e : Ending) → EndFits form.Block u e → Throws u.cells e

@@ -22,7 +22,7 @@ ghost use Rattle.cps_frames.specs.Places.{MayGoOn};
 ghost use Rattle.cps_frames.specs.Standing.{standing, world_of};
 ghost use Rattle.cps_frames.specs.Ways.{is_block_ending};
 ghost use Rattle.cps_frames.specs.declared.thread.ThreadState.{ThreadState as Thread};
-ghost use Rattle.step_library.specs.Kept.{IsKept};
+ghost use Rattle.step_library.specs.Kept.{IsKept, IsMessage};
 ghost use Rattle.step_library.specs.Numbers.{Countable};
 ghost use Rattle.step_library.specs.Retries.{Throws, thrown_in};
 ghost use Rattle.value_view.specs.Seen.{seen};
@@ -155,6 +155,7 @@ fn caught(
 ) -> Result<Move, Halt>
     requires least { least ≤ 4 }
     requires message { ValueBelow (length shared.old.heap.cells) message.now }
+    requires text { IsMessage (kind shared.old.heap.cells message.now) }
     requires thrown { Throws shared.old.heap.cells ending }
     requires ending { is_block_ending ending ≡ true }
     ensures { (k r : ℕ) → 0 < r → ComesTo k r (λ sh a. caught start least message.now ending) (standing shared.old state.old) result (standing shared.new state.new) }
@@ -188,6 +189,7 @@ fn go_on_behind(
 ) -> Result<Move, Halt>
     requires least { least ≤ 4 }
     requires message { ValueBelow (length shared.old.heap.cells) message.now }
+    requires text { IsMessage (kind shared.old.heap.cells message.now) }
     requires thrown { HasThrowable (slice_get shared.old.heap.cells cell) }
     ensures { (k r : ℕ) → 0 < r → ComesTo k r (λ sh a. logging_all (message_lines (kind shared.old.heap.cells message.now) ++ caught_lines (slice_get shared.old.heap.cells cell)) (changed (worsened (result_at least)) (catch_end start))) (standing shared.old state.old) result (standing shared.new state.new) }
 {
@@ -200,6 +202,7 @@ fn go_on_behind(
 /// The lines of a failure: the message, and the throwable's. `AllocError` where the memory was refused.
 fn lines_of(alloc: Global, heap: &Heap, message: &Value, cell: u32) -> Result<Texts, AllocError>
     requires message { ValueBelow (length heap.now.cells) message.now }
+    requires text { IsMessage (kind heap.now.cells message.now) }
     requires thrown { HasThrowable (slice_get heap.now.cells cell) }
     ensures { IfOk result (λ lines. lines ≡ message_lines (kind heap.now.cells message.now) ++ caught_lines (slice_get heap.now.cells cell)) }
 {
@@ -208,13 +211,15 @@ fn lines_of(alloc: Global, heap: &Heap, message: &Value, cell: u32) -> Result<Te
     Ok(lines)
 }
 
-/// The line of a message that is a text. `AllocError` where the memory was refused.
+/// The line of a message, and none of null. `AllocError` where the memory was refused.
 fn message_lines(alloc: Global, kind: &Kind<'_>) -> Result<Texts, AllocError>
+    requires { IsMessage (seen kind.now) }
     ensures { IfOk result (λ lines. lines ≡ message_lines (seen kind.now)) }
 {
     match kind {
         Kind::Text(text) => one_line(alloc, Text::clone(text)?),
-        _ => Ok(Texts::new(alloc)),
+        Kind::Null => Ok(Texts::new(alloc)),
+        _ => unreachable!(),
     }
 }
 

@@ -11,10 +11,9 @@ ghost use Rattle.model_run.specs.Steps.{dir_body, dir_in, folder_of, no_node, pl
 ghost use Rattle.model_run.specs.declared.frame.FrameKind.TheVariants as kind;
 ghost use Rattle.model_values.specs.declared.value.Value.TheVariants.{Null};
 ghost use Rattle.run_laws.specs.Evaluation.{AllOfSite};
-ghost use Rattle.cps_frames.specs.Places.{HasFolders, HoldsExecutors};
+ghost use Rattle.cps_frames.specs.Places.{HasFolders, HoldsExecutors, MayGoOn};
 ghost use Rattle.cps_frames.specs.Moves.{ComesTo};
 ghost use Rattle.cps_frames.specs.Order.{rank};
-ghost use Rattle.cps_frames.specs.Places.{MayGoOn};
 ghost use Rattle.cps_frames.specs.Standing.{standing, world_of};
 ghost use Rattle.step_library.specs.Numbers.{Countable};
 

@@ -1,6 +1,7 @@
 use Rattle.std.proofs.Common.{[], ◌∷◌, List, ℕ, length, refl, subst, sym, arith}
 use Rattle.std.specs.Prelude.{codes}
 use Rattle.cell_heap.specs.Soundness.{ValueBelow}
+use Rattle.model_values.specs.Kinds.{kind as kind_in}
 use Rattle.model_values.specs.declared.cell.Cell.{Cell}
 use Rattle.model_values.specs.declared.value.Value.{Value}
 use Rattle.model_run.specs.Around.{position, value_at}
@@ -14,8 +15,9 @@ use Rattle.cps_frames.specs.Order.{rank}
 use Rattle.cps_frames.specs.Standing.{standing}
 use Rattle.cps_frames.proofs.EndLaws.{block_inside}
 use Rattle.cps_frames.proofs.MoveLaws.{to_kind}
+use Rattle.step_library.specs.Kept.{IsMessage}
 use Rattle.step_library.specs.Retries.{Throws}
-use Rattle.step_library.proofs.FrameFacts.{body_throws, bounded_in, messages_in, starts_in, text_below}
+use Rattle.step_library.proofs.FrameFacts.{body_throws, bounded_in, messages_in, starts_in, text_below, text_message}
 use Rattle.step_library.proofs.StepMoves.{cells_noted, low_rank, to_body_end}
 use Rattle.step_library.proofs.catch_error.catch_error_body.Goals as goal
 
@@ -41,6 +43,7 @@ caught-requires c =
     record {
       least = omega (arith, b.low, c.number_at-least.ensures.number);
       message = subst (λ (h : List Cell). ValueBelow (length h) c.value_at-message.result) (sym cells) (subst (ValueBelow (length u.world.shared.cells)) (sym c.value_at-message.ensures) (text_below u.world.shared (value_at 3 c.args.frame.values) s.message));
+      text = subst (λ (h : List Cell). IsMessage (kind_in h c.value_at-message.result)) (sym cells) (subst (λ (v : Value). IsMessage (kind_in u.world.shared.cells v)) (sym c.value_at-message.ensures) (text_message u.world.shared (value_at 3 c.args.frame.values) s.message));
       thrown = subst (λ (h : List Cell). Throws h c.args.ending) (sym cells) (body_throws u c.args.frame c.args.ending kind.CatchErrorBody c.requires.may c.requires.kind (λ root k sh left env. refl));
       ending = block_inside c.requires.may c.requires.kind refl;
     }
