@@ -43,8 +43,8 @@ abbrev pub IsEnd : Standing → Move → Type 0
 IsEnd v (Ends e) = v.stack ≡ []
 IsEnd v m = ⊥
 
--- The thread stands where this move may be made, under some context with a folder for each of its requests and from some spot on, and holds
--- the executors of its own requests.
+-- The thread stands where this move may be made, under some context with a folder for each request of that, and from some spot on; and it
+-- holds the executors of the requests in its context, which differ, that of an executor about to be given included.
 pub record MayRun (u : Standing) (m : Move) : Type 0 where
   pub above : Context
   pub at : Spot
