@@ -1,4 +1,5 @@
 pub mod Rests
 pub mod Faults
 pub mod Arguments
+pub mod Fitted
 pub mod Branches

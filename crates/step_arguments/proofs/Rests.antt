@@ -3,10 +3,12 @@ use Rattle.std.proofs.Common.{◌≡◌, ◌∙◌, ℕ, suc, ◌+◌, ◌-◌, 
 use Rattle.std.specs.Prelude.{slice_get, if◌then◌else◌, not, nat_eq, ◌&&◌}
 use Rattle.std.specs.Prelude.{◌||◌, codes, Err}
 use Rattle.std.proofs.lemmas.Bool.{eqb-true}
-use Rattle.std.proofs.lemmas.List.{append_assoc, at_drop_more, at_drop_all, length-take, take-append-drop}
+use Rattle.std.proofs.lemmas.List.{append_assoc, at_drop_more, at_drop_all, take_more, length-take, take-append-drop}
 use Rattle.model_values.specs.TextOf.{key_text}
 use Rattle.model_values.specs.declared.key.Key.{Key}
 use Rattle.model_run.specs.Names.{same_text}
+use Rattle.model_run.specs.Grants.{pair}
+use Rattle.model_run.specs.Steps.{override_of}
 use Rattle.model_run.specs.StepTable as table
 use Rattle.step_arguments.specs.Binding.{FitsAs}
 use Rattle.step_arguments.specs.declared.fits.Misfit.{Misfit}
@@ -64,6 +66,26 @@ name_goes_on text i lt no_sign no_plus =
     ∙ ap (λ t. if t then not (nat_eq (length (take i text)) 0) else not (nat_eq b 43) && is_override_name (b ∷ take i text) rest) (other b 61 no_sign)
     ∙ ap (λ t. not t && is_override_name (b ∷ take i text) rest) (other b 43 no_plus)
     ∙ same_long (b ∷ take i text) (take (i + 1) text) rest long
+
+-- a text with a sign has one behind its first byte, where that is none
+no_plus : (b : ℕ) (here : Bool) (P : Type 0) → not (nat_eq b 43) && here ≡ true → ((b ≡ 43 → ⊥) → P) → P
+no_plus b here P is go = go (λ plus. let wrong : false ≡ true = sym (ap (λ k. not (nat_eq k 43) && here) plus) ∙ is in absurd (cc wrong))
+
+pub sign_behind : (text : List ℕ) (i : ℕ) → i < length text → (get_or text i 0 ≡ 61 → ⊥) → is_override_name (take i text) (drop i text) ≡ true → is_override_name (take (i + 1) text) (drop (i + 1) text) ≡ true
+sign_behind text i lt no_sign is =
+    let b = get_or text i 0 in
+    let rest = drop (i + 1) text in
+    let behind = is_override_name (b ∷ take i text) rest in
+    let opened = at_drop_more (is_override_name (take i text)) text i 0 lt ∙ ap (λ t. if t then not (nat_eq (length (take i text)) 0) else not (nat_eq b 43) && behind) (other b 61 no_sign) in
+    no_plus b behind _ (sym opened ∙ is) (λ differ. sym (name_goes_on text i lt no_sign differ) ∙ is)
+
+-- the name of an override has one byte more
+pub name_longer : (text : List ℕ) (i : ℕ) → i < length text → (get_or text i 0 ≡ 61 → ⊥) → override_of (take (i + 1) text) (drop (i + 1) text) ≡ override_of (take i text) (drop i text)
+name_longer text i lt no_sign =
+    let b = get_or text i 0 in
+    let rest = drop (i + 1) text in
+    ap (λ n. override_of n rest) (take_more text i 0 lt)
+    ∙ sym (at_drop_more (override_of (take i text)) text i 0 lt ∙ ap (λ t. if t then pair (take i text) rest else override_of (take i text ++ b ∷ []) rest) (other b 61 no_sign))
 
 -- the last of values, and the others
 last_behind : (xs : List Value) (d : Value) → (length xs ≡ 0 → ⊥) → take (length xs - 1) xs ++ get_or xs (length xs - 1) d ∷ [] ≡ xs

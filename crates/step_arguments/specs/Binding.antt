@@ -3,6 +3,8 @@ use Rattle.std.specs.Prelude.{◌≡◌, ◌<◌, ◌^◌, All, length, IfSome, 
 use Rattle.cell_heap.specs.Soundness.{ValueBelow}
 use Rattle.model_values.specs.Fitting.{HasClosure, IsIn}
 use Rattle.model_values.specs.Kinds.{Kind, pairs, kind}
+use Rattle.model_values.specs.Limits.{product_limits}
+use Rattle.model_values.specs.TextOf.{text_of}
 use Rattle.model_values.specs.declared.cell.Cell.{Cell}
 use Rattle.model_values.specs.declared.value.Value.{Value}
 use Rattle.model_run.specs.Around.{cells}
@@ -42,10 +44,18 @@ IsBound w Input args None b = b ≡ bound.Input (text_or_empty w (codes "message
 IsBound w Parallel args None (bound.Parallel branches) = given (codes "branches") args ≡ Some branches
 IsBound w s args body b = ⊥
 
--- It is a map whose entries are closures.
+-- It is a map whose values are closures.
 abbrev pub AreBranches : List Cell → Kind → Type 0
 AreBranches h (pairs c es) = All (λ e. IsIn HasClosure h e.1) es
 AreBranches h k = ⊥
+
+-- Each argument that is given is one that its parameter takes.
+abbrev pub AllFit : List Cell → Step → Given → Type 0
+AllFit h s args = (w : World) → table.all_fit (seen_with h w) (table.parameters s) args ≡ Fits
+
+-- It has a text: one that meets no limit.
+abbrev pub HasText : List Cell → Value → Type 0
+HasText h v = table.writing_fits (text_of product_limits h v) ≡ Fits
 
 -- What a step uses is there: its body and its branches are closures, and what is counted of it a script can count.
 abbrev pub IsUsable : List Cell → Bound → Type 0

@@ -4,16 +4,15 @@ ghost use Rattle.std.specs.Prelude.{◌≡◌, All, IfSome, Some, None, true, fa
 ghost use Rattle.cell_heap.specs.Soundness.{ValueBelow};
 ghost use Rattle.model_values.specs.Fitting.{HasClosure, IsIn};
 ghost use Rattle.model_run.specs.State.{World};
-ghost use Rattle.model_run.specs.StepTable.{Fits, all_fit, bind_step, bind_given, has_body, missing, parameters};
-ghost use Rattle.step_arguments.specs.Binding.{BindsTo, IsBound, IsUsable, seen_with};
+ghost use Rattle.model_run.specs.StepTable.{bind_step, bind_given, has_body, missing, parameters};
+ghost use Rattle.step_arguments.specs.Binding.{AllFit, BindsTo, IsBound, IsUsable, seen_with};
 
 use crate::bound::Bound;
 use crate::checks::{check, fault};
-use crate::given::{Given, given, named_or_main, split_last};
+use crate::given::{Given, given, main_argument, named_or_main, split_last};
 use crate::refusal::BindRefusal;
 use crate::uses::{
-    branches_given, is_true, label, ok_word, overrides_given, result_given, text_given,
-    text_or_empty, tries_given,
+    is_true, label, main_text, ok_word, overrides_given, result_given, text_given, tries_given,
 };
 use cell_heap::Heap;
 use model_run::Step;
@@ -77,36 +76,36 @@ fn without_body(
 ) -> Result<Bound, AllocError>
     requires below { All (λ g. ValueBelow (length heap.now.cells) g.1) arguments.now }
     requires none { has_body step ≡ false }
-    requires fits { (w : World) → all_fit (seen_with heap.now.cells w) (parameters step) arguments.now ≡ Fits }
+    requires fits { AllFit heap.now.cells step arguments.now }
     requires needed { missing arguments.now (parameters step) ≡ None }
     ensures bound { (w : World) → IfOk result (IsBound (seen_with heap.now.cells w) step arguments.now None) }
     ensures usable { IfOk result (IsUsable heap.now.cells) }
 {
     match step {
         Step::Println => Ok(Bound::Println {
-            value: text_or_empty(alloc, heap, arguments, "value")?,
+            value: main_text(alloc, heap, step, arguments)?,
         }),
         Step::Echo => Ok(Bound::Echo {
-            message: text_or_empty(alloc, heap, arguments, "message")?,
+            message: main_text(alloc, heap, step, arguments)?,
         }),
         Step::Error => Ok(Bound::Error {
-            message: text_or_empty(alloc, heap, arguments, "message")?,
+            message: main_text(alloc, heap, step, arguments)?,
         }),
         Step::MakeUnstable => Ok(Bound::MakeUnstable {
-            message: text_or_empty(alloc, heap, arguments, "message")?,
+            message: main_text(alloc, heap, step, arguments)?,
         }),
         Step::Sh => Ok(Bound::Sh {
-            script: text_or_empty(alloc, heap, arguments, "script")?,
+            script: main_text(alloc, heap, step, arguments)?,
             status: is_true(heap, arguments, "returnStatus"),
             keep_out: is_true(heap, arguments, "returnStdout"),
         }),
         Step::Input => Ok(Bound::Input {
-            message: text_or_empty(alloc, heap, arguments, "message")?,
+            message: main_text(alloc, heap, step, arguments)?,
             ok: ok_word(alloc, heap, arguments)?,
             id: text_given(alloc, heap, arguments, "id")?,
         }),
         Step::Parallel => Ok(Bound::Parallel {
-            branches: branches_given(arguments),
+            branches: main_argument(step, arguments),
         }),
         _ => unreachable!(),
     }
@@ -122,13 +121,15 @@ fn with_body(
 ) -> Result<Bound, AllocError>
     requires below { All (λ g. ValueBelow (length heap.now.cells) g.1) arguments.now }
     requires some { has_body step ≡ true }
+    requires fits { AllFit heap.now.cells step arguments.now }
+    requires needed { missing arguments.now (parameters step) ≡ None }
     requires closure { IsIn HasClosure heap.now.cells body }
     ensures bound { (w : World) → IfOk result (IsBound (seen_with heap.now.cells w) step arguments.now (Some body)) }
     ensures usable { IfOk result (IsUsable heap.now.cells) }
 {
     match step {
         Step::Stage => Ok(Bound::Stage {
-            name: text_or_empty(alloc, heap, arguments, "name")?,
+            name: main_text(alloc, heap, step, arguments)?,
             body,
         }),
         Step::CatchError => Ok(Bound::CatchError {
@@ -145,7 +146,7 @@ fn with_body(
             body,
         }),
         Step::Dir => Ok(Bound::Dir {
-            path: text_or_empty(alloc, heap, arguments, "path")?,
+            path: main_text(alloc, heap, step, arguments)?,
             body,
         }),
         Step::WithEnv => Ok(Bound::WithEnv {

@@ -1,12 +1,12 @@
 //! The faults of a call, in their order.
 
-ghost use Rattle.std.specs.Prelude.{◌≡◌, ◌++◌, Option, All, Some, None, IfOk, IfErr, OnOk, codes, length, is_some};
+ghost use Rattle.std.specs.Prelude.{◌≡◌, ◌++◌, Option, All, Some, None, IfOk, IfErr, OnOk, codes, length, is_some, true};
 ghost use Rattle.cell_heap.specs.Soundness.{ValueBelow};
 ghost use Rattle.model_values.specs.declared.value.Value.{Value as AValue};
 ghost use Rattle.model_run.specs.Around.{cells};
 ghost use Rattle.model_run.specs.State.{World};
-ghost use Rattle.model_run.specs.StepTable.{Binds, Fit, Fits, Given, and_fits, fit, fit_given, sort_of, all_fit, bind_body, bind_fit, bind_given, bind_label, bind_missing, bind_returned, both_returned, has_body, label_of, missing, parameters, step_name};
-ghost use Rattle.step_arguments.specs.Binding.{Checks, Tells, seen_with};
+ghost use Rattle.model_run.specs.StepTable.{Binds, Fit, Fits, Given, and_fits, fit, fit_given, sort_of, all_fit, bind_body, bind_fit, bind_given, bind_label, bind_missing, bind_returned, both_returned, has_body, label_of, missing, parameters, step_name, unknown};
+ghost use Rattle.step_arguments.specs.Binding.{AllFit, Checks, Tells, seen_with};
 ghost use Rattle.step_arguments.specs.Parameters.{sort_seen};
 
 use crate::fits::{Misfit, check_fit};
@@ -46,7 +46,8 @@ pub(crate) fn check(
 
 /// The step has a parameter of each name.
 fn check_names(alloc: Global, step: Step, arguments: &[(Text, Value)]) -> Result<(), BindRefusal>
-    ensures { (w : World) (body : Option AValue) → Checks (bind_given w step arguments.now body) (bind_fit w step arguments.now body (all_fit w (parameters step) arguments.now)) result }
+    ensures known { OnOk result (unknown (parameters step) arguments.now ≡ None) }
+    ensures checked { (w : World) (body : Option AValue) → Checks (bind_given w step arguments.now body) (bind_fit w step arguments.now body (all_fit w (parameters step) arguments.now)) result }
 {
     for (name, _) in arguments {
         match sort_of(step, name.as_slice()) {
@@ -67,7 +68,8 @@ fn check_values(
     step: Step,
     arguments: &[(Text, Value)],
 ) -> Result<(), BindRefusal>
-    requires { All (λ g. ValueBelow (length heap.now.cells) g.1) arguments.now }
+    requires below { All (λ g. ValueBelow (length heap.now.cells) g.1) arguments.now }
+    requires known { unknown (parameters step) arguments.now ≡ None }
     ensures fits { (w : World) → OnOk result (all_fit (seen_with heap.now.cells w) (parameters step) arguments.now ≡ Fits) }
     ensures checked { (w : World) (body : Option AValue) → Checks (bind_fit (seen_with heap.now.cells w) step arguments.now body (all_fit (seen_with heap.now.cells w) (parameters step) arguments.now)) (bind_returned (seen_with heap.now.cells w) step arguments.now body (both_returned heap.now.cells step arguments.now)) result }
 {
@@ -85,14 +87,15 @@ fn check_argument(
     name: &[u8],
     value: &Value,
 ) -> Result<(), BindRefusal>
-    requires { ValueBelow (length heap.now.cells) value.now }
+    requires below { ValueBelow (length heap.now.cells) value.now }
+    requires known { is_some (sort_of name.now (parameters step)) ≡ true }
     ensures fits { (w : World) → OnOk result (fit_given (seen_with heap.now.cells w) (sort_of name.now (parameters step)) value.now ≡ Fits) }
     ensures refused { (w : World) (args : Given) (body : Option AValue) (rest : Fit) → IfErr result (Tells (bind_fit (seen_with heap.now.cells w) step args body (and_fits name.now (fit_given (seen_with heap.now.cells w) (sort_of name.now (parameters step)) value.now) rest))) }
 {
-    match sort_of(step, name) {
-        Some(sort) => check_value(alloc, heap, step, sort, name, value),
-        None => Ok(()),
-    }
+    let Some(sort) = sort_of(step, name) else {
+        unreachable!()
+    };
+    check_value(alloc, heap, step, sort, name, value)
 }
 
 /// A value is one that the parameter of this name takes.
@@ -130,12 +133,14 @@ fn check_returned(
     step: Step,
     arguments: &[(Text, Value)],
 ) -> Result<(), BindRefusal>
-    requires { All (λ g. ValueBelow (length heap.now.cells) g.1) arguments.now }
+    requires below { All (λ g. ValueBelow (length heap.now.cells) g.1) arguments.now }
+    requires fits { AllFit heap.now.cells step arguments.now }
     ensures { (w : World) (body : Option AValue) → Checks (bind_returned w step arguments.now body (both_returned heap.now.cells step arguments.now)) (bind_missing w step arguments.now body (missing arguments.now (parameters step))) result }
 {
-    let status = is_true(heap, arguments, "returnStatus");
-    let keep_out = is_true(heap, arguments, "returnStdout");
-    if step == Step::Sh && status && keep_out {
+    if step != Step::Sh {
+        return Ok(());
+    }
+    if is_true(heap, arguments, "returnStatus") && is_true(heap, arguments, "returnStdout") {
         return Err(BindRefusal::Fault(fault(alloc, step, "bad ", b"returnStdout")?));
     }
     Ok(())
@@ -172,7 +177,8 @@ fn check_label(
     step: Step,
     arguments: &[(Text, Value)],
 ) -> Result<(), BindRefusal>
-    requires { All (λ g. ValueBelow (length heap.now.cells) g.1) arguments.now }
+    requires below { All (λ g. ValueBelow (length heap.now.cells) g.1) arguments.now }
+    requires fits { AllFit heap.now.cells step arguments.now }
     ensures { (w : World) (body : Option AValue) → Checks (bind_label arguments.now body (label_of (seen_with heap.now.cells w) step arguments.now)) (Binds arguments.now body) result }
 {
     if step != Step::Node {

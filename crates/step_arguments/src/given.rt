@@ -1,11 +1,12 @@
 //! Arguments by their names.
 
-ghost use Rattle.std.specs.Prelude.{◌≡◌, ◌∷◌, [], All, IfSome, IfOk, length, map};
+ghost use Rattle.std.specs.Prelude.{◌≡◌, ◌∷◌, [], All, IfSome, IfOk, None, Some, length, map, true};
 ghost use Rattle.cell_heap.specs.Soundness.{ValueBelow};
 ghost use Rattle.model_values.specs.Fitting.{HasClosure, IsIn};
 ghost use Rattle.model_values.specs.Kinds.{kind};
 ghost use Rattle.model_values.specs.TextOf.{key_text};
-ghost use Rattle.model_run.specs.StepTable.{given, main_name, named_or_main, parameters, split_last, takes_map};
+ghost use Rattle.model_run.specs.StepTable.{given, main_name, missing, named_or_main, parameters, split_last, takes_map};
+ghost use Rattle.step_arguments.specs.Parameters.{needs_main};
 
 use crate::fits::{is_closure, key_text};
 use crate::parameters::{main_name, takes_map};
@@ -29,6 +30,18 @@ pub(crate) fn given(arguments: &[(Text, Value)], name: &str) -> Option<Value>
         }
     }
     None
+}
+
+/// The argument of the main parameter of a step in which it has to be given.
+pub(crate) fn main_argument(step: Step, arguments: &[(Text, Value)]) -> Value
+    requires needs { needs_main step ≡ true }
+    requires needed { missing arguments.now (parameters step) ≡ None }
+    ensures { given (main_name (parameters step)) arguments.now ≡ Some result }
+{
+    let Some(value) = given(arguments, main_name(step)) else {
+        unreachable!()
+    };
+    value
 }
 
 /// The arguments of a call without its body, and the body: a closure that stands last.

@@ -1,32 +1,35 @@
 //! The arguments as a step uses them.
 
-ghost use Rattle.std.specs.Prelude.{◌≡◌, ◌<◌, ◌^◌, All, IfOk, None, Some, [], length, map, unwrap_or, codes};
+ghost use Rattle.std.specs.Prelude.{◌≡◌, ◌<◌, ◌^◌, All, IfOk, IfSome, None, Some, [], length, map, unwrap_or, codes, is_some, true};
 ghost use Rattle.cell_heap.specs.Soundness.{ValueBelow};
 ghost use Rattle.model_run.specs.Labels.{kept_label};
 ghost use Rattle.model_run.specs.State.{World};
 ghost use Rattle.model_run.specs.Steps.{further_tries, named_result, override_of, override_text, overrides_in, overrides_of, text_or_empty, tries_given};
-ghost use Rattle.model_run.specs.StepTable.{flag_of, given, is_true, missing, parameters, text_given, written_or};
-ghost use Rattle.model_run.specs.declared.step.Step.TheVariants.{Parallel};
+ghost use Rattle.model_run.specs.StepTable.{AnyText, Flag, are_overrides, flag_of, given, is_flag, is_override, is_override_name, is_positive, is_true, main_name, missing, parameters, result_of, sort_of, text_given, written_or};
+ghost use Rattle.model_run.specs.declared.step.Step.TheVariants.{CatchError, Input, Node, Retry, Sh, WithEnv};
 ghost use Rattle.std.specs.List.{list_all};
 ghost use Rattle.model_run.specs.LabelTokens.{is_blank};
 ghost use Rattle.model_values.specs.Kinds.{kind};
 ghost use Rattle.model_values.specs.TextOf.{text_of};
 ghost use Rattle.model_values.specs.Limits.{product_limits};
 ghost use Rattle.value_view.specs.Seen.{IsKindIn, seen};
-ghost use Rattle.step_arguments.specs.Binding.{seen_with};
+ghost use Rattle.step_arguments.specs.Binding.{AllFit, HasText, seen_with};
+ghost use Rattle.step_arguments.specs.Parameters.{needs_main};
 
 use crate::fits::result_of;
-use crate::given::given;
+use crate::given::{given, main_argument};
 use cell_heap::Heap;
-use model_run::BuildResult;
+use model_run::{BuildResult, Step};
 use model_text::{Pair, Pairs, Text};
 use model_values::Value;
 use std::alloc::{AllocError, Global};
 use value_view::{Kind, OpRefusal, kind_of, text_of};
 
-/// Whether the argument of this name is true.
+/// Whether this argument of an `sh` is given and true.
 pub(crate) fn is_true(heap: &Heap, arguments: &[(Text, Value)], name: &str) -> bool
-    requires { All (λ g. ValueBelow (length heap.now.cells) g.1) arguments.now }
+    requires below { All (λ g. ValueBelow (length heap.now.cells) g.1) arguments.now }
+    requires fits { AllFit heap.now.cells Sh arguments.now }
+    requires flag { sort_of name.now (parameters Sh) ≡ Some Flag }
     ensures { result ≡ is_true heap.now.cells (given name.now arguments.now) }
 {
     match given(arguments, name) {
@@ -37,11 +40,12 @@ pub(crate) fn is_true(heap: &Heap, arguments: &[(Text, Value)], name: &str) -> b
 
 /// The truth value that it is.
 fn flag_of(kind: &Kind<'_>) -> bool
+    requires { is_flag (seen kind.now) ≡ true }
     ensures { result ≡ flag_of (seen kind.now) }
 {
     match kind {
         Kind::Flag(flag) => *flag,
-        _ => false,
+        _ => unreachable!(),
     }
 }
 
@@ -52,7 +56,8 @@ pub(crate) fn text_given(
     arguments: &[(Text, Value)],
     name: &str,
 ) -> Result<Option<Text>, AllocError>
-    requires { All (λ g. ValueBelow (length heap.now.cells) g.1) arguments.now }
+    requires below { All (λ g. ValueBelow (length heap.now.cells) g.1) arguments.now }
+    requires text { IfSome (given name.now arguments.now) (HasText heap.now.cells) }
     ensures { (w : World) → IfOk result (λ text. text ≡ text_given (seen_with heap.now.cells w) name.now arguments.now) }
 {
     match given(arguments, name) {
@@ -61,33 +66,35 @@ pub(crate) fn text_given(
     }
 }
 
-/// The text of a value, and none where it meets a limit.
+/// The text of a value, which meets no limit.
 fn written(alloc: Global, heap: &Heap, value: &Value) -> Result<Text, AllocError>
-    requires { ValueBelow (length heap.now.cells) value.now }
+    requires below { ValueBelow (length heap.now.cells) value.now }
+    requires text { HasText heap.now.cells value.now }
     ensures { IfOk result (λ text. text ≡ written_or [] (text_of product_limits heap.now.cells value.now)) }
 {
     match text_of(alloc, heap, value) {
         Ok(text) => Ok(text),
         Err(OpRefusal::Memory) => Err(AllocError),
-        Err(OpRefusal::Limit(_)) => Ok(Text::new(alloc)),
+        Err(OpRefusal::Limit(_)) => unreachable!(),
         Err(OpRefusal::Thrown(_)) => unreachable!(),
     }
 }
 
-/// The text of the argument of this name, and the empty one where it is not given.
-pub(crate) fn text_or_empty(
+/// The text of the main argument, where it has to be given and is any value.
+pub(crate) fn main_text(
     alloc: Global,
     heap: &Heap,
+    step: Step,
     arguments: &[(Text, Value)],
-    name: &str,
 ) -> Result<Text, AllocError>
-    requires { All (λ g. ValueBelow (length heap.now.cells) g.1) arguments.now }
-    ensures { (w : World) → IfOk result (λ text. text ≡ text_or_empty (seen_with heap.now.cells w) name.now arguments.now) }
+    requires below { All (λ g. ValueBelow (length heap.now.cells) g.1) arguments.now }
+    requires fits { AllFit heap.now.cells step arguments.now }
+    requires needed { missing arguments.now (parameters step) ≡ None }
+    requires needs { needs_main step ≡ true }
+    requires text { sort_of (main_name (parameters step)) (parameters step) ≡ Some AnyText }
+    ensures { (w : World) → IfOk result (λ text. text ≡ text_or_empty (seen_with heap.now.cells w) (main_name (parameters step)) arguments.now) }
 {
-    match text_given(alloc, heap, arguments, name)? {
-        Some(text) => Ok(text),
-        None => Ok(Text::new(alloc)),
-    }
+    written(alloc, heap, &main_argument(step, arguments))
 }
 
 /// The word for going on of `input`.
@@ -96,7 +103,8 @@ pub(crate) fn ok_word(
     heap: &Heap,
     arguments: &[(Text, Value)],
 ) -> Result<Text, AllocError>
-    requires { All (λ g. ValueBelow (length heap.now.cells) g.1) arguments.now }
+    requires below { All (λ g. ValueBelow (length heap.now.cells) g.1) arguments.now }
+    requires fits { AllFit heap.now.cells Input arguments.now }
     ensures { (w : World) → IfOk result (λ text. text ≡ unwrap_or (text_given (seen_with heap.now.cells w) (codes "ok") arguments.now) (codes "Proceed")) }
 {
     match text_given(alloc, heap, arguments, "ok")? {
@@ -111,7 +119,8 @@ pub(crate) fn label(
     heap: &Heap,
     arguments: &[(Text, Value)],
 ) -> Result<Option<Text>, AllocError>
-    requires { All (λ g. ValueBelow (length heap.now.cells) g.1) arguments.now }
+    requires below { All (λ g. ValueBelow (length heap.now.cells) g.1) arguments.now }
+    requires fits { AllFit heap.now.cells Node arguments.now }
     ensures { (w : World) → IfOk result (λ label. label ≡ kept_label (text_given (seen_with heap.now.cells w) (codes "label") arguments.now)) }
 {
     match text_given(alloc, heap, arguments, "label")? {
@@ -129,46 +138,48 @@ fn is_blank(text: &[u8]) -> bool
 
 /// The result that `catchError` makes of a failure.
 pub(crate) fn result_given(heap: &Heap, arguments: &[(Text, Value)]) -> BuildResult
-    requires { All (λ g. ValueBelow (length heap.now.cells) g.1) arguments.now }
+    requires below { All (λ g. ValueBelow (length heap.now.cells) g.1) arguments.now }
+    requires fits { AllFit heap.now.cells CatchError arguments.now }
     ensures { result ≡ named_result heap.now.cells (given (codes "buildResult") arguments.now) }
 {
     match given(arguments, "buildResult") {
-        Some(value) => result_of(&kind_of(heap, &value)).unwrap_or(BuildResult::Failure),
+        Some(value) => named_result(&kind_of(heap, &value)),
         None => BuildResult::Failure,
     }
 }
 
+/// The result whose name it is.
+fn named_result(kind: &Kind<'_>) -> BuildResult
+    requires { is_some (result_of (seen kind.now)) ≡ true }
+    ensures { result_of (seen kind.now) ≡ Some result }
+{
+    let Some(result) = result_of(kind) else {
+        unreachable!()
+    };
+    result
+}
+
 /// How many times more `retry` begins its body.
 pub(crate) fn tries_given(heap: &Heap, arguments: &[(Text, Value)]) -> u32
-    requires { All (λ g. ValueBelow (length heap.now.cells) g.1) arguments.now }
+    requires below { All (λ g. ValueBelow (length heap.now.cells) g.1) arguments.now }
+    requires fits { AllFit heap.now.cells Retry arguments.now }
+    requires needed { missing arguments.now (parameters Retry) ≡ None }
     ensures tries { result ≡ tries_given heap.now.cells (given (codes "count") arguments.now) }
     ensures small { result < 2 ^ 31 }
 {
-    match given(arguments, "count") {
-        Some(value) => further_tries(&kind_of(heap, &value)),
-        None => 0,
-    }
+    let count = main_argument(Step::Retry, arguments);
+    further_tries(&kind_of(heap, &count))
 }
 
 /// One less than the number that it is.
 fn further_tries(kind: &Kind<'_>) -> u32
+    requires { is_positive (seen kind.now) ≡ true }
     ensures tries { result ≡ further_tries (seen kind.now) }
     ensures small { result < 2 ^ 31 }
 {
     match kind {
-        Kind::Number(number) if *number > 0 => (*number - 1) as u32,
-        _ => 0,
-    }
-}
-
-/// The map of the branches of `parallel`, which has to be given.
-pub(crate) fn branches_given(arguments: &[(Text, Value)]) -> Value
-    requires { missing arguments.now (parameters Parallel) ≡ None }
-    ensures { given (codes "branches") arguments.now ≡ Some result }
-{
-    match given(arguments, "branches") {
-        Some(branches) => branches,
-        None => unreachable!(),
+        Kind::Number(number) => (*number - 1) as u32,
+        _ => unreachable!(),
     }
 }
 
@@ -178,31 +189,33 @@ pub(crate) fn overrides_given(
     heap: &Heap,
     arguments: &[(Text, Value)],
 ) -> Result<Pairs, AllocError>
-    requires { All (λ g. ValueBelow (length heap.now.cells) g.1) arguments.now }
+    requires below { All (λ g. ValueBelow (length heap.now.cells) g.1) arguments.now }
+    requires fits { AllFit heap.now.cells WithEnv arguments.now }
+    requires needed { missing arguments.now (parameters WithEnv) ≡ None }
     ensures pairs { IfOk result (λ pairs. pairs ≡ overrides_of heap.now.cells (given (codes "overrides") arguments.now)) }
     ensures few { IfOk result (λ pairs. length pairs < 2 ^ 31) }
 {
-    match given(arguments, "overrides") {
-        Some(value) => overrides_in(alloc, heap, &kind_of(heap, &value)),
-        None => Ok(Pairs::new(alloc)),
-    }
+    let overrides = main_argument(Step::WithEnv, arguments);
+    overrides_in(alloc, heap, &kind_of(heap, &overrides))
 }
 
 /// What the texts of a list add.
 fn overrides_in(alloc: Global, heap: &Heap, kind: &Kind<'_>) -> Result<Pairs, AllocError>
-    requires { IsKindIn (length heap.now.cells) kind.now }
+    requires below { IsKindIn (length heap.now.cells) kind.now }
+    requires fits { are_overrides heap.now.cells (seen kind.now) ≡ true }
     ensures pairs { IfOk result (λ pairs. pairs ≡ overrides_in heap.now.cells (seen kind.now)) }
     ensures few { IfOk result (λ pairs. length pairs < 2 ^ 31) }
 {
     match kind {
         Kind::List(_, values) => override_texts(alloc, heap, values.as_slice()),
-        _ => Ok(Pairs::new(alloc)),
+        _ => unreachable!(),
     }
 }
 
 /// What each of these texts adds.
 fn override_texts(alloc: Global, heap: &Heap, values: &[Value]) -> Result<Pairs, AllocError>
-    requires { All (ValueBelow (length heap.now.cells)) values.now }
+    requires below { All (ValueBelow (length heap.now.cells)) values.now }
+    requires fits { list_all (λ v. is_override (kind heap.now.cells v)) values.now ≡ true }
     ensures pairs { IfOk result (λ pairs. pairs ≡ map (λ v. override_text (kind heap.now.cells v)) values.now) }
     ensures few { IfOk result (λ pairs. length pairs ≡ length values.now) }
 {
@@ -215,19 +228,18 @@ fn override_texts(alloc: Global, heap: &Heap, values: &[Value]) -> Result<Pairs,
 
 /// The name and the value of a text `A=b`.
 fn override_text(alloc: Global, kind: &Kind<'_>) -> Result<Pair, AllocError>
+    requires { is_override (seen kind.now) ≡ true }
     ensures { IfOk result (λ pair. pair ≡ override_text (seen kind.now)) }
 {
     match kind {
         Kind::Text(text) => override_of(alloc, text.as_slice()),
-        _ => Ok(Pair {
-            name: Text::new(alloc),
-            value: Text::new(alloc),
-        }),
+        _ => unreachable!(),
     }
 }
 
-/// What stands before the first `=` of a text, and what behind it.
+/// What stands before the first `=` of a text `A=b`, and what behind it.
 fn override_of(alloc: Global, text: &[u8]) -> Result<Pair, AllocError>
+    requires { is_override_name [] text.now ≡ true }
     ensures { IfOk result (λ pair. pair ≡ override_of [] text.now) }
 {
     for at in 0..text.len() {
@@ -238,8 +250,5 @@ fn override_of(alloc: Global, text: &[u8]) -> Result<Pair, AllocError>
             });
         }
     }
-    Ok(Pair {
-        name: Text::from_slice(alloc, text)?,
-        value: Text::new(alloc),
-    })
+    unreachable!()
 }

@@ -14,6 +14,6 @@ returns-in_err-check_argument-clause-checked c = λ w body.
     let g = c.loop-name-item.result in
     let rest = all_fit u ps (drop (c.loop-name.name-index + 1) args) in
     let named = ap (λ (n : List ℕ). and_fits n (fit_given u (sort_of n ps) g.1) rest) (sym c.as_slice.ensures) in
-    let on = ap (bind_fit u c.args.step args body) (sym (c.loop-name.invariant w) ∙ next_item (all_fit u ps) args c.loop-name.name-index g c.loop-name-test.true c.loop-name-item.is ∙ named) in
+    let on = ap (bind_fit u c.args.step args body) (sym (c.loop-name.invariant.fits w) ∙ next_item (all_fit u ps) args c.loop-name.name-index g c.loop-name-test.true c.loop-name-item.is ∙ named) in
     let p = err_from_is_err_and c.from_residual.result c.from_residual.ensures.1 in
     rw (p.1, p.2) (tells_on _ _ _ on (c.in_err-check_argument.ensures.refused w args body rest))
