@@ -20,7 +20,7 @@ use model_syntax::NodeForm;
 use model_values::{Env, Value};
 use value_view::truth;
 
-/// Operands with `&&` or `||` between them. A tree of none, which no script is read as, gives null.
+/// Operands with `&&` or `||` between them. A chain of no operands, as which no script is read, gives null.
 pub fn chain(state: &mut ThreadState, shared: &Shared, node: u32, env: Env) -> Result<Move, Halt>
     requires { node < length (nodes_of (script_of shared.now.code)) }
     ensures { ComesTo node (2 ^ 66) (λ sh a. operands a node sh env (arity sh)) (standing shared.now state.old) result (standing shared.now state.new) }

@@ -20,10 +20,6 @@ is_if : (f : NodeForm) → same_form form.If f ≡ true → f ≡ form.If
 is_if form.If h = refl
 is_if f h = absurd (cc h)
 
-is_while : (f : NodeForm) → same_form form.While f ≡ true → f ≡ form.While
-is_while form.While h = refl
-is_while f h = absurd (cc h)
-
 is_steps : (f : NodeForm) → same_form form.ForSteps f ≡ true → f ≡ form.ForSteps
 is_steps form.ForSteps h = refl
 is_steps f h = absurd (cc h)
@@ -36,14 +32,8 @@ is_try f h = absurd (cc h)
 pub if_form : (u : Standing) (f : Frame) (e : Ending) → MayGoOn u f e → f.kind ≡ kind.IfTest → HasForm u.world.setting.script f.node form.If
 if_form u f e may is = of_form u f e form.If may (is_if _ (and_left _ _ (stands u f e kind.IfTest may is)))
 
-pub while_body_form : (u : Standing) (f : Frame) (e : Ending) → MayGoOn u f e → f.kind ≡ kind.WhileBody → HasForm u.world.setting.script f.node form.While
-while_body_form u f e may is = of_form u f e form.While may (is_while _ (stands u f e kind.WhileBody may is))
-
 pub steps_form : (u : Standing) (f : Frame) (e : Ending) (d : FrameKind) → MayGoOn u f e → f.kind ≡ d → (frame_row d (shape_at u.world.setting.script f.node) f.left f.env).stands ≡ same_form form.ForSteps (shape_at u.world.setting.script f.node).form → HasForm u.world.setting.script f.node form.ForSteps
 steps_form u f e d may is row = of_form u f e form.ForSteps may (is_steps _ (sym row ∙ stands u f e d may is))
-
-pub try_form : (u : Standing) (f : Frame) (e : Ending) → MayGoOn u f e → f.kind ≡ kind.TryBlock → HasForm u.world.setting.script f.node form.Try
-try_form u f e may is = of_form u f e form.Try may (is_try _ (stands u f e kind.TryBlock may is))
 
 pub catch_form : (u : Standing) (f : Frame) (e : Ending) → MayGoOn u f e → f.kind ≡ kind.TryCatch → HasForm u.world.setting.script f.node form.Try
 catch_form u f e may is = of_form u f e form.Try may (is_try _ (and_left _ _ (stands u f e kind.TryCatch may is)))

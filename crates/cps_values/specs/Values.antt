@@ -10,6 +10,6 @@ abbrev pub values_given : List NodeForm → ℕ
 values_given [] = 0
 values_given (f ∷ fs) = count_with f (values_given fs)
 
--- each is a key with its value
+-- each part is a key with its value
 abbrev pub AreEntries : Shape → Type 0
 AreEntries sh = (i : ℕ) → i < arity sh → is_entry (form_at sh.parts i) ≡ true

@@ -35,7 +35,7 @@ pub fn list(state: &ThreadState, shared: &mut Shared, values: Values) -> Result<
     Ok(Move::Ends(Ending::Normal(list)))
 }
 
-/// A map, which counts. It throws where a key is no text and no number.
+/// A map of the node's parts, each a key with its value, which counts. It throws where a key is no text and no number.
 pub fn map(
     state: &ThreadState,
     shared: &mut Shared,

@@ -2,9 +2,9 @@
 //! in what the green threads of a build share.
 //!
 //! The rules are those of `Names` of `model_run`. What ends a node has the one contract of the machine (`ComesTo` of
-//! `cps_frames`), and what only reads or makes a variable that of an operation on values (`Done`). A name is looked up in
-//! the depth of its scopes, and then in time logarithmic in the number of the binding variables; a new one moves those that
-//! come behind it by name.
+//! `cps_frames`), and what only reads or makes a variable that of an operation on values (`Done`). A name is looked up
+//! among the variables declared in front of it, one after the other, and then in time logarithmic in the number of the
+//! binding variables; a new one moves those that come behind it by name.
 //!
 //! ```
 //! // the statement `x = value`, where x may be declared or not

@@ -1,11 +1,11 @@
 -- How `retry` goes on behind its body's end node.
-use Rattle.std.proofs.Common.{◌≡◌, ◌∙◌, ℕ, zero, suc, ◌-◌, List, [], ◌∷◌, ◌++◌, false, Some, None, refl, ap, sym, inl, inr, arith}
+use Rattle.std.proofs.Common.{◌≡◌, ◌∙◌, ℕ, zero, suc, ◌-◌, List, [], ◌∷◌, ◌++◌, false, refl, ap, sym, inl, inr, arith}
 use Rattle.std.specs.Prelude.{Result as Outcome, Ok, Err, codes, slice_get}
 use Rattle.model_values.specs.declared.cell.Cell.{Cell}
 use Rattle.model_values.specs.declared.value.Value.{Value}
 use Rattle.model_run.specs.declared.ending.Ending.{Ending}
 use Rattle.model_run.specs.declared.ending.Ending.TheVariants.{Normal, Thrown, Returned, Broke, Continued, Declared, Answered}
-use Rattle.model_run.specs.State.{State, Env, Result, on_throw}
+use Rattle.model_run.specs.State.{State, Env}
 use Rattle.model_run.specs.Around.{Around}
 use Rattle.model_run.specs.FlowNodes.{end_body}
 use Rattle.model_run.specs.Steps.{after_retry, caught_lines, is_interruption, logging_all, retry_body, retry_end, retry_next}
@@ -14,7 +14,7 @@ use Rattle.cps_frames.specs.Standing.{Standing, state}
 use Rattle.cps_frames.specs.declared.halt.Halt.{Halt}
 use Rattle.cps_frames.specs.declared.thread.Move.{Move}
 use Rattle.cps_frames.proofs.MoveLaws.{to_as}
-use Rattle.step_library.specs.Retries.{FailsSo, after_try, thrown_in}
+use Rattle.step_library.specs.Retries.{FailsSo, after_try}
 
 pub retry_is : (a : Around) (k : ℕ) (env : Env) (start : ℕ) (f : Value) (m body : ℕ) (e : Ending) (s : State) → after_retry a k env start f m body e s ≡ end_body body (after_try a k env start f m e) s
 retry_is a k env start f zero body e s = refl
@@ -55,22 +55,3 @@ try_again a k env start f m e c s h = ap (λ x. after_try a k env start f m x s)
 
 pub to_tries : (k r : ℕ) (env : Env) (start : ℕ) (f : Value) (m body : ℕ) (e : Ending) (u : Standing) (result : Outcome Move Halt) (v : Standing) → ComesTo k r (λ sh a. end_body body (after_try a k env start f m e)) u result v → ComesTo k r (λ sh a. after_retry a k env start f m body e) u result v
 to_tries k r env start f m body e u result v = to_as k r (λ sh a. after_retry a k env start f m body e) (λ sh a. end_body body (after_try a k env start f m e)) u result v (λ a rs. retry_is a k env start f m body e (state u.world rs))
-
--- one way with a throwable, and another with any other ending
-pub throws_so : (go : ℕ → State → Result) (other : State → Result) (e : Ending) (c : ℕ) (s : State) → Some c ≡ thrown_in e → on_throw go (λ x. other) e s ≡ go c s
-throws_so go other (Thrown d) c s is = let h : d ≡ c = cc is in ap (λ x. go x s) h
-throws_so go other (Normal v) c s is = absurd (cc is)
-throws_so go other (Returned v) c s is = absurd (cc is)
-throws_so go other Broke c s is = absurd (cc is)
-throws_so go other Continued c s is = absurd (cc is)
-throws_so go other (Declared b) c s is = absurd (cc is)
-throws_so go other (Answered x) c s is = absurd (cc is)
-
-pub throws_none : (go : ℕ → State → Result) (other : State → Result) (e : Ending) (s : State) → None ≡ thrown_in e → on_throw go (λ x. other) e s ≡ other s
-throws_none go other (Thrown d) s is = absurd (cc is)
-throws_none go other (Normal v) s is = refl
-throws_none go other (Returned v) s is = refl
-throws_none go other Broke s is = refl
-throws_none go other Continued s is = refl
-throws_none go other (Declared b) s is = refl
-throws_none go other (Answered x) s is = refl

@@ -1,5 +1,5 @@
 -- How `retry` goes on behind its body's end node.
-use Rattle.std.specs.Prelude.{◌≡◌, ◌⊎◌, ◌≢◌, ℕ, zero, suc, true, false, List, Option, Some, None, Result as Outcome, Ok, Err, slice_get}
+use Rattle.std.specs.Prelude.{◌≡◌, ◌⊎◌, ◌≢◌, ℕ, zero, suc, true, false, List, Result as Outcome, Ok, Err, slice_get}
 use Rattle.model_values.specs.Fitting.{HasThrowable}
 use Rattle.model_values.specs.declared.cell.Cell.{Cell}
 use Rattle.model_values.specs.declared.value.Value.{Value}
@@ -13,11 +13,6 @@ use Rattle.model_run.specs.Steps.{after_retry, is_interruption, retry_body, retr
 abbrev pub Throws : List Cell → Ending → Type 0
 Throws h (Thrown c) = HasThrowable (slice_get h c)
 Throws h e = Unit {0}
-
--- the cell of what was thrown
-abbrev pub thrown_in : Ending → Option ℕ
-thrown_in (Thrown c) = Some c
-thrown_in e = None
 
 -- the body's end decides: it is begun again behind this throwable, or `retry` ends so
 abbrev pub FailsSo : List Cell → ℕ → Ending → Outcome ℕ Ending → Type 0

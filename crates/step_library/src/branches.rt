@@ -49,7 +49,7 @@ pub(crate) fn branches_given(
     }
 }
 
-/// Closures by their names. `AllocError` where the memory was refused.
+/// The closures of these entries, by the texts of their keys. `AllocError` where the memory was refused.
 fn branches_of(
     alloc: Global,
     heap: &Heap,

@@ -24,7 +24,7 @@ ghost use Rattle.cps_frames.specs.Ways.{is_block_ending};
 ghost use Rattle.cps_frames.specs.declared.thread.ThreadState.{ThreadState as Thread};
 ghost use Rattle.step_library.specs.Kept.{IsKept, IsMessage};
 ghost use Rattle.step_library.specs.Numbers.{Countable};
-ghost use Rattle.step_library.specs.Retries.{Throws, thrown_in};
+ghost use Rattle.step_library.specs.Retries.{Throws};
 ghost use Rattle.value_view.specs.Seen.{seen};
 
 use crate::blocks::close;
@@ -32,7 +32,7 @@ use crate::bodies::{callee_of, number_at, starts, value_at, whole};
 use crate::kept::add_caught_lines;
 use crate::lines::{say_all, worsen};
 use cell_heap::Heap;
-use cps_frames::{Halt, Move, Shared, ThreadState, end_body, note_block, run_body};
+use cps_frames::{Halt, Move, Shared, ThreadState, end_body, note_block, run_body, thrown_of};
 use model_run::{BuildResult, Ending, Frame, FrameKind};
 use model_text::{Text, Texts};
 use model_values::{Env, Value, Values};
@@ -160,21 +160,9 @@ fn caught(
     requires ending { is_block_ending ending ≡ true }
     ensures { (k r : ℕ) → 0 < r → ComesTo k r (λ sh a. caught start least message.now ending) (standing shared.old state.old) result (standing shared.new state.new) }
 {
-    match thrown_in(ending) {
-        Some(cell) => go_on_behind(state, shared, start, least, message, cell),
-        None => catch_end(state, shared, start),
-    }
-}
-
-/// The cell of what was thrown, behind what ends as a block may.
-fn thrown_in(ending: Ending) -> Option<u32>
-    requires { is_block_ending ending ≡ true }
-    ensures { result ≡ thrown_in ending }
-{
-    match ending {
-        Ending::Thrown(cell) => Some(cell),
-        Ending::Normal(_) | Ending::Returned(_) | Ending::Broke | Ending::Continued => None,
-        Ending::Declared(_) | Ending::Answered(_) => unreachable!(),
+    match thrown_of(ending) {
+        Ok(cell) => go_on_behind(state, shared, start, least, message, cell),
+        Err(_other) => catch_end(state, shared, start),
     }
 }
 

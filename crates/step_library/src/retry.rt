@@ -21,7 +21,7 @@ use crate::bodies::{callee_of, next_node, number_at, value_at, whole};
 use crate::kept::{caught_lines, is_interruption};
 use crate::lines::say_all;
 use cell_heap::Heap;
-use cps_frames::{Halt, Move, Shared, ThreadState, end_body, note_block, run_body};
+use cps_frames::{Halt, Move, Shared, ThreadState, end_body, note_block, run_body, thrown_of};
 use model_run::{Ending, Frame, FrameKind};
 use model_text::Text;
 use model_values::{Env, Value, Values};
@@ -127,17 +127,11 @@ fn failure(heap: &Heap, more: u32, ending: Ending) -> Result<u32, Ending>
     requires ending { is_block_ending ending ≡ true }
     ensures { FailsSo heap.now.cells more ending result }
 {
-    match ending {
-        Ending::Thrown(cell) => {
-            if more == 0 || is_interruption(heap, cell) {
-                Err(Ending::Thrown(cell))
-            } else {
-                Ok(cell)
-            }
-        }
-        Ending::Declared(_) | Ending::Answered(_) => unreachable!(),
-        other => Err(other),
+    let cell = thrown_of(ending)?;
+    if more == 0 || is_interruption(heap, cell) {
+        return Err(Ending::Thrown(cell));
     }
+    Ok(cell)
 }
 
 /// The body is begun again behind a failure, which is logged.
