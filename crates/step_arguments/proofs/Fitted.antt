@@ -1,6 +1,6 @@
 -- What is known of an argument, where all of a call fit.
 use Rattle.std.proofs.Common.{◌≡◌, ◌∙◌, ℕ, Bool, true, false, List, [], ◌∷◌, Option, Some, None, ap, refl, subst}
-use Rattle.std.specs.Prelude.{if◌then◌else◌, not, ◌&&◌, IfSome, is_some}
+use Rattle.std.specs.Prelude.{if◌then◌else◌, IfSome}
 use Rattle.std.specs.Cmp.Lexicographic.{bytes_decides}
 use Rattle.model_values.specs.TextOf.{Writing, Wrote, Stops, text_of}
 use Rattle.model_values.specs.Limits.{product_limits}
@@ -11,10 +11,8 @@ use Rattle.model_run.specs.State.{World}
 use Rattle.model_run.specs.Terms.{empty_block}
 use Rattle.model_run.specs.World.{no_state, run_limits}
 use Rattle.model_run.specs.declared.step.Step.{Step}
-use Rattle.model_run.specs.declared.step.Step.TheVariants.{Println, Echo, Error, MakeUnstable, Stage, CatchError, Retry, Node, Dir, WithEnv, Sh, Input, Parallel}
-use Rattle.model_run.specs.StepTable.{AnyText, Bad, Fit, Fits, Given, Identifier, Meets, Parameter, Sort, all_fit, and_fits, fit, fit_given, fits_if, given, is_identifier, main_name, missing, parameters, sort_of, writing_fits}
+use Rattle.model_run.specs.StepTable.{AnyText, Bad, Fit, Fits, Given, Identifier, Meets, Parameter, Sort, all_fit, and_fits, fit, fit_given, fits_if, given, is_identifier, parameters, sort_of, writing_fits}
 use Rattle.step_arguments.specs.Binding.{AllFit, HasText, seen_with}
-use Rattle.step_arguments.specs.Parameters.{needs_main}
 
 -- what an argument is depends on no world: this is any
 abbrev nowhere : World
@@ -70,23 +68,3 @@ identified (Stops k) e = e
 pub has_identifier : (h : List Cell) (s : Step) (name : List ℕ) (args : Given) → sort_of name (parameters s) ≡ Some Identifier → AllFit h s args → IfSome (given name args) (HasText h)
 has_identifier h s name args is fits =
     each (HasText h) (given name args) (λ v found. identified (text_of product_limits h v) (fits_sort h s Identifier name args v is fits found))
-
--- the main argument is given where it has to be
-found_or : (more : Option (List ℕ)) (name : List ℕ) (o : Option Value) → (if true && not (is_some o) then Some name else more) ≡ None → o ≡ None → ⊥
-found_or more name None e is = absurd (cc e)
-found_or more name (Some v) e is = absurd (cc is)
-
-pub main_given : (s : Step) (args : Given) → needs_main s ≡ true → missing args (parameters s) ≡ None → given (main_name (parameters s)) args ≡ None → ⊥
-main_given Println args needs e = found_or _ _ _ e
-main_given Echo args needs e = found_or _ _ _ e
-main_given Error args needs e = found_or _ _ _ e
-main_given MakeUnstable args needs e = found_or _ _ _ e
-main_given Stage args needs e = found_or _ _ _ e
-main_given CatchError args needs e = absurd (cc needs)
-main_given Retry args needs e = found_or _ _ _ e
-main_given Node args needs e = absurd (cc needs)
-main_given Dir args needs e = found_or _ _ _ e
-main_given WithEnv args needs e = found_or _ _ _ e
-main_given Sh args needs e = found_or _ _ _ e
-main_given Input args needs e = found_or _ _ _ e
-main_given Parallel args needs e = found_or _ _ _ e

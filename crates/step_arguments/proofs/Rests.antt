@@ -67,17 +67,17 @@ name_goes_on text i lt no_sign no_plus =
     ∙ ap (λ t. not t && is_override_name (b ∷ take i text) rest) (other b 43 no_plus)
     ∙ same_long (b ∷ take i text) (take (i + 1) text) rest long
 
--- a text with a sign has one behind its first byte, where that is none
-no_plus : (b : ℕ) (here : Bool) (P : Type 0) → not (nat_eq b 43) && here ≡ true → ((b ≡ 43 → ⊥) → P) → P
-no_plus b here P is go = go (λ plus. let wrong : false ≡ true = sym (ap (λ k. not (nat_eq k 43) && here) plus) ∙ is in absurd (cc wrong))
+-- the first byte of a name is no plus
+is_no_plus : (b : ℕ) (here : Bool) → not (nat_eq b 43) && here ≡ true → b ≡ 43 → ⊥
+is_no_plus b here is plus = let wrong : false ≡ true = sym (ap (λ k. not (nat_eq k 43) && here) plus) ∙ is in absurd (cc wrong)
 
+-- a text with a sign has one behind its first byte, where that byte is none
 pub sign_behind : (text : List ℕ) (i : ℕ) → i < length text → (get_or text i 0 ≡ 61 → ⊥) → is_override_name (take i text) (drop i text) ≡ true → is_override_name (take (i + 1) text) (drop (i + 1) text) ≡ true
 sign_behind text i lt no_sign is =
     let b = get_or text i 0 in
-    let rest = drop (i + 1) text in
-    let behind = is_override_name (b ∷ take i text) rest in
+    let behind = is_override_name (b ∷ take i text) (drop (i + 1) text) in
     let opened = at_drop_more (is_override_name (take i text)) text i 0 lt ∙ ap (λ t. if t then not (nat_eq (length (take i text)) 0) else not (nat_eq b 43) && behind) (other b 61 no_sign) in
-    no_plus b behind _ (sym opened ∙ is) (λ differ. sym (name_goes_on text i lt no_sign differ) ∙ is)
+    sym (name_goes_on text i lt no_sign (is_no_plus b behind (sym opened ∙ is))) ∙ is
 
 -- the name of an override has one byte more
 pub name_longer : (text : List ℕ) (i : ℕ) → i < length text → (get_or text i 0 ≡ 61 → ⊥) → override_of (take (i + 1) text) (drop (i + 1) text) ≡ override_of (take i text) (drop i text)

@@ -4,8 +4,8 @@ use model_run::BuildResult;
 use model_text::{Pairs, Text};
 use model_values::Value;
 
-/// A step with its arguments. The text of an argument that may be left out is there or empty, as the step has it; `body`
-/// is the closure of the step's body.
+/// A step with its arguments. One that may be left out is an `Option`, or the step's own choice stands in its place;
+/// `body` is the closure of the step's body.
 #[derive(Drop)]
 pub enum Bound {
     Println {
@@ -27,7 +27,7 @@ pub enum Bound {
     CatchError {
         /// What is logged as its text, where it was given.
         message: Option<Value>,
-        /// What the build's result is at least, behind a failure.
+        /// What the build's result is at least, behind a failure: FAILURE where none is given.
         result: BuildResult,
         body: Value,
     },
@@ -58,7 +58,7 @@ pub enum Bound {
     },
     Input {
         message: Text,
-        /// The word for going on.
+        /// The word for going on: `Proceed` where none is given.
         ok: Text,
         id: Option<Text>,
     },

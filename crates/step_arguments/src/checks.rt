@@ -32,7 +32,7 @@ pub(crate) fn check(
 ) -> Result<(), BindRefusal>
     requires { All (λ g. ValueBelow (length heap.now.cells) g.1) arguments.now }
     ensures checked { (w : World) → Checks (bind_given (seen_with heap.now.cells w) step arguments.now body) (Binds arguments.now body) result }
-    ensures fits { (w : World) → OnOk result (all_fit (seen_with heap.now.cells w) (parameters step) arguments.now ≡ Fits) }
+    ensures fits { OnOk result (AllFit heap.now.cells step arguments.now) }
     ensures needed { OnOk result (missing arguments.now (parameters step) ≡ None) }
     ensures body { OnOk result (is_some body ≡ has_body step) }
 {
@@ -70,7 +70,7 @@ fn check_values(
 ) -> Result<(), BindRefusal>
     requires below { All (λ g. ValueBelow (length heap.now.cells) g.1) arguments.now }
     requires known { unknown (parameters step) arguments.now ≡ None }
-    ensures fits { (w : World) → OnOk result (all_fit (seen_with heap.now.cells w) (parameters step) arguments.now ≡ Fits) }
+    ensures fits { OnOk result (AllFit heap.now.cells step arguments.now) }
     ensures checked { (w : World) (body : Option AValue) → Checks (bind_fit (seen_with heap.now.cells w) step arguments.now body (all_fit (seen_with heap.now.cells w) (parameters step) arguments.now)) (bind_returned (seen_with heap.now.cells w) step arguments.now body (both_returned heap.now.cells step arguments.now)) result }
 {
     for (name, value) in arguments {

@@ -80,7 +80,7 @@ fn written(alloc: Global, heap: &Heap, value: &Value) -> Result<Text, AllocError
     }
 }
 
-/// The text of the main argument, where it has to be given and is any value.
+/// The text of the main argument of a step in which it has to be given and may be any value.
 pub(crate) fn main_text(
     alloc: Global,
     heap: &Heap,
@@ -143,13 +143,13 @@ pub(crate) fn result_given(heap: &Heap, arguments: &[(Text, Value)]) -> BuildRes
     ensures { result ≡ named_result heap.now.cells (given (codes "buildResult") arguments.now) }
 {
     match given(arguments, "buildResult") {
-        Some(value) => named_result(&kind_of(heap, &value)),
+        Some(value) => result_in(&kind_of(heap, &value)),
         None => BuildResult::Failure,
     }
 }
 
-/// The result whose name it is.
-fn named_result(kind: &Kind<'_>) -> BuildResult
+/// The result whose name it has to be.
+fn result_in(kind: &Kind<'_>) -> BuildResult
     requires { is_some (result_of (seen kind.now)) ≡ true }
     ensures { result_of (seen kind.now) ≡ Some result }
 {

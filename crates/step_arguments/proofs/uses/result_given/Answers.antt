@@ -9,5 +9,5 @@ use Rattle.step_arguments.proofs.uses.result_given.Goals as goal
 pub kind_of-requires : goal.kind_of-requires
 kind_of-requires c = given_below (length c.args.heap.now.cells) (codes "buildResult") c.args.arguments.now c.in-Some.value c.requires.below c.in-Some.ensures
 
-pub named_result-requires : goal.named_result-requires
-named_result-requires c = ap (λ k. is_some (result_of k)) c.kind_of.ensures.kind ∙ is_so _ (fits_sort c.args.heap.now.cells CatchError ResultName (codes "buildResult") c.args.arguments.now c.in-Some.value refl c.requires.fits c.in-Some.ensures)
+pub result_in-requires : goal.result_in-requires
+result_in-requires c = ap (λ k. is_some (result_of k)) c.kind_of.ensures.kind ∙ is_so _ (fits_sort c.args.heap.now.cells CatchError ResultName (codes "buildResult") c.args.arguments.now c.in-Some.value refl c.requires.fits c.in-Some.ensures)
