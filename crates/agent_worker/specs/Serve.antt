@@ -11,6 +11,7 @@ use Rattle.agent_worker.specs.Acts.{Act, with_calls, with_told, with_reports, sa
 use Rattle.agent_worker.specs.Serving.{IsServe, EndsFor}
 use Rattle.agent_worker.specs.Delivering.{Delivers}
 use Rattle.agent_worker.specs.Folders.{MakesOne, LeavesFolders}
+use Rattle.task_host.specs.View.{HostView}
 
 -- What host and gate tell at a moment, and what the host's tasks have written and are known to have ended with.
 pub record Seen : Type 0 where
@@ -23,8 +24,8 @@ pub record Seen : Type 0 where
 
 module _ {H G : Type 0} where
   -- this moment, by what host and gate tell
-  abbrev pub seen : (H → Option (List Call)) → (H → ℕ → Stream → List ℕ) → (H → ℕ → Option ℤ) → (G → GateTells) → H → G → Seen
-  seen calls output exited tells host gate = record { calls = calls host; told = (tells gate).told; reports = (tells gate).calls; said = (tells gate).said; output = output host; exited = exited host }
+  abbrev pub seen : HostView H → (G → GateTells) → H → G → Seen
+  seen host tells machine gate = record { calls = host.calls machine; told = (tells gate).told; reports = (tells gate).calls; said = (tells gate).said; output = host.output machine; exited = host.exited machine }
 
 -- the launches and the folders of a host
 pub record Tasks : Type 0 where

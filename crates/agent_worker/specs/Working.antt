@@ -18,6 +18,7 @@ use Rattle.agent_worker.specs.Acts.{Act, with_calls, with_told, with_reports, sa
 use Rattle.agent_worker.specs.Serving.{IsServe, EndsFor}
 use Rattle.agent_worker.specs.Delivering.{Delivers}
 use Rattle.agent_worker.specs.Serve.{Tasks, tasks_at, LaunchesOnce, KeepsTasks}
+use Rattle.task_host.specs.View.{HostView}
 
 -- A claim with its answer; a serve of an order, with what was done and how it ended; a pause on the host; a halt.
 pub data Deed : Type 0 where
@@ -170,11 +171,11 @@ pub record Works (number looks : ℕ) (honest : Type 0) (old now : Telling) (ans
 
 module _ {H : Type 0} where
   -- what stands on a host, by what it tells
-  abbrev pub on_host : (H → List ℕ) → (H → List ℕ) → (H → ℕ → Stream → List ℕ) → (H → ℕ → Option ℤ) → H → OnHost
-  on_host launches dirs output exited host = record { tasks = tasks_at (launches host) (dirs host); output = output host; exited = exited host }
+  abbrev pub on_host : HostView H → H → OnHost
+  on_host host machine = record { tasks = tasks_at (host.launches machine) (host.dirs machine); output = host.output machine; exited = host.exited machine }
 
 module _ {H G : Type 0} where
   -- this moment, by what host and gate tell
-  abbrev pub telling : (H → Option (List Call)) → (H → List ℕ) → (H → List ℕ) → (H → ℕ → Stream → List ℕ) → (H → ℕ → Option ℤ) → (G → GateTells) → H → G → Telling
-  telling calls launches dirs output exited tells host gate =
-      record { calls = calls host; told = (tells gate).told; reports = (tells gate).calls; said = (tells gate).said; claimed = (tells gate).claimed; host = on_host launches dirs output exited host }
+  abbrev pub telling : HostView H → (G → GateTells) → H → G → Telling
+  telling host tells machine gate =
+      record { calls = host.calls machine; told = (tells gate).told; reports = (tells gate).calls; said = (tells gate).said; claimed = (tells gate).claimed; host = on_host host machine }

@@ -19,8 +19,8 @@ pub(crate) fn work_executor<R: Wait + AllocGlobal, G: Gate, H: Host>(
 ) -> Worked
     requires looks { 0 < looks }
     ensures works { Works number looks (H.honest host.old)
-        (telling H.calls H.launches H.dirs H.output H.exited G.tells host.old gate.old)
-        (telling H.calls H.launches H.dirs H.output H.exited G.tells host.new gate.new) result }
+        (telling H.Host G.tells host.old gate.old)
+        (telling H.Host G.tells host.new gate.new) result }
     ensures lines { Stays (G.tells gate.old).lines (G.tells gate.new).lines }
     ensures is_open { (G.tells gate.new).is_open ≡ (G.tells gate.old).is_open }
     ensures honest { H.honest host.new ↔ H.honest host.old }

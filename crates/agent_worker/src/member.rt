@@ -47,8 +47,8 @@ pub fn work<R: Wait + Clock + AllocGlobal, G: Gate, H: Host, A: Source>(
     looks: u32,
 ) -> Worked
     requires looks { 0 < looks }
-    ensures works { WorksAs H.honest H.faults (telling H.calls H.launches H.dirs H.output H.exited G.tells) G.tells
-        A.left A.faults looks member.old member.new gate.old gate.new result }
+    ensures works { WorksAs H.Host (telling H.Host G.tells) G.tells
+        A.Source looks member.old member.new gate.old gate.new result }
 {
     match member {
         Member::Executor { number, host } => work_executor(rt, gate, *number, host, looks),

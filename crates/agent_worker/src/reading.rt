@@ -80,9 +80,9 @@ pub(crate) fn read_piece<G: Gate, H: Host>(
         → place.old ≡ kept order.now stream past → unreported past ≡ [] → IsInTurn past
         → IsReadNext order.now stream past
         → Stands (H.honest host.old) order.now looks old
-        (seen H.calls H.output H.exited G.tells host.old gate.old) past
+        (seen H.Host G.tells host.old gate.old) past
         → ReadsPiece (H.honest host.new) order.now looks stream old
-        (seen H.calls H.output H.exited G.tells host.new gate.new) place.old place.new past result }
+        (seen H.Host G.tells host.new gate.new) place.old place.new past result }
     ensures gate { KeepsGate (G.tells gate.old) (G.tells gate.new) }
     ensures launches { H.launches host.new ≡ H.launches host.old }
     ensures folders { H.honest host.old → H.dirs host.new ≡ H.dirs host.old }
@@ -127,9 +127,9 @@ pub(crate) fn read_through<R: Wait + AllocGlobal, G: Gate, H: Host>(
         → place.old ≡ kept order.now stream past → unreported past ≡ [] → IsInTurn past
         → IsReadNext order.now stream past
         → Stands (H.honest host.old) order.now looks old
-        (seen H.calls H.output H.exited G.tells host.old gate.old) past
+        (seen H.Host G.tells host.old gate.old) past
         → ReadsThrough (H.honest host.new) order.now looks stream old
-        (seen H.calls H.output H.exited G.tells host.new gate.new) place.new past result }
+        (seen H.Host G.tells host.new gate.new) place.new past result }
     ensures gate { KeepsGate (G.tells gate.old) (G.tells gate.new) }
     ensures launches { H.launches host.new ≡ H.launches host.old }
     ensures folders { H.honest host.old → H.dirs host.new ≡ H.dirs host.old }

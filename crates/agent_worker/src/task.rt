@@ -62,8 +62,8 @@ fn finish<G: Gate, H: Host>(gate: &mut G, host: &mut H, order: &Order, code: i32
     ensures serves { (looks : ℕ) (old : Seen) (past : List Act) → Exits order.now code past → unreported past ≡ []
         → IsInTurn past
         → Stands (H.honest host.old) order.now looks old
-        (seen H.calls H.output H.exited G.tells host.old gate.old) past
-        → ServesOn (H.honest host.new) order.now looks old (seen H.calls H.output H.exited G.tells host.new gate.new)
+        (seen H.Host G.tells host.old gate.old) past
+        → ServesOn (H.honest host.new) order.now looks old (seen H.Host G.tells host.new gate.new)
         past (H.dirs host.old) (H.dirs host.new) result }
     ensures gate { KeepsGate (G.tells gate.old) (G.tells gate.new) }
     ensures launches { H.launches host.new ≡ H.launches host.old }
@@ -92,8 +92,8 @@ fn watch<R: Wait + AllocGlobal, G: Gate, H: Host>(
     requires size { length buf.old ≡ piece_size }
     ensures serves { (old : Seen) (past : List Act) → Opened order.now past
         → Stands (H.honest host.old) order.now looks old
-        (seen H.calls H.output H.exited G.tells host.old gate.old) past
-        → ServesOn (H.honest host.new) order.now looks old (seen H.calls H.output H.exited G.tells host.new gate.new)
+        (seen H.Host G.tells host.old gate.old) past
+        → ServesOn (H.honest host.new) order.now looks old (seen H.Host G.tells host.new gate.new)
         past (H.dirs host.old) (H.dirs host.new) result }
     ensures gate { KeepsGate (G.tells gate.old) (G.tells gate.new) }
     ensures launches { H.launches host.new ≡ H.launches host.old }
@@ -150,8 +150,8 @@ pub fn serve<R: Wait + AllocGlobal, G: Gate, H: Host>(
 ) -> Served
     requires looks { 0 < looks }
     ensures serves { ServesOrder (H.honest host.old) order looks
-        (seen H.calls H.output H.exited G.tells host.old gate.old)
-        (seen H.calls H.output H.exited G.tells host.new gate.new)
+        (seen H.Host G.tells host.old gate.old)
+        (seen H.Host G.tells host.new gate.new)
         (tasks_at (H.launches host.old) (H.dirs host.old)) (tasks_at (H.launches host.new) (H.dirs host.new)) result }
     ensures gate { KeepsGate (G.tells gate.old) (G.tells gate.new) }
     ensures honest { H.honest host.new ↔ H.honest host.old }

@@ -49,8 +49,8 @@ pub(crate) fn take_turn<R: Wait + AllocGlobal, G: Gate, H: Host>(
     ensures turns { (looks : ℕ) (old : Seen) (past : List Act) → MayLook order.now past
         → log.old ≡ kept order.now Log past → out.old ≡ kept order.now Out past
         → Stands (H.honest host.old) order.now looks old
-        (seen H.calls H.output H.exited G.tells host.old gate.old) past
-        → TakesTurn (H.honest host.new) order.now looks old (seen H.calls H.output H.exited G.tells host.new gate.new)
+        (seen H.Host G.tells host.old gate.old) past
+        → TakesTurn (H.honest host.new) order.now looks old (seen H.Host G.tells host.new gate.new)
         log.new out.new past result }
     ensures gate { KeepsGate (G.tells gate.old) (G.tells gate.new) }
     ensures launches { H.launches host.new ≡ H.launches host.old }

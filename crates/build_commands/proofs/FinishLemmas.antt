@@ -4,7 +4,7 @@ use Rattle.std.specs.Prelude.{Bool, true, false, IfErr, IfOk, IfSome, IsSomeAnd,
 use Rattle.std.proofs.Props.{props}
 use Rattle.std.proofs.Math.Logic.{∥∥₁_elim, ∥∥₁_map}
 use Rattle.device_faults.specs.Faults.{CountsFault, Rose}
-use Rattle.jp_disk.specs.Moments.{AtEachMoment}
+use Rattle.jp_disk.specs.Runs.{AtEachMoment}
 use Rattle.task_host.specs.declared.call.Call.{Call}
 use Rattle.task_host.specs.declared.order.Stream.{Stream}
 use Rattle.agent_worker.specs.declared.fault.TakeFault.{TakeFault}
@@ -46,6 +46,9 @@ use Rattle.build_commands.specs.Reporting as report
 use Rattle.build_commands.specs.Texts.{full_text, out_of_memory_text}
 use Rattle.build_commands.specs.Writing.{Writes, Tells}
 use Rattle.build_commands.proofs.RefusalLemmas.{as_said, as_told}
+use Rattle.jp_disk.specs.View.{DiskView}
+use Rattle.task_host.specs.View.{HostView}
+use Rattle.jp_io.specs.View.{SourceView}
 
 -- the event that was not taken, where there is one
 some_next : (P Q : Event → Type 0) (o : Option Event) → IsSomeAnd o P → IfSome o Q → (e : Event) × P e × Q e × (o ≡ Some e)
@@ -79,15 +82,14 @@ counts_then (Err fault) kind first last before granted taken now counts more is 
 at_some : (o : Option Event) (e : Event) (P : Event → Type 0) → o ≡ Some e → IfSome o P → P e
 at_some o e P is all = subst (λ (x : Option Event). IfSome x P) is all
 
-module _ {D T H A : Type 0} (reads : D → Option (List ℕ)) (may_leave : D → List ℕ → Type 0) (clock : D → ℕ) (since : D → ℕ → List ℕ → Type 0) (stance : T → Stance)
-    (honest : H → Type 0) (faults : H → ℕ) (calls : H → Option (List Call)) (launches dirs : H → List ℕ) (output : H → ℕ → Stream → List ℕ) (exited : H → ℕ → Option ℤ)
-    (left : A → Option (List ℕ)) (source_faults : A → ℕ) (looks : ℕ)
+module _ {D T H A : Type 0} (disk : DiskView D) (stance : T → Stance)
+    (host : HostView H) (source : SourceView A) (looks : ℕ)
     (setting : Setting) (entry : Option (List ℕ)) (origin : D) (before : List Event) (old new : List (Member H A)) (turns : List (Turn H A)) (history : List Entry) (kept : Kept D T) (HeardSo : Type 0) where
   abbrev TakesSo : List Event → Type 0
-  TakesSo = TakesBy honest faults calls launches dirs output exited left source_faults looks setting before old new turns history
+  TakesSo = TakesBy host source looks setting before old new turns history
 
   abbrev ComesSo : List Event → Event → Type 0
-  ComesSo = ComesBy honest faults calls launches dirs output exited left source_faults looks setting turns
+  ComesSo = ComesBy host source looks setting turns
 
   abbrev IdlesSo : List Event → Type 0
   IdlesSo events = RestsWith Waits setting (world_in setting events) new
@@ -99,34 +101,34 @@ module _ {D T H A : Type 0} (reads : D → Option (List ℕ)) (may_leave : D →
   NextSo = ComesNext ComesSo setting
 
   abbrev MadeSo : List Event → Option Event → Type 0
-  MadeSo = Made reads may_leave clock since TakesSo ComesSo IdlesSo UnheardSo HeardSo setting entry origin before kept.journal.disk
+  MadeSo = Made disk TakesSo ComesSo IdlesSo UnheardSo HeardSo setting entry origin before kept.journal.disk
 
   abbrev FailsSo : List Event → TakeFault → Type 0
-  FailsSo now f = BreaksBehind reads may_leave clock since stance setting entry origin before (IsRefused honest faults calls launches dirs output exited left source_faults looks turns) now f kept
+  FailsSo now f = BreaksBehind disk stance setting entry origin before (IsRefused host source looks turns) now f kept
 
   -- a life that stands has made its events
-  pub made_lasting : (now : List Event) → TakesSo now → Lasts reads may_leave clock since stance setting entry origin before now kept → MadeSo now None
+  pub made_lasting : (now : List Event) → TakesSo now → Lasts disk stance setting entry origin before now kept → MadeSo now None
   made_lasting now takes lasts = record {
     takes = takes;
     next = tt;
     moments = lasts.moments;
-    images = λ known image there. inl (saved_image reads may_leave clock since stance setting now kept image lasts.goes.same (lasts.saves known) there);
+    images = λ known image there. inl (saved_image disk stance setting now kept image lasts.goes.same (lasts.saves known) there);
   }
 
   made_broken : (now : List Event) (f : TakeFault) → TakesSo now → (b : FailsSo now f) (r : Option Event) → b.fails.risked ≡ r → IfSome r (NextSo now) → MadeSo now r
   made_broken now f takes b r is next = record {
     takes = takes;
     next = next;
-    moments = λ known. subst (λ (o : Option Event). AtEachMoment clock since origin kept.journal.disk (Survives setting before now o)) is (b.fails.moments known);
-    images = λ known. subst (λ (o : Option Event). (image : List ℕ) → may_leave kept.journal.disk image → Stores setting now image ⊎ IsSomeAnd o (λ e. Stores setting (now ++ e ∷ []) image)) is (b.fails.images known);
+    moments = λ known. subst (λ (o : Option Event). AtEachMoment disk origin kept.journal.disk (Survives setting before now o)) is (b.fails.moments known);
+    images = λ known. subst (λ (o : Option Event). (image : List ℕ) → disk.may_leave kept.journal.disk image → Stores setting now image ⊎ IsSomeAnd o (λ e. Stores setting (now ++ e ∷ []) image)) is (b.fails.images known);
   }
 
   module _ (kind : EndText) (a b x y : ℕ) (wrote now_written : Option (List ℕ)) (c d : ℕ) where
     abbrev EndsSo : ℕ → Type 0
-    EndsSo status = Finishes reads may_leave clock since TakesSo ComesSo IdlesSo UnheardSo HeardSo setting entry origin before kept.journal.disk kind a b x y wrote now_written c d status
+    EndsSo status = Finishes disk TakesSo ComesSo IdlesSo UnheardSo HeardSo setting entry origin before kept.journal.disk kind a b x y wrote now_written c d status
 
     abbrev BreaksSo : ℕ → List ℕ → Type 0
-    BreaksSo = Breaks reads may_leave clock since TakesSo ComesSo IdlesSo UnheardSo HeardSo setting entry origin before kept.journal.disk a b x y
+    BreaksSo = Breaks disk TakesSo ComesSo IdlesSo UnheardSo HeardSo setting entry origin before kept.journal.disk a b x y
 
     broke : (r : Refusal) (status : ℕ) → status ≡ refusal_status r → BreaksSo (refusal_status r) (refusal_text r) → Tells wrote now_written c d (refusal_text r) → EndsSo status
     broke r status is breaks told = subst EndsSo (sym is) (by_break breaks told)
@@ -162,55 +164,53 @@ module _ {D T H A : Type 0} (reads : D → Option (List ℕ)) (may_leave : D →
         (subst (λ (l : List ℕ). Writes wrote now_written c d l told.ended status) (same.0 ∙ text_counted kind kept.records now w.shared counts) told.wrote))
     finishes_rested now status heard made rests stands counts (inr wanting) = subst EndsSo (sym wanting.0) (by_break (no_memory made) wanting.1)
 
-    pub finishes_ended : (now : List Event) (ended : Result Rest TakeFault) (status : ℕ) → IfOk ended (λ rest. HeardSo) → TakesSo now → IfOk ended (λ rest. Counts kind kept.records now) → EndsBehind reads may_leave clock since stance setting entry origin before (IsRefused honest faults calls launches dirs output exited left source_faults looks turns) now new kept ended
+    pub finishes_ended : (now : List Event) (ended : Result Rest TakeFault) (status : ℕ) → IfOk ended (λ rest. HeardSo) → TakesSo now → IfOk ended (λ rest. Counts kind kept.records now) → EndsBehind disk stance setting entry origin before (IsRefused host source looks turns) now new kept ended
         → TellsEnd kind kept.records (StandsFor stance kept.build) (image_in stance kept.build) wrote now_written c d ended status → (ended ≡ Ok AnswersFailed → Rose x y) → (ended ≡ Err take.Disk → Rose a b) → EndsSo status
-    finishes_ended now (Ok Ended) status heard takes counts r told answers disk = finishes_rested now status heard (made_lasting now takes r.lasts) (inl r.rests) r.lasts.goes.stands counts told
-    finishes_ended now (Ok Waits) status heard takes counts r told answers disk = finishes_rested now status heard (made_lasting now takes r.lasts) (inr r.rests) r.lasts.goes.stands counts told
-    finishes_ended now (Ok AnswersFailed) status heard takes counts r told answers disk = subst EndsSo (sym told.0) (by_break (answers_failed (made_lasting now takes r.lasts) r.rests heard (answers refl)) told.1)
-    finishes_ended now (Err f) status heard takes counts k told answers disk = finishes_broken now f told.0 status takes k told.1 (λ e. disk (ap Err e)) told.2 told.3
+    finishes_ended now (Ok Ended) status heard takes counts r told answers state = finishes_rested now status heard (made_lasting now takes r.lasts) (inl r.rests) r.lasts.goes.stands counts told
+    finishes_ended now (Ok Waits) status heard takes counts r told answers state = finishes_rested now status heard (made_lasting now takes r.lasts) (inr r.rests) r.lasts.goes.stands counts told
+    finishes_ended now (Ok AnswersFailed) status heard takes counts r told answers state = subst EndsSo (sym told.0) (by_break (answers_failed (made_lasting now takes r.lasts) r.rests heard (answers refl)) told.1)
+    finishes_ended now (Err f) status heard takes counts k told answers state = finishes_broken now f told.0 status takes k told.1 (λ e. state (ap Err e)) told.2 told.3
 
-module _ {D T H A : Type 0} (reads : D → Option (List ℕ)) (may_leave : D → List ℕ → Type 0) (clock : D → ℕ) (since : D → ℕ → List ℕ → Type 0) (stance : T → Stance) (disk_faults : D → ℕ)
-    (honest : H → Type 0) (faults : H → ℕ) (calls : H → Option (List Call)) (launches dirs : H → List ℕ) (output : H → ℕ → Stream → List ℕ) (exited : H → ℕ → Option ℤ)
-    (left : A → Option (List ℕ)) (source_faults : A → ℕ) (looks : ℕ)
+module _ {D T H A : Type 0} (disk : DiskView D) (stance : T → Stance) (host : HostView H) (source : SourceView A) (looks : ℕ)
     (kind : EndText) (setting : Setting) (entry : Option (List ℕ)) (origin : D) (before : List Event) (hosts rest : List H) (answers unread : A) (wrote now_written : Option (List ℕ)) (c d status before_faults : ℕ) where
   abbrev FinishedSo : List Entry → D → Type 0
-  FinishedSo history disk = Finished reads may_leave clock since honest faults calls launches dirs output exited left source_faults looks kind setting entry origin before hosts rest answers unread history disk before_faults (disk_faults disk) wrote now_written c d status
+  FinishedSo history state = Finished disk host source looks kind setting entry origin before hosts rest answers unread history state before_faults (disk.faults state) wrote now_written c d status
 
   abbrev BegunWith : List (Member H A)
   BegunWith = members_of setting.site.executors hosts answers
 
   abbrev HeardHere : List Entry → Type 0
-  HeardHere history = ∥ HeardOf left source_faults answers unread (lines history) ∥₁
+  HeardHere history = ∥ HeardOf source answers unread (lines history) ∥₁
 
   abbrev LifeSo : List (Member H A) → List (Turn H A) → List Entry → Type 0
-  LifeSo new turns history = LifeOf honest faults calls launches dirs output exited left source_faults looks any_reply tt BegunWith new turns history
+  LifeSo new turns history = LifeOf host source looks any_reply tt BegunWith new turns history
 
   abbrev ServedSo : List (Member H A) → Type 0
-  ServedSo new = AreServed honest faults calls left source_faults BegunWith new
+  ServedSo new = AreServed host source BegunWith new
 
   abbrev TookSo : List (Member H A) → List (Turn H A) → List Entry → List Event → Type 0
-  TookSo new turns history now = TakesBy honest faults calls launches dirs output exited left source_faults looks setting before BegunWith new turns history now
+  TookSo new turns history now = TakesBy host source looks setting before BegunWith new turns history now
 
   -- a life of members that ended so
-  pub finished_by : (new : List (Member H A)) (turns : List (Turn H A)) (history all : List Entry) (kept : Kept D T) (disk : D) → disk ≡ kept.journal.disk → all ≡ history
+  pub finished_by : (new : List (Member H A)) (turns : List (Turn H A)) (history all : List Entry) (kept : Kept D T) (state : D) → state ≡ kept.journal.disk → all ≡ history
       → LifeSo new turns history → ServedSo new → rest ≡ hosts_in new ++ others_of setting.site.executors hosts → answers_in new ≡ unread ∷ []
       → (now : List Event) (ended : Result Rest TakeFault) → IfOk ended (λ rest. HeardHere history) → TookSo new turns history now → IfOk ended (λ rest. Counts kind kept.records now)
-      → EndsBehind reads may_leave clock since stance setting entry origin before (IsRefused honest faults calls launches dirs output exited left source_faults looks turns) now new kept ended
-      → TellsEnd kind kept.records (StandsFor stance kept.build) (image_in stance kept.build) wrote now_written c d ended status → (ended ≡ Ok AnswersFailed → Rose (source_faults answers) (source_faults unread)) → (ended ≡ Err take.Disk → Rose before_faults (disk_faults kept.journal.disk)) → FinishedSo all disk
-  finished_by new turns history all kept disk same here life served hosts_are answers_are now ended heard takes counts ends told failed rose = subst (λ (es : List Entry). FinishedSo es disk) (sym here) (subst (FinishedSo history) (sym same) (record {
+      → EndsBehind disk stance setting entry origin before (IsRefused host source looks turns) now new kept ended
+      → TellsEnd kind kept.records (StandsFor stance kept.build) (image_in stance kept.build) wrote now_written c d ended status → (ended ≡ Ok AnswersFailed → Rose (source.faults answers) (source.faults unread)) → (ended ≡ Err take.Disk → Rose before_faults (disk.faults kept.journal.disk)) → FinishedSo all state
+  finished_by new turns history all kept state same here life served hosts_are answers_are now ended heard takes counts ends told failed rose = subst (λ (es : List Entry). FinishedSo es state) (sym here) (subst (FinishedSo history) (sym same) (record {
     lived = record { new = new; turns = turns; life = life; served = served; hosts_are = hosts_are; answers_are = answers_are };
-    finishes = finishes_ended reads may_leave clock since stance honest faults calls launches dirs output exited left source_faults looks setting entry origin before BegunWith new turns history kept (HeardHere history) kind before_faults (disk_faults kept.journal.disk) (source_faults answers) (source_faults unread)
+    finishes = finishes_ended disk stance host source looks setting entry origin before BegunWith new turns history kept (HeardHere history) kind before_faults (disk.faults kept.journal.disk) (source.faults answers) (source.faults unread)
         wrote now_written c d now ended status heard takes counts ends told failed rose;
   }))
 
   -- there was no memory for the members, and nothing was done
-  pub finished_wanting : (all : List Entry) (kept : Kept D T) (disk : D) → disk ≡ kept.journal.disk → all ≡ [] → LifeSo BegunWith [] [] → ServedSo BegunWith → rest ≡ hosts_in BegunWith ++ others_of setting.site.executors hosts → answers_in BegunWith ≡ unread ∷ []
-      → TookSo BegunWith [] [] before → Lasts reads may_leave clock since stance setting entry origin before before kept → status ≡ 8 → Tells wrote now_written c d out_of_memory_text → FinishedSo all disk
-  finished_wanting all kept disk same none life served hosts_are answers_are takes lasts eight told = subst (λ (es : List Entry). FinishedSo es disk) (sym none) (subst (FinishedSo []) (sym same) (record {
+  pub finished_wanting : (all : List Entry) (kept : Kept D T) (state : D) → state ≡ kept.journal.disk → all ≡ [] → LifeSo BegunWith [] [] → ServedSo BegunWith → rest ≡ hosts_in BegunWith ++ others_of setting.site.executors hosts → answers_in BegunWith ≡ unread ∷ []
+      → TookSo BegunWith [] [] before → Lasts disk stance setting entry origin before before kept → status ≡ 8 → Tells wrote now_written c d out_of_memory_text → FinishedSo all state
+  finished_wanting all kept state same none life served hosts_are answers_are takes lasts eight told = subst (λ (es : List Entry). FinishedSo es state) (sym none) (subst (FinishedSo []) (sym same) (record {
     lived = record { new = BegunWith; turns = []; life = life; served = served; hosts_are = hosts_are; answers_are = answers_are };
-    finishes = subst (λ (n : ℕ). EndsSo reads may_leave clock since stance honest faults calls launches dirs output exited left source_faults looks setting entry origin before BegunWith BegunWith [] [] kept (HeardHere []) kind before_faults (disk_faults kept.journal.disk)
-        (source_faults answers) (source_faults unread) wrote now_written c d n) (sym eight)
-        (by_break (no_memory (made_lasting reads may_leave clock since stance honest faults calls launches dirs output exited left source_faults looks setting entry origin before BegunWith BegunWith [] [] kept (HeardHere []) before takes lasts)) told);
+    finishes = subst (λ (n : ℕ). EndsSo disk stance host source looks setting entry origin before BegunWith BegunWith [] [] kept (HeardHere []) kind before_faults (disk.faults kept.journal.disk)
+        (source.faults answers) (source.faults unread) wrote now_written c d n) (sym eight)
+        (by_break (no_memory (made_lasting disk stance host source looks setting entry origin before BegunWith BegunWith [] [] kept (HeardHere []) before takes lasts)) told);
   }))
 
 less_prop : (m n : ℕ) → IsProp (m < n)

@@ -51,6 +51,7 @@ use Rattle.build_commands.specs.Texts.{full_text}
 use Rattle.build_commands.specs.Writing as writing
 use Rattle.build_commands.specs.Writing.{Tells, Writes}
 use Rattle.build_commands.proofs.FinishLemmas.{broken_status}
+use Rattle.jp_disk.specs.View.{DiskView}
 
 -- At most one event is kept from the disk by a fault, and none but by a fault of the disk.
 few_pending : (h : List Entry) → length (pending h) ≤ 1
@@ -141,7 +142,7 @@ whole_take setting zero rs all = tt
 whole_take setting (suc k) [] all = tt
 whole_take setting (suc k) (r ∷ rs) all = (all.0, whole_take setting k rs all.1)
 
-module _ {D T : Type 0} (reads : D → Option (List ℕ)) (may_leave : D → List ℕ → Type 0) (stance : T → Stance) (k : Kept D T) (payloads : List (List ℕ)) (begun : has_begun k.build.phase ≡ true) (keeps : Keeps reads may_leave stance k payloads) where
+module _ {D T : Type 0} (disk : DiskView D) (stance : T → Stance) (k : Kept D T) (payloads : List (List ℕ)) (begun : has_begun k.build.phase ≡ true) (keeps : Keeps disk stance k payloads) where
   -- a build that has begun stands by the image of its last record
   closes_so : Closing (image_in stance k.build) payloads
   closes_so = sym (stands_last stance k.build k.script k.agents payloads keeps.stands) ∙ ap (λ (b : Bool). if b then Some (image_in stance k.build) else None) begun
@@ -228,10 +229,10 @@ module _ (wrote now_written : Option (List ℕ)) (c d status : ℕ) where
     told = tells;
   }
 
-module _ {D T : Type 0} (reads : D → Option (List ℕ)) (may_leave : D → List ℕ → Type 0) (clock : D → ℕ) (since : D → ℕ → List ℕ → Type 0) (disk_faults : D → ℕ) (stance : T → Stance) (old kept : Kept D T) (payloads : List (List ℕ))
+module _ {D T : Type 0} (disk : DiskView D) (stance : T → Stance) (old kept : Kept D T) (payloads : List (List ℕ))
     (kind : EndText) (records : ℕ) (wrote now_written : Option (List ℕ)) (c d status : ℕ) where
   abbrev KeptSo : List Entry → Type 0
-  KeptSo history = KeepsRecords may_leave clock since (setting_in old.build) old.journal.disk payloads history kept.journal.disk wrote now_written c d status
+  KeptSo history = KeepsRecords disk (setting_in old.build) old.journal.disk payloads history kept.journal.disk wrote now_written c d status
 
   abbrev ShownSo : List (List ℕ) → Type 0
   ShownSo all = IsBroken status ⊎ ShowsEnd (setting_in old.build) all wrote now_written c d status
@@ -259,7 +260,7 @@ module _ {D T : Type 0} (reads : D → Option (List ℕ)) (may_leave : D → Lis
     risked : (pending all ≡ pending history) ⊎ ((history ≡ []) × AreGrants (pending all))
 
   kept_by : (all history : List Entry) → ((rs : List EventRecord) (ps : List (List ℕ)) → TellsRecords (last_image payloads) rs ps → AllAre (λ (r : EventRecord). IsWhole (setting_in old.build) r.image) rs → (n : ℕ) → EndsWhole (setting_in old.build) (payloads ++ take_list n ps))
-      → Splits all history → (kept_fault all ≡ Some take.Disk → status ≡ 5) → (g : Grown reads may_leave clock since stance old kept all payloads)
+      → Splits all history → (kept_fault all ≡ Some take.Disk → status ≡ 5) → (g : Grown disk stance old kept all payloads)
       → ShownSo (payloads ++ g.added) → (status ≡ 14 → IsFullBehind (payloads ++ g.added) history wrote now_written c d) → KeptSo history
   kept_by all history sound s five g shown full = record {
     more = g.added;
@@ -305,7 +306,7 @@ module _ {D T : Type 0} (reads : D → Option (List ℕ)) (may_leave : D → Lis
   end_shown log (Err f) all told ends = inl (subst IsBroken (sym told.2) (broken_status f told.0 told.1))
 
   -- a life that was led, behind the grants of its opening
-  module _ {H A : Type 0} (made history : List Entry) (grants : Grants stance old.build made) (none : kept_fault made ≡ None) (facts : Facts reads may_leave clock since disk_faults stance old kept (made ++ history))
+  module _ {H A : Type 0} (made history : List Entry) (grants : Grants stance old.build made) (none : kept_fault made ≡ None) (facts : Facts disk stance old kept (made ++ history))
       (how : Result Progress NoMemory) (members : List (Member H A)) (ended : Result Rest TakeFault) (is : ended ≡ ended_as (kept_fault history) how members) (told : EndSo ended) where
     life_full : (w : Weights) (before : Option Image) → IsFullAt stance w before kept (made ++ history) → (Asked : Told → Type 0) → AllAre Asked (told_of history) → status ≡ 14
         → (at : ℕ) × (add : ℕ) × RefusedFull stance w before kept Asked history at add × Tells wrote now_written c d (full_text at add)
@@ -326,13 +327,13 @@ module _ {D T : Type 0} (reads : D → Option (List ℕ)) (may_leave : D → Lis
     life_splits : Splits (made ++ history) history
     life_splits = record { grants = tooks made; are_grants = (grants_tell grants).0; taken = tooks-append made history; risked = inl (pending-append made history none) }
 
-    pub life_kept : kind ≡ end.Log → has_begun old.build.phase ≡ true → IsWhole (setting_in old.build) (image_in stance old.build) → (kept.stopped ≡ false → has_begun kept.build.phase ≡ true → IsWhole (setting_in kept.build) (image_in stance kept.build)) → Keeps reads may_leave stance old payloads → KeptSo history
+    pub life_kept : kind ≡ end.Log → has_begun old.build.phase ≡ true → IsWhole (setting_in old.build) (image_in stance old.build) → (kept.stopped ≡ false → has_begun kept.build.phase ≡ true → IsWhole (setting_in kept.build) (image_in stance kept.build)) → Keeps disk stance old payloads → KeptSo history
     life_kept log begun first whole keeps =
         let g = facts.grown payloads keeps in
         let same = kept_fault-append made history none in
         let calm : (rest : Rest) → ended ≡ Ok rest → kept_fault (made ++ history) ≡ None = λ rest rests. same ∙ rest_keeps (kept_fault history) how members rest (sym rests ∙ is) in
-        kept_by (made ++ history) history (sound_so reads may_leave stance old payloads begun keeps first) life_splits
-        (λ disk. end_disk wrote now_written c d status kind records (StandsFor stance kept.build) (image_in stance kept.build) ended (is ∙ ap (λ (o : Option TakeFault). ended_as o how members) (sym same ∙ disk)) told) g
+        kept_by (made ++ history) history (sound_so disk stance old payloads begun keeps first) life_splits
+        (λ state. end_disk wrote now_written c d status kind records (StandsFor stance kept.build) (image_in stance kept.build) ended (is ∙ ap (λ (o : Option TakeFault). ended_as o how members) (sym same ∙ state)) told) g
         (end_shown log ended (payloads ++ g.added) told (λ rest rests.
         let none_now = calm rest rests in
         let shown = facts.shown none_now in
@@ -343,7 +344,7 @@ module _ {D T : Type 0} (reads : D → Option (List ℕ)) (may_leave : D → Lis
         full_so all history f.0 f.1 f.2.event g.ends f.2.is (inl f.2.noted) f.3)
 
   -- a life whose opening was refused
-  module _ (made : List Entry) (facts : Facts reads may_leave clock since disk_faults stance old kept made) (fault : TakeFault) (refuses : OpenRefuses stance old kept made fault)
+  module _ (made : List Entry) (facts : Facts disk stance old kept made) (fault : TakeFault) (refuses : OpenRefuses stance old kept made fault)
       (r : Refusal) (says : SaysTake fault r) (is : status ≡ refusal_status r) (told : Tells wrote now_written c d (refusal_text r)) where
     opening_fault : OpenRefuses stance old kept made fault → (f : TakeFault) → kept_fault made ≡ Some f → fault ≡ f
     opening_fault (inl grants) f kept_is = same_fault fault f (sym grants.1 ∙ kept_is)
@@ -375,10 +376,10 @@ module _ {D T : Type 0} (reads : D → Option (List ℕ)) (may_leave : D → Lis
       risked = inr (empty, (opening_tells refuses).1);
     }
 
-    pub opening_kept : has_begun old.build.phase ≡ true → IsWhole (setting_in old.build) (image_in stance old.build) → (history : List Entry) → history ≡ [] → Keeps reads may_leave stance old payloads → KeptSo history
+    pub opening_kept : has_begun old.build.phase ≡ true → IsWhole (setting_in old.build) (image_in stance old.build) → (history : List Entry) → history ≡ [] → Keeps disk stance old payloads → KeptSo history
     opening_kept begun first history empty keeps =
         let g = facts.grown payloads keeps in
-        kept_by made history (sound_so reads may_leave stance old payloads begun keeps first) (opening_splits history empty) (λ disk. broken_disk wrote now_written c d status r (subst (λ (f : TakeFault). SaysTake f r) (opening_fault refuses take.Disk disk) says) is) g
+        kept_by made history (sound_so disk stance old payloads begun keeps first) (opening_splits history empty) (λ state. broken_disk wrote now_written c d status r (subst (λ (f : TakeFault). SaysTake f r) (opening_fault refuses take.Disk state) says) is) g
         (inl (subst IsBroken (sym is) (broken_status fault r says)))
         (λ fourteen.
         let all = payloads ++ g.added in
@@ -387,12 +388,12 @@ module _ {D T : Type 0} (reads : D → Option (List ℕ)) (may_leave : D → Lis
         full_so all history f.at f.add full.event g.ends full.is (inr (empty, grant_of_opening (weights_of all) (last_image all) f.at f.add full)) f.tells)
 
 -- Nothing was done.
-pub nothing_kept : {D T : Type 0} (reads : D → Option (List ℕ)) (may_leave : D → List ℕ → Type 0) (clock : D → ℕ) (since : D → ℕ → List ℕ → Type 0) → ((d : D) (image : List ℕ) → since d (clock d) image → may_leave d image) → (stance : T → Stance) (kept : Kept D T)
-    (payloads : List (List ℕ)) (history : List Entry) (wrote now_written : Option (List ℕ)) (c d status : ℕ) → has_begun kept.build.phase ≡ true → IsWhole (setting_in kept.build) (image_in stance kept.build) → Keeps reads may_leave stance kept payloads → history ≡ [] → status ≡ 8
-    → KeepsRecords may_leave clock since (setting_in kept.build) kept.journal.disk payloads history kept.journal.disk wrote now_written c d status
-nothing_kept reads may_leave clock since only_now stance kept payloads history wrote now_written c d status begun first keeps empty eight =
-    let has : (image : List ℕ) → may_leave kept.journal.disk image → Has (payloads ++ []) image =
-    λ image left. subst (λ (ps : List (List ℕ)). Has ps image) (sym (append-nil payloads)) (stores_has reads may_leave kept.journal.disk kept.journal.len payloads image keeps.holds left) in
+pub nothing_kept : {D T : Type 0} (disk : DiskView D) → ((d : D) (image : List ℕ) → disk.may_have_left_since d (disk.clock d) image → disk.may_leave d image) → (stance : T → Stance) (kept : Kept D T)
+    (payloads : List (List ℕ)) (history : List Entry) (wrote now_written : Option (List ℕ)) (c d status : ℕ) → has_begun kept.build.phase ≡ true → IsWhole (setting_in kept.build) (image_in stance kept.build) → Keeps disk stance kept payloads → history ≡ [] → status ≡ 8
+    → KeepsRecords disk (setting_in kept.build) kept.journal.disk payloads history kept.journal.disk wrote now_written c d status
+nothing_kept disk only_now stance kept payloads history wrote now_written c d status begun first keeps empty eight =
+    let has : (image : List ℕ) → disk.may_leave kept.journal.disk image → Has (payloads ++ []) image =
+    λ image left. subst (λ (ps : List (List ℕ)). Has ps image) (sym (append-nil payloads)) (stores_has disk kept.journal.disk kept.journal.len payloads image keeps.holds left) in
     record {
       more = [];
       taken = record { granted = []; are_grants = tt; records = []; events = sym (ap tooks empty); spelled = tt };
@@ -401,8 +402,8 @@ nothing_kept reads may_leave clock since only_now stance kept payloads history w
       one = omega arith;
       sure = λ other. refl;
       at_end = λ image left. inl (has image left);
-      moments = starts clock since kept.journal.disk (HasFront payloads []) (λ image left. (0, has image (only_now kept.journal.disk image left)));
-      sound = sound_so reads may_leave stance kept payloads begun keeps first [] [] tt tt;
+      moments = starts disk kept.journal.disk (HasFront payloads []) (λ image left. (0, has image (only_now kept.journal.disk image left)));
+      sound = sound_so disk stance kept payloads begun keeps first [] [] tt tt;
       shown = inl (inr (inr (inr eight)));
       full = λ fourteen. absurd (omega (arith, eight, fourteen));
     }

@@ -23,24 +23,26 @@ use Rattle.site_run.specs.Lower.site_life.Turns.{DidTurn, Launches, Turn, launch
 use Rattle.site_crew.specs.Crews.{hosts_in, members_of, others_of}
 use Rattle.build_commands.specs.Launching.{LaunchedOnce, all_launched_since, launched_since}
 use Rattle.build_commands.proofs.LivingLemmas.{hosts_all}
+use Rattle.task_host.specs.View.{HostView}
+use Rattle.jp_io.specs.View.{SourceView}
 
-module _ {H : Type 0} (launches : H → List ℕ) where
+module _ {H : Type 0} (host : HostView H) where
   -- hosts that no member had are as they were
   record HostsGrew (hosts rest : List H) (tasks : List ℕ) : Type 0 where
-    behind : AllZip (λ host now. launches now ≡ launches host ++ launched_since launches host now) hosts rest
-    all : all_launched_since launches hosts rest ≡ tasks
+    behind : AllZip (λ machine now. host.launches now ≡ host.launches machine ++ launched_since host machine now) hosts rest
+    all : all_launched_since host hosts rest ≡ tasks
 
   none_since : (hosts : List H) → HostsGrew hosts hosts []
   none_since [] = record { behind = tt; all = refl }
-  none_since (host ∷ hosts) =
+  none_since (machine ∷ hosts) =
       let rest = none_since hosts in
-      let none : drop (length (launches host)) (launches host) ≡ [] = drop-length (launches host) in
+      let none : drop (length (host.launches machine)) (host.launches machine) ≡ [] = drop-length (host.launches machine) in
       record {
-        behind = (subst (λ (l : List ℕ). launches host ≡ launches host ++ l) (sym none) (sym (append-nil (launches host))), rest.behind);
-        all = ap (λ (l : List ℕ). l ++ all_launched_since launches hosts hosts) none ∙ rest.all;
+        behind = (subst (λ (l : List ℕ). host.launches machine ≡ host.launches machine ++ l) (sym none) (sym (append-nil (host.launches machine))), rest.behind);
+        all = ap (λ (l : List ℕ). l ++ all_launched_since host hosts hosts) none ∙ rest.all;
       }
 
-  pub none_launched : (hosts : List H) → LaunchedOnce launches hosts hosts
+  pub none_launched : (hosts : List H) → LaunchedOnce host hosts hosts
   unfolding IsDistinct
   none_launched hosts = let g = none_since hosts in record { behind = g.behind; once = subst (IsDistinct nat_eq) (sym g.all) tt }
 
@@ -61,12 +63,12 @@ module _ {H A : Type 0} where
   launches-append [] ys = refl
   launches-append (x ∷ xs) ys = ap (λ (l : List ℕ). x.launches ++ l) (launches-append xs ys) ∙ sym (append_assoc x.launches (launches_of xs) (launches_of ys))
 
-module _ {H A : Type 0} (launches : H → List ℕ) where
+module _ {H A : Type 0} (host : HostView H) where
   -- a member's host has launched these tasks behind those from before; the operator launches nothing
   abbrev Added : List ℕ → Member H A → Member H A → Type 0
-  Added more (Executor number host) (Executor now next) = launches next ≡ launches host ++ more
+  Added more (Executor number machine) (Executor now next) = host.launches next ≡ host.launches machine ++ more
   Added more (Operator answers line ended failed) (Operator next kept now_ended now_failed) = more ≡ []
-  Added more (Executor number host) (Operator next kept now_ended now_failed) = ⊥
+  Added more (Executor number machine) (Operator next kept now_ended now_failed) = ⊥
   Added more (Operator answers line ended failed) (Executor now next) = ⊥
 
   abbrev AllAdded : List (List ℕ) → List (Member H A) → List (Member H A) → Type 0
@@ -78,21 +80,21 @@ module _ {H A : Type 0} (launches : H → List ℕ) where
   AllAdded (more ∷ mores) (m ∷ ms) (n ∷ ns) = Added more m n × AllAdded mores ms ns
 
   none_added : (m : Member H A) → Added [] m m
-  none_added (Executor number host) = sym (append-nil (launches host))
+  none_added (Executor number machine) = sym (append-nil (host.launches machine))
   none_added (Operator answers line ended failed) = refl
 
   more_added : (xs ys : List ℕ) (a b c : Member H A) → Added xs a b → Added ys b c → Added (xs ++ ys) a c
-  more_added xs ys (Executor n a) (Executor m b) (Executor k c) one two = two ∙ ap (λ (l : List ℕ). l ++ ys) one ∙ append_assoc (launches a) xs ys
+  more_added xs ys (Executor n a) (Executor m b) (Executor k c) one two = two ∙ ap (λ (l : List ℕ). l ++ ys) one ∙ append_assoc (host.launches a) xs ys
   more_added xs ys (Executor n a) (Executor m b) (Operator c line ended failed) one two = absurd two
   more_added xs ys (Executor n a) (Operator b line ended failed) c one two = absurd one
   more_added xs ys (Operator a line ended failed) (Executor m b) c one two = absurd one
   more_added xs ys (Operator a line ended failed) (Operator b kept now_ended now_failed) (Executor k c) one two = absurd two
   more_added xs ys (Operator a line ended failed) (Operator b kept now_ended now_failed) (Operator c part done broken) one two = ap (λ (l : List ℕ). l ++ ys) one ∙ two
 
-  turn_added : (old now : Member H A) (own : List Entry) (more : List ℕ) → Launches launches old now own more → Added more old now
-  turn_added (Executor number host) (Executor now next) own more l = l.0
+  turn_added : (old now : Member H A) (own : List Entry) (more : List ℕ) → Launches host old now own more → Added more old now
+  turn_added (Executor number machine) (Executor now next) own more l = l.0
   turn_added (Operator answers line ended failed) (Operator next kept now_ended now_failed) own more l = l
-  turn_added (Executor number host) (Operator next kept now_ended now_failed) own more l = absurd l
+  turn_added (Executor number machine) (Operator next kept now_ended now_failed) own more l = absurd l
   turn_added (Operator answers line ended failed) (Executor now next) own more l = absurd l
 
   -- so from these members to those, and these are all the tasks, in another order
@@ -113,7 +115,7 @@ module _ {H A : Type 0} (launches : H → List ℕ) where
   begin_grew : (ms : List (Member H A)) → Grew ms ms []
   begin_grew ms = let g = none_grew ms in record { mores = g.mores; added = g.added; same = subst (λ (l : List ℕ). IsPermutation l []) (sym g.none) (IsPermutation-refl []) }
 
-  module _ (Did : Turn H A → Type 0) (launched : (turn : Turn H A) → Did turn → Launches launches turn.old turn.now turn.own turn.launches) where
+  module _ (Did : Turn H A → Type 0) (launched : (turn : Turn H A) → Did turn → Launches host turn.old turn.now turn.own turn.launches) where
     abbrev olds_of : List (Turn H A) → List (Member H A)
     olds_of turns = map (λ (turn : Turn H A). turn.old) turns
 
@@ -167,47 +169,46 @@ module _ {H A : Type 0} (launches : H → List ℕ) where
       ends_grown (Ok come) last start old now before part history tasks did e g = are_grown last [] start old now tasks e.0 did g
       ends_grown (Err memory) last start old now before part history tasks did e g = are_grown last e.0 start old now tasks e.1 did g
 
-  hosts_grew : (mores : List (List ℕ)) (old now : List (Member H A)) (others : List H) → AllAdded mores old now → HostsGrew launches (hosts_in old ++ others) (hosts_in now ++ others) (concat mores)
-  hosts_grew [] [] [] others added = none_since launches others
+  hosts_grew : (mores : List (List ℕ)) (old now : List (Member H A)) (others : List H) → AllAdded mores old now → HostsGrew host (hosts_in old ++ others) (hosts_in now ++ others) (concat mores)
+  hosts_grew [] [] [] others added = none_since host others
   hosts_grew [] [] (n ∷ ns) others added = absurd added
   hosts_grew [] (m ∷ ms) ns others added = absurd added
   hosts_grew (more ∷ mores) [] ns others added = absurd added
   hosts_grew (more ∷ mores) (m ∷ ms) [] others added = absurd added
-  hosts_grew (more ∷ mores) (Executor number host ∷ ms) (Executor now next ∷ ns) others added =
+  hosts_grew (more ∷ mores) (Executor number machine ∷ ms) (Executor now next ∷ ns) others added =
       let rest = hosts_grew mores ms ns others added.1 in
-      let since : launched_since launches host next ≡ more = ap (λ (l : List ℕ). drop (length (launches host)) l) added.0 ∙ drop-append_seam (launches host) more in
+      let since : launched_since host machine next ≡ more = ap (λ (l : List ℕ). drop (length (host.launches machine)) l) added.0 ∙ drop-append_seam (host.launches machine) more in
       record {
-        behind = (added.0 ∙ ap (λ (l : List ℕ). launches host ++ l) (sym since), rest.behind);
-        all = ap (λ (l : List ℕ). l ++ all_launched_since launches (hosts_in ms ++ others) (hosts_in ns ++ others)) since ∙ ap (λ (l : List ℕ). more ++ l) rest.all;
+        behind = (added.0 ∙ ap (λ (l : List ℕ). host.launches machine ++ l) (sym since), rest.behind);
+        all = ap (λ (l : List ℕ). l ++ all_launched_since host (hosts_in ms ++ others) (hosts_in ns ++ others)) since ∙ ap (λ (l : List ℕ). more ++ l) rest.all;
       }
   hosts_grew (more ∷ mores) (Operator answers line ended failed ∷ ms) (Operator next kept now_ended now_failed ∷ ns) others added =
       let rest = hosts_grew mores ms ns others added.1 in
       record { behind = rest.behind; all = rest.all ∙ sym (ap (λ (l : List ℕ). l ++ concat mores) added.0) }
-  hosts_grew (more ∷ mores) (Executor number host ∷ ms) (Operator next kept now_ended now_failed ∷ ns) others added = absurd added.0
+  hosts_grew (more ∷ mores) (Executor number machine ∷ ms) (Operator next kept now_ended now_failed ∷ ns) others added = absurd added.0
   hosts_grew (more ∷ mores) (Operator answers line ended failed ∷ ms) (Executor now next ∷ ns) others added = absurd added.0
 
   crew_launched : (xs : List SiteExecutor) (hosts : List H) (answers : A) (new : List (Member H A)) (rest : List H) (tasks : List ℕ) → rest ≡ hosts_in new ++ others_of xs hosts
-      → Grew (members_of xs hosts answers) new tasks → IsDistinct nat_eq tasks → LaunchedOnce launches hosts rest
+      → Grew (members_of xs hosts answers) new tasks → IsDistinct nat_eq tasks → LaunchedOnce host hosts rest
   crew_launched xs hosts answers new rest tasks are g once =
       let h = hosts_grew g.mores (members_of xs hosts answers) new (others_of xs hosts) g.added in
       let differ = IsDistinct-IsPermutation nat_eq nat_eq_flips tasks (concat g.mores) (IsPermutation-sym (concat g.mores) tasks g.same) once in
-      subst (λ (front : List H). LaunchedOnce launches front rest) (hosts_all xs hosts answers)
-      (subst (λ (back : List H). LaunchedOnce launches (hosts_in (members_of xs hosts answers) ++ others_of xs hosts) back) (sym are)
+      subst (λ (front : List H). LaunchedOnce host.launches front rest) (hosts_all xs hosts answers)
+      (subst (λ (back : List H). LaunchedOnce host.launches (hosts_in (members_of xs hosts answers) ++ others_of xs hosts) back) (sym are)
       (record { behind = h.behind; once = subst (IsDistinct nat_eq) (sym h.all) differ }))
 
-module _ {H A : Type 0} (honest : H → Type 0) (faults : H → ℕ) (calls : H → Option (List Call)) (launches dirs : H → List ℕ) (output : H → ℕ → Stream → List ℕ) (exited : H → ℕ → Option ℤ)
-    (left : A → Option (List ℕ)) (source_faults : A → ℕ) (looks : ℕ) where
+module _ {H A : Type 0} (host : HostView H) (source : SourceView A) (looks : ℕ) where
   abbrev Did : Turn H A → Type 0
-  Did = DidTurn honest faults calls launches dirs output exited left source_faults looks
+  Did = DidTurn host source looks
 
   -- In a life of members that are made of these hosts each launch stands behind those from before, and no task is launched twice.
   pub life_launched : {B : Type 0} (answers : Answers B Entry Ask Reply) (start base : B) (old new : List (Member H A)) (history : List Entry) (how : Result Progress Memory)
-      → Life honest faults calls launches dirs output exited left source_faults looks answers start base old new history how
-      → (xs : List SiteExecutor) (hosts rest : List H) (source : A) → old ≡ members_of xs hosts source → rest ≡ hosts_in new ++ others_of xs hosts → LaunchedOnce launches hosts rest
-  life_launched answers start base old new history how life xs hosts rest source is are =
-      let begun = begin_grew launches old in
-      let rounds = rounds_grown launches Did (λ turn did. did.launched) answers base life.rounds life.last old old life.members [] life.before [] life.turns life.went_on begun in
-      let all = ends_grown launches Did (λ turn did. did.launched) answers base how life.last old life.members new life.before life.part history (launches_of (turns_of life.rounds)) rounds.1 life.ends rounds.0 in
+      → Life host source looks answers start base old new history how
+      → (xs : List SiteExecutor) (hosts rest : List H) (answers : A) → old ≡ members_of xs hosts answers → rest ≡ hosts_in new ++ others_of xs hosts → LaunchedOnce host hosts rest
+  life_launched answers start base old new history how life xs hosts rest answers is are =
+      let begun = begin_grew host old in
+      let rounds = rounds_grown host Did (λ turn did. did.launched) answers base life.rounds life.last old old life.members [] life.before [] life.turns life.went_on begun in
+      let all = ends_grown host Did (λ turn did. did.launched) answers base how life.last old life.members new life.before life.part history (launches_of (turns_of life.rounds)) rounds.1 life.ends rounds.0 in
       let same : launches_of (turns_of life.rounds) ++ launches_of life.last ≡ launches_of (turns_of life.rounds ++ life.last) = sym (launches-append (turns_of life.rounds) life.last) in
-      crew_launched launches xs hosts source new rest (launches_of (turns_of life.rounds ++ life.last)) are
-      (subst (λ (ms : List (Member H A)). Grew launches ms new (launches_of (turns_of life.rounds ++ life.last))) is (subst (Grew launches old new) same all)) life.launched_once
+      crew_launched host xs hosts answers new rest (launches_of (turns_of life.rounds ++ life.last)) are
+      (subst (λ (ms : List (Member H A)). Grew host.launches ms new (launches_of (turns_of life.rounds ++ life.last))) is (subst (Grew host old new) same all)) life.launched_once

@@ -19,6 +19,7 @@ use Rattle.site_run.proofs.Lower.durable_build.KindLemmas.{breaks_unclosed}
 use Rattle.site_run.specs.Lower.durable_build.Opening.{OpenFails, Opened}
 use Rattle.build_commands.specs.Reporting.{StartsBy}
 use Rattle.build_commands.specs.Showing.{HasBuild, ShowsBuild}
+use Rattle.jp_disk.specs.View.{DiskView}
 
 same_payloads : (ps qs : List (List ℕ)) (file : List ℕ) → Has ps file → Has qs file → ps ≡ qs
 same_payloads ps qs file a b = ap (λ (w : Walked). w.payloads) (sym a ∙ b)
@@ -86,7 +87,7 @@ sound_store file setting image payloads has starts closes whole = (none, sound)
         let same = same_payloads ps payloads file damaged.0 has in
         not_damaged setting image payloads at starts closes whole (subst (λ (qs : List (List ℕ)). IsDamagedAt qs at) same damaged.1)
 
-module _ {D T : Type 0} (reads : D → Option (List ℕ)) (may_leave : D → List ℕ → Type 0) (stance : T → Stance) (file : List ℕ) (k : Kept D T) (o : Opened reads may_leave stance file k) where
+module _ {D T : Type 0} (disk : DiskView D) (stance : T → Stance) (file : List ℕ) (k : Kept D T) (o : Opened disk stance file k) where
   pub has_build : IsWhole (setting_in k.build) (image_in stance k.build) → HasBuild file
   has_build whole =
       sound_store file (setting_in k.build) (image_in stance k.build) o.payloads o.has (starts_by stance k.build k.script k.agents o.payloads o.some o.keeps.stands)

@@ -26,6 +26,9 @@ use Rattle.build_commands.specs.Reporting.{Reports}
 use Rattle.build_commands.specs.Resuming.{GivesBack}
 use Rattle.build_commands.specs.Texts.{disk_failed_text, full_text, has_build_text, out_of_memory_text}
 use Rattle.build_commands.specs.Writing.{Tells}
+use Rattle.jp_disk.specs.View.{DiskView}
+use Rattle.task_host.specs.View.{HostView}
+use Rattle.jp_io.specs.View.{SourceView}
 
 -- Status and text of a build that was not begun. Want of memory may come in place of a text that needs memory.
 pub data BeginSays : BeginFault → ℕ → List ℕ → Type 0 where
@@ -34,29 +37,26 @@ pub data BeginSays : BeginFault → ℕ → List ℕ → Type 0 where
   full : (len add : ℕ) → BeginSays (Take (Full len add)) 14 (full_text len add)
   no_memory : {fault : TakeFault} → ¬ (fault ≡ Disk) → BeginSays (Take fault) 8 out_of_memory_text
 
-module _ {D T H A : Type 0} (reads : D → Option (List ℕ)) (may_leave : D → List ℕ → Type 0) (clock : D → ℕ) (since : D → ℕ → List ℕ → Type 0) (stance : T → Stance) (faults : D → ℕ)
-    (honest : H → Type 0) (host_faults : H → ℕ) (calls : H → Option (List Call)) (launches dirs : H → List ℕ) (output : H → ℕ → Stream → List ℕ) (exited : H → ℕ → Option ℤ)
-    (left : A → Option (List ℕ)) (source_faults : A → ℕ)
-    (disk now : D) (hosts rest : List H) (answers unread : A) (history : List Entry) (kind : EndText) (old new : Option (List ℕ)) (sink_before sink_after : ℕ) where
+module _ {D T H A : Type 0} (disk : DiskView D) (stance : T → Stance) (host : HostView H) (source : SourceView A) (state now : D) (hosts rest : List H) (answers unread : A) (history : List Entry) (kind : EndText) (old new : Option (List ℕ)) (sink_before sink_after : ℕ) where
   -- A build that was begun over this file, which has no record. Up to a moment at which the file is durable a crash leaves what it might have left
   -- before; from then on no event or the `Start`.
   pub record BeginsOver (script agents : List ℕ) (tree : Tree) (site : Site) (file : List ℕ) (started : D) : Type 0 where
     pub fresh : ¬ (IsStarted file)
-    pub moments : SinceSync clock since may_leave file disk started (Survives (script_setting tree site) [] (StartEvent script agents ∷ []) None)
+    pub moments : SinceSync disk file state started (Survives (script_setting tree site) [] (StartEvent script agents ∷ []) None)
 
   -- What becomes of a script and an agents file that can be built, on each disk, and of what it tells of its bytes. From the `Start` on `Finished` says it.
   pub data Begins (script agents : List ℕ) (tree : Tree) (site : Site) : ℕ → Type 0 where
-    unbegun : {fault : BeginFault} {status : ℕ} {text : List ℕ} → GivesBack hosts rest answers unread history → BeginSays fault status text → CountsFault (faults disk) (faults now) (fault ≡ Take Disk)
+    unbegun : {fault : BeginFault} {status : ℕ} {text : List ℕ} → GivesBack hosts rest answers unread history → BeginSays fault status text → CountsFault (disk.faults state) (disk.faults now) (fault ≡ Take Disk)
         → TellsStart (script_setting tree site) (StartEvent script agents) fault
-        → ((file : List ℕ) → reads disk ≡ Some file → BeginRefuses reads may_leave clock since stance (script_setting tree site) (StartEvent script agents) file disk fault now)
+        → ((file : List ℕ) → disk.reads state ≡ Some file → BeginRefuses disk stance (script_setting tree site) (StartEvent script agents) file state fault now)
         → Tells old new sink_before sink_after text → Begins script agents tree site status
-    begun : {status : ℕ} (started : D) → faults started ≡ faults disk → HostsStay honest host_faults calls hosts rest → LaunchedOnce launches hosts rest → Reports (faults disk) (faults now) (source_faults answers) (source_faults unread) old new sink_before sink_after status
-        → ∥ Finished reads may_leave clock since honest host_faults calls launches dirs output exited left source_faults (max site.looks 1) kind (script_setting tree site) (reads disk) started (StartEvent script agents ∷ []) hosts rest answers unread history now
-        (faults started) (faults now) old new sink_before sink_after status ∥₁
-        → ((file : List ℕ) → reads disk ≡ Some file → BeginsOver script agents tree site file started)
+    begun : {status : ℕ} (started : D) → disk.faults started ≡ disk.faults state → HostsStay host hosts rest → LaunchedOnce host hosts rest → Reports (disk.faults state) (disk.faults now) (source.faults answers) (source.faults unread) old new sink_before sink_after status
+        → ∥ Finished disk host source (max site.looks 1) kind (script_setting tree site) (disk.reads state) started (StartEvent script agents ∷ []) hosts rest answers unread history now
+        (disk.faults started) (disk.faults now) old new sink_before sink_after status ∥₁
+        → ((file : List ℕ) → disk.reads state ≡ Some file → BeginsOver script agents tree site file started)
         → Begins script agents tree site status
 
   -- The table of both, by what the sources of the two files gave: script or agents file is refused, and then the disk is not called and no answer is read; or both can be built.
   pub data Runs (script agents : Input) : ℕ → Type 0 where
-    refused : {status : ℕ} {text : List ℕ} → RefusesFiles script agents status text → now ≡ disk → GivesBack hosts rest answers unread history → Tells old new sink_before sink_after text → Runs script agents status
+    refused : {status : ℕ} {text : List ℕ} → RefusesFiles script agents status text → now ≡ state → GivesBack hosts rest answers unread history → Tells old new sink_before sink_after text → Runs script agents status
     built : {s a : List ℕ} {tree : Tree} {site : Site} {status : ℕ} → Give script agents s a tree site → Begins s a tree site status → Runs script agents status

@@ -1,7 +1,7 @@
 -- How a life ends that a command lets go on, with its status and its text (this product's own).
 use Rattle.std.specs.Prelude.{◌≡◌, ◌⊎◌, ◌+◌, ◌<◌, ◌^◌, ℕ, false, List, [], ◌∷◌, ◌++◌, Option, Some, None, true, IfSome, IsSome, IsSomeAnd, Result, Ok, Err}
 use Rattle.device_faults.specs.Faults.{Rose}
-use Rattle.jp_disk.specs.Moments.{AtEachMoment}
+use Rattle.jp_disk.specs.Runs.{AtEachMoment}
 use Rattle.agent_worker.specs.declared.fault.TakeFault.{TakeFault}
 use Rattle.model_run.specs.declared.event.Event.{Event}
 use Rattle.image_form.specs.declared.image.Image.{Image}
@@ -24,6 +24,7 @@ use Rattle.build_commands.specs.Refusals.{SaysTake, refusal_status, refusal_text
 use Rattle.build_commands.specs.Texts.{disk_failed_text, full_text, out_of_memory_text}
 use Rattle.build_commands.specs.Writing as writing
 use Rattle.build_commands.specs.Writing.{Writes}
+use Rattle.jp_disk.specs.View.{DiskView}
 
 -- Why an event comes is open here. This one came next, and there is a cause for it.
 pub record ComesNext (Comes : List Event → Event → Type 0) (setting : Setting) (events : List Event) (event : Event) : Type 0 where
@@ -42,15 +43,14 @@ pub record IsFull (Comes : List Event → Event → Type 0) (setting : Setting) 
 
 -- What a life is, is open here: which events it may have taken, why one comes next behind them, behind which nobody goes on, or the answers could not be
 -- read; and what was heard of the answers.
-module _ {D : Type 0} (reads : D → Option (List ℕ)) (may_leave : D → List ℕ → Type 0) (clock : D → ℕ) (since : D → ℕ → List ℕ → Type 0)
-    (Takes : List Event → Type 0) (Comes : List Event → Event → Type 0) (Idles Unheard : List Event → Type 0) (Heard : Type 0) (setting : Setting) (entry : Option (List ℕ)) (origin : D) (before : List Event) (disk : D) where
+module _ {D : Type 0} (disk : DiskView D) (Takes : List Event → Type 0) (Comes : List Event → Event → Type 0) (Idles Unheard : List Event → Type 0) (Heard : Type 0) (setting : Setting) (entry : Option (List ℕ)) (origin : D) (before : List Event) (state : D) where
   -- What a life has taken: these events; perhaps, where the disk failed, the next one is on it too. Where the disk told its bytes, which `entry` is, a crash
   -- since `origin`, over which there were the events from before, leaves the first of them; one now leaves all of them; or, both, them and that one.
   pub record Made (events : List Event) (risked : Option Event) : Type 0 where
     pub takes : Takes events
     pub next : IfSome risked (ComesNext Comes setting events)
-    pub moments : IsSome entry → AtEachMoment clock since origin disk (Survives setting before events risked)
-    pub images : IsSome entry → (image : List ℕ) → may_leave disk image → Stores setting events image ⊎ IsSomeAnd risked (λ e. Stores setting (events ++ e ∷ []) image)
+    pub moments : IsSome entry → AtEachMoment disk origin state (Survives setting before events risked)
+    pub images : IsSome entry → (image : List ℕ) → disk.may_leave state image → Stores setting events image ⊎ IsSomeAnd risked (λ e. Stores setting (events ++ e ∷ []) image)
 
   -- The build has ended, or nobody goes on with it: its text is what was asked for.
   pub record Rests (events : List Event) : Type 0 where
@@ -62,7 +62,7 @@ module _ {D : Type 0} (reads : D → Option (List ℕ)) (may_leave : D → List 
   pub data Breaks (disk_before disk_after answers_before answers_after : ℕ) : ℕ → List ℕ → Type 0 where
     answers_failed : {events : List Event} → Made events None → Unheard events → Heard → Rose answers_before answers_after → Breaks disk_before disk_after answers_before answers_after 6 read_failed_text
     disk_failed : {events : List Event} {risked : Option Event} → Made events risked → (world_in setting events).ended ≡ false → Rose disk_before disk_after → Breaks disk_before disk_after answers_before answers_after 5 disk_failed_text
-    full : {events : List Event} (len add : ℕ) → Made events None → (world_in setting events).ended ≡ false → IsFull Comes setting entry (reads disk) events len add → Breaks disk_before disk_after answers_before answers_after 14 (full_text len add)
+    full : {events : List Event} (len add : ℕ) → Made events None → (world_in setting events).ended ≡ false → IsFull Comes setting entry (disk.reads state) events len add → Breaks disk_before disk_after answers_before answers_after 14 (full_text len add)
     no_memory : {events : List Event} → Made events None → Breaks disk_before disk_after answers_before answers_after 8 out_of_memory_text
 
   -- What was written of it: what was asked for of a build that rests, whole or its front, then with 7; or the text of what broke it off.

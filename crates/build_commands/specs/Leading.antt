@@ -6,10 +6,11 @@ use Rattle.model_run.specs.State.{Setting}
 use Rattle.site_run.specs.Lower.site_state.declared.ask.Entry.{Entry}
 use Rattle.build_commands.specs.Living.{IsRefused, Lived}
 use Rattle.build_commands.specs.Reporting.{IsTooLong}
+use Rattle.task_host.specs.View.{HostView}
+use Rattle.jp_io.specs.View.{SourceView}
 
 -- It was led by members that are made of these hosts and answers; and where it ended with 14, the record that did not fit is the one that was due for a grant, or for an
 -- event that one of them asked for; for a grant of the opening only where none of them had a turn.
-pub record IsLed {H A : Type 0} (honest : H → Type 0) (faults : H → ℕ) (calls : H → Option (List Call)) (launches dirs : H → List ℕ) (output : H → ℕ → Stream → List ℕ) (exited : H → ℕ → Option ℤ)
-    (left : A → Option (List ℕ)) (source_faults : A → ℕ) (looks : ℕ) (setting : Setting) (hosts rest : List H) (answers unread : A) (history : List Entry) (written now : Option (List ℕ)) (sink_before sink_after status : ℕ) : Type 0 where
-  pub lived : Lived honest faults calls launches dirs output exited left source_faults looks setting hosts rest answers unread history
-  pub too_long : status ≡ 14 → ∥ IsTooLong (IsRefused honest faults calls launches dirs output exited left source_faults looks lived.turns) (lived.turns ≡ []) history written now sink_before sink_after ∥₁
+pub record IsLed {H A : Type 0} (host : HostView H) (source : SourceView A) (looks : ℕ) (setting : Setting) (hosts rest : List H) (answers unread : A) (history : List Entry) (written now : Option (List ℕ)) (sink_before sink_after status : ℕ) : Type 0 where
+  pub lived : Lived host source looks setting hosts rest answers unread history
+  pub too_long : status ≡ 14 → ∥ IsTooLong (IsRefused host source looks lived.turns) (lived.turns ≡ []) history written now sink_before sink_after ∥₁

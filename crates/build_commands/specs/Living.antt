@@ -28,30 +28,32 @@ use Rattle.site_run.specs.Serving.{AllFit, AreHonest, AreServed, HostStays}
 use Rattle.site_crew.specs.Crews.{answers_in, hosts_in, members_of, others_of}
 use Rattle.build_commands.specs.declared.end_text.EndText.{EndText}
 use Rattle.build_commands.specs.Finishing.{Finishes}
+use Rattle.jp_disk.specs.View.{DiskView}
+use Rattle.task_host.specs.View.{HostView}
+use Rattle.jp_io.specs.View.{SourceView}
 
 -- Each host comes back at its place: honest where it was, its count of faults not lower, and with its calls behind those from before.
-abbrev pub HostsStay : {H : Type 0} → (H → Type 0) → (H → ℕ) → (H → Option (List Call)) → List H → List H → Type 0
-HostsStay honest faults calls hosts rest = AllZip (λ host now. HostStays (honest host) (honest now) (faults host) (faults now) (calls host) (calls now)) hosts rest
+abbrev pub HostsStay : {H : Type 0} → HostView H → List H → List H → Type 0
+HostsStay host hosts rest = AllZip (λ machine now. HostStays (host.honest machine) (host.honest now) (host.faults machine) (host.faults now) (host.calls machine) (host.calls now)) hosts rest
 
 -- What was read of the answers, and that these lines were heard of it: the whole lines, each of at most 1,024 bytes, and the last one, where the answers ended
 -- within it. Where they may have no more, they are at their end; else nothing of another line was read, where their source counted no fault.
-pub record HeardOf {A : Type 0} (left : A → Option (List ℕ)) (faults : A → ℕ) (answers unread : A) (heard : List (List ℕ)) : Type 0 where
+pub record HeardOf {A : Type 0} (source : SourceView A) (answers unread : A) (heard : List (List ℕ)) : Type 0 where
   pub read : List ℕ
   pub more : Bool
-  pub taken : Consumes (left answers) (left unread) read
-  pub at_end : more ≡ false → IsAtEnd (left unread)
+  pub taken : Consumes (source.left answers) (source.left unread) read
+  pub at_end : more ≡ false → IsAtEnd (source.left unread)
   pub is : heard ≡ heard_in read more
-  pub nothing_left : ¬ (Rose (faults answers) (faults unread)) → more ≡ true → begun_after [] read ≡ []
+  pub nothing_left : ¬ (Rose (source.faults answers) (source.faults unread)) → more ≡ true → begun_after [] read ≡ []
 
-module _ {H A : Type 0} (honest : H → Type 0) (faults : H → ℕ) (calls : H → Option (List Call)) (launches dirs : H → List ℕ) (output : H → ℕ → Stream → List ℕ) (exited : H → ℕ → Option ℤ)
-    (left : A → Option (List ℕ)) (source_faults : A → ℕ) (looks : ℕ) where
+module _ {H A : Type 0} (host : HostView H) (source : SourceView A) (looks : ℕ) where
   -- In one of these turns the event was taken, or kept from the disk by a fault: an executor reported it with its cause, or a line that the operator read and
   -- gave decides it.
   abbrev pub IsReported : List (Turn H A) → Event → Type 0
-  IsReported turns e = HoldsOfOne (Explains honest faults calls launches dirs output exited left source_faults looks true e) turns
+  IsReported turns e = HoldsOfOne (Explains host source looks true e) turns
 
   abbrev pub IsRefused : List (Turn H A) → Event → Type 0
-  IsRefused turns e = HoldsOfOne (Explains honest faults calls launches dirs output exited left source_faults looks false e) turns
+  IsRefused turns e = HoldsOfOne (Explains host source looks false e) turns
 
   -- A life from these events on, with which its build had begun: by grants that were due, by what executors reported with their cause, and by the decisions of the
   -- lines that were heard. Those at its end are those at its beginning, the grants that a stop had left out, and those of the history. The turns are those of a
@@ -64,12 +66,12 @@ module _ {H A : Type 0} (honest : H → Type 0) (faults : H → ℕ) (calls : H 
     pub granted : List Event
     pub are_grants : AllAre (λ e. is_grant e ≡ true) granted
     pub is : events ≡ (before ++ granted) ++ tooks history
-    pub led : LifeOf honest faults calls launches dirs output exited left source_faults looks (replies setting) (before ++ granted) old new turns history
+    pub led : LifeOf host source looks (replies setting) (before ++ granted) old new turns history
     pub claims : EachIs (ClaimedInTime setting (before ++ granted)) [] history
     pub orders : AllAre (λ (turn : Turn H A). AllAre (IsOrderOf setting (before ++ granted) (tooks history)) (orders_in turn.calls)) turns
     pub in_time : EachIs (HeardInTime setting (before ++ granted)) [] history
-    pub fits : AreHonest honest old → AllFit launches dirs setting before old → AllFit launches dirs setting events new
-    pub fits_next : AreHonest honest old → AllFit launches dirs setting before old → (e : Event) → answer_to setting (world_in setting events) e ≡ Accepted → AllFit launches dirs setting (events ++ e ∷ []) new
+    pub fits : AreHonest host old → AllFit host setting before old → AllFit host setting events new
+    pub fits_next : AreHonest host old → AllFit host setting before old → (e : Event) → answer_to setting (world_in setting events) e ≡ Accepted → AllFit host setting (events ++ e ∷ []) new
     pub others : (hosts : List ExecutorHost) → fitting.AllFit setting before hosts → fitting.AllFit setting events hosts
     pub others_next : (hosts : List ExecutorHost) → fitting.AllFit setting before hosts → (e : Event) → answer_to setting (world_in setting events) e ≡ Accepted → fitting.AllFit setting (events ++ e ∷ []) hosts
 
@@ -82,8 +84,8 @@ module _ {H A : Type 0} (honest : H → Type 0) (faults : H → ℕ) (calls : H 
   pub record Lived (setting : Setting) (hosts rest : List H) (answers unread : A) (history : List Entry) : Type 0 where
     pub new : List (Member H A)
     pub turns : List (Turn H A)
-    pub life : LifeOf honest faults calls launches dirs output exited left source_faults looks any_reply tt (members_of setting.site.executors hosts answers) new turns history
-    pub served : AreServed honest faults calls left source_faults (members_of setting.site.executors hosts answers) new
+    pub life : LifeOf host source looks any_reply tt (members_of setting.site.executors hosts answers) new turns history
+    pub served : AreServed host source (members_of setting.site.executors hosts answers) new
     pub hosts_are : rest ≡ hosts_in new ++ others_of setting.site.executors hosts
     pub answers_are : answers_in new ≡ unread ∷ []
 
@@ -91,16 +93,14 @@ module _ {H A : Type 0} (honest : H → Type 0) (faults : H → ℕ) (calls : H 
   abbrev pub LivedBy : (setting : Setting) → List Event → {hosts rest : List H} → {answers unread : A} → {history : List Entry} → Lived setting hosts rest answers unread history → List Event → Type 0
   LivedBy setting before {hosts} {rest} {answers} {unread} {history} lived events = TakesBy setting before (members_of setting.site.executors hosts answers) lived.new lived.turns history events
 
-module _ {D H A : Type 0} (reads : D → Option (List ℕ)) (may_leave : D → List ℕ → Type 0) (clock : D → ℕ) (since : D → ℕ → List ℕ → Type 0)
-    (honest : H → Type 0) (faults : H → ℕ) (calls : H → Option (List Call)) (launches dirs : H → List ℕ) (output : H → ℕ → Stream → List ℕ) (exited : H → ℕ → Option ℤ)
-    (left : A → Option (List ℕ)) (source_faults : A → ℕ) (looks : ℕ) where
+module _ {D H A : Type 0} (disk : DiskView D) (host : HostView H) (source : SourceView A) (looks : ℕ) where
   -- How a life over a build ended.
-  pub record Finished (kind : EndText) (setting : Setting) (entry : Option (List ℕ)) (origin : D) (before : List Event) (hosts rest : List H) (answers unread : A) (history : List Entry) (disk : D) (disk_before disk_after : ℕ)
+  pub record Finished (kind : EndText) (setting : Setting) (entry : Option (List ℕ)) (origin : D) (before : List Event) (hosts rest : List H) (answers unread : A) (history : List Entry) (state : D) (disk_before disk_after : ℕ)
       (written now : Option (List ℕ)) (sink_before sink_after status : ℕ) : Type 0 where
-    pub lived : Lived honest faults calls launches dirs output exited left source_faults looks setting hosts rest answers unread history
-    pub finishes : Finishes reads may_leave clock since
-        (LivedBy honest faults calls launches dirs output exited left source_faults looks setting before lived)
-        (ComesBy honest faults calls launches dirs output exited left source_faults looks setting lived.turns)
+    pub lived : Lived host source looks setting hosts rest answers unread history
+    pub finishes : Finishes disk
+        (LivedBy host source looks setting before lived)
+        (ComesBy host source looks setting lived.turns)
         (λ events. RestsWith Waits setting (world_in setting events) lived.new) (λ events. RestsWith AnswersFailed setting (world_in setting events) lived.new)
-        (∥ HeardOf left source_faults answers unread (lines history) ∥₁)
-        setting entry origin before disk kind disk_before disk_after (source_faults answers) (source_faults unread) written now sink_before sink_after status
+        (∥ HeardOf source answers unread (lines history) ∥₁)
+        setting entry origin before state kind disk_before disk_after (source.faults answers) (source.faults unread) written now sink_before sink_after status

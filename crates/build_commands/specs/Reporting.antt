@@ -3,7 +3,7 @@
 use Rattle.std.specs.Prelude.{◌≡◌, ◌⊎◌, ◌+◌, ◌<◌, ◌≤◌, ◌^◌, ℕ, true, List, [], ◌∷◌, ◌++◌, length, take, Option, Some}
 use Rattle.std.specs.List.{AllByRecursion as AllAre}
 use Rattle.device_faults.specs.Faults.{Rose}
-use Rattle.jp_disk.specs.Moments.{AtEachMoment}
+use Rattle.jp_disk.specs.Runs.{AtEachMoment}
 use Rattle.journal_core.specs.Records.{Has, framed}
 use Rattle.image_form.specs.declared.image.Image.{Image}
 use Rattle.site_run.specs.Lower.record_form.declared.record.EventRecord.{EventRecord}
@@ -24,6 +24,7 @@ use Rattle.run_command.specs.Statuses.{HasLog, status_of}
 use Rattle.run_command.specs.Texts.{read_failed_text}
 use Rattle.build_commands.specs.Texts.{disk_failed_text, full_text, out_of_memory_text}
 use Rattle.build_commands.specs.Writing.{Writes, Tells}
+use Rattle.jp_disk.specs.View.{DiskView}
 
 module _ (disk_before disk_after answers_before answers_after : ℕ) (old new : Option (List ℕ)) (sink_before sink_after : ℕ) where
   pub data Reports : ℕ → Type 0 where
@@ -97,15 +98,15 @@ EndsWhole setting payloads = (image : Image) × Closing image payloads × IsWhol
 -- all that it leaves has a whole image, so that the next opening goes on from it. A log, or
 -- its front, is that of the image of the last record of all, which has one then, with the status of the build of that image; and 14 tells the length of the journal of all of them, which the record that was due for an event would have made too long. Which image a new record has,
 -- nothing says of a build that is no world's.
-pub record KeepsRecords {D : Type 0} (may_leave : D → List ℕ → Type 0) (clock : D → ℕ) (since : D → ℕ → List ℕ → Type 0) (setting : Setting) (old : D) (payloads : List (List ℕ)) (history : List Entry) (disk : D) (written now : Option (List ℕ)) (sink_before sink_after status : ℕ) : Type 0 where
+pub record KeepsRecords {D : Type 0} (disk : DiskView D) (setting : Setting) (old : D) (payloads : List (List ℕ)) (history : List Entry) (state : D) (written now : Option (List ℕ)) (sink_before sink_after status : ℕ) : Type 0 where
   pub more : List (List ℕ)
   pub taken : TellTaken (last_image payloads) history more
   pub risked : List (List ℕ)
   pub at_risk : TellRisked (last_image (payloads ++ more)) history risked
   pub one : length risked ≤ 1
   pub sure : ¬ (status ≡ 5) → risked ≡ []
-  pub at_end : (image : List ℕ) → may_leave disk image → Has (payloads ++ more) image ⊎ Has (payloads ++ more ++ risked) image
-  pub moments : AtEachMoment clock since old disk (HasFront payloads (more ++ risked))
+  pub at_end : (image : List ℕ) → disk.may_leave state image → Has (payloads ++ more) image ⊎ Has (payloads ++ more ++ risked) image
+  pub moments : AtEachMoment disk old state (HasFront payloads (more ++ risked))
   pub sound : (k : ℕ) → EndsWhole setting (payloads ++ take k (more ++ risked))
   pub shown : IsBroken status ⊎ ShowsEnd setting (payloads ++ more) written now sink_before sink_after status
   pub full : status ≡ 14 → IsFullBehind (payloads ++ more) history written now sink_before sink_after
@@ -117,13 +118,13 @@ StartsBy setting (p ∷ ps) = (script : List ℕ) × (agents : List ℕ) × Open
 
 -- What becomes of a store whose build is gone on with, whatever its records tell; the setting of the build is that of the first record. Up to a moment a crash
 -- leaves nothing new.
-pub record LeavesStore {D : Type 0} (may_leave : D → List ℕ → Type 0) (clock : D → ℕ) (since : D → ℕ → List ℕ → Type 0) (setting : Setting) (file : List ℕ) (history : List Entry) (old disk : D) (written now : Option (List ℕ)) (sink_before sink_after status : ℕ) : Type 0 where
+pub record LeavesStore {D : Type 0} (disk : DiskView D) (setting : Setting) (file : List ℕ) (history : List Entry) (old state : D) (written now : Option (List ℕ)) (sink_before sink_after status : ℕ) : Type 0 where
   pub payloads : List (List ℕ)
   pub has : Has payloads file
   pub begun : StartsBy setting payloads
   pub opened : D
-  pub up_to : AtEachMoment clock since old opened (may_leave old)
-  pub keeps : ∥ KeepsRecords may_leave clock since setting opened payloads history disk written now sink_before sink_after status ∥₁
+  pub up_to : AtEachMoment disk old opened (disk.may_leave old)
+  pub keeps : ∥ KeepsRecords disk setting opened payloads history state written now sink_before sink_after status ∥₁
 
 -- The record that was due for this event did not fit into the store: the history says so, of an event that was asked for or of a grant behind one; or the history
 -- is empty and nobody had a turn, and it is a grant. The text tells how long the journal is, and what the record would add, by some weights of the records of the

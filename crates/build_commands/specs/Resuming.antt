@@ -1,7 +1,7 @@
 -- What `resume` does with a consistent store (this product's own).
 use Rattle.std.specs.Prelude.{◌≡◌, ℕ, ℤ, List, [], Option, Some, IfSome, max}
 use Rattle.device_faults.specs.Faults.{Rose}
-use Rattle.jp_disk.specs.Moments.{AtEachMoment}
+use Rattle.jp_disk.specs.Runs.{AtEachMoment}
 use Rattle.model_run.specs.declared.event.Event.{Event}
 use Rattle.model_run.specs.State.{Setting}
 use Rattle.task_host.specs.declared.call.Call.{Call}
@@ -15,6 +15,9 @@ use Rattle.build_commands.specs.Reporting.{LeavesStore, Reports}
 use Rattle.build_commands.specs.Showing.{HasBuild, NotTold}
 use Rattle.build_commands.specs.Texts.{disk_failed_text, no_build_text, out_of_memory_text}
 use Rattle.build_commands.specs.Writing as writing
+use Rattle.jp_disk.specs.View.{DiskView}
+use Rattle.task_host.specs.View.{HostView}
+use Rattle.jp_io.specs.View.{SourceView}
 
 -- Why a consistent store of these events was not opened, with status and text.
 pub data NotOpened (events : List Event) (disk_before disk_after : ℕ) : ℕ → List ℕ → Type 0 where
@@ -23,36 +26,34 @@ pub data NotOpened (events : List Event) (disk_before disk_after : ℕ) : ℕ �
   no_memory : NotOpened events disk_before disk_after 8 out_of_memory_text
 
 -- Nothing was written: the disk reads what it read, and a crash leaves nothing new.
-pub record IsUntouched {D : Type 0} (reads : D → Option (List ℕ)) (may_leave : D → List ℕ → Type 0) (clock : D → ℕ) (since : D → ℕ → List ℕ → Type 0) (old now : D) : Type 0 where
-  pub same : (file : List ℕ) → reads old ≡ Some file → reads now ≡ Some file
-  pub moments : AtEachMoment clock since old now (may_leave old)
+pub record IsUntouched {D : Type 0} (disk : DiskView D) (old now : D) : Type 0 where
+  pub same : (file : List ℕ) → disk.reads old ≡ Some file → disk.reads now ≡ Some file
+  pub moments : AtEachMoment disk old now (disk.may_leave old)
 
 -- a command that lets no build go on gives hosts and answers back as they were, and has no history
 abbrev pub GivesBack : {H A : Type 0} → List H → List H → A → A → List Entry → Type 0
 GivesBack hosts rest answers unread history = (rest ≡ hosts) × (unread ≡ answers) × (history ≡ [])
 
-module _ {D H A : Type 0} (reads : D → Option (List ℕ)) (may_leave : D → List ℕ → Type 0) (clock : D → ℕ) (since : D → ℕ → List ℕ → Type 0) (faults : D → ℕ)
-    (honest : H → Type 0) (host_faults : H → ℕ) (calls : H → Option (List Call)) (launches dirs : H → List ℕ) (output : H → ℕ → Stream → List ℕ) (exited : H → ℕ → Option ℤ)
-    (left : A → Option (List ℕ)) (source_faults : A → ℕ) (hosts rest : List H) (answers unread : A) (history : List Entry) where
-  module _ (setting : Setting) (events : List Event) (old disk : D) where
+module _ {D H A : Type 0} (disk : DiskView D) (host : HostView H) (source : SourceView A) (hosts rest : List H) (answers unread : A) (history : List Entry) where
+  module _ (setting : Setting) (events : List Event) (old state : D) where
     -- The store was not opened, and nothing was written; or it was, at a moment up to which a crash leaves nothing new, and its build went on.
     pub data Resumes (written now : Option (List ℕ)) (sink_before sink_after : ℕ) : ℕ → Type 0 where
-      refused : {status : ℕ} {text : List ℕ} → GivesBack hosts rest answers unread history → IsUntouched reads may_leave clock since old disk → NotOpened events (faults old) (faults disk) status text → writing.Tells written now sink_before sink_after text
+      refused : {status : ℕ} {text : List ℕ} → GivesBack hosts rest answers unread history → IsUntouched disk old state → NotOpened events (disk.faults old) (disk.faults state) status text → writing.Tells written now sink_before sink_after text
           → Resumes written now sink_before sink_after status
-      went_on : {status : ℕ} (opened : D) → AtEachMoment clock since old opened (may_leave old) → faults opened ≡ faults old
-          → Reports (faults old) (faults disk) (source_faults answers) (source_faults unread) written now sink_before sink_after status
-          → ∥ Finished reads may_leave clock since honest host_faults calls launches dirs output exited left source_faults (max setting.site.looks 1) Log setting (reads old) opened events hosts rest answers unread history disk
-          (faults opened) (faults disk) written now sink_before sink_after status ∥₁
+      went_on : {status : ℕ} (opened : D) → AtEachMoment disk old opened (disk.may_leave old) → disk.faults opened ≡ disk.faults old
+          → Reports (disk.faults old) (disk.faults state) (source.faults answers) (source.faults unread) written now sink_before sink_after status
+          → ∥ Finished disk host source (max setting.site.looks 1) Log setting (disk.reads old) opened events hosts rest answers unread history state
+          (disk.faults opened) (disk.faults state) written now sink_before sink_after status ∥₁
           → Resumes written now sink_before sink_after status
 
   -- What `resume` comes to over any store, also one of which the disk tells nothing: it was not opened, no answer was read and nothing was written; or it was, and its
   -- build went on, in a life of members that are made of these hosts and answers.
-  pub data Reopens (old disk : D) (written now : Option (List ℕ)) (sink_before sink_after : ℕ) : ℕ → Type 0 where
-    unopened : {status : ℕ} {text : List ℕ} → GivesBack hosts rest answers unread history → IsUntouched reads may_leave clock since old disk → NotTold (reads old) (faults old) (faults disk) status text → writing.Tells written now sink_before sink_after text
-        → Reopens old disk written now sink_before sink_after status
+  pub data Reopens (old state : D) (written now : Option (List ℕ)) (sink_before sink_after : ℕ) : ℕ → Type 0 where
+    unopened : {status : ℕ} {text : List ℕ} → GivesBack hosts rest answers unread history → IsUntouched disk old state → NotTold (disk.reads old) (disk.faults old) (disk.faults state) status text → writing.Tells written now sink_before sink_after text
+        → Reopens old state written now sink_before sink_after status
     goes_on : {status : ℕ} (setting : Setting)
-        → IsLed honest host_faults calls launches dirs output exited left source_faults (max setting.site.looks 1) setting hosts rest answers unread history written now sink_before sink_after status
-        → HostsStay honest host_faults calls hosts rest → LaunchedOnce launches hosts rest → IfSome (reads old) HasBuild
-        → ((file : List ℕ) → reads old ≡ Some file → LeavesStore may_leave clock since setting file history old disk written now sink_before sink_after status)
-        → Reports (faults old) (faults disk) (source_faults answers) (source_faults unread) written now sink_before sink_after status
-        → Reopens old disk written now sink_before sink_after status
+        → IsLed host source (max setting.site.looks 1) setting hosts rest answers unread history written now sink_before sink_after status
+        → HostsStay host hosts rest → LaunchedOnce host hosts rest → IfSome (disk.reads old) HasBuild
+        → ((file : List ℕ) → disk.reads old ≡ Some file → LeavesStore disk setting file history old state written now sink_before sink_after status)
+        → Reports (disk.faults old) (disk.faults state) (source.faults answers) (source.faults unread) written now sink_before sink_after status
+        → Reopens old state written now sink_before sink_after status

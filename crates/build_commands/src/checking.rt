@@ -21,7 +21,7 @@ use std::alloc::Global;
 /// | 0 | else | `ok` |
 /// | 8 | want of memory | `controller: out of memory` |
 pub fn check<S: Source, K: Sink>(alloc: Global, script: &mut S, agents: &mut S, out: &mut K) -> u8
-    ensures checks { Checks (taken_from S.left S.faults script.old script.new) (taken_from S.left S.faults agents.old agents.new) (K.written out.old) (K.written out.new) (K.faults out.old) (K.faults out.new) result }
+    ensures checks { Checks (taken_from S.Source script.old script.new) (taken_from S.Source agents.old agents.new) (K.written out.old) (K.written out.new) (K.faults out.old) (K.faults out.new) result }
     ensures most_script { TakesAtMost (script_limit + 1) (S.left script.old) (S.left script.new) }
     ensures most_agents { TakesAtMost (agents_limit + 1) (S.left agents.old) (S.left agents.new) }
 {

@@ -68,17 +68,17 @@ pub fn finish<
 ) -> Ended<D, H, A>
     requires running { durable.stopped ≡ false }
     requires begun { has_begun durable.build.phase ≡ true }
-    ensures stay { HostsStay H.honest H.faults H.calls hosts.items result.hosts.items }
-    ensures launched { LaunchedOnce H.launches hosts.items result.hosts.items }
-    ensures led { IsLed H.honest H.faults H.calls H.launches H.dirs H.output H.exited A.left A.faults (max (setting_in durable.build).site.looks 1) (setting_in durable.build)
+    ensures stay { HostsStay H.Host hosts.items result.hosts.items }
+    ensures launched { LaunchedOnce H.Host hosts.items result.hosts.items }
+    ensures led { IsLed H.Host A.Source (max (setting_in durable.build).site.looks 1) (setting_in durable.build)
         hosts.items result.hosts.items answers result.answers result.history.items (K.written out.old) (K.written out.new) (K.faults out.old) (K.faults out.new) result.status }
     ensures reports { Reports (D.faults durable.journal.disk) (D.faults result.disk) (A.faults answers) (A.faults result.answers) (K.written out.old) (K.written out.new) (K.faults out.old) (K.faults out.new) result.status }
-    ensures last { kind ≡ Log → (payloads : List (List ℕ)) → Keeps D.reads D.may_leave R.stance durable payloads
-        → ∥ KeepsRecords D.may_leave D.clock D.may_have_left_since (setting_in durable.build) durable.journal.disk payloads result.history.items result.disk (K.written out.old) (K.written out.new) (K.faults out.old) (K.faults out.new) result.status ∥₁ }
+    ensures last { kind ≡ Log → (payloads : List (List ℕ)) → Keeps D.Disk R.stance durable payloads
+        → ∥ KeepsRecords D.Disk (setting_in durable.build) durable.journal.disk payloads result.history.items result.disk (K.written out.old) (K.written out.new) (K.faults out.old) (K.faults out.new) result.status ∥₁ }
     ensures finishes { (setting : Setting) (entry : Option (List ℕ)) (origin : D) (before : List AnEvent)
-        → Lasts D.reads D.may_leave D.clock D.may_have_left_since R.stance setting entry origin before before durable
+        → Lasts D.Disk R.stance setting entry origin before before durable
         → Counts kind durable.records before
-        → ∥ Finished D.reads D.may_leave D.clock D.may_have_left_since H.honest H.faults H.calls H.launches H.dirs H.output H.exited A.left A.faults (max setting.site.looks 1)
+        → ∥ Finished D.Disk H.Host A.Source (max setting.site.looks 1)
         kind setting entry origin before hosts.items result.hosts.items answers result.answers result.history.items result.disk (D.faults durable.journal.disk) (D.faults result.disk)
         (K.written out.old) (K.written out.new) (K.faults out.old) (K.faults out.new) result.status ∥₁ }
 {
@@ -124,20 +124,20 @@ fn live<
     requires room { vec_len crew.others + vec_len crew.members ≤ vec_capacity crew.others + 1 }
     requires whole { IsWhole (setting_in durable.build) (image_in R.stance durable.build) }
     ensures stay { (executors : List SiteExecutor) (hosts : List H) (answers : A) → crew.members.items ≡ members_of executors hosts answers
-        → crew.others.items ≡ reverse (others_of executors hosts) → HostsStay H.honest H.faults H.calls hosts result.hosts.items }
+        → crew.others.items ≡ reverse (others_of executors hosts) → HostsStay H.Host hosts result.hosts.items }
     ensures launched { (executors : List SiteExecutor) (hosts : List H) (answers : A) → crew.members.items ≡ members_of executors hosts answers
-        → crew.others.items ≡ reverse (others_of executors hosts) → LaunchedOnce H.launches hosts result.hosts.items }
+        → crew.others.items ≡ reverse (others_of executors hosts) → LaunchedOnce H.Host hosts result.hosts.items }
     ensures led { (setting : Setting) (hosts : List H) (answers : A) → crew.members.items ≡ members_of setting.site.executors hosts answers → crew.others.items ≡ reverse (others_of setting.site.executors hosts)
-        → IsLed H.honest H.faults H.calls H.launches H.dirs H.output H.exited A.left A.faults looks setting hosts result.hosts.items answers result.answers result.history.items
+        → IsLed H.Host A.Source looks setting hosts result.hosts.items answers result.answers result.history.items
         (K.written out.old) (K.written out.new) (K.faults out.old) (K.faults out.new) result.status }
     ensures reports { (executors : List SiteExecutor) (hosts : List H) (answers : A) → crew.members.items ≡ members_of executors hosts answers
         → Reports (D.faults durable.journal.disk) (D.faults result.disk) (A.faults answers) (A.faults result.answers) (K.written out.old) (K.written out.new) (K.faults out.old) (K.faults out.new) result.status }
-    ensures last { kind ≡ Log → (payloads : List (List ℕ)) → Keeps D.reads D.may_leave R.stance durable payloads
-        → ∥ KeepsRecords D.may_leave D.clock D.may_have_left_since (setting_in durable.build) durable.journal.disk payloads result.history.items result.disk (K.written out.old) (K.written out.new) (K.faults out.old) (K.faults out.new) result.status ∥₁ }
+    ensures last { kind ≡ Log → (payloads : List (List ℕ)) → Keeps D.Disk R.stance durable payloads
+        → ∥ KeepsRecords D.Disk (setting_in durable.build) durable.journal.disk payloads result.history.items result.disk (K.written out.old) (K.written out.new) (K.faults out.old) (K.faults out.new) result.status ∥₁ }
     ensures finishes { (hosts : List H) (answers : A) (setting : Setting) (entry : Option (List ℕ)) (origin : D) (before : List AnEvent) → crew.members.items ≡ members_of setting.site.executors hosts answers
-        → crew.others.items ≡ reverse (others_of setting.site.executors hosts) → Lasts D.reads D.may_leave D.clock D.may_have_left_since R.stance setting entry origin before before durable
+        → crew.others.items ≡ reverse (others_of setting.site.executors hosts) → Lasts D.Disk R.stance setting entry origin before before durable
         → Counts kind durable.records before
-        → ∥ Finished D.reads D.may_leave D.clock D.may_have_left_since H.honest H.faults H.calls H.launches H.dirs H.output H.exited A.left A.faults looks
+        → ∥ Finished D.Disk H.Host A.Source looks
         kind setting entry origin before hosts result.hosts.items answers result.answers result.history.items result.disk (D.faults durable.journal.disk) (D.faults result.disk)
         (K.written out.old) (K.written out.new) (K.faults out.old) (K.faults out.new) result.status ∥₁ }
 {

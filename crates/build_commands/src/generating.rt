@@ -42,7 +42,7 @@ pub fn generate<
     answers: A,
     out: &mut K,
 ) -> Ended<D, H, A>
-    ensures { Runs D.reads D.may_leave D.clock D.may_have_left_since R.stance D.faults H.honest H.faults H.calls H.launches H.dirs H.output H.exited A.left A.faults disk result.disk hosts.items result.hosts.items answers result.answers result.history.items
+    ensures { Runs D.Disk R.stance H.Host A.Source disk result.disk hosts.items result.hosts.items answers result.answers result.history.items
         (Numbers stages) (K.written out.old) (K.written out.new) (K.faults out.old) (K.faults out.new) (whole (script_of stages)) (whole agents_of_any) result.status }
 {
     let plan = generated_plan(rt.alloc(), stages);

@@ -41,7 +41,7 @@ pub struct Plan {
 /// `ScriptRefused` exactly where the script is too long, or has a fault. Want of memory may come in place of each of them but
 /// `ReadFailed`, and no other refusal comes.
 pub fn read_plan<S: Source>(alloc: Global, script: &mut S, agents: &mut S) -> Result<Plan, Refusal>
-    ensures plans { Plans (taken_from S.left S.faults script.old script.new) (taken_from S.left S.faults agents.old agents.new) result }
+    ensures plans { Plans (taken_from S.Source script.old script.new) (taken_from S.Source agents.old agents.new) result }
     ensures most_script { TakesAtMost (script_limit + 1) (S.left script.old) (S.left script.new) }
     ensures most_agents { TakesAtMost (agents_limit + 1) (S.left agents.old) (S.left agents.new) }
 {

@@ -42,10 +42,10 @@ pub fn resume<
     A: Source + Drop + Send,
     K: Sink,
 >(rt: &W, disk: D, hosts: Vec<H>, threads: usize, answers: A, out: &mut K) -> Ended<D, H, A>
-    ensures reopens { Reopens D.reads D.may_leave D.clock D.may_have_left_since D.faults H.honest H.faults H.calls H.launches H.dirs H.output H.exited A.left A.faults hosts.items result.hosts.items answers result.answers result.history.items
+    ensures reopens { Reopens D.Disk H.Host A.Source hosts.items result.hosts.items answers result.answers result.history.items
         disk result.disk (K.written out.old) (K.written out.new) (K.faults out.old) (K.faults out.new) result.status }
     ensures resumes { (file : List ℕ) → D.reads disk ≡ Some file → (setting : Setting) (events : List AnEvent) → Stores setting events file
-        → Resumes D.reads D.may_leave D.clock D.may_have_left_since D.faults H.honest H.faults H.calls H.launches H.dirs H.output H.exited A.left A.faults hosts.items result.hosts.items answers result.answers result.history.items
+        → Resumes D.Disk H.Host A.Source hosts.items result.hosts.items answers result.answers result.history.items
         setting events disk result.disk (K.written out.old) (K.written out.new) (K.faults out.old) (K.faults out.new) result.status }
 {
     let alloc = rt.alloc();

@@ -58,8 +58,8 @@ pub fn run<
     answers: A,
     out: &mut K,
 ) -> Ended<D, H, A>
-    ensures runs { Runs D.reads D.may_leave D.clock D.may_have_left_since R.stance D.faults H.honest H.faults H.calls H.launches H.dirs H.output H.exited A.left A.faults disk result.disk hosts.items result.hosts.items answers result.answers result.history.items
-        Log (K.written out.old) (K.written out.new) (K.faults out.old) (K.faults out.new) (taken_from S.left S.faults script.old script.new) (taken_from S.left S.faults agents.old agents.new) result.status }
+    ensures runs { Runs D.Disk R.stance H.Host A.Source disk result.disk hosts.items result.hosts.items answers result.answers result.history.items
+        Log (K.written out.old) (K.written out.new) (K.faults out.old) (K.faults out.new) (taken_from S.Source script.old script.new) (taken_from S.Source agents.old agents.new) result.status }
     ensures most_script { TakesAtMost (script_limit + 1) (S.left script.old) (S.left script.new) }
     ensures most_agents { TakesAtMost (agents_limit + 1) (S.left agents.old) (S.left agents.new) }
 {
@@ -88,7 +88,7 @@ pub(crate) fn build_planned<
 ) -> Ended<D, H, A>
     requires builds { IfOk plan (λ plan. Builds plan.script plan.agents plan.tree plan.site) }
     ensures { (script agents : Input) → Plans script agents plan
-        → Runs D.reads D.may_leave D.clock D.may_have_left_since R.stance D.faults H.honest H.faults H.calls H.launches H.dirs H.output H.exited A.left A.faults disk result.disk hosts.items result.hosts.items answers result.answers result.history.items
+        → Runs D.Disk R.stance H.Host A.Source disk result.disk hosts.items result.hosts.items answers result.answers result.history.items
         kind (K.written out.old) (K.written out.new) (K.faults out.old) (K.faults out.new) script agents result.status }
 {
     match plan {
@@ -125,7 +125,7 @@ fn begin<
     out: &mut K,
 ) -> Ended<D, H, A>
     requires builds { Builds plan.script plan.agents plan.tree plan.site }
-    ensures { Begins D.reads D.may_leave D.clock D.may_have_left_since R.stance D.faults H.honest H.faults H.calls H.launches H.dirs H.output H.exited A.left A.faults disk result.disk hosts.items result.hosts.items answers result.answers result.history.items
+    ensures { Begins D.Disk R.stance H.Host A.Source disk result.disk hosts.items result.hosts.items answers result.answers result.history.items
         kind (K.written out.old) (K.written out.new) (K.faults out.old) (K.faults out.new) plan.script plan.agents plan.tree plan.site result.status }
 {
     let alloc = rt.alloc();

@@ -1,6 +1,6 @@
 //! The commands that show the build of a store.
 ghost use Rattle.std.specs.Prelude.{◌≡◌, ◌⊎◌, List, ℕ, Some};
-ghost use Rattle.jp_disk.specs.Moments.{AtEachMoment};
+ghost use Rattle.jp_disk.specs.Runs.{AtEachMoment};
 ghost use Rattle.site_run.specs.Lower.build_core.Builds.{StandsFor, nodes_of};
 ghost use Rattle.model_run.specs.GraphText.{graph_text};
 ghost use Rattle.build_commands.specs.Showing.{Causes, Shows, ShowsLast, TellsOf};
@@ -33,7 +33,7 @@ pub fn log<D: Disk, R: SavedThread + Drop, K: Sink>(alloc: Global, disk: D, out:
     ensures shows { Shows (λ w. w.shared.log) (D.reads disk) (D.faults disk) (D.faults result.disk) (K.written out.old) (K.written out.new) (K.faults out.old) (K.faults out.new) result.status }
     ensures last { (file : List ℕ) → D.reads disk ≡ Some file → ShowsLast (λ i. i.log) file (K.written out.old) (K.written out.new) (K.faults out.old) (K.faults out.new) result.status }
     ensures store { (file : List ℕ) → D.reads disk ≡ Some file → D.reads result.disk ≡ Some file }
-    ensures any_moment { AtEachMoment D.clock D.may_have_left_since disk result.disk (D.may_leave disk) }
+    ensures any_moment { AtEachMoment D.Disk disk result.disk (D.may_leave disk) }
 {
     match DurableBuild::<D, R>::open(alloc, disk) {
         Ok(durable) => {
@@ -61,7 +61,7 @@ pub fn graph<D: Disk, R: SavedThread + Drop, K: Sink>(
     ensures shows { Shows (λ w. graph_text w.shared.nodes) (D.reads disk) (D.faults disk) (D.faults result.disk) (K.written out.old) (K.written out.new) (K.faults out.old) (K.faults out.new) result.status }
     ensures last { (file : List ℕ) → D.reads disk ≡ Some file → ShowsLast (λ i. graph_text i.nodes) file (K.written out.old) (K.written out.new) (K.faults out.old) (K.faults out.new) result.status }
     ensures store { (file : List ℕ) → D.reads disk ≡ Some file → D.reads result.disk ≡ Some file }
-    ensures any_moment { AtEachMoment D.clock D.may_have_left_since disk result.disk (D.may_leave disk) }
+    ensures any_moment { AtEachMoment D.Disk disk result.disk (D.may_leave disk) }
 {
     match DurableBuild::<D, R>::open(alloc, disk) {
         Ok(durable) => {

@@ -30,6 +30,7 @@ use Rattle.site_run.specs.Lower.site_state.declared.ask.Reply.TheVariants as rep
 use Rattle.site_run.proofs.Lower.site_state.HistoryLaws.{kept_fault-append, tooks-append}
 use Rattle.task_host.specs.declared.order.Order.{Order}
 use Rattle.claim_laws.specs.Tasks.{HasOpenTask}
+use Rattle.jp_disk.specs.View.{DiskView}
 
 stopped_order : (order : Order) → reply.Claimed (claim.Order order) ≡ reply.Claimed claim.Stopped → ⊥
 stopped_order order is = cc
@@ -48,18 +49,18 @@ module _ {T : Type 0} (stance : T → Stance) (opening : Parts T) (history : Lis
   pub claim_is_quiet : Says stance opening history (ask.Claim executor) (reply.Claimed (claim.Order order)) new → Quiet new
   claim_is_quiet says = let claims = (calm_said (kept_fault history) says).2 in (ap tooks claims.3, ap kept_fault claims.3)
 
-module _ {D T : Type 0} (reads : D → Option (List ℕ)) (may_leave : D → List ℕ → Type 0) (clock : D → ℕ) (since : D → ℕ → List ℕ → Type 0) (faults : D → ℕ) (stance : T → Stance)
+module _ {D T : Type 0} (disk : DiskView D) (stance : T → Stance)
     (setting : Setting) (entry : Option (List ℕ)) (origin : D) (before begun : List Event) (opening now : Kept D T)
-    (known : IsSome entry) (lasts : Lasts reads may_leave clock since stance setting entry origin before begun opening) where
+    (known : IsSome entry) (lasts : Lasts disk stance setting entry origin before begun opening) where
   -- While no fault is kept each image that a crash may leave is a store of just the events from before and those that the history tells as taken.
-  pub images_store : (history : List Entry) → Facts reads may_leave clock since faults stance opening now history → kept_fault history ≡ None
-      → (image : List ℕ) → may_leave now.journal.disk image → Stores setting (begun ++ tooks history) image
+  pub images_store : (history : List Entry) → Facts disk stance opening now history → kept_fault history ≡ None
+      → (image : List ℕ) → disk.may_leave now.journal.disk image → Stores setting (begun ++ tooks history) image
   images_store history facts none image leaves =
-      let later = lasts_on reads may_leave clock since faults stance setting entry origin before begun opening now history lasts facts none in
+      let later = lasts_on disk stance setting entry origin before begun opening now history lasts facts none in
       let saves = later.saves known in
       record {
         payloads = saves.payloads;
-        has = stores_has reads may_leave now.journal.disk now.journal.len saves.payloads image saves.keeps.holds leaves;
+        has = stores_has disk now.journal.disk now.journal.len saves.payloads image saves.keeps.holds leaves;
         told = subst (λ (s : Setting). IsTold s (begun ++ tooks history) saves.payloads) later.goes.same saves.told;
       }
 
@@ -81,8 +82,8 @@ module _ {D T : Type 0} (reads : D → Option (List ℕ)) (may_leave : D → Lis
 
     -- The answer to a claim is an order: just before it, just behind it, and until another event is taken or a fault is noted, the task is an open one
     -- of the executor in each image that a crash may leave. `more` is what has come to the history since the claim was asked.
-    pub open_until_next : (more : List Entry) (capacity : ℕ) → Quiet more → ∥ IsSite reads may_leave clock since faults stance opening now (history ++ more) capacity ∥₁
-        → ∥ ((image : List ℕ) → may_leave now.journal.disk image → HasOpenTask setting executor order.task image) ∥₁
+    pub open_until_next : (more : List Entry) (capacity : ℕ) → Quiet more → ∥ IsSite disk stance opening now (history ++ more) capacity ∥₁
+        → ∥ ((image : List ℕ) → disk.may_leave now.journal.disk image → HasOpenTask setting executor order.task image) ∥₁
     open_until_next more capacity quiet site =
         let none : kept_fault (history ++ more) ≡ None = kept_fault-append history more calm ∙ quiet.1 in
         let same : tooks (history ++ more) ≡ tooks history = tooks-append history more ∙ ap (λ (es : List Event). tooks history ++ es) quiet.0 ∙ append-nil (tooks history) in
@@ -94,6 +95,6 @@ module _ {D T : Type 0} (reads : D → Option (List ℕ)) (may_leave : D → Lis
         }))
 
     -- A claimed task is open in each image that a crash may leave when the claim has been answered.
-    pub claimed_is_open : (capacity : ℕ) → ∥ IsSite reads may_leave clock since faults stance opening now (history ++ new) capacity ∥₁
-        → ∥ ((image : List ℕ) → may_leave now.journal.disk image → HasOpenTask setting executor order.task image) ∥₁
+    pub claimed_is_open : (capacity : ℕ) → ∥ IsSite disk stance opening now (history ++ new) capacity ∥₁
+        → ∥ ((image : List ℕ) → disk.may_leave now.journal.disk image → HasOpenTask setting executor order.task image) ∥₁
     claimed_is_open capacity site = open_until_next new capacity (claim_is_quiet stance opening.build history executor order new says) site

@@ -24,6 +24,9 @@ use Rattle.site_run.proofs.Lower.site_state.HistoryLaws.{tooks-append}
 use Rattle.task_host.specs.declared.call.Call.{Call}
 use Rattle.task_host.specs.declared.order.Stream.{Stream}
 use Rattle.claim_laws.specs.Tasks.{AllClaimed, HadOpenTask}
+use Rattle.jp_disk.specs.View.{DiskView}
+use Rattle.task_host.specs.View.{HostView}
+use Rattle.jp_io.specs.View.{SourceView}
 
 module _ (setting : Setting) (begun taken : List Event) (started : (world_in setting begun).started ≡ true) (Leaves : List ℕ → Type 0)
     (all_store : (image : List ℕ) → Leaves image → (rest : List Event) × Stores setting ((begun ++ taken) ++ rest) image) where
@@ -56,18 +59,18 @@ module _ (setting : Setting) (begun taken : List Event) (started : (world_in set
   all_stay before (Line line ∷ es) is each = all_stay (before ++ Line line ∷ []) es (ap tooks (append_assoc before (Line line ∷ []) es) ∙ is) each.1
   all_stay before (Failed fault event ∷ es) is each = all_stay (before ++ Failed fault event ∷ []) es (ap tooks (append_assoc before (Failed fault event ∷ []) es) ∙ is) each.1
 
-module _ {D T H A : Type 0} (reads : D → Option (List ℕ)) (may_leave : D → List ℕ → Type 0) (clock : D → ℕ) (since : D → ℕ → List ℕ → Type 0) (stance : T → Stance)
+module _ {D T H A : Type 0} (disk : DiskView D) (stance : T → Stance)
     (setting : Setting) (entry : Option (List ℕ)) (origin : D) (before : List Event) (known : IsSome entry) where
   -- a store behind a life has all events of its end, and perhaps the one that the disk failed
   ends_store : (Refused : Event → Type 0) (now : List Event) (members : List (Member H A)) (kept : Kept D T) (ended : Result Rest TakeFault)
-      → EndsBehind reads may_leave clock since stance setting entry origin before Refused now members kept ended
-      → (image : List ℕ) → may_leave kept.journal.disk image → (rest : List Event) × Stores setting (now ++ rest) image
+      → EndsBehind disk stance setting entry origin before Refused now members kept ended
+      → (image : List ℕ) → disk.may_leave kept.journal.disk image → (rest : List Event) × Stores setting (now ++ rest) image
   ends_store Refused now members kept (Ok rest) ends image leaves =
       let saves = ends.lasts.saves known in (
         [],
         record {
           payloads = saves.payloads;
-          has = stores_has reads may_leave kept.journal.disk kept.journal.len saves.payloads image saves.keeps.holds leaves;
+          has = stores_has disk kept.journal.disk kept.journal.len saves.payloads image saves.keeps.holds leaves;
           told = subst (λ (es : List Event). IsTold setting es saves.payloads) (sym (append-nil now)) (subst (λ (s : Setting). IsTold s now saves.payloads) ends.lasts.goes.same saves.told);
         },
       )
@@ -79,11 +82,10 @@ module _ {D T H A : Type 0} (reads : D → Option (List ℕ)) (may_leave : D →
       by (Some e) (inr has) = (e ∷ [], has)
 
   -- Of each task that was claimed in a life, each image that a crash may leave behind the life tells that it was an open one of the executor.
-  pub claims_stay : (honest : H → Type 0) (faults : H → ℕ) (calls : H → Option (List Call)) (launches dirs : H → List ℕ) (output : H → ℕ → Stream → List ℕ) (exited : H → ℕ → Option ℤ)
-      (left : A → Option (List ℕ)) (source_faults : A → ℕ) (looks : ℕ) {durable : Kept D T} (turns : List (Turn H A)) (events : List Event) (old new : List (Member H A)) (history : List Entry) (kept : Kept D T) (ended : Result Rest TakeFault)
+  pub claims_stay : (host : HostView H) (source : SourceView A) (looks : ℕ) {durable : Kept D T} (turns : List (Turn H A)) (events : List Event) (old new : List (Member H A)) (history : List Entry) (kept : Kept D T) (ended : Result Rest TakeFault)
       → (world_in setting events).started ≡ true
-      → Ends reads may_leave clock since stance honest faults calls launches dirs output exited left source_faults looks turns durable setting entry origin before events old new history kept ended
-      → AllClaimed (λ executor task. (image : List ℕ) → may_leave kept.journal.disk image → HadOpenTask setting executor task image) history
-  claims_stay honest faults calls launches dirs output exited left source_faults looks turns events old new history kept ended started ends =
-      all_stay setting (events ++ ends.granted) (tooks history) (begun_all setting events ends.granted started) (may_leave kept.journal.disk)
+      → Ends disk stance host source looks turns durable setting entry origin before events old new history kept ended
+      → AllClaimed (λ executor task. (image : List ℕ) → disk.may_leave kept.journal.disk image → HadOpenTask setting executor task image) history
+  claims_stay host source looks turns events old new history kept ended started ends =
+      all_stay setting (events ++ ends.granted) (tooks history) (begun_all setting events ends.granted started) (disk.may_leave kept.journal.disk)
       (λ image leaves. subst (λ (now : List Event). (rest : List Event) × Stores setting (now ++ rest) image) ends.is (ends_store _ ends.now new kept ended ends.ends image leaves)) [] history refl ends.claims

@@ -168,5 +168,5 @@ some_and (Some x) P Q more holds = more x holds
 -- a life over a build of this setting, from these events on, has finished with this status
 abbrev pub FinishedIn : {D H A : Type 0} → Devices D H A → Call D H A → EndText → Setting → D → List Event → ℕ → Type 0
 FinishedIn v c kind setting origin before n =
-    Finished v.reads v.may_leave v.clock v.since v.honest v.host_faults v.calls v.launches v.dirs v.output v.exited v.left v.source_faults (max setting.site.looks 1)
-    kind setting (v.reads c.disk) origin before c.hosts c.hosts_now c.answers c.answers_now c.history c.now (v.faults origin) (v.faults c.now) c.old c.new c.sink_before c.sink_after n
+    Finished v.disk v.host v.source (max setting.site.looks 1)
+    kind setting (v.disk.reads c.disk) origin before c.hosts c.hosts_now c.answers c.answers_now c.history c.now (v.disk.faults origin) (v.disk.faults c.now) c.old c.new c.sink_before c.sink_after n

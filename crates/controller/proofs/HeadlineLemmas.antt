@@ -28,8 +28,8 @@ use Rattle.controller.proofs.ResumeLemmas.{resume_unread, resume_says, resume_un
 use Rattle.controller.proofs.RunLemmas.{run_unread, run_outputs, run_says, run_crashes, run_judges, run_causes, run_known}
 use Rattle.controller.proofs.ShowLemmas.{show_says, show_outputs, show_untold, show_known}
 
-module _ {D H A T : Type 0} (v : Devices D H A) (stance : T → Stance) (told_image : (d : D) → IfSome (v.reads d) (λ file. v.may_leave d file))
-    (counts_now : (d : D) (t : ℕ) (image : List ℕ) → t ≤ v.clock d → v.may_leave d image → v.since d t image) (only_now : (d : D) (image : List ℕ) → v.since d (v.clock d) image → v.may_leave d image) (c : Call D H A) where
+module _ {D H A T : Type 0} (v : Devices D H A) (stance : T → Stance) (told_image : (d : D) → IfSome (v.disk.reads d) (λ file. v.disk.may_leave d file))
+    (counts_now : (d : D) (t : ℕ) (image : List ℕ) → t ≤ v.disk.clock d → v.disk.may_leave d image → v.disk.may_have_left_since d t image) (only_now : (d : D) (image : List ℕ) → v.disk.may_have_left_since d (v.disk.clock d) image → v.disk.may_leave d image) (c : Call D H A) where
   abbrev DoesSo : Type 0
   DoesSo = Does v stance c
 

@@ -3,7 +3,7 @@ use Rattle.std.proofs.Common.{◌≡◌, ◌⊎◌, ◌≤◌, ◌∙◌, ℕ, B
 use Rattle.std.specs.Prelude.{nat_eq, nat_lt, ◌==◌, is_some, IfSome, IsSome, IsSomeAnd}
 use Rattle.std.specs.List.{AllByRecursion as AllAre, IsDistinct, IsDistinct-prop}
 use Rattle.std.proofs.Math.Logic.{∥∥₁_elim, ∥∥₁_map, ∥∥₁_prop}
-use Rattle.jp_disk.specs.Moments.{AtEachMoment}
+use Rattle.jp_disk.specs.Runs.{AtEachMoment}
 use Rattle.jp_disk.proofs.MomentLemmas.{if_told}
 use Rattle.journal_core.specs.Answers.{IsStarted}
 use Rattle.journal_core.specs.Records.{Has, Walked, records}
@@ -80,13 +80,13 @@ none_launched : (setting : Setting) (hosts : List ExecutorHost) → AllFit setti
 none_launched setting [] fit = refl
 none_launched setting (host ∷ hosts) fit = ap (λ (l : List ℕ). l ++ all_launches hosts) (none_yet setting host.number host.tasks fit.0) ∙ none_launched setting hosts fit.1
 
-module _ {D H A T : Type 0} (v : Devices D H A) (stance : T → Stance) (told_image : (d : D) → IfSome (v.reads d) (λ file. v.may_leave d file)) (c : Call D H A) where
+module _ {D H A T : Type 0} (v : Devices D H A) (stance : T → Stance) (told_image : (d : D) → IfSome (v.disk.reads d) (λ file. v.disk.may_leave d file)) (c : Call D H A) where
   abbrev AllFitBy : Setting → List Event → List H → Type 0
   AllFitBy setting events hosts = AllFit setting events (executor_hosts v hosts)
 
   -- at the beginning, they fit what the disk tells
   pub entry_fit : (setting : Setting) (events : List Event) → Finds v setting events c → FitLeft v c.disk c.hosts → ∥ AllFitBy setting events c.hosts ∥₁
-  entry_fit setting events finds left = left finds.file (if_told (λ f. v.may_leave c.disk f) finds.told (told_image c.disk)) setting events finds.stores
+  entry_fit setting events finds left = left finds.file (if_told (λ f. v.disk.may_leave c.disk f) finds.told (told_image c.disk)) setting events finds.stores
 
   -- and no task was launched twice
   fit_once : (setting : Setting) (file : List ℕ) (events : List Event) → Stores setting events file → AllFitBy setting events c.hosts → IsDistinct nat_eq (all_launches (executor_hosts v c.hosts))
@@ -104,17 +104,17 @@ module _ {D H A T : Type 0} (v : Devices D H A) (stance : T → Stance) (told_im
   abbrev LeavesFit : Type 0
   LeavesFit = (setting : Setting) (events : List Event) → Finds v setting events c → FitLeft v c.disk c.hosts → FitLeft v c.now c.hosts
 
-  unled_so : (hosts_now : List H) → hosts_now ≡ c.hosts → LeavesFit → HostsStay v.honest v.host_faults v.calls c.hosts hosts_now
-      × ((setting : Setting) (events : List Event) → Finds v setting events c → AllAre v.honest c.hosts → FitLeft v c.disk c.hosts → FitLeft v c.now hosts_now)
-      × ((setting : Setting) (events : List Event) → Finds v setting events c → AllAre v.honest c.hosts → FitLeft v c.disk c.hosts → IsDistinct nat_eq (all_launches (executor_hosts v hosts_now)))
+  unled_so : (hosts_now : List H) → hosts_now ≡ c.hosts → LeavesFit → HostsStay v.host c.hosts hosts_now
+      × ((setting : Setting) (events : List Event) → Finds v setting events c → AllAre v.host.honest c.hosts → FitLeft v c.disk c.hosts → FitLeft v c.now hosts_now)
+      × ((setting : Setting) (events : List Event) → Finds v setting events c → AllAre v.host.honest c.hosts → FitLeft v c.disk c.hosts → IsDistinct nat_eq (all_launches (executor_hosts v hosts_now)))
   unled_so hosts_now same leaves = (
-    subst (λ (hs : List H). HostsStay v.honest v.host_faults v.calls c.hosts hs) (sym same) (stay_same v.honest v.host_faults v.calls v.left v.source_faults c.hosts),
+    subst (λ (hs : List H). HostsStay v.host c.hosts hs) (sym same) (stay_same v.host v.source c.hosts),
     λ setting events finds are left. subst (λ (hs : List H). FitLeft v c.now hs) (sym same) (leaves setting events finds left),
     λ setting events finds are left. subst (λ (hs : List H). IsDistinct nat_eq (all_launches (executor_hosts v hs))) (sym same) (entry_once setting events finds left),
   )
 
-  pub unled_launched : IsUnled c → LaunchedOnce v.launches c.hosts c.hosts_now
-  unled_launched same = subst (λ (hs : List H). LaunchedOnce v.launches c.hosts hs) (sym same.0) (since.none_launched v.launches c.hosts)
+  pub unled_launched : IsUnled c → LaunchedOnce v.host c.hosts c.hosts_now
+  unled_launched same = subst (λ (hs : List H). LaunchedOnce v.host.launches c.hosts hs) (sym same.0) (since.none_launched v.host c.hosts)
 
   enough : length c.hosts ≡ 64 → (agents : List ℕ) (site : Site) → agents_file agents ≡ Means site → length site.executors ≤ length c.hosts
   enough many agents site means = subst (λ (n : ℕ). length site.executors ≤ n) (sym many) (site_seated agents site means).few
@@ -127,18 +127,18 @@ module _ {D H A T : Type 0} (v : Devices D H A) (stance : T → Stance) (told_im
   same_disk same setting events finds left = subst (λ (d : D). FitLeft v d c.hosts) (sym same) left
 
   -- a crash leaves nothing new
-  pub nothing_new : ((image : List ℕ) → v.may_leave c.now image → v.may_leave c.disk image) → LeavesFit
+  pub nothing_new : ((image : List ℕ) → v.disk.may_leave c.now image → v.disk.may_leave c.disk image) → LeavesFit
   nothing_new old setting events finds left image leaves s es stores = left image (old image leaves) s es stores
 
   -- a store with the records of the file that was found is fitted as that is
-  pub fit_records : (setting : Setting) (events : List Event) → Finds v setting events c → FitLeft v c.disk c.hosts → (file image : List ℕ) → v.reads c.disk ≡ Some file → records image ≡ records file
+  pub fit_records : (setting : Setting) (events : List Event) → Finds v setting events c → FitLeft v c.disk c.hosts → (file image : List ℕ) → v.disk.reads c.disk ≡ Some file → records image ≡ records file
       → (s : Setting) (es : List Event) → Stores s es image → ∥ AllFitBy s es c.hosts ∥₁
-  fit_records setting events finds left file image told same s es stores = left file (if_told (λ f. v.may_leave c.disk f) told (told_image c.disk)) s es (same_records s es image file same stores)
+  fit_records setting events finds left file image told same s es stores = left file (if_told (λ f. v.disk.may_leave c.disk f) told (told_image c.disk)) s es (same_records s es image file same stores)
 
   -- over a file without a record nothing was launched
-  pub fit_fresh : FitLeft v c.disk c.hosts → (file : List ℕ) → v.reads c.disk ≡ Some file → Has [] file → (setting s : Setting) (es : List Event) → ∥ AllFitBy s es c.hosts ∥₁
+  pub fit_fresh : FitLeft v c.disk c.hosts → (file : List ℕ) → v.disk.reads c.disk ≡ Some file → Has [] file → (setting s : Setting) (es : List Event) → ∥ AllFitBy s es c.hosts ∥₁
   fit_fresh left file told none setting s es =
-      ∥∥₁_map (left file (if_told (λ f. v.may_leave c.disk f) told (told_image c.disk)) setting [] (none_stored setting file none)) (λ fit. fit_each setting (executor_hosts v c.hosts) fit s es)
+      ∥∥₁_map (left file (if_told (λ f. v.disk.may_leave c.disk f) told (told_image c.disk)) setting [] (none_stored setting file none)) (λ fit. fit_each setting (executor_hosts v c.hosts) fit s es)
 
 -- events behind those of a build that has begun are some
 none_first : (es fs : List Event) → es ++ fs ≡ [] → es ≡ []
@@ -156,45 +156,45 @@ left_now Comes setting taken image risked next (inl has) = inl has
 left_now Comes setting taken image None next (inr none) = absurd none
 left_now Comes setting taken image (Some e) next (inr has) = inr (e, next.is_next.accepted, has)
 
-module _ {D H A T : Type 0} (v : Devices D H A) (stance : T → Stance) (told_image : (d : D) → IfSome (v.reads d) (λ file. v.may_leave d file))
-    (counts_now : (d : D) (t : ℕ) (image : List ℕ) → t ≤ v.clock d → v.may_leave d image → v.since d t image) (only_now : (d : D) (image : List ℕ) → v.since d (v.clock d) image → v.may_leave d image) (c : Call D H A) (many : length c.hosts ≡ 64) where
+module _ {D H A T : Type 0} (v : Devices D H A) (stance : T → Stance) (told_image : (d : D) → IfSome (v.disk.reads d) (λ file. v.disk.may_leave d file))
+    (counts_now : (d : D) (t : ℕ) (image : List ℕ) → t ≤ v.disk.clock d → v.disk.may_leave d image → v.disk.may_have_left_since d t image) (only_now : (d : D) (image : List ℕ) → v.disk.may_have_left_since d (v.disk.clock d) image → v.disk.may_leave d image) (c : Call D H A) (many : length c.hosts ≡ 64) where
   unled_here : IsUnled c → LeavesFit v stance told_image c → Launches v c
   unled_here = unled v stance told_image c many
 
   -- a crash leaves what it might have left at the beginning
-  stays : AtEachMoment v.clock v.since c.disk c.now (v.may_leave c.disk) → LeavesFit v stance told_image c
-  stays moments = nothing_new v stance told_image c (λ image left. moments.each image (counts_now c.now (v.clock c.disk) image moments.later left))
+  stays : AtEachMoment v.disk c.disk c.now (v.disk.may_leave c.disk) → LeavesFit v stance told_image c
+  stays moments = nothing_new v stance told_image c (λ image left. moments.each image (counts_now c.now (v.disk.clock c.disk) image moments.later left))
 
   -- a life that finished, of a build whose setting this is
-  module _ (kind : EndText) (setting : Setting) (proper : IsProper setting) (all : Consecutive 0 setting.site.executors) (origin : D) (before : List Event) (same : v.faults origin ≡ v.faults c.disk) where
-    finished_fit : FinishedIn v c kind setting origin before c.status → IsSome (v.reads c.disk) → AllAre v.honest c.hosts → AllFit setting before (executor_hosts v c.hosts) → (image : List ℕ) → v.may_leave c.now image
+  module _ (kind : EndText) (setting : Setting) (proper : IsProper setting) (all : Consecutive 0 setting.site.executors) (origin : D) (before : List Event) (same : v.disk.faults origin ≡ v.disk.faults c.disk) where
+    finished_fit : FinishedIn v c kind setting origin before c.status → IsSome (v.disk.reads c.disk) → AllAre v.host.honest c.hosts → AllFit setting before (executor_hosts v c.hosts) → (image : List ℕ) → v.disk.may_leave c.now image
         → (s : Setting) (es : List Event) → Stores s es image → AllFit s es (executor_hosts v c.hosts_now)
     finished_fit f known are fit image left s es stores =
         let g = gone v told_image kind setting origin before c same f in
         led_fit v stance c setting proper all before g.taken g.takes (some_taken setting before g.taken g.more g.takes.goes.begun g.is) are fit image
         (left_now (ComesIn v setting c g.takes.life) setting g.taken image g.risked g.next (g.images known image left)) s es stores
 
-    finished_once : FinishedIn v c kind setting origin before c.status → AllAre v.honest c.hosts → AllFit setting before (executor_hosts v c.hosts) → IsDistinct nat_eq (all_launches (executor_hosts v c.hosts_now))
+    finished_once : FinishedIn v c kind setting origin before c.status → AllAre v.host.honest c.hosts → AllFit setting before (executor_hosts v c.hosts) → IsDistinct nat_eq (all_launches (executor_hosts v c.hosts_now))
     finished_once f are fit = let g = gone v told_image kind setting origin before c same f in led_once v stance c setting proper all before g.taken g.takes are fit
 
-    life_fits : ∥ FinishedIn v c kind setting origin before c.status ∥₁ → IsSome (v.reads c.disk) → AllAre v.honest c.hosts → ∥ AllFit setting before (executor_hosts v c.hosts) ∥₁ → FitLeft v c.now c.hosts_now
+    life_fits : ∥ FinishedIn v c kind setting origin before c.status ∥₁ → IsSome (v.disk.reads c.disk) → AllAre v.host.honest c.hosts → ∥ AllFit setting before (executor_hosts v c.hosts) ∥₁ → FitLeft v c.now c.hosts_now
     life_fits finishes known are fits image left s es stores = ∥∥₁_elim finishes ∥∥₁_prop (λ f. ∥∥₁_map fits (λ fit. finished_fit f known are fit image left s es stores))
 
-    life_once : ∥ FinishedIn v c kind setting origin before c.status ∥₁ → AllAre v.honest c.hosts → ∥ AllFit setting before (executor_hosts v c.hosts) ∥₁ → IsDistinct nat_eq (all_launches (executor_hosts v c.hosts_now))
+    life_once : ∥ FinishedIn v c kind setting origin before c.status ∥₁ → AllAre v.host.honest c.hosts → ∥ AllFit setting before (executor_hosts v c.hosts) ∥₁ → IsDistinct nat_eq (all_launches (executor_hosts v c.hosts_now))
     life_once finishes are fits =
         let prop = IsDistinct-prop nat_eq (all_launches (executor_hosts v c.hosts_now)) in
         ∥∥₁_elim finishes prop (λ f. ∥∥₁_elim fits prop (λ fit. finished_once f are fit))
 
   -- `run`: no build was begun, or one was over a file without a record, and then no host had launched a task
   unbegun_leaves : (s a : List ℕ) (tree : Tree) (site : Site) → Builds s a tree site → (f : BeginFault) → (f ≡ fault.Take take.Disk → c.status ≡ 5)
-      → ((file : List ℕ) → v.reads c.disk ≡ Some file → BeginRefuses v.reads v.may_leave v.clock v.since stance (script_setting tree site) (StartEvent s a) file c.disk f c.now) → LeavesFit v stance told_image c
+      → ((file : List ℕ) → v.disk.reads c.disk ≡ Some file → BeginRefuses v.disk stance (script_setting tree site) (StartEvent s a) file c.disk f c.now) → LeavesFit v stance told_image c
   unbegun_leaves s a tree site builds f five refuses setting events finds left image leaves t es stores =
       ⊎_elim (λ old. left image old t es stores)
       (⊎_elim (λ kept. fit_records v stance told_image c setting events finds left finds.file image finds.told kept t es stores) (λ start. fit_fresh v stance told_image c left finds.file finds.told start.1 setting t es))
       (unbegun_image v stance told_image counts_now only_now end.Log c s a tree site builds finds.file f image five (refuses finds.file finds.told) leaves)
 
-  begun_launches : (kind : EndText) (s a : List ℕ) (tree : Tree) (site : Site) → Builds s a tree site → (started : D) → v.faults started ≡ v.faults c.disk → HostsStay v.honest v.host_faults v.calls c.hosts c.hosts_now → LaunchedOnce v.launches c.hosts c.hosts_now
-      → ∥ FinishedIn v c kind (script_setting tree site) started (StartEvent s a ∷ []) c.status ∥₁ → ((file : List ℕ) → v.reads c.disk ≡ Some file → ¬ (IsStarted file)) → Launches v c
+  begun_launches : (kind : EndText) (s a : List ℕ) (tree : Tree) (site : Site) → Builds s a tree site → (started : D) → v.disk.faults started ≡ v.disk.faults c.disk → HostsStay v.host c.hosts c.hosts_now → LaunchedOnce v.host c.hosts c.hosts_now
+      → ∥ FinishedIn v c kind (script_setting tree site) started (StartEvent s a ∷ []) c.status ∥₁ → ((file : List ℕ) → v.disk.reads c.disk ≡ Some file → ¬ (IsStarted file)) → Launches v c
   begun_launches kind s a tree site builds started same stay launched finishes fresh =
       let setting = script_setting tree site in
       let proper = mean_proper s a setting (mean_of builds) in
@@ -222,26 +222,26 @@ module _ {D H A T : Type 0} (v : Devices D H A) (stance : T → Stance) (told_im
 
   -- `resume`
   abbrev ResumesSo : Setting → List Event → ℕ → Type 0
-  ResumesSo setting events n = Resumes v.reads v.may_leave v.clock v.since v.faults v.honest v.host_faults v.calls v.launches v.dirs v.output v.exited v.left v.source_faults c.hosts c.hosts_now c.answers c.answers_now c.history
+  ResumesSo setting events n = Resumes v.disk v.host v.source c.hosts c.hosts_now c.answers c.answers_now c.history
       setting events c.disk c.now c.old c.new c.sink_before c.sink_after n
 
-  reopens_stay : {n : ℕ} → Reopens v.reads v.may_leave v.clock v.since v.faults v.honest v.host_faults v.calls v.launches v.dirs v.output v.exited v.left v.source_faults c.hosts c.hosts_now c.answers c.answers_now c.history
-      c.disk c.now c.old c.new c.sink_before c.sink_after n → HostsStay v.honest v.host_faults v.calls c.hosts c.hosts_now
-  reopens_stay (resume.unopened unled same why tells) = subst (λ (hs : List H). HostsStay v.honest v.host_faults v.calls c.hosts hs) (sym unled.0) (stay_same v.honest v.host_faults v.calls v.left v.source_faults c.hosts)
+  reopens_stay : {n : ℕ} → Reopens v.disk v.host v.source c.hosts c.hosts_now c.answers c.answers_now c.history
+      c.disk c.now c.old c.new c.sink_before c.sink_after n → HostsStay v.host c.hosts c.hosts_now
+  reopens_stay (resume.unopened unled same why tells) = subst (λ (hs : List H). HostsStay v.host c.hosts hs) (sym unled.0) (stay_same v.host v.source c.hosts)
   reopens_stay (resume.goes_on setting led stay launched has store reports) = stay
 
-  reopens_led : {n : ℕ} → Reopens v.reads v.may_leave v.clock v.since v.faults v.honest v.host_faults v.calls v.launches v.dirs v.output v.exited v.left v.source_faults c.hosts c.hosts_now c.answers c.answers_now c.history
+  reopens_led : {n : ℕ} → Reopens v.disk v.host v.source c.hosts c.hosts_now c.answers c.answers_now c.history
       c.disk c.now c.old c.new c.sink_before c.sink_after n → IsUnled c ⊎ ∥ ((setting : Setting) × LifeIn v setting c) ∥₁
   reopens_led (resume.unopened unled same why tells) = inl unled
   reopens_led (resume.goes_on setting led stay launched has store reports) = inr ∣ (setting, led.lived) ∣₁
 
-  reopens_launched : {n : ℕ} → Reopens v.reads v.may_leave v.clock v.since v.faults v.honest v.host_faults v.calls v.launches v.dirs v.output v.exited v.left v.source_faults c.hosts c.hosts_now c.answers c.answers_now c.history
-      c.disk c.now c.old c.new c.sink_before c.sink_after n → LaunchedOnce v.launches c.hosts c.hosts_now
+  reopens_launched : {n : ℕ} → Reopens v.disk v.host v.source c.hosts c.hosts_now c.answers c.answers_now c.history
+      c.disk c.now c.old c.new c.sink_before c.sink_after n → LaunchedOnce v.host c.hosts c.hosts_now
   reopens_launched (resume.unopened unled same why tells) = unled_launched v stance told_image c unled
   reopens_launched (resume.goes_on setting led stay launched has store reports) = launched
 
   -- a store's setting is that of a script, with executors numbered one after the other
-  went_fits : (setting : Setting) (events : List Event) → Finds v setting events c → (opened : D) → v.faults opened ≡ v.faults c.disk → ∥ FinishedIn v c end.Log setting opened events c.status ∥₁ → AllAre v.honest c.hosts → FitLeft v c.disk c.hosts
+  went_fits : (setting : Setting) (events : List Event) → Finds v setting events c → (opened : D) → v.disk.faults opened ≡ v.disk.faults c.disk → ∥ FinishedIn v c end.Log setting opened events c.status ∥₁ → AllAre v.host.honest c.hosts → FitLeft v c.disk c.hosts
       → FitLeft v c.now c.hosts_now × IsDistinct nat_eq (all_launches (executor_hosts v c.hosts_now))
   went_fits setting [] finds opened same finishes are left =
       let never = λ (f : FinishedIn v c end.Log setting opened [] c.status). let g = gone v told_image end.Log setting opened [] c same f in let bad : false ≡ true = g.takes.goes.begun in bad in (
@@ -255,7 +255,7 @@ module _ {D H A T : Type 0} (v : Devices D H A) (stance : T → Stance) (told_im
       let fits = entry_fit v stance told_image c setting (e ∷ es) finds left in
       (life_fits end.Log setting proper all opened (e ∷ es) same finishes (ap is_some finds.told) are fits, life_once end.Log setting proper all opened (e ∷ es) same finishes are fits)
 
-  resume_fits : {n : ℕ} (setting : Setting) (events : List Event) → Finds v setting events c → ResumesSo setting events n → n ≡ c.status → AllAre v.honest c.hosts → FitLeft v c.disk c.hosts
+  resume_fits : {n : ℕ} (setting : Setting) (events : List Event) → Finds v setting events c → ResumesSo setting events n → n ≡ c.status → AllAre v.host.honest c.hosts → FitLeft v c.disk c.hosts
       → FitLeft v c.now c.hosts_now × IsDistinct nat_eq (all_launches (executor_hosts v c.hosts_now))
   resume_fits setting events finds (resume.refused unled same why tells) is are left =
       let so = unled_so v stance told_image c c.hosts_now unled.0 (stays same.moments) in (so.1 setting events finds are left, so.2 setting events finds are left)
@@ -273,7 +273,7 @@ module _ {D H A T : Type 0} (v : Devices D H A) (stance : T → Stance) (told_im
   }
 
   -- the other commands
-  pub show_launches : IsUnled c → AtEachMoment v.clock v.since c.disk c.now (v.may_leave c.disk) → Launches v c
+  pub show_launches : IsUnled c → AtEachMoment v.disk c.disk c.now (v.disk.may_leave c.disk) → Launches v c
   show_launches unled moments = unled_here unled (stays moments)
 
   pub same_launches : IsUnled c → c.now ≡ c.disk → Launches v c

@@ -2,7 +2,7 @@
 use Rattle.std.proofs.Common.{true, ◌≡◌, ◌⊎◌, ℕ, List, [], ◌∷◌, ◌++◌, Option, None, Some, inl, inr, refl, sym, ap, ◌∙◌, subst, append-nil, append_assoc, max, ⊎_elim}
 use Rattle.std.specs.Prelude.{IfSome, IsSome, IsSomeAnd}
 use Rattle.device_faults.specs.Faults.{Rose}
-use Rattle.jp_disk.specs.Moments.{AtEachMoment}
+use Rattle.jp_disk.specs.Runs.{AtEachMoment}
 use Rattle.jp_disk.proofs.MomentLemmas.{if_told}
 use Rattle.model_run.specs.declared.event.Event.{Event}
 use Rattle.model_run.specs.State.{Setting}
@@ -34,8 +34,8 @@ goes_more {before = before} (life.takes e goes comes accepted) =
     let so = goes_more goes in (so.0 ++ e ∷ [], ap (λ (es : List Event). es ++ e ∷ []) so.1 ∙ append_assoc before so.0 (e ∷ []))
 goes_more (life.passes line goes none passed) = goes_more goes
 
-module _ {D H A : Type 0} (v : Devices D H A) (told_image : (d : D) → IfSome (v.reads d) (λ file. v.may_leave d file)) (kind : EndText) (setting : Setting) (origin : D) (before : List Event) (c : Call D H A)
-    (same : v.faults origin ≡ v.faults c.disk) where
+module _ {D H A : Type 0} (v : Devices D H A) (told_image : (d : D) → IfSome (v.disk.reads d) (λ file. v.disk.may_leave d file)) (kind : EndText) (setting : Setting) (origin : D) (before : List Event) (c : Call D H A)
+    (same : v.disk.faults origin ≡ v.disk.faults c.disk) where
   abbrev FinishedSo : ℕ → Type 0
   FinishedSo n = FinishedIn v c kind setting origin before n
 
@@ -51,14 +51,14 @@ module _ {D H A : Type 0} (v : Devices D H A) (told_image : (d : D) → IfSome (
     pub risked : Option Event
     pub takes : Takes v setting before taken c
     pub next : IfSome risked (ComesNext (ComesIn v setting c takes.life) setting taken)
-    pub moments : IsSome (v.reads c.disk) → AtEachMoment v.clock v.since origin c.now (Survives setting before taken risked)
-    pub images : IsSome (v.reads c.disk) → (image : List ℕ) → v.may_leave c.now image → Stores setting taken image ⊎ IsSomeAnd risked (λ e. Stores setting (taken ++ e ∷ []) image)
-    pub sure : ¬ (Rose (v.faults c.disk) (v.faults c.now)) → risked ≡ None
+    pub moments : IsSome (v.disk.reads c.disk) → AtEachMoment v.disk origin c.now (Survives setting before taken risked)
+    pub images : IsSome (v.disk.reads c.disk) → (image : List ℕ) → v.disk.may_leave c.now image → Stores setting taken image ⊎ IsSomeAnd risked (λ e. Stores setting (taken ++ e ∷ []) image)
+    pub sure : ¬ (Rose (v.disk.faults c.disk) (v.disk.faults c.now)) → risked ≡ None
     pub shown : ShownSo taken risked n
 
   -- what a crash leaves then, and with 5 perhaps the next event too
   abbrev ImagesSo : LifeIn v setting c → List Event → ℕ → Type 0
-  ImagesSo life events n = IsSome (v.reads c.disk) → (image : List ℕ) → v.may_leave c.now image
+  ImagesSo life events n = IsSome (v.disk.reads c.disk) → (image : List ℕ) → v.disk.may_leave c.now image
       → Stores setting events image ⊎ ((n ≡ 5) × (event : Event) × ComesNext (ComesIn v setting c life) setting events event × Stores setting (events ++ event ∷ []) image)
 
   record Went (n : ℕ) : Type 0 where
@@ -69,12 +69,12 @@ module _ {D H A : Type 0} (v : Devices D H A) (told_image : (d : D) → IfSome (
     images : ImagesSo takes.life events n
     stops : Stops v setting events c takes.life n
 
-  rose_here : Rose (v.faults origin) (v.faults c.now) → Rose (v.faults c.disk) (v.faults c.now)
-  rose_here rose = subst (λ (n : ℕ). Rose n (v.faults c.now)) same rose
+  rose_here : Rose (v.disk.faults origin) (v.disk.faults c.now) → Rose (v.disk.faults c.disk) (v.disk.faults c.now)
+  rose_here rose = subst (λ (n : ℕ). Rose n (v.disk.faults c.now)) same rose
 
   module _ (life : LifeIn v setting c) where
     abbrev TakesSo : List Event → Type 0
-    TakesSo events = LivedBy v.honest v.host_faults v.calls v.launches v.dirs v.output v.exited v.left v.source_faults (max setting.site.looks 1) setting before life events
+    TakesSo events = LivedBy v.host v.source (max setting.site.looks 1) setting before life events
 
     abbrev ComesSo : List Event → Event → Type 0
     ComesSo events event = ComesIn v setting c life events event
@@ -89,23 +89,23 @@ module _ {D H A : Type 0} (v : Devices D H A) (told_image : (d : D) → IfSome (
     HeardSo = HeardIn v c
 
     abbrev MadeSo : List Event → Option Event → Type 0
-    MadeSo events risked = Made v.reads v.may_leave v.clock v.since TakesSo ComesSo IdlesSo UnheardSo HeardSo setting (v.reads c.disk) origin before c.now events risked
+    MadeSo events risked = Made v.disk TakesSo ComesSo IdlesSo UnheardSo HeardSo setting (v.disk.reads c.disk) origin before c.now events risked
 
     abbrev RestsSo : List Event → Type 0
-    RestsSo events = Rests v.reads v.may_leave v.clock v.since TakesSo ComesSo IdlesSo UnheardSo HeardSo setting (v.reads c.disk) origin before c.now events
+    RestsSo events = Rests v.disk TakesSo ComesSo IdlesSo UnheardSo HeardSo setting (v.disk.reads c.disk) origin before c.now events
 
     abbrev BreaksSo : ℕ → List ℕ → Type 0
-    BreaksSo n text = Breaks v.reads v.may_leave v.clock v.since TakesSo ComesSo IdlesSo UnheardSo HeardSo setting (v.reads c.disk) origin before c.now
-        (v.faults origin) (v.faults c.now) (v.source_faults c.answers) (v.source_faults c.answers_now) n text
+    BreaksSo n text = Breaks v.disk TakesSo ComesSo IdlesSo UnheardSo HeardSo setting (v.disk.reads c.disk) origin before c.now
+        (v.disk.faults origin) (v.disk.faults c.now) (v.source.faults c.answers) (v.source.faults c.answers_now) n text
 
     abbrev FinishesSo : ℕ → Type 0
-    FinishesSo n = Finishes v.reads v.may_leave v.clock v.since TakesSo ComesSo IdlesSo UnheardSo HeardSo setting (v.reads c.disk) origin before c.now kind
-        (v.faults origin) (v.faults c.now) (v.source_faults c.answers) (v.source_faults c.answers_now) c.old c.new c.sink_before c.sink_after n
+    FinishesSo n = Finishes v.disk TakesSo ComesSo IdlesSo UnheardSo HeardSo setting (v.disk.reads c.disk) origin before c.now kind
+        (v.disk.faults origin) (v.disk.faults c.now) (v.source.faults c.answers) (v.source.faults c.answers_now) c.old c.new c.sink_before c.sink_after n
 
     takes_of : {events : List Event} {risked : Option Event} → MadeSo events risked → Takes v setting before events c
     takes_of made = record { life = life; goes = made.takes }
 
-    of_made : {events : List Event} {risked : Option Event} (n : ℕ) → (¬ (Rose (v.faults c.disk) (v.faults c.now)) → risked ≡ None) → ShownSo events risked n → MadeSo events risked → Gone n
+    of_made : {events : List Event} {risked : Option Event} (n : ℕ) → (¬ (Rose (v.disk.faults c.disk) (v.disk.faults c.now)) → risked ≡ None) → ShownSo events risked n → MadeSo events risked → Gone n
     unfolding takes_of
     of_made {events = events} {risked = risked} n sure shown made =
         let so = goes_more made.takes.goes in
@@ -136,11 +136,11 @@ module _ {D H A : Type 0} (v : Devices D H A) (told_image : (d : D) → IfSome (
     only (inl all) = all
     only (inr none) = absurd none
 
-    durable : {events : List Event} → MadeSo events None → IsSome (v.reads c.disk) → (image : List ℕ) → v.may_leave c.now image → Stores setting events image
+    durable : {events : List Event} → MadeSo events None → IsSome (v.disk.reads c.disk) → (image : List ℕ) → v.disk.may_leave c.now image → Stores setting events image
     durable made known image left = only (made.images known image left)
 
-    stored : {events : List Event} → MadeSo events None → IsSome (v.reads c.disk) → IfSome (v.reads c.now) (Stores setting events)
-    stored {events = events} made known = where_told (v.reads c.now) (Stores setting events) (λ file told. durable made known file (if_told (λ f. v.may_leave c.now f) told (told_image c.now)))
+    stored : {events : List Event} → MadeSo events None → IsSome (v.disk.reads c.disk) → IfSome (v.disk.reads c.now) (Stores setting events)
+    stored {events = events} made known = where_told (v.disk.reads c.now) (Stores setting events) (λ file told. durable made known file (if_told (λ f. v.disk.may_leave c.now f) told (told_image c.now)))
 
     -- nobody goes on
     idle : (events : List Event) → IdlesSo events → IsIdle v setting events c
@@ -148,7 +148,7 @@ module _ {D H A : Type 0} (v : Devices D H A) (told_image : (d : D) → IfSome (
       going = rests.0;
       granted = rests.1;
       no_task = rests.2;
-      heard = ⊎_elim (λ none. inl none) (λ out. inr (crew_read v.honest v.host_faults v.calls v.left v.source_faults setting.site.executors c.hosts c.answers c.answers_now life.new life.served life.answers_are out)) rests.3;
+      heard = ⊎_elim (λ none. inl none) (λ out. inr (crew_read v.host v.source setting.site.executors c.hosts c.answers c.answers_now life.new life.served life.answers_are out)) rests.3;
     }
 
     done_so : {events : List Event} → RestsSo events → ((world_in setting events).ended ≡ true) ⊎ IsIdle v setting events c

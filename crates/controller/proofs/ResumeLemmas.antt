@@ -3,7 +3,7 @@ use Rattle.std.proofs.Common.{◌≡◌, ◌⊎◌, ℕ, List, [], ◌++◌, Opt
 use Rattle.std.specs.Prelude.{IfSome, IsSome, is_some}
 use Rattle.std.proofs.Math.Logic.{∥∥₁_map}
 use Rattle.device_faults.specs.Faults.{Rose}
-use Rattle.jp_disk.specs.Moments.{AtEachMoment}
+use Rattle.jp_disk.specs.Runs.{AtEachMoment}
 use Rattle.jp_disk.proofs.MomentLemmas.{if_told}
 use Rattle.model_run.specs.declared.event.Event.{Event}
 use Rattle.model_run.specs.State.{Setting}
@@ -63,13 +63,13 @@ not_told_always (showing.no_memory calm) = inr (inl refl)
 not_told_unrun : {stored : Option (List ℕ)} {a b n : ℕ} {text : List ℕ} → NotTold stored a b n text → HasRun n → ⊥
 not_told_unrun why run = says_unrun (not_told_says why) run
 
-module _ {D H A : Type 0} (v : Devices D H A) (told_image : (d : D) → IfSome (v.reads d) (λ file. v.may_leave d file)) (c : Call D H A) where
+module _ {D H A : Type 0} (v : Devices D H A) (told_image : (d : D) → IfSome (v.disk.reads d) (λ file. v.disk.may_leave d file)) (c : Call D H A) where
   abbrev ReopensSo : ℕ → Type 0
-  ReopensSo n = Reopens v.reads v.may_leave v.clock v.since v.faults v.honest v.host_faults v.calls v.launches v.dirs v.output v.exited v.left v.source_faults c.hosts c.hosts_now c.answers c.answers_now c.history
+  ReopensSo n = Reopens v.disk v.host v.source c.hosts c.hosts_now c.answers c.answers_now c.history
       c.disk c.now c.old c.new c.sink_before c.sink_after n
 
   abbrev ResumesSo : Setting → List Event → ℕ → Type 0
-  ResumesSo setting events n = Resumes v.reads v.may_leave v.clock v.since v.faults v.honest v.host_faults v.calls v.launches v.dirs v.output v.exited v.left v.source_faults c.hosts c.hosts_now c.answers c.answers_now c.history
+  ResumesSo setting events n = Resumes v.disk v.host v.source c.hosts c.hosts_now c.answers c.answers_now c.history
       setting events c.disk c.now c.old c.new c.sink_before c.sink_after n
 
   -- over any store
@@ -89,7 +89,7 @@ module _ {D H A : Type 0} (v : Devices D H A) (told_image : (d : D) → IfSome (
   answers_failed (resume.unopened unled same why tells) six = absurd ((not_told_other why).0 six)
   answers_failed (resume.goes_on setting led stay launched has store reports) six = reports_answers reports six
 
-  disk_failed : {n : ℕ} → ReopensSo n → n ≡ 5 → Rose (v.faults c.disk) (v.faults c.now)
+  disk_failed : {n : ℕ} → ReopensSo n → n ≡ 5 → Rose (v.disk.faults c.disk) (v.disk.faults c.now)
   disk_failed (resume.unopened unled same why tells) five = not_told_disk why five
   disk_failed (resume.goes_on setting led stay launched has store reports) five = reports_disk reports five
 
@@ -97,7 +97,7 @@ module _ {D H A : Type 0} (v : Devices D H A) (told_image : (d : D) → IfSome (
   sink_failed (resume.unopened unled same why tells) seven = absurd ((not_told_other why).1 seven)
   sink_failed (resume.goes_on setting led stay launched has store reports) seven = reports_sink reports seven
 
-  none : {n : ℕ} → ReopensSo n → n ≡ 9 → (text : List ℕ) × NotTold (v.reads c.disk) (v.faults c.disk) (v.faults c.now) n text × Tells text c
+  none : {n : ℕ} → ReopensSo n → n ≡ 9 → (text : List ℕ) × NotTold (v.disk.reads c.disk) (v.disk.faults c.disk) (v.disk.faults c.now) n text × Tells text c
   none (resume.unopened {text = text} unled same why tells) nine = (text, why, tells)
   none (resume.goes_on setting led stay launched has store reports) nine = absurd (reports_build reports nine)
 
@@ -105,11 +105,11 @@ module _ {D H A : Type 0} (v : Devices D H A) (told_image : (d : D) → IfSome (
   resume_unread (resume.unopened unled same why tells) nine = unled
   resume_unread (resume.goes_on setting led stay launched has store reports) nine = absurd (reports_build reports nine)
 
-  finds_none : {n : ℕ} → ReopensSo n → (file : List ℕ) → v.reads c.disk ≡ Some file → HasNone file → ((n ≡ 9) ⊎ (n ≡ 8) ⊎ (n ≡ 5)) × IsUntouched v.reads v.may_leave v.clock v.since c.disk c.now × IsUnled c
+  finds_none : {n : ℕ} → ReopensSo n → (file : List ℕ) → v.disk.reads c.disk ≡ Some file → HasNone file → ((n ≡ 9) ⊎ (n ≡ 8) ⊎ (n ≡ 5)) × IsUntouched v.disk c.disk c.now × IsUnled c
   finds_none (resume.unopened unled same why tells) file told is = (not_told_always why, same, unled)
   finds_none (resume.goes_on setting led stay launched has store reports) file told is = absurd (both file (if_told HasBuild told has) is)
 
-  shown_calm : {n : ℕ} → ReopensSo n → HasRun n → v.faults c.now ≡ v.faults c.disk
+  shown_calm : {n : ℕ} → ReopensSo n → HasRun n → v.disk.faults c.now ≡ v.disk.faults c.disk
   shown_calm (resume.unopened unled same why tells) run = absurd (not_told_unrun why run)
   shown_calm (resume.goes_on setting led stay launched has store reports) run = reports_calm reports run
 
@@ -122,7 +122,7 @@ module _ {D H A : Type 0} (v : Devices D H A) (told_image : (d : D) → IfSome (
       by (resume.goes_on setting led stay launched has store reports) is = inr (record {
         setting = setting;
         life = led.lived;
-        leaves = λ file told. subst (λ (m : ℕ). LeavesStore v.may_leave v.clock v.since setting file c.history c.disk c.now c.old c.new c.sink_before c.sink_after m) is (store file told);
+        leaves = λ file told. subst (λ (m : ℕ). LeavesStore v.disk setting file c.history c.disk c.now c.old c.new c.sink_before c.sink_after m) is (store file told);
         too_long = λ fourteen. led.too_long (is ∙ fourteen);
       })
 
@@ -136,7 +136,7 @@ module _ {D H A : Type 0} (v : Devices D H A) (told_image : (d : D) → IfSome (
     delivered (resume.went_on opened up_to same reports finishes) is run =
         ∥∥₁_map (subst (λ (m : ℕ). ∥ FinishedSo opened m ∥₁) is finishes) (λ f. finish_delivers v told_image end.Log setting opened events c same f (subst HasRun is run))
 
-    lasts_by : IsSome (v.reads c.disk) → (opened : D) → AtEachMoment v.clock v.since c.disk opened (v.may_leave c.disk) → v.faults opened ≡ v.faults c.disk → FinishedSo opened c.status → LastsResume v setting events c
+    lasts_by : IsSome (v.disk.reads c.disk) → (opened : D) → AtEachMoment v.disk c.disk opened (v.disk.may_leave c.disk) → v.disk.faults opened ≡ v.disk.faults c.disk → FinishedSo opened c.status → LastsResume v setting events c
     lasts_by known opened up_to same finishes =
         let g = gone v told_image end.Log setting opened events c same finishes in
         record {
@@ -146,11 +146,11 @@ module _ {D H A : Type 0} (v : Devices D H A) (told_image : (d : D) → IfSome (
           lasts = record { origin = opened; up_to = up_to; from_then = g.moments known; at_end = g.images known; sure = g.sure; shown = g.shown };
         }
 
-    lasts : {n : ℕ} → ResumesSo setting events n → n ≡ c.status → IsSome (v.reads c.disk) → Stays v c ⊎ ∥ LastsResume v setting events c ∥₁
+    lasts : {n : ℕ} → ResumesSo setting events n → n ≡ c.status → IsSome (v.disk.reads c.disk) → Stays v c ⊎ ∥ LastsResume v setting events c ∥₁
     lasts (resume.refused unled same why tells) is known = inl same.moments
     lasts (resume.went_on opened up_to same reports finishes) is known = inr (∥∥₁_map (subst (λ (m : ℕ). ∥ FinishedSo opened m ∥₁) is finishes) (lasts_by known opened up_to same))
 
-    opened_why : {n : ℕ} {text : List ℕ} → NotOpened events (v.faults c.disk) (v.faults c.now) n text → (n ≡ 9) ⊎ (n ≡ 5) ⊎ (n ≡ 8)
+    opened_why : {n : ℕ} {text : List ℕ} → NotOpened events (v.disk.faults c.disk) (v.disk.faults c.now) n text → (n ≡ 9) ⊎ (n ≡ 5) ⊎ (n ≡ 8)
     opened_why (resume.no_build none) = inl refl
     opened_why (resume.disk_failed rose) = inr (inl refl)
     opened_why resume.no_memory = inr (inr refl)
@@ -159,7 +159,7 @@ module _ {D H A : Type 0} (v : Devices D H A) (told_image : (d : D) → IfSome (
     went (resume.refused unled same why tells) is = inl (record { why = subst (λ (m : ℕ). (m ≡ 9) ⊎ (m ≡ 5) ⊎ (m ≡ 8)) is (opened_why why); disk = same; unled = unled })
     went (resume.went_on opened up_to same reports finishes) is = inr (∥∥₁_map (subst (λ (m : ℕ). ∥ FinishedSo opened m ∥₁) is finishes) (finish_went v told_image end.Log setting opened events c same))
 
-    not_opened_works : {n : ℕ} {text : List ℕ} → NotOpened events (v.faults c.disk) (v.faults c.now) n text → AllCalm v c → ¬ (events ≡ []) → HasWorked n
+    not_opened_works : {n : ℕ} {text : List ℕ} → NotOpened events (v.disk.faults c.disk) (v.disk.faults c.now) n text → AllCalm v c → ¬ (events ≡ []) → HasWorked n
     not_opened_works (resume.no_build none) calm some = absurd (some none)
     not_opened_works (resume.disk_failed rose) calm some = absurd (calm.disk rose)
     not_opened_works resume.no_memory calm some = inr (inl refl)
@@ -176,11 +176,11 @@ module _ {D H A : Type 0} (v : Devices D H A) (told_image : (d : D) → IfSome (
     resume_outputs run setting events finds = delivered setting events (here setting events finds) refl run
 
     -- a store that was not opened has each byte
-    untouched : {n : ℕ} → ReopensSo n → n ≡ 9 → IsUntouched v.reads v.may_leave v.clock v.since c.disk c.now
+    untouched : {n : ℕ} → ReopensSo n → n ≡ 9 → IsUntouched v.disk c.disk c.now
     untouched (resume.unopened unled same why tells) nine = same
     untouched (resume.goes_on setting led stay launched has store reports) nine = absurd (reports_build reports nine)
 
-    pub resume_crashes : (c.status ≡ 9 → IsUntouched v.reads v.may_leave v.clock v.since c.disk c.now)
+    pub resume_crashes : (c.status ≡ 9 → IsUntouched v.disk c.disk c.now)
         × ((setting : Setting) (events : List Event) → Finds v setting events c → Stays v c ⊎ ∥ LastsResume v setting events c ∥₁)
     resume_crashes = (untouched by.reopens, λ setting events finds. lasts setting events (here setting events finds) refl (ap is_some finds.told))
 

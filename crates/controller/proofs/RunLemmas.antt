@@ -6,7 +6,7 @@ use Rattle.std.proofs.Math.Logic.{∥∥₁_map}
 use Rattle.build_commands.specs.Texts.{full_text, has_build_text}
 use Rattle.device_faults.specs.Faults.{Rose, CountsFault}
 use Rattle.jp_disk.specs.Images.{IsOnlyImage}
-use Rattle.jp_disk.specs.Moments.{AtEachMoment}
+use Rattle.jp_disk.specs.Runs.{AtEachMoment}
 use Rattle.jp_disk.proofs.MomentLemmas.{runs_on, at_each_weaker, starts}
 use Rattle.journal_core.specs.Answers.{IsStarted}
 use Rattle.journal_core.specs.Moments.{SinceSync}
@@ -247,8 +247,8 @@ risked_only take.Memory start risked is = inr is
 risked_only (take.Full len add) start risked is = inr is
 risked_only take.Stopped start risked is = inr is
 
-module _ {D H A T : Type 0} (v : Devices D H A) (stance : T → Stance) (told_image : (d : D) → IfSome (v.reads d) (λ file. v.may_leave d file))
-    (counts_now : (d : D) (t : ℕ) (image : List ℕ) → t ≤ v.clock d → v.may_leave d image → v.since d t image) (only_now : (d : D) (image : List ℕ) → v.since d (v.clock d) image → v.may_leave d image) (kind : EndText) (c : Call D H A) where
+module _ {D H A T : Type 0} (v : Devices D H A) (stance : T → Stance) (told_image : (d : D) → IfSome (v.disk.reads d) (λ file. v.disk.may_leave d file))
+    (counts_now : (d : D) (t : ℕ) (image : List ℕ) → t ≤ v.disk.clock d → v.disk.may_leave d image → v.disk.may_have_left_since d t image) (only_now : (d : D) (image : List ℕ) → v.disk.may_have_left_since d (v.disk.clock d) image → v.disk.may_leave d image) (kind : EndText) (c : Call D H A) where
   abbrev RunsSo : ℕ → Type 0
   RunsSo n = RunsBy v stance kind c n
 
@@ -257,15 +257,15 @@ module _ {D H A T : Type 0} (v : Devices D H A) (stance : T → Stance) (told_im
 
   abbrev OverSo : (s a : List ℕ) → Tree → Site → List ℕ → D → Type 0
   OverSo s a tree site file started =
-      BeginsOver v.reads v.may_leave v.clock v.since stance v.faults v.honest v.host_faults v.calls v.launches v.dirs v.output v.exited v.left v.source_faults c.disk c.now c.hosts c.hosts_now c.answers c.answers_now c.history
+      BeginsOver v.disk stance v.host v.source c.disk c.now c.hosts c.hosts_now c.answers c.answers_now c.history
       kind c.old c.new c.sink_before c.sink_after s a tree site file started
 
   -- a call that left the disk as it was
   pub stays_here : c.now ≡ c.disk → Stays v c
-  stays_here same = subst (λ (d : D). AtEachMoment v.clock v.since c.disk d (v.may_leave c.disk)) (sym same) (starts v.clock v.since c.disk (v.may_leave c.disk) (λ image left. only_now c.disk image left))
+  stays_here same = subst (λ (d : D). AtEachMoment v.disk c.disk d (v.disk.may_leave c.disk)) (sym same) (starts v.disk c.disk (v.disk.may_leave c.disk) (λ image left. only_now c.disk image left))
 
   -- OUTPUT
-  delivered : (s a : List ℕ) (tree : Tree) (site : Site) → Builds s a tree site → (started : D) → v.faults started ≡ v.faults c.disk → HasRun c.status → FinishedBy s a tree site started c.status → DeliversRun v kind c s a
+  delivered : (s a : List ℕ) (tree : Tree) (site : Site) → Builds s a tree site → (started : D) → v.disk.faults started ≡ v.disk.faults c.disk → HasRun c.status → FinishedBy s a tree site started c.status → DeliversRun v kind c s a
   delivered s a tree site builds started same run finishes =
       let d = finish_delivers v told_image kind (script_setting tree site) started (StartEvent s a ∷ []) c same finishes run in
       record { setting = script_setting tree site; mean = mean_of builds; more = d.0; delivers = d.1 }
@@ -295,8 +295,8 @@ module _ {D H A T : Type 0} (v : Devices D H A) (stance : T → Stance) (told_im
         same_event eq = cc
 
     -- a `Start` whose take failed
-    start_lasts : (file : List ℕ) (f : TakeFault) → (HasRun c.status → ⊥) → CountsFault (v.faults c.disk) (v.faults c.now) (fault.Take f ≡ fault.Take take.Disk)
-        → StartFails v.reads v.may_leave v.clock v.since stance (script_setting tree site) (StartEvent s a) file c.disk c.now f → LastsRun v kind c file s a
+    start_lasts : (file : List ℕ) (f : TakeFault) → (HasRun c.status → ⊥) → CountsFault (v.disk.faults c.disk) (v.disk.faults c.now) (fault.Take f ≡ fault.Take take.Disk)
+        → StartFails v.disk stance (script_setting tree site) (StartEvent s a) file c.disk c.now f → LastsRun v kind c file s a
     start_lasts file f unrun counts fails = record {
       setting = script_setting tree site;
       mean = mean_of builds;
@@ -306,7 +306,7 @@ module _ {D H A T : Type 0} (v : Devices D H A) (stance : T → Stance) (told_im
         origin = fails.moments.synced;
         up_to = fails.moments.up_to;
         from_then = fails.moments.from_then;
-        at_end = λ image left. kept_then image (fails.moments.from_then.each image (counts_now c.now (v.clock fails.moments.synced) image fails.moments.from_then.later left));
+        at_end = λ image left. kept_then image (fails.moments.from_then.each image (counts_now c.now (v.disk.clock fails.moments.synced) image fails.moments.from_then.later left));
         sure = λ calm. ⊎_elim (λ disk. absurd (calm (counts.failed (ap (λ (x : TakeFault). fault.Take x) disk.0)))) (λ none. none) (risked_only f (StartEvent s a) fails.risked fails.may_risk);
         shown = λ run. absurd (unrun run);
       };
@@ -321,14 +321,14 @@ module _ {D H A T : Type 0} (v : Devices D H A) (stance : T → Stance) (told_im
             survives.front.within
 
     abbrev Leaves : List ℕ → Type 0
-    Leaves file = Stays v c ⊎ (SinceSync v.clock v.since v.may_leave file c.disk c.now (λ image. records image ≡ records file) ⊎ (¬ (IsStarted file) × LastsRun v kind c file s a))
+    Leaves file = Stays v c ⊎ (SinceSync v.disk file c.disk c.now (λ image. records image ≡ records file) ⊎ (¬ (IsStarted file) × LastsRun v kind c file s a))
 
-    failed_leaves : (file : List ℕ) (f : TakeFault) → (HasRun c.status → ⊥) → CountsFault (v.faults c.disk) (v.faults c.now) (fault.Take f ≡ fault.Take take.Disk)
-        → StartFails v.reads v.may_leave v.clock v.since stance (script_setting tree site) (StartEvent s a) file c.disk c.now f → Leaves file
+    failed_leaves : (file : List ℕ) (f : TakeFault) → (HasRun c.status → ⊥) → CountsFault (v.disk.faults c.disk) (v.disk.faults c.now) (fault.Take f ≡ fault.Take take.Disk)
+        → StartFails v.disk stance (script_setting tree site) (StartEvent s a) file c.disk c.now f → Leaves file
     failed_leaves file f unrun counts fails = inr (inr (fails.fresh, start_lasts file f unrun counts fails))
 
-    unbegun_leaves : (file : List ℕ) (f : BeginFault) → (HasRun c.status → ⊥) → CountsFault (v.faults c.disk) (v.faults c.now) (f ≡ fault.Take take.Disk)
-        → BeginRefuses v.reads v.may_leave v.clock v.since stance (script_setting tree site) (StartEvent s a) file c.disk f c.now → Leaves file
+    unbegun_leaves : (file : List ℕ) (f : BeginFault) → (HasRun c.status → ⊥) → CountsFault (v.disk.faults c.disk) (v.disk.faults c.now) (f ≡ fault.Take take.Disk)
+        → BeginRefuses v.disk stance (script_setting tree site) (StartEvent s a) file c.disk f c.now → Leaves file
     unbegun_leaves file fault.HasBuild unrun counts refuses = inr (inl refuses.3)
     unbegun_leaves file (fault.Take (take.Full len add)) unrun counts refuses = failed_leaves file (take.Full len add) unrun counts refuses.1
     unbegun_leaves file (fault.Take take.Memory) unrun counts refuses = ⊎_elim (λ stays. inl stays) (⊎_elim (λ keeps. inr (inl keeps)) (λ fails. failed_leaves file take.Memory unrun counts fails)) refuses.1
@@ -336,12 +336,12 @@ module _ {D H A T : Type 0} (v : Devices D H A) (stance : T → Stance) (told_im
     unbegun_leaves file (fault.Take take.Stopped) unrun counts refuses = ⊎_elim (λ stays. inl stays) (⊎_elim (λ keeps. inr (inl keeps)) (λ fails. failed_leaves file take.Stopped unrun counts fails)) refuses.1
 
     -- a build that was begun and went on
-    begun_lasts : (file : List ℕ) (started : D) → v.reads c.disk ≡ Some file → v.faults started ≡ v.faults c.disk → FinishedBy s a tree site started c.status → OverSo s a tree site file started → LastsRun v kind c file s a
+    begun_lasts : (file : List ℕ) (started : D) → v.disk.reads c.disk ≡ Some file → v.disk.faults started ≡ v.disk.faults c.disk → FinishedBy s a tree site started c.status → OverSo s a tree site file started → LastsRun v kind c file s a
     begun_lasts file started told same finishes over =
         let setting : Setting = script_setting tree site in
         let start : List Event = StartEvent s a ∷ [] in
         let g = gone v told_image kind setting started start c same finishes in
-        let known : IsSome (v.reads c.disk) = ap is_some told in
+        let known : IsSome (v.disk.reads c.disk) = ap is_some told in
         record {
           setting = setting;
           mean = mean_of builds;
@@ -350,9 +350,9 @@ module _ {D H A T : Type 0} (v : Devices D H A) (stance : T → Stance) (told_im
           lasts = record {
             origin = over.moments.synced;
             up_to = over.moments.up_to;
-            from_then = runs_on v.clock v.since over.moments.synced started c.now (Survives setting [] g.taken g.risked)
-                (at_each_weaker v.clock v.since over.moments.synced started (Survives setting [] start None) (Survives setting [] g.taken g.risked) (λ image survives. grown setting g.taken g.more g.risked image g.is survives) over.moments.from_then)
-                (at_each_weaker v.clock v.since started c.now (Survives setting start g.taken g.risked) (Survives setting [] g.taken g.risked) (λ image survives. from_none setting g.taken g.risked image survives) (g.moments known));
+            from_then = runs_on v.disk over.moments.synced started c.now (Survives setting [] g.taken g.risked)
+                (at_each_weaker v.disk over.moments.synced started (Survives setting [] start None) (Survives setting [] g.taken g.risked) (λ image survives. grown setting g.taken g.more g.risked image g.is survives) over.moments.from_then)
+                (at_each_weaker v.disk started c.now (Survives setting start g.taken g.risked) (Survives setting [] g.taken g.risked) (λ image survives. from_none setting g.taken g.risked image survives) (g.moments known));
             at_end = g.images known;
             sure = g.sure;
             shown = g.shown;
@@ -381,14 +381,14 @@ module _ {D H A T : Type 0} (v : Devices D H A) (stance : T → Stance) (told_im
 
   abbrev CrashesSo : List ℕ → Type 0
   CrashesSo file = Stays v c
-      ⊎ (SinceSync v.clock v.since v.may_leave file c.disk c.now (λ image. records image ≡ records file) ⊎ (¬ (IsStarted file) × WithFiles c (λ script agents. ∥ LastsRun v kind c file script agents ∥₁)))
+      ⊎ (SinceSync v.disk file c.disk c.now (λ image. records image ≡ records file) ⊎ (¬ (IsStarted file) × WithFiles c (λ script agents. ∥ LastsRun v kind c file script agents ∥₁)))
 
   leaves_files : (file : List ℕ) (s a : List ℕ) (tree : Tree) (site : Site) (builds : Builds s a tree site) → Hold c.script c.agents s a → Leaves s a tree site builds file → CrashesSo file
   leaves_files file s a tree site builds hold (inl stays) = inl stays
   leaves_files file s a tree site builds hold (inr (inl keeps)) = inr (inl keeps)
   leaves_files file s a tree site builds hold (inr (inr lasts)) = inr (inr (lasts.0, (s, a, hold, ∣ lasts.1 ∣₁)))
 
-  crashes : {n : ℕ} → RunsSo n → n ≡ c.status → (file : List ℕ) → v.reads c.disk ≡ Some file → CrashesSo file
+  crashes : {n : ℕ} → RunsSo n → n ≡ c.status → (file : List ℕ) → v.disk.reads c.disk ≡ Some file → CrashesSo file
   crashes (begin.refused refused same unled tells) is file told = inl (stays_here same)
   crashes (begin.built {s = s} {a = a} {tree = tree} {site = site} give (begin.unbegun {fault = f} unled says counts sizes refuses tells)) is file told =
       leaves_files file s a tree site give.builds give.hold (unbegun_leaves s a tree site give.builds file f (λ run. begin_unrun says (subst HasRun (sym is) run)) counts (refuses file told))
@@ -396,7 +396,7 @@ module _ {D H A T : Type 0} (v : Devices D H A) (stance : T → Stance) (told_im
       let here = subst (λ (m : ℕ). ∥ FinishedBy s a tree site started m ∥₁) is finishes in
       inr (inr ((over file told).fresh, (s, a, give.hold, ∥∥₁_map here (λ f. begun_lasts s a tree site give.builds file started told same f (over file told)))))
 
-  pub run_crashes : RunsSo c.status → (file : List ℕ) → v.reads c.disk ≡ Some file → CrashesSo file
+  pub run_crashes : RunsSo c.status → (file : List ℕ) → v.disk.reads c.disk ≡ Some file → CrashesSo file
   run_crashes runs file told = crashes runs refl file told
 
   -- FIRST FAULT
@@ -425,7 +425,7 @@ module _ {D H A T : Type 0} (v : Devices D H A) (stance : T → Stance) (told_im
   sources (begin.built give (begin.unbegun unled says counts sizes refuses tells)) six = absurd ((begin_other says).0 six)
   sources (begin.built give (begin.begun started same stay launched reports finishes over)) six = inr (inr (reports_answers reports six))
 
-  disks : {n : ℕ} → RunsSo n → n ≡ 5 → Rose (v.faults c.disk) (v.faults c.now)
+  disks : {n : ℕ} → RunsSo n → n ≡ 5 → Rose (v.disk.faults c.disk) (v.disk.faults c.now)
   disks (begin.refused refused same unled tells) five = absurd ((files_other c refused).0 five)
   disks (begin.built give (begin.unbegun unled says counts sizes refuses tells)) five = counts.failed (begin_five says five)
   disks (begin.built give (begin.begun started same stay launched reports finishes over)) five = reports_disk reports five
@@ -435,11 +435,11 @@ module _ {D H A T : Type 0} (v : Devices D H A) (stance : T → Stance) (told_im
   sinks (begin.built give (begin.unbegun unled says counts sizes refuses tells)) seven = absurd ((begin_other says).1 seven)
   sinks (begin.built give (begin.begun started same stay launched reports finishes over)) seven = reports_sink reports seven
 
-  started_by : (setting : Setting) (start : Event) (file : List ℕ) (f : BeginFault) → f ≡ fault.HasBuild → BeginRefuses v.reads v.may_leave v.clock v.since stance setting start file c.disk f c.now → IsStarted file × (v.reads c.now ≡ Some file) × IsOnlyImage file (v.may_leave c.now)
+  started_by : (setting : Setting) (start : Event) (file : List ℕ) (f : BeginFault) → f ≡ fault.HasBuild → BeginRefuses v.disk stance setting start file c.disk f c.now → IsStarted file × (v.disk.reads c.now ≡ Some file) × IsOnlyImage file (v.disk.may_leave c.now)
   started_by setting start file fault.HasBuild is refuses = (refuses.0, refuses.1, refuses.2)
   started_by setting start file (fault.Take f) is refuses = absurd (cc)
 
-  builds_found : {n : ℕ} → RunsSo n → n ≡ 9 → Tells has_build_text c × ((file : List ℕ) → v.reads c.disk ≡ Some file → IsStarted file × (v.reads c.now ≡ Some file) × IsOnlyImage file (v.may_leave c.now))
+  builds_found : {n : ℕ} → RunsSo n → n ≡ 9 → Tells has_build_text c × ((file : List ℕ) → v.disk.reads c.disk ≡ Some file → IsStarted file × (v.disk.reads c.now ≡ Some file) × IsOnlyImage file (v.disk.may_leave c.now))
   builds_found (begin.refused refused same unled tells) nine = absurd ((files_other c refused).2 nine)
   builds_found (begin.built {s = s} {a = a} {tree = tree} {site = site} give (begin.unbegun {fault = f} unled says counts sizes refuses tells)) nine =
       (subst (λ (text : List ℕ). Tells text c) (begin_text says nine) tells, λ file told. started_by (script_setting tree site) (StartEvent s a) file f (begin_nine says nine) (refuses file told))
@@ -447,26 +447,26 @@ module _ {D H A T : Type 0} (v : Devices D H A) (stance : T → Stance) (told_im
 
   -- where no device failed
   unbegun_finds : {n : ℕ} {text : List ℕ} {f : BeginFault} (setting : Setting) (start : Event) (file : List ℕ) → BeginSays f n text
-      → BeginRefuses v.reads v.may_leave v.clock v.since stance setting start file c.disk f c.now → IsStarted file → (n ≡ 9) ⊎ (n ≡ 8) ⊎ (n ≡ 5)
+      → BeginRefuses v.disk stance setting start file c.disk f c.now → IsStarted file → (n ≡ 9) ⊎ (n ≡ 8) ⊎ (n ≡ 5)
   unbegun_finds setting start file begin.has_build refuses is = inl refl
   unbegun_finds setting start file begin.disk_failed refuses is = inr (inr refl)
   unbegun_finds setting start file (begin.full len add) refuses is = absurd (refuses.1.fresh is)
   unbegun_finds setting start file (begin.no_memory other) refuses is = inr (inl refl)
 
-  finds : {n : ℕ} → RunsSo n → AreRead c → (file : List ℕ) → v.reads c.disk ≡ Some file → IsStarted file → OfFiles c.script c.agents (λ script agents. HasSite agents → ¬ (IsRefused script) → (n ≡ 9) ⊎ (n ≡ 8) ⊎ (n ≡ 5))
+  finds : {n : ℕ} → RunsSo n → AreRead c → (file : List ℕ) → v.disk.reads c.disk ≡ Some file → IsStarted file → OfFiles c.script c.agents (λ script agents. HasSite agents → ¬ (IsRefused script) → (n ≡ 9) ⊎ (n ≡ 8) ⊎ (n ≡ 5))
   finds (begin.refused refused same unled tells) read file told is = λ script agents at_s at_a site sound. inr (inl (files_want c refused read script agents at_s at_a site sound))
   finds (begin.built {s = s} {a = a} {tree = tree} {site = site} give (begin.unbegun unled says counts sizes refuses tells)) read file told is =
       λ script agents at_s at_a has sound. unbegun_finds (script_setting tree site) (StartEvent s a) file says (refuses file told) is
   finds (begin.built give (begin.begun started same stay launched reports finishes over)) read file told is = absurd ((over file told).fresh is)
 
-  unbegun_works : {n : ℕ} {text : List ℕ} {f : BeginFault} (setting : Setting) (start : Event) (file : List ℕ) → BeginSays f n text → CountsFault (v.faults c.disk) (v.faults c.now) (f ≡ fault.Take take.Disk)
-      → BeginRefuses v.reads v.may_leave v.clock v.since stance setting start file c.disk f c.now → ¬ (Rose (v.faults c.disk) (v.faults c.now)) → ¬ (IsStarted file) → HasWorked n
+  unbegun_works : {n : ℕ} {text : List ℕ} {f : BeginFault} (setting : Setting) (start : Event) (file : List ℕ) → BeginSays f n text → CountsFault (v.disk.faults c.disk) (v.disk.faults c.now) (f ≡ fault.Take take.Disk)
+      → BeginRefuses v.disk stance setting start file c.disk f c.now → ¬ (Rose (v.disk.faults c.disk) (v.disk.faults c.now)) → ¬ (IsStarted file) → HasWorked n
   unbegun_works setting start file begin.has_build counts refuses calm fresh = absurd (fresh refuses.0)
   unbegun_works setting start file begin.disk_failed counts refuses calm fresh = absurd (calm (counts.failed refl))
   unbegun_works setting start file (begin.full len add) counts refuses calm fresh = inr (inr refl)
   unbegun_works setting start file (begin.no_memory other) counts refuses calm fresh = inr (inl refl)
 
-  works : {n : ℕ} → RunsSo n → n ≡ c.status → AllCalm v c → (file : List ℕ) → v.reads c.disk ≡ Some file → ¬ (IsStarted file) → OfFiles c.script c.agents (λ script agents. HasSite agents → ¬ (IsRefused script) → HasWorked n)
+  works : {n : ℕ} → RunsSo n → n ≡ c.status → AllCalm v c → (file : List ℕ) → v.disk.reads c.disk ≡ Some file → ¬ (IsStarted file) → OfFiles c.script c.agents (λ script agents. HasSite agents → ¬ (IsRefused script) → HasWorked n)
   works (begin.refused refused same unled tells) is calm file told fresh = λ script agents at_s at_a site sound. inr (inl (files_want c refused calm.files script agents at_s at_a site sound))
   works (begin.built {s = s} {a = a} {tree = tree} {site = site} give (begin.unbegun unled says counts sizes refuses tells)) is calm file told fresh =
       λ script agents at_s at_a has sound. unbegun_works (script_setting tree site) (StartEvent s a) file says counts (refuses file told) calm.disk fresh
@@ -496,12 +496,12 @@ module _ {D H A T : Type 0} (v : Devices D H A) (stance : T → Stance) (told_im
 
     abbrev UntakenSo : List ℕ → List ℕ → Type 0
     UntakenSo file image =
-        v.may_leave c.disk image ⊎ (records image ≡ records file) ⊎ ((c.status ≡ 5) × Has [] file × (setting : Setting) × Mean s a setting × Stores setting (StartEvent s a ∷ []) image)
+        v.disk.may_leave c.disk image ⊎ (records image ≡ records file) ⊎ ((c.status ≡ 5) × Has [] file × (setting : Setting) × Mean s a setting × Stores setting (StartEvent s a ∷ []) image)
 
     -- a `Start` whose take failed: the file has no record, and neither has what a crash leaves, but for that `Start`
-    failed_image : (file : List ℕ) (f : TakeFault) (image : List ℕ) → (f ≡ take.Disk → c.status ≡ 5) → StartFails v.reads v.may_leave v.clock v.since stance (script_setting tree site) (StartEvent s a) file c.disk c.now f → v.may_leave c.now image → UntakenSo file image
+    failed_image : (file : List ℕ) (f : TakeFault) (image : List ℕ) → (f ≡ take.Disk → c.status ≡ 5) → StartFails v.disk stance (script_setting tree site) (StartEvent s a) file c.disk c.now f → v.disk.may_leave c.now image → UntakenSo file image
     failed_image file f image five fails left =
-        let survives = fails.moments.from_then.each image (counts_now c.now (v.clock fails.moments.synced) image fails.moments.from_then.later left) in
+        let survives = fails.moments.from_then.each image (counts_now c.now (v.disk.clock fails.moments.synced) image fails.moments.from_then.later left) in
         ⊎_elim (λ front. inr (inl (has_none (script_setting tree site) image (subst (λ (es : List Event). Stores (script_setting tree site) es image) (nothing_front survives.kept front.0 front.1) survives.stores) ∙ sym fails.none)))
         (λ all. with_start survives.kept survives.stores all (risked_only f (StartEvent s a) fails.risked fails.may_risk)) survives.front.within
       where
@@ -512,22 +512,22 @@ module _ {D H A T : Type 0} (v : Devices D H A) (stance : T → Stance) (told_im
         with_start kept stores all (inr none) = absurd (subst (λ (o : Option Event). IsSomeAnd o (λ e. kept ≡ [] ++ e ∷ [])) none all)
 
     either_image : (file : List ℕ) (f : TakeFault) (image : List ℕ) → (f ≡ take.Disk → c.status ≡ 5)
-        → AtEachMoment v.clock v.since c.disk c.now (v.may_leave c.disk) ⊎ (SinceSync v.clock v.since v.may_leave file c.disk c.now (λ image. records image ≡ records file) ⊎ StartFails v.reads v.may_leave v.clock v.since stance (script_setting tree site) (StartEvent s a) file c.disk c.now f)
-        → v.may_leave c.now image → UntakenSo file image
+        → AtEachMoment v.disk c.disk c.now (v.disk.may_leave c.disk) ⊎ (SinceSync v.disk file c.disk c.now (λ image. records image ≡ records file) ⊎ StartFails v.disk stance (script_setting tree site) (StartEvent s a) file c.disk c.now f)
+        → v.disk.may_leave c.now image → UntakenSo file image
     either_image file f image five why left =
-        ⊎_elim (λ stays. inl (stays.each image (counts_now c.now (v.clock c.disk) image stays.later left)))
-        (⊎_elim (λ keeps. inr (inl (keeps.from_then.each image (counts_now c.now (v.clock keeps.synced) image keeps.from_then.later left)))) (λ fails. failed_image file f image five fails left)) why
+        ⊎_elim (λ stays. inl (stays.each image (counts_now c.now (v.disk.clock c.disk) image stays.later left)))
+        (⊎_elim (λ keeps. inr (inl (keeps.from_then.each image (counts_now c.now (v.disk.clock keeps.synced) image keeps.from_then.later left)))) (λ fails. failed_image file f image five fails left)) why
 
-    pub unbegun_image : (file : List ℕ) (f : BeginFault) (image : List ℕ) → (f ≡ fault.Take take.Disk → c.status ≡ 5) → BeginRefuses v.reads v.may_leave v.clock v.since stance (script_setting tree site) (StartEvent s a) file c.disk f c.now → v.may_leave c.now image → UntakenSo file image
+    pub unbegun_image : (file : List ℕ) (f : BeginFault) (image : List ℕ) → (f ≡ fault.Take take.Disk → c.status ≡ 5) → BeginRefuses v.disk stance (script_setting tree site) (StartEvent s a) file c.disk f c.now → v.disk.may_leave c.now image → UntakenSo file image
     unbegun_image file fault.HasBuild image five refuses left =
         let keeps = refuses.3 in
-        inr (inl (keeps.from_then.each image (counts_now c.now (v.clock keeps.synced) image keeps.from_then.later left)))
+        inr (inl (keeps.from_then.each image (counts_now c.now (v.disk.clock keeps.synced) image keeps.from_then.later left)))
     unbegun_image file (fault.Take (take.Full len add)) image five refuses left = failed_image file (take.Full len add) image (λ e. five (ap (λ (x : TakeFault). fault.Take x) e)) refuses.1 left
     unbegun_image file (fault.Take take.Memory) image five refuses left = either_image file take.Memory image (λ e. five (ap (λ (x : TakeFault). fault.Take x) e)) refuses.1 left
     unbegun_image file (fault.Take take.Disk) image five refuses left = either_image file take.Disk image (λ e. five (ap (λ (x : TakeFault). fault.Take x) e)) refuses.1 left
     unbegun_image file (fault.Take take.Stopped) image five refuses left = either_image file take.Stopped image (λ e. five (ap (λ (x : TakeFault). fault.Take x) e)) refuses.1 left
 
-  went_by : (s a : List ℕ) (tree : Tree) (site : Site) → Builds s a tree site → (started : D) → v.faults started ≡ v.faults c.disk → FinishedBy s a tree site started c.status → RunWentOn v c s a
+  went_by : (s a : List ℕ) (tree : Tree) (site : Site) → Builds s a tree site → (started : D) → v.disk.faults started ≡ v.disk.faults c.disk → FinishedBy s a tree site started c.status → RunWentOn v c s a
   went_by s a tree site builds started same finishes = record {
     setting = script_setting tree site;
     mean = mean_of builds;
@@ -553,7 +553,7 @@ module _ {D H A T : Type 0} (v : Devices D H A) (stance : T → Stance) (told_im
       inr (s, a, give.hold, inr (∥∥₁_map here (went_by s a tree site give.builds started same)))
 
   -- a log was shown over a disk that counted no fault
-  shown_calm : {n : ℕ} → RunsSo n → HasRun n → v.faults c.now ≡ v.faults c.disk
+  shown_calm : {n : ℕ} → RunsSo n → HasRun n → v.disk.faults c.now ≡ v.disk.faults c.disk
   shown_calm (begin.refused refused same unled tells) run = absurd (says_unrun (files_say refused) run)
   shown_calm (begin.built give (begin.unbegun unled says counts sizes refuses tells)) run = absurd (begin_unrun says run)
   shown_calm (begin.built give (begin.begun started same stay launched reports finishes over)) run = reports_calm reports run

@@ -25,10 +25,10 @@ use Rattle.controller.proofs.SiteLemmas.{Consecutive}
 
 module _ {D H A : Type 0} (v : Devices D H A) where
   abbrev ServedSo : List (Member H A) → List (Member H A) → Type 0
-  ServedSo = AreServed v.honest v.host_faults v.calls v.left v.source_faults
+  ServedSo = AreServed v.host v.source
 
   abbrev HostsOf : List (Member H A) → List ExecutorHost
-  HostsOf = hosts_of v.launches v.dirs
+  HostsOf = hosts_of v.host
 
   no_tasks : (answers : A) (new : List (Member H A)) → ServedSo (Operator answers [] false false ∷ []) new → HostsOf new ≡ []
   no_tasks answers [] served = absurd served
@@ -41,12 +41,12 @@ module _ {D H A : Type 0} (v : Devices D H A) where
     above : ℕ
     old : numbered number (tasks_on v hosts) ≡ HostsOf (members_of xs hosts answers) ++ numbered above (tasks_on v (others_of xs hosts))
     now : numbered number (tasks_on v (hosts_in new ++ others_of xs hosts)) ≡ HostsOf new ++ numbered above (tasks_on v (others_of xs hosts))
-    honest : AllAre v.honest hosts → AreHonest v.honest (members_of xs hosts answers)
+    honest : AllAre v.host.honest hosts → AreHonest v.host (members_of xs hosts answers)
 
   none_seated : (number : ℕ) (hosts others : List H) (answers : A) (new : List (Member H A)) → ServedSo (Operator answers [] false false ∷ []) new
       → numbered number (tasks_on v (hosts_in new ++ others)) ≡ HostsOf new ++ numbered number (tasks_on v others)
   none_seated number hosts others answers new served =
-      ap (λ (hs : List H). numbered number (tasks_on v (hs ++ others))) (operator_alone v.honest v.host_faults v.calls v.left v.source_faults answers new served)
+      ap (λ (hs : List H). numbered number (tasks_on v (hs ++ others))) (operator_alone v.host v.source answers new served)
       ∙ ap (λ (es : List ExecutorHost). es ++ numbered number (tasks_on v others)) (sym (no_tasks answers new served))
 
   came_back : (number : ℕ) (xs : List SiteExecutor) → Consecutive number xs → (hosts : List H) (answers : A) (new : List (Member H A)) → ServedSo (members_of xs hosts answers) new → CameBack number xs hosts answers new
@@ -58,10 +58,10 @@ module _ {D H A : Type 0} (v : Devices D H A) where
       let rest = came_back (number + 1) xs all.1 hosts answers new served.1 in
       record {
         above = rest.above;
-        old = ap (λ (es : List ExecutorHost). record { number = number; tasks = tasks_at (v.launches host) (v.dirs host) } ∷ es) rest.old
-            ∙ ap (λ (n : ℕ). record { number = n; tasks = tasks_at (v.launches host) (v.dirs host) } ∷ (HostsOf (members_of xs hosts answers) ++ numbered rest.above (tasks_on v (others_of xs hosts)))) (sym all.0);
-        now = ap (λ (es : List ExecutorHost). record { number = number; tasks = tasks_at (v.launches next) (v.dirs next) } ∷ es) rest.now
-            ∙ ap (λ (n : ℕ). record { number = n; tasks = tasks_at (v.launches next) (v.dirs next) } ∷ (HostsOf new ++ numbered rest.above (tasks_on v (others_of xs hosts)))) (sym (served.0.0 ∙ all.0));
+        old = ap (λ (es : List ExecutorHost). record { number = number; tasks = tasks_at (v.host.launches host) (v.host.dirs host) } ∷ es) rest.old
+            ∙ ap (λ (n : ℕ). record { number = n; tasks = tasks_at (v.host.launches host) (v.host.dirs host) } ∷ (HostsOf (members_of xs hosts answers) ++ numbered rest.above (tasks_on v (others_of xs hosts)))) (sym all.0);
+        now = ap (λ (es : List ExecutorHost). record { number = number; tasks = tasks_at (v.host.launches next) (v.host.dirs next) } ∷ es) rest.now
+            ∙ ap (λ (n : ℕ). record { number = n; tasks = tasks_at (v.host.launches next) (v.host.dirs next) } ∷ (HostsOf new ++ numbered rest.above (tasks_on v (others_of xs hosts)))) (sym (served.0.0 ∙ all.0));
         honest = λ are. (are.0, rest.honest are.1);
       }
 
@@ -85,30 +85,30 @@ module _ {D H A : Type 0} (v : Devices D H A) where
     unfolding Seated Others
     both fit = subst (AllFit setting before) back.old fit
 
-    seated_fit : AllAre v.honest c.hosts → AllFit setting before (executor_hosts v c.hosts) → AllFit setting events (HostsOf takes.life.new)
+    seated_fit : AllAre v.host.honest c.hosts → AllFit setting before (executor_hosts v c.hosts) → AllFit setting events (HostsOf takes.life.new)
     unfolding Seated
     seated_fit are fit = takes.goes.fits (back.honest are) (fit_first setting before Seated Others (both fit))
 
     -- they fit the events at the end
-    fit_now : AllAre v.honest c.hosts → AllFit setting before (executor_hosts v c.hosts) → AllFit setting events (executor_hosts v c.hosts_now)
+    fit_now : AllAre v.host.honest c.hosts → AllFit setting before (executor_hosts v c.hosts) → AllFit setting events (executor_hosts v c.hosts_now)
     fit_now are fit =
         subst (AllFit setting events) (sym at_end) (fit_both setting events (HostsOf takes.life.new) Others (seated_fit are fit) (takes.goes.others Others (fit_rest setting before Seated Others (both fit))))
 
     -- and with one event more that is accepted
-    seated_next : AllAre v.honest c.hosts → AllFit setting before (executor_hosts v c.hosts) → (e : Event) → answer_to setting (world_in setting events) e ≡ Accepted → AllFit setting (events ++ e ∷ []) (HostsOf takes.life.new)
+    seated_next : AllAre v.host.honest c.hosts → AllFit setting before (executor_hosts v c.hosts) → (e : Event) → answer_to setting (world_in setting events) e ≡ Accepted → AllFit setting (events ++ e ∷ []) (HostsOf takes.life.new)
     unfolding Seated
     seated_next are fit e accepted = takes.goes.fits_next (back.honest are) (fit_first setting before Seated Others (both fit)) e accepted
 
-    fit_next : AllAre v.honest c.hosts → AllFit setting before (executor_hosts v c.hosts) → (e : Event) → answer_to setting (world_in setting events) e ≡ Accepted → AllFit setting (events ++ e ∷ []) (executor_hosts v c.hosts_now)
+    fit_next : AllAre v.host.honest c.hosts → AllFit setting before (executor_hosts v c.hosts) → (e : Event) → answer_to setting (world_in setting events) e ≡ Accepted → AllFit setting (events ++ e ∷ []) (executor_hosts v c.hosts_now)
     fit_next are fit e accepted =
         subst (AllFit setting (events ++ e ∷ [])) (sym at_end)
         (fit_both setting (events ++ e ∷ []) (HostsOf takes.life.new) Others (seated_next are fit e accepted) (takes.goes.others_next Others (fit_rest setting before Seated Others (both fit)) e accepted))
 
     -- So they fit whatever a store has that has the events at the end, or one more.
-    pub led_fit : ¬ (events ≡ []) → AllAre v.honest c.hosts → AllFit setting before (executor_hosts v c.hosts) → (image : List ℕ) → HasNow setting events image
+    pub led_fit : ¬ (events ≡ []) → AllAre v.host.honest c.hosts → AllFit setting before (executor_hosts v c.hosts) → (image : List ℕ) → HasNow setting events image
         → (s : Setting) (es : List Event) → Stores s es image → AllFit s es (executor_hosts v c.hosts_now)
     led_fit some are fit image has s es stores = has_fits setting events image (executor_hosts v c.hosts_now) some has (fit_now are fit) (λ e accepted. fit_next are fit e accepted) s es stores
 
     -- and no task was launched twice
-    pub led_once : AllAre v.honest c.hosts → AllFit setting before (executor_hosts v c.hosts) → IsDistinct nat_eq (all_launches (executor_hosts v c.hosts_now))
+    pub led_once : AllAre v.host.honest c.hosts → AllFit setting before (executor_hosts v c.hosts) → IsDistinct nat_eq (all_launches (executor_hosts v c.hosts_now))
     led_once are fit = all_once stance setting proper events (executor_hosts v c.hosts_now) (fit_now are fit) (numbered_apart 0 (tasks_on v c.hosts_now))

@@ -40,7 +40,7 @@ module _ (text_of : Build → List ℕ) (text_in : Image → List ℕ) where
 
   module _ {D H A : Type 0} (v : Devices D H A) (c : Call D H A) where
     abbrev ShowsSo : ℕ → Type 0
-    ShowsSo n = showing.Shows text_of (v.reads c.disk) (v.faults c.disk) (v.faults c.now) c.old c.new c.sink_before c.sink_after n
+    ShowsSo n = showing.Shows text_of (v.disk.reads c.disk) (v.disk.faults c.disk) (v.disk.faults c.now) c.old c.new c.sink_before c.sink_after n
 
     wrote : {n : ℕ} → ShowsSo n → HasRun n → (setting : Setting) (events : List Event) → Finds v setting events c
         → writing.Writes c.old c.new c.sink_before c.sink_after (text_of (world_in setting events)) 0 n
@@ -52,20 +52,20 @@ module _ (text_of : Build → List ℕ) (text_in : Image → List ℕ) where
     show_says (showing.build decides writes) = inl (written_run (inl (Success, refl)) writes)
     show_says (showing.refusal {text = text} decides some tells) = inr (text, decides_says decides some, tells)
 
-    none_told : {n : ℕ} {text : List ℕ} → NotTold (v.reads c.disk) (v.faults c.disk) (v.faults c.now) n text → Tells text c → n ≡ 9
-        → ((at : ℕ) × Tells (damaged_text at) c × IfSome (v.reads c.disk) (λ file. OpenFails file (Damaged at))) ⊎ (Tells no_build_text c × IfSome (v.reads c.disk) (Has []))
+    none_told : {n : ℕ} {text : List ℕ} → NotTold (v.disk.reads c.disk) (v.disk.faults c.disk) (v.disk.faults c.now) n text → Tells text c → n ≡ 9
+        → ((at : ℕ) × Tells (damaged_text at) c × IfSome (v.disk.reads c.disk) (λ file. OpenFails file (Damaged at))) ⊎ (Tells no_build_text c × IfSome (v.disk.reads c.disk) (Has []))
     none_told (showing.no_build calm none) tells nine = inr (tells, none)
     none_told (showing.damaged at calm fails) tells nine = inl (at, tells, fails)
     none_told (showing.disk_failed rose) tells nine = absurd (omega (arith, nine))
     none_told (showing.no_memory calm) tells nine = absurd (omega (arith, nine))
 
-    decided_none : {n : ℕ} {text : List ℕ} → Decides text_of (v.reads c.disk) (v.faults c.disk) (v.faults c.now) n text → Tells text c → n ≡ 9
-        → ((at : ℕ) × Tells (damaged_text at) c × IfSome (v.reads c.disk) (λ file. OpenFails file (Damaged at))) ⊎ (Tells no_build_text c × IfSome (v.reads c.disk) (Has []))
+    decided_none : {n : ℕ} {text : List ℕ} → Decides text_of (v.disk.reads c.disk) (v.disk.faults c.disk) (v.disk.faults c.now) n text → Tells text c → n ≡ 9
+        → ((at : ℕ) × Tells (damaged_text at) c × IfSome (v.disk.reads c.disk) (λ file. OpenFails file (Damaged at))) ⊎ (Tells no_build_text c × IfSome (v.disk.reads c.disk) (Has []))
     decided_none (showing.shown calm is) tells nine = absurd (omega (arith, nine))
     decided_none (showing.not_told why) tells nine = none_told why tells nine
 
     refused : {n : ℕ} → ShowsSo n → n ≡ 9
-        → ((at : ℕ) × Tells (damaged_text at) c × IfSome (v.reads c.disk) (λ file. OpenFails file (Damaged at))) ⊎ (Tells no_build_text c × IfSome (v.reads c.disk) (Has []))
+        → ((at : ℕ) × Tells (damaged_text at) c × IfSome (v.disk.reads c.disk) (λ file. OpenFails file (Damaged at))) ⊎ (Tells no_build_text c × IfSome (v.disk.reads c.disk) (Has []))
     refused {n = n} (showing.build decides writes) nine = absurd (unrun 9 n nine refl (written_run (inl (Success, refl)) writes))
     refused (showing.refusal decides some tells) nine = decided_none decides tells nine
 

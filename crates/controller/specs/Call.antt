@@ -18,6 +18,9 @@ use Rattle.build_commands.specs.Living.{ComesBy, HeardOf, IsRefused, Lived, Live
 use Rattle.build_commands.specs.Plans.{Hold, whole}
 use Rattle.build_commands.specs.Resuming.{GivesBack, IsUntouched}
 use Rattle.build_commands.specs.Writing as writing
+use Rattle.jp_disk.specs.View.{DiskView}
+use Rattle.task_host.specs.View.{HostView}
+use Rattle.jp_io.specs.View.{SourceView}
 
 -- What devices tell of themselves: a disk (what a read of it gives, what a crash may leave, its clock, what a crash may have left since a moment, its count of
 -- faults), the host of an executor (whether it is honest, its count of faults, its calls, launches and folders, the output and the code of a task), and the
@@ -58,24 +61,22 @@ pub record Call (D H A : Type 0) : Type 0 where
   pub status : ℕ
 
 module _ {D H A : Type 0} where
-  abbrev pub devices : (D → Option (List ℕ)) → (D → List ℕ → Type 0) → (D → ℕ) → (D → ℕ → List ℕ → Type 0) → (D → ℕ)
-      → (H → Type 0) → (H → ℕ) → (H → Option (List HostCall)) → (H → List ℕ) → (H → List ℕ) → (H → ℕ → Stream → List ℕ) → (H → ℕ → Option ℤ)
-      → (A → Option (List ℕ)) → (A → ℕ) → Devices D H A
-  devices reads may_leave clock since faults honest host_faults calls launches dirs output exited left source_faults = record {
-    reads = reads;
-    may_leave = may_leave;
-    clock = clock;
-    since = since;
-    faults = faults;
-    honest = honest;
-    host_faults = host_faults;
-    calls = calls;
-    launches = launches;
-    dirs = dirs;
-    output = output;
-    exited = exited;
-    left = left;
-    source_faults = source_faults;
+  abbrev pub devices : DiskView D → HostView H → SourceView A → Devices D H A
+  devices disk host source = record {
+    reads = disk.reads;
+    may_leave = disk.may_leave;
+    clock = disk.clock;
+    since = disk.may_have_left_since;
+    faults = disk.faults;
+    honest = host.honest;
+    host_faults = host.faults;
+    calls = host.calls;
+    launches = host.launches;
+    dirs = host.dirs;
+    output = host.output;
+    exited = host.exited;
+    left = source.left;
+    source_faults = source.faults;
   }
 
   abbrev pub call_of : List (List ℕ) → Input → Input → D → D → List H → List H → A → A → List Entry → Option (List ℕ) → Option (List ℕ) → ℕ → ℕ → ℕ → Call D H A
@@ -129,48 +130,48 @@ module _ {D H A : Type 0} (v : Devices D H A) where
   -- the store was not opened, and nothing was read or written
   pub record Unopened (c : Call D H A) : Type 0 where
     pub why : (c.status ≡ 9) ⊎ (c.status ≡ 5) ⊎ (c.status ≡ 8)
-    pub disk : IsUntouched v.reads v.may_leave v.clock v.since c.disk c.now
+    pub disk : IsUntouched v.disk c.disk c.now
     pub unled : IsUnled c
 
   -- what was taken from the answers
   abbrev pub answered : Call D H A → Input
-  answered c = taken_from v.left v.source_faults c.answers c.answers_now
+  answered c = taken_from v.source c.answers c.answers_now
 
   -- The disk tells its bytes at the beginning, and they are a consistent store of these events.
   pub record Finds (setting : Setting) (events : List Event) (c : Call D H A) : Type 0 where
     pub file : List ℕ
-    pub told : v.reads c.disk ≡ Some file
+    pub told : v.disk.reads c.disk ≡ Some file
     pub stores : Stores setting events file
 
   -- A life with the history of the call and the members that are made of its hosts and answers, for the executors of this setting: what they did, and what they
   -- became, whatever they were replied; which build replied, `Takes` says. A site's number of looks is at least 1.
   abbrev pub LifeIn : Setting → Call D H A → Type 0
-  LifeIn setting c = Lived v.honest v.host_faults v.calls v.launches v.dirs v.output v.exited v.left v.source_faults (max setting.site.looks 1) setting c.hosts c.hosts_now c.answers c.answers_now c.history
+  LifeIn setting c = Lived v.host v.source (max setting.site.looks 1) setting c.hosts c.hosts_now c.answers c.answers_now c.history
 
   -- A life went on from the events before to these: by the grants that were due, by what executors reported with their cause, and by the decisions of lines that
   -- were read of the answers.
   pub record Takes (setting : Setting) (before events : List Event) (c : Call D H A) : Type 0 where
     pub life : LifeIn setting c
-    pub goes : LivedBy v.honest v.host_faults v.calls v.launches v.dirs v.output v.exited v.left v.source_faults (max setting.site.looks 1) setting before life events
+    pub goes : LivedBy v.host v.source (max setting.site.looks 1) setting before life events
 
   -- a turn of that life asked for the event, which the disk or the limit kept
   abbrev pub AsksIn : (setting : Setting) → (c : Call D H A) → LifeIn setting c → Event → Type 0
-  AsksIn setting c life = IsRefused v.honest v.host_faults v.calls v.launches v.dirs v.output v.exited v.left v.source_faults (max setting.site.looks 1) life.turns
+  AsksIn setting c life = IsRefused v.host v.source (max setting.site.looks 1) life.turns
 
   -- behind these events this one came next in that life, and there is a cause for it
   abbrev pub ComesIn : (setting : Setting) → (c : Call D H A) → LifeIn setting c → List Event → Event → Type 0
-  ComesIn setting c life events event = ComesBy v.honest v.host_faults v.calls v.launches v.dirs v.output v.exited v.left v.source_faults (max setting.site.looks 1) setting life.turns events event
+  ComesIn setting c life events event = ComesBy v.host v.source (max setting.site.looks 1) setting life.turns events event
 
   -- What was read of the answers, and that the lines of the history are those that were read.
   abbrev pub HeardIn : Call D H A → Type 0
-  HeardIn c = ∥ HeardOf v.left v.source_faults c.answers c.answers_now (lines c.history) ∥₁
+  HeardIn c = ∥ HeardOf v.source c.answers c.answers_now (lines c.history) ∥₁
 
   -- nobody goes on with the build: no grant is due, no task is open, and no input is open or the answers were read to their end
   pub record IsIdle (setting : Setting) (events : List Event) (c : Call D H A) : Type 0 where
     pub going : (world_in setting events).ended ≡ false
     pub granted : next_grant setting (world_in setting events) ≡ None
     pub no_task : open_tasks (world_in setting events).shared.requests ≡ 0
-    pub heard : (waiting_inputs (world_in setting events).shared.requests ≡ 0) ⊎ IsAtEnd (v.left c.answers_now)
+    pub heard : (waiting_inputs (world_in setting events).shared.requests ≡ 0) ⊎ IsAtEnd (v.source.left c.answers_now)
 
 -- an input is open, and nobody else goes on with the build
 pub record IsUnheard (setting : Setting) (events : List Event) : Type 0 where

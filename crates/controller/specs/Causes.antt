@@ -33,7 +33,7 @@ HasWorked status = HasLog status ⊎ (status ≡ 8) ⊎ (status ≡ 14)
 
 module _ {D H A : Type 0} (v : Devices D H A) where
   abbrev pub DiskFailed : Call D H A → Type 0
-  DiskFailed c = Rose (v.faults c.disk) (v.faults c.now)
+  DiskFailed c = Rose (v.disk.faults c.disk) (v.disk.faults c.now)
 
   abbrev pub SinkFailed : Call D H A → Type 0
   SinkFailed c = Rose c.sink_before c.sink_after
@@ -48,14 +48,14 @@ module _ {D H A : Type 0} (v : Devices D H A) where
     unheard : IsUnheard setting events → HeardIn v c → HasFailed (answered v c) → Stops setting events c life 6
     disk_failed : (world_in setting events).ended ≡ false → DiskFailed c → Stops setting events c life 5
     -- the text tells the length of the store's journal, and what the record that is due for the next event would add
-    full : (len add : ℕ) → (world_in setting events).ended ≡ false → IsFull (ComesIn v setting c life) setting (v.reads c.disk) (v.reads c.now) events len add → Tells (full_text len add) c → Stops setting events c life 14
+    full : (len add : ℕ) → (world_in setting events).ended ≡ false → IsFull (ComesIn v setting c life) setting (v.disk.reads c.disk) (v.disk.reads c.now) events len add → Tells (full_text len add) c → Stops setting events c life 14
     no_memory : Stops setting events c life 8
 
   -- The build went on from these events, to these ones. Where the disk told its bytes, a crash leaves just these then, or with 5 the next one too.
   pub record WentOn (setting : Setting) (before : List Event) (c : Call D H A) : Type 0 where
     pub more : List Event
     pub takes : Takes v setting before (before ++ more) c
-    pub images : IsSome (v.reads c.disk) → (image : List ℕ) → v.may_leave c.now image
+    pub images : IsSome (v.disk.reads c.disk) → (image : List ℕ) → v.disk.may_leave c.now image
         → Stores setting (before ++ more) image
         ⊎ ((c.status ≡ 5) × (event : Event) × ComesNext (ComesIn v setting c takes.life) setting (before ++ more) event × Stores setting ((before ++ more) ++ event ∷ []) image)
     pub stops : Stops setting (before ++ more) c takes.life c.status
@@ -85,8 +85,8 @@ module _ {D H A : Type 0} (v : Devices D H A) where
   pub record Unbegun (c : Call D H A) (script agents : List ℕ) : Type 0 where
     pub why : (c.status ≡ 9) ⊎ (c.status ≡ 5) ⊎ (c.status ≡ 8) ⊎ ((c.status ≡ 14) × IsFullAtOnce script agents c)
     pub unled : IsUnled c
-    pub images : (file : List ℕ) → v.reads c.disk ≡ Some file → (image : List ℕ) → v.may_leave c.now image
-        → v.may_leave c.disk image ⊎ (records image ≡ records file) ⊎ ((c.status ≡ 5) × Has [] file × (setting : Setting) × Mean script agents setting × Stores setting (StartEvent script agents ∷ []) image)
+    pub images : (file : List ℕ) → v.disk.reads c.disk ≡ Some file → (image : List ℕ) → v.disk.may_leave c.now image
+        → v.disk.may_leave c.disk image ⊎ (records image ≡ records file) ⊎ ((c.status ≡ 5) × Has [] file × (setting : Setting) × Mean script agents setting × Stores setting (StartEvent script agents ∷ []) image)
 
   -- `run` of these files went on with their build, from its `Start`
   pub record RunWentOn (c : Call D H A) (script agents : List ℕ) : Type 0 where
@@ -106,15 +106,15 @@ module _ {D H A : Type 0} (v : Devices D H A) where
     pub sink : c.status ≡ 7 → SinkFailed c
     -- 9 only where the store has a record or the beginning of one, and then no byte of it changes, in a crash neither; and there always, where both files can be
     -- built, but for a failing disk and want of memory
-    pub has_build : c.status ≡ 9 → Tells has_build_text c × ((file : List ℕ) → v.reads c.disk ≡ Some file → IsStarted file × (v.reads c.now ≡ Some file) × IsOnlyImage file (v.may_leave c.now))
-    pub finds_build : AreRead c → (file : List ℕ) → v.reads c.disk ≡ Some file → IsStarted file
+    pub has_build : c.status ≡ 9 → Tells has_build_text c × ((file : List ℕ) → v.disk.reads c.disk ≡ Some file → IsStarted file × (v.disk.reads c.now ≡ Some file) × IsOnlyImage file (v.disk.may_leave c.now))
+    pub finds_build : AreRead c → (file : List ℕ) → v.disk.reads c.disk ≡ Some file → IsStarted file
         → OfFiles c.script c.agents (λ script agents. HasSite agents → ¬ (IsRefused script) → (c.status ≡ 9) ⊎ (c.status ≡ 8) ⊎ (c.status ≡ 5))
     -- where a log was shown, or of `gen` its six lines, whole or the beginning, the disk counted no fault
-    pub calm : HasRun c.status → v.faults c.now ≡ v.faults c.disk
+    pub calm : HasRun c.status → v.disk.faults c.now ≡ v.disk.faults c.disk
     -- a build was not begun, or went on until it had ended, or nobody or nothing let it go on
     pub went_on : LeavesAll c ⊎ WithFiles c (λ script agents. Unbegun c script agents ⊎ ∥ RunWentOn c script agents ∥₁)
     -- over a store without a record, and files that can be built, where no device failed: the status of a build
-    pub works : AllCalm c → (file : List ℕ) → v.reads c.disk ≡ Some file → ¬ (IsStarted file) → OfFiles c.script c.agents (λ script agents. HasSite agents → ¬ (IsRefused script) → HasWorked c.status)
+    pub works : AllCalm c → (file : List ℕ) → v.disk.reads c.disk ≡ Some file → ¬ (IsStarted file) → OfFiles c.script c.agents (λ script agents. HasSite agents → ¬ (IsRefused script) → HasWorked c.status)
 
   pub record ResumeCauses (c : Call D H A) : Type 0 where
     pub answers : c.status ≡ 6 → HasFailed (answered v c)
@@ -122,9 +122,9 @@ module _ {D H A : Type 0} (v : Devices D H A) where
     pub sink : c.status ≡ 7 → SinkFailed c
     -- 9 only where the store has no record, or is damaged, with the text of that, and there always, but for a failing disk and want of memory; and whichever of
     -- the three comes, nothing is read or written there
-    pub no_build : c.status ≡ 9 → (text : List ℕ) × NotTold (v.reads c.disk) (v.faults c.disk) (v.faults c.now) c.status text × Tells text c
-    pub finds_none : (file : List ℕ) → v.reads c.disk ≡ Some file → HasNone file → ((c.status ≡ 9) ⊎ (c.status ≡ 8) ⊎ (c.status ≡ 5)) × IsUntouched v.reads v.may_leave v.clock v.since c.disk c.now × IsUnled c
-    pub calm : HasRun c.status → v.faults c.now ≡ v.faults c.disk
+    pub no_build : c.status ≡ 9 → (text : List ℕ) × NotTold (v.disk.reads c.disk) (v.disk.faults c.disk) (v.disk.faults c.now) c.status text × Tells text c
+    pub finds_none : (file : List ℕ) → v.disk.reads c.disk ≡ Some file → HasNone file → ((c.status ≡ 9) ⊎ (c.status ≡ 8) ⊎ (c.status ≡ 5)) × IsUntouched v.disk c.disk c.now × IsUnled c
+    pub calm : HasRun c.status → v.disk.faults c.now ≡ v.disk.faults c.disk
     -- a build that was opened went on, until it had ended, or nobody or nothing let it go on
     pub went_on : (setting : Setting) (events : List Event) → Finds v setting events c → Unopened v c ⊎ ∥ WentOn setting events c ∥₁
     pub works : AllCalm c → (setting : Setting) (events : List Event) → Finds v setting events c → ¬ (events ≡ []) → HasWorked c.status
@@ -139,8 +139,8 @@ module _ {D H A : Type 0} (v : Devices D H A) where
   abbrev pub CausesOf : Command → Call D H A → Type 0
   CausesOf Run c = RunCauses c
   CausesOf Resume c = ResumeCauses c
-  CausesOf Log c = showing.Causes (v.reads c.disk) (v.faults c.disk) (v.faults c.now) c.sink_before c.sink_after c.status
-  CausesOf Graph c = showing.Causes (v.reads c.disk) (v.faults c.disk) (v.faults c.now) c.sink_before c.sink_after c.status
+  CausesOf Log c = showing.Causes (v.disk.reads c.disk) (v.disk.faults c.disk) (v.disk.faults c.now) c.sink_before c.sink_after c.status
+  CausesOf Graph c = showing.Causes (v.disk.reads c.disk) (v.disk.faults c.disk) (v.disk.faults c.now) c.sink_before c.sink_after c.status
   CausesOf Check c = CheckCauses c
   CausesOf (Generate stages) c = RunCauses (made stages c)
 

@@ -2,7 +2,7 @@
 use Rattle.std.specs.Prelude.{◌≡◌, ℕ, List, Some}
 use Rattle.command_words.specs.declared.command.Command.TheVariants.{Run, Resume, Log, Graph, Check, Generate}
 use Rattle.command_words.specs.Words.{IsCommand}
-use Rattle.jp_disk.specs.Moments.{AtEachMoment}
+use Rattle.jp_disk.specs.Runs.{AtEachMoment}
 use Rattle.image_form.specs.declared.image.Image.{Image}
 use Rattle.model_run.specs.declared.event.Event.{Event}
 use Rattle.model_run.specs.GraphText.{graph_text}
@@ -22,23 +22,23 @@ use Rattle.controller.specs.Reads.{ReadsFiles, ReadsNoFile}
 module _ {D H A : Type 0} (v : Devices D H A) where
   -- a command that shows the build of the store, by this text of it
   pub record ShowsBy (text_of : Build → List ℕ) (text_in : Image → List ℕ) (c : Call D H A) : Type 0 where
-    pub causes : showing.Causes (v.reads c.disk) (v.faults c.disk) (v.faults c.now) c.sink_before c.sink_after c.status
-    pub shows : showing.Shows text_of (v.reads c.disk) (v.faults c.disk) (v.faults c.now) c.old c.new c.sink_before c.sink_after c.status
-    pub last : (file : List ℕ) → v.reads c.disk ≡ Some file → showing.ShowsLast text_in file c.old c.new c.sink_before c.sink_after c.status
-    pub store : (file : List ℕ) → v.reads c.disk ≡ Some file → v.reads c.now ≡ Some file
-    pub any_moment : AtEachMoment v.clock v.since c.disk c.now (v.may_leave c.disk)
+    pub causes : showing.Causes (v.disk.reads c.disk) (v.disk.faults c.disk) (v.disk.faults c.now) c.sink_before c.sink_after c.status
+    pub shows : showing.Shows text_of (v.disk.reads c.disk) (v.disk.faults c.disk) (v.disk.faults c.now) c.old c.new c.sink_before c.sink_after c.status
+    pub last : (file : List ℕ) → v.disk.reads c.disk ≡ Some file → showing.ShowsLast text_in file c.old c.new c.sink_before c.sink_after c.status
+    pub store : (file : List ℕ) → v.disk.reads c.disk ≡ Some file → v.disk.reads c.now ≡ Some file
+    pub any_moment : AtEachMoment v.disk c.disk c.now (v.disk.may_leave c.disk)
 
   -- `resume`, over any store, and over a consistent one
   pub record ResumesBy (c : Call D H A) : Type 0 where
-    pub reopens : Reopens v.reads v.may_leave v.clock v.since v.faults v.honest v.host_faults v.calls v.launches v.dirs v.output v.exited v.left v.source_faults c.hosts c.hosts_now c.answers c.answers_now c.history
+    pub reopens : Reopens v.disk v.host v.source c.hosts c.hosts_now c.answers c.answers_now c.history
         c.disk c.now c.old c.new c.sink_before c.sink_after c.status
-    pub resumes : (file : List ℕ) → v.reads c.disk ≡ Some file → (setting : Setting) (events : List Event) → Stores setting events file
-        → Resumes v.reads v.may_leave v.clock v.since v.faults v.honest v.host_faults v.calls v.launches v.dirs v.output v.exited v.left v.source_faults c.hosts c.hosts_now c.answers c.answers_now c.history
+    pub resumes : (file : List ℕ) → v.disk.reads c.disk ≡ Some file → (setting : Setting) (events : List Event) → Stores setting events file
+        → Resumes v.disk v.host v.source c.hosts c.hosts_now c.answers c.answers_now c.history
         setting events c.disk c.now c.old c.new c.sink_before c.sink_after c.status
 
   -- `run`, and `gen` on the files that it makes
   abbrev pub RunsBy : {T : Type 0} → (T → Stance) → EndText → Call D H A → ℕ → Type 0
-  RunsBy stance kind c status = Runs v.reads v.may_leave v.clock v.since stance v.faults v.honest v.host_faults v.calls v.launches v.dirs v.output v.exited v.left v.source_faults c.disk c.now c.hosts c.hosts_now c.answers c.answers_now c.history
+  RunsBy stance kind c status = Runs v.disk stance v.host v.source c.disk c.now c.hosts c.hosts_now c.answers c.answers_now c.history
       kind c.old c.new c.sink_before c.sink_after c.script c.agents status
 
   -- the words are no command, or this is what the command does

@@ -5,7 +5,7 @@ use Rattle.command_words.specs.declared.command.Command.TheVariants.{Run, Resume
 use Rattle.command_words.specs.Words.{IsCommand}
 use Rattle.device_faults.specs.Faults.{Rose}
 use Rattle.jp_disk.specs.Images.{IsOnlyImage}
-use Rattle.jp_disk.specs.Moments.{AtEachMoment}
+use Rattle.jp_disk.specs.Runs.{AtEachMoment}
 use Rattle.journal_core.specs.Answers.{IsStarted}
 use Rattle.journal_core.specs.Moments.{SinceSync}
 use Rattle.journal_core.specs.Records.{records}
@@ -26,17 +26,17 @@ use Rattle.controller.specs.Call.{Call, ComesIn, Devices, Is, Finds, Takes, With
 module _ {D H A : Type 0} (v : Devices D H A) where
   -- a crash leaves nothing that it might not have left at the beginning
   abbrev pub Stays : Call D H A → Type 0
-  Stays c = AtEachMoment v.clock v.since c.disk c.now (v.may_leave c.disk)
+  Stays c = AtEachMoment v.disk c.disk c.now (v.disk.may_leave c.disk)
 
   -- Up to a moment a crash leaves what it might have left at the beginning; from then on a consistent store, whose events begin with these and are a front
   -- of the taken ones, or all of them and the one whose take the disk failed. At the end it leaves all taken ones. A text that is shown is theirs, and then
   -- they are all that a crash leaves.
   pub record Lasts (kind : EndText) (setting : Setting) (before taken : List Event) (risked : Option Event) (c : Call D H A) : Type 0 where
     pub origin : D
-    pub up_to : AtEachMoment v.clock v.since c.disk origin (v.may_leave c.disk)
-    pub from_then : AtEachMoment v.clock v.since origin c.now (Survives setting before taken risked)
-    pub at_end : (image : List ℕ) → v.may_leave c.now image → Stores setting taken image ⊎ IsSomeAnd risked (λ e. Stores setting (taken ++ e ∷ []) image)
-    pub sure : ¬ (Rose (v.faults c.disk) (v.faults c.now)) → risked ≡ None
+    pub up_to : AtEachMoment v.disk c.disk origin (v.disk.may_leave c.disk)
+    pub from_then : AtEachMoment v.disk origin c.now (Survives setting before taken risked)
+    pub at_end : (image : List ℕ) → v.disk.may_leave c.now image → Stores setting taken image ⊎ IsSomeAnd risked (λ e. Stores setting (taken ++ e ∷ []) image)
+    pub sure : ¬ (Rose (v.disk.faults c.disk) (v.disk.faults c.now)) → risked ≡ None
     pub shown : HasRun c.status → (risked ≡ None) × Writes (world_text kind setting taken) (world_status (world_in setting taken)) c
 
   -- a life took these events, from those before on; and the one whose take the disk failed came next
@@ -52,7 +52,7 @@ module _ {D H A : Type 0} (v : Devices D H A) where
     pub taken : List Event
     pub risked : Option Event
     pub lasts : Lasts kind setting [] taken risked c
-    pub synced : IsOnlyImage file (v.may_leave lasts.origin)
+    pub synced : IsOnlyImage file (v.disk.may_leave lasts.origin)
     pub starts : TakesUpTo setting (StartEvent script agents ∷ []) taken risked c ⊎ ((taken ≡ []) × IfSome risked (λ e. e ≡ StartEvent script agents))
 
   -- `resume` of a consistent store: events were taken behind those that it had
@@ -64,8 +64,8 @@ module _ {D H A : Type 0} (v : Devices D H A) where
 
   -- `run`, and `gen` on the files that it makes
   abbrev pub LeavesRun : EndText → Call D H A → Type 0
-  LeavesRun kind c = (file : List ℕ) → v.reads c.disk ≡ Some file
-      → Stays c ⊎ (SinceSync v.clock v.since v.may_leave file c.disk c.now (λ image. records image ≡ records file) ⊎ (¬ (IsStarted file) × WithFiles c (λ script agents. ∥ LastsRun kind c file script agents ∥₁)))
+  LeavesRun kind c = (file : List ℕ) → v.disk.reads c.disk ≡ Some file
+      → Stays c ⊎ (SinceSync v.disk file c.disk c.now (λ image. records image ≡ records file) ⊎ (¬ (IsStarted file) × WithFiles c (λ script agents. ∥ LastsRun kind c file script agents ∥₁)))
 
   -- `run` over a store with a record leaves its records as they are, and so does `resume` of one that it tells to have none, or to be damaged, byte for byte;
   -- `log` and `graph` let a crash leave nothing new, and `check` does not call the disk.
@@ -73,7 +73,7 @@ module _ {D H A : Type 0} (v : Devices D H A) where
   CrashOf Run c = LeavesRun end.Log c
   CrashOf (Generate stages) c = LeavesRun (end.Numbers stages) (made stages c)
   CrashOf Resume c =
-      (c.status ≡ 9 → IsUntouched v.reads v.may_leave v.clock v.since c.disk c.now)
+      (c.status ≡ 9 → IsUntouched v.disk c.disk c.now)
       × ((setting : Setting) (events : List Event) → Finds v setting events c → Stays c ⊎ ∥ LastsResume setting events c ∥₁)
   CrashOf Log c = Stays c
   CrashOf Graph c = Stays c

@@ -50,8 +50,8 @@ module _ {D H A : Type 0} (v : Devices D H A) where
     pub rests : ((world_in setting events).ended ≡ true) ⊎ IsIdle v setting events c
     pub heard : HeardIn v c
     pub text : Writes (world_text kind setting events) (world_status (world_in setting events)) c
-    pub stores : IsSome (v.reads c.disk) → IfSome (v.reads c.now) (Stores setting events)
-    pub durable : IsSome (v.reads c.disk) → (image : List ℕ) → v.may_leave c.now image → Stores setting events image
+    pub stores : IsSome (v.disk.reads c.disk) → IfSome (v.disk.reads c.now) (Stores setting events)
+    pub durable : IsSome (v.disk.reads c.disk) → (image : List ℕ) → v.disk.may_leave c.now image → Stores setting events image
 
   -- the events of `run` begin with the `Start` of all bytes of both files
   pub record DeliversRun (kind : EndText) (c : Call D H A) (script agents : List ℕ) : Type 0 where
@@ -63,9 +63,9 @@ module _ {D H A : Type 0} (v : Devices D H A) where
   -- What is shown of the build of the store, of which no byte changes. It is the text of the last record's image, whatever else the records tell.
   pub record ShowsStore (text_of : Build → List ℕ) (text_in : Image → List ℕ) (c : Call D H A) : Type 0 where
     pub text : HasRun c.status → (setting : Setting) (events : List Event) → Finds v setting events c → Writes (text_of (world_in setting events)) 0 c
-    pub last : (file : List ℕ) → v.reads c.disk ≡ Some file → ShowsLast text_in file c.old c.new c.sink_before c.sink_after c.status
-    pub unchanged : (file : List ℕ) → v.reads c.disk ≡ Some file → v.reads c.now ≡ Some file
-    pub refused : c.status ≡ 9 → ((at : ℕ) × Tells (store.damaged_text at) c × IfSome (v.reads c.disk) (λ file. OpenFails file (Damaged at))) ⊎ (Tells store.no_build_text c × IfSome (v.reads c.disk) (Has []))
+    pub last : (file : List ℕ) → v.disk.reads c.disk ≡ Some file → ShowsLast text_in file c.old c.new c.sink_before c.sink_after c.status
+    pub unchanged : (file : List ℕ) → v.disk.reads c.disk ≡ Some file → v.disk.reads c.now ≡ Some file
+    pub refused : c.status ≡ 9 → ((at : ℕ) × Tells (store.damaged_text at) c × IfSome (v.disk.reads c.disk) (λ file. OpenFails file (Damaged at))) ⊎ (Tells store.no_build_text c × IfSome (v.disk.reads c.disk) (Has []))
 
   -- A `resume` that went on with a build, over any store, also one of which the disk tells nothing: in a life of members that are made of the hosts and the answers
   -- of the call, whatever they were replied. Of a store whose bytes the disk told, the build has the setting of the first record; up to a moment a crash leaves what it
@@ -75,7 +75,7 @@ module _ {D H A : Type 0} (v : Devices D H A) where
   pub record GoesOn (c : Call D H A) : Type 0 where
     pub setting : Setting
     pub life : LifeIn v setting c
-    pub leaves : (file : List ℕ) → v.reads c.disk ≡ Some file → LeavesStore v.may_leave v.clock v.since setting file c.history c.disk c.now c.old c.new c.sink_before c.sink_after c.status
+    pub leaves : (file : List ℕ) → v.disk.reads c.disk ≡ Some file → LeavesStore v.disk setting file c.history c.disk c.now c.old c.new c.sink_before c.sink_after c.status
     pub too_long : c.status ≡ 14 → ∥ IsTooLong (AsksIn v setting c life) (life.turns ≡ []) c.history c.old c.new c.sink_before c.sink_after ∥₁
 
   -- `run`, and `gen` on the files that it makes: both were read to their ends, and their build has ended or waits.

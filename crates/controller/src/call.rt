@@ -73,8 +73,8 @@ pub fn controller<
 ) -> Ended<D, H, A>
     requires hosts { length hosts.items ≡ 64 }
     ensures promises { Promises
-        (devices D.reads D.may_leave D.clock D.may_have_left_since D.faults H.honest H.faults H.calls H.launches H.dirs H.output H.exited A.left A.faults)
-        (call_of (map string_bytes words.items) (taken_from S.left S.faults script.old script.new) (taken_from S.left S.faults agents.old agents.new)
+        (devices D.Disk H.Host A.Source)
+        (call_of (map string_bytes words.items) (taken_from S.Source script.old script.new) (taken_from S.Source agents.old agents.new)
         disk result.disk hosts.items result.hosts.items answers result.answers result.history.items (K.written out.old) (K.written out.new) (K.faults out.old) (K.faults out.new) result.status) }
 {
     do_command::<R, W, D, S, H, A, K>(
@@ -104,8 +104,8 @@ fn do_command<
     out: &mut K,
 ) -> Ended<D, H, A>
     ensures does { Does
-        (devices D.reads D.may_leave D.clock D.may_have_left_since D.faults H.honest H.faults H.calls H.launches H.dirs H.output H.exited A.left A.faults) R.stance
-        (call_of (map string_bytes words.now) (taken_from S.left S.faults script.old script.new) (taken_from S.left S.faults agents.old agents.new)
+        (devices D.Disk H.Host A.Source) R.stance
+        (call_of (map string_bytes words.now) (taken_from S.Source script.old script.new) (taken_from S.Source agents.old agents.new)
         disk result.disk hosts.items result.hosts.items answers result.answers result.history.items (K.written out.old) (K.written out.new) (K.faults out.old) (K.faults out.new) result.status) }
 {
     match command_in(words) {

@@ -60,6 +60,9 @@ use Rattle.world_laws.proofs.Places.{some_behind}
 use Rattle.delivery_laws.specs.Members.{AllDelivered, AreShort}
 use Rattle.delivery_laws.proofs.Serves.{caused_by}
 use Rattle.delivery_laws.proofs.Telling.{IsNumber, TellsAll, AllCame, all_came, numbers}
+use Rattle.jp_disk.specs.View.{DiskView}
+use Rattle.task_host.specs.View.{HostView}
+use Rattle.jp_io.specs.View.{SourceView}
 
 -- lists
 holds_both : {X : Type 0} (P Q : X → Type 0) (xs : List X) → AllAre P xs → HoldsOfOne Q xs → (x : X) × P x × Q x
@@ -95,10 +98,10 @@ all_so [] = tt
 all_so (x ∷ xs) = (tt, all_so xs)
 
 -- the numbers of the members are those of their hosts
-numbers_are : {H A : Type 0} (launches dirs : H → List ℕ) (ms : List (Member H A)) → numbers ms ≡ map (λ h. h.number) (hosts_of launches dirs ms)
-numbers_are launches dirs [] = refl
-numbers_are launches dirs (Executor number host ∷ ms) = ap (λ (ns : List ℕ). number ∷ ns) (numbers_are launches dirs ms)
-numbers_are launches dirs (Operator answers line ended failed ∷ ms) = numbers_are launches dirs ms
+numbers_are : {H A : Type 0} (host : HostView H) (ms : List (Member H A)) → numbers ms ≡ map (λ h. h.number) (hosts_of host ms)
+numbers_are host [] = refl
+numbers_are host (Executor number machine ∷ ms) = ap (λ (ns : List ℕ). number ∷ ns) (numbers_are host ms)
+numbers_are host (Operator answers line ended failed ∷ ms) = numbers_are host ms
 
 -- a decision is no output
 no_decision : (task : ℕ) (stream : Stream) (place request : ℕ) (bytes name : List ℕ) (proceed : Bool) → Output task (named stream) place bytes ≡ Decided request proceed name → ⊥
@@ -124,11 +127,10 @@ module _ (setting : Setting) (events granted : List Event) (started : (world_in 
   all_given before (Line line ∷ es) is each = all_given (before ++ Line line ∷ []) es (ap tooks (append_assoc before (Line line ∷ []) es) ∙ is) each.1
   all_given before (Failed fault event ∷ es) is each = all_given (before ++ Failed fault event ∷ []) es (ap tooks (append_assoc before (Failed fault event ∷ []) es) ∙ is) each.1
 
-module _ {H A : Type 0} (honest : H → Type 0) (faults : H → ℕ) (calls : H → Option (List Call)) (launches dirs : H → List ℕ) (output : H → ℕ → Stream → List ℕ) (exited : H → ℕ → Option ℤ)
-    (left : A → Option (List ℕ)) (source_faults : A → ℕ) (looks : ℕ) where
+module _ {H A : Type 0} (host : HostView H) (source : SourceView A) (looks : ℕ) where
   module _ {B : Type 0} (answers : Answers B Entry Ask Reply) (base : B) (old new : List (Member H A)) (h : List Entry) where
     -- the turns of a life, from its members to what they became
-    steps_so : (how : Result Progress Memory) (life : Life honest faults calls launches dirs output exited left source_faults looks answers base base old new h how) → Steps old (turns_of life.rounds ++ life.last) new × MadeOf [] (turns_of life.rounds ++ life.last) h
+    steps_so : (how : Result Progress Memory) (life : Life host source looks answers base base old new h how) → Steps old (turns_of life.rounds ++ life.last) new × MadeOf [] (turns_of life.rounds ++ life.last) h
     steps_so how life =
         let first = rounds_steps answers base life.rounds old [] life.members life.before life.went_on in
         let last = last_steps how life.ends in
@@ -151,8 +153,8 @@ module _ {H A : Type 0} (honest : H → Type 0) (faults : H → ℕ) (calls : H 
     -- An output that one of the turns explains was reported in a turn of the executor whose task it is.
     own_turn : (executor task : ℕ) (stream : Stream) (place : ℕ) (bytes : List ℕ) → WasTask setting (events ++ taken) executor task → (turn : Turn H A)
         → AllAre IsGiven (claimed_of turn.own) → (w : Worked) (own : List Entry) (gate_calls : List GateCall) (told : GateTells) → turn.own ≡ own → (m n : Member H A)
-        → ComesFrom honest faults calls launches dirs output exited left source_faults looks (Output task (named stream) place bytes) m n w own gate_calls told → IsNumber executor m
-    own_turn executor task stream place bytes was turn given w own gate_calls told same (Executor number host) (Executor now next) comes =
+        → ComesFrom host source looks (Output task (named stream) place bytes) m n w own gate_calls told → IsNumber executor m
+    own_turn executor task stream place bytes was turn given w own gate_calls told same (Executor number machine) (Executor now next) comes =
         let claimed = caused_by looks task (named stream) place bytes number comes.0.past comes.0.lawful comes.0.orders comes.1 in
         let among = subst (Some_of (λ (c : ClaimedTask). (c.executor ≡ number) × (c.task ≡ task))) (sym comes.0.claimed) claimed in
         let one = some_both IsGiven (λ (c : ClaimedTask). (c.executor ≡ number) × (c.task ≡ task)) (claimed_of own) (subst (λ (es : List Entry). AllAre IsGiven (claimed_of es)) same given) among in
@@ -163,12 +165,12 @@ module _ {H A : Type 0} (honest : H → Type 0) (faults : H → ℕ) (calls : H 
         (record { front = events ++ life.front; rest = life.rest; is = ap (λ (xs : List Event). events ++ xs) life.is ∙ sym (append_assoc events life.front life.rest); begun = life.has_begun; task_of = its }))
     own_turn executor task stream place bytes was turn given w own gate_calls told same (Operator answers line ended failed) (Operator next kept now_ended now_failed) comes =
         let d = comes.1.2.1 in absurd (no_decision task stream place comes.1.2.0 bytes d.name d.proceed d.is)
-    own_turn executor task stream place bytes was turn given w own gate_calls told same (Executor number host) (Operator next kept now_ended now_failed) comes = absurd comes
+    own_turn executor task stream place bytes was turn given w own gate_calls told same (Executor number machine) (Operator next kept now_ended now_failed) comes = absurd comes
     own_turn executor task stream place bytes was turn given w own gate_calls told same (Operator answers line ended failed) (Executor now next) comes = absurd comes
 
     module _ (started : (world_in setting events).started ≡ true)
         (explained : (task : ℕ) (stream : Stream) (place : ℕ) (bytes : List ℕ) → Some_of (λ x. x ≡ Output task (named stream) place bytes) taken
-        → HoldsOfOne (Explains honest faults calls launches dirs output exited left source_faults looks true (Output task (named stream) place bytes)) turns)
+        → HoldsOfOne (Explains host source looks true (Output task (named stream) place bytes)) turns)
         (given : AllAre (λ (turn : Turn H A). AllAre IsGiven (claimed_of turn.own)) turns) (short : AreShort taken) where
       -- What an executor was told is what life_delivers asks for.
       are_outputs : (number : ℕ) (told : List Told) → AllAre IsTold told → TellsAll number told turns → AreOutputs setting events taken number told
@@ -177,7 +179,7 @@ module _ {H A : Type 0} (honest : H → Type 0) (faults : H → ℕ) (calls : H 
             let x : Event = Output task (named stream) place bytes in
             let there : Some_of (λ y. y ≡ x) taken = subst (Some_of (λ y. y ≡ x)) (sym was.is) (some_behind (λ y. y ≡ x) was.front (x ∷ was.rest) (inl refl)) in
             let one = holds_both (λ (turn : Turn H A). AllAre IsGiven (claimed_of turn.own) × (IsNumber number turn.old → AllAre (λ (t : Told). Some_of (λ (u : Told). u ≡ t) told) (told_of turn.own)))
-            (Explains honest faults calls launches dirs output exited left source_faults looks true x) turns
+            (Explains host source looks true x) turns
             (both_all (λ (turn : Turn H A). AllAre IsGiven (claimed_of turn.own)) (λ (turn : Turn H A). IsNumber number turn.old → AllAre (λ (t : Told). Some_of (λ (u : Told). u ≡ t) told) (told_of turn.own)) turns given all)
             (explained task stream place bytes there) in
             let turn : Turn H A = one.0 in
@@ -193,29 +195,29 @@ module _ {H A : Type 0} (honest : H → Type 0) (faults : H → ℕ) (calls : H 
         short = λ task stream place bytes there. short task stream place bytes (all_some IsTold told are (told_at (Output task (named stream) place bytes) true) there refl);
       }
 
-      all_deliver : (os ms : List (Member H A)) → AllCame honest faults calls launches dirs output exited left source_faults looks IsTold os ms turns → AreHonest honest os → AllDelivered output setting events os → AllDelivered output setting (events ++ taken) ms
+      all_deliver : (os ms : List (Member H A)) → AllCame host source looks IsTold os ms turns → AreHonest host os → AllDelivered host setting events os → AllDelivered host setting (events ++ taken) ms
       all_deliver [] [] c are delivered = tt
-      all_deliver (Executor number host ∷ os) (Executor now next ∷ ms) c are delivered =
+      all_deliver (Executor number machine ∷ os) (Executor now next ∷ ms) c are delivered =
           let k = c.0.1 in (
-            subst (λ (n : ℕ). Delivered setting (events ++ taken) n (output next)) (sym c.0.0)
-                (life_delivers setting events taken number looks (on_host launches dirs output exited host) (on_host launches dirs output exited next) k.told k.claimed (k.turns are.0) (are_outputs number k.told k.are_told k.all) delivered.0),
+            subst (λ (n : ℕ). Delivered setting (events ++ taken) n (host.output next)) (sym c.0.0)
+                (life_delivers setting events taken number looks (on_host host machine) (on_host host next) k.told k.claimed (k.turns are.0) (are_outputs number k.told k.are_told k.all) delivered.0),
             all_deliver os ms c.1 are.1 delivered.1,
           )
       all_deliver (Operator answers line ended failed ∷ os) (Operator next kept now_ended now_failed ∷ ms) c are delivered = all_deliver os ms c.1 are delivered
-      all_deliver (Executor number host ∷ os) (Operator next kept now_ended now_failed ∷ ms) c are delivered = absurd c.0
+      all_deliver (Executor number machine ∷ os) (Operator next kept now_ended now_failed ∷ ms) c are delivered = absurd c.0
       all_deliver (Operator answers line ended failed ∷ os) (Executor now next ∷ ms) c are delivered = absurd c.0
       all_deliver [] (m ∷ ms) c are delivered = absurd c
       all_deliver (o ∷ os) [] c are delivered = absurd c
 
   -- Where each output of the store's events stands on the hosts at the beginning of a life, each output of the events at its end stands there then,
   -- of a life with honest hosts of different executors, below the last number of 64 bits.
-  pub members_deliver : {D T : Type 0} (reads : D → Option (List ℕ)) (may_leave : D → List ℕ → Type 0) (clock : D → ℕ) (since : D → ℕ → List ℕ → Type 0) (stance : T → Stance)
+  pub members_deliver : {D T : Type 0} (disk : DiskView D) (stance : T → Stance)
       (setting : Setting) (proper : IsProper setting) (entry : Option (List ℕ)) (origin : D) (before events : List Event) {durable : Kept D T} (turns : List (Turn H A)) (old new : List (Member H A)) (history : List Entry) (kept : Kept D T) (ended : Result Rest TakeFault)
       → (world_in setting events).started ≡ true
-      → (ends : Ends reads may_leave clock since stance honest faults calls launches dirs output exited left source_faults looks turns durable setting entry origin before events old new history kept ended)
-      → AreHonest honest old → AreApart (hosts_of launches dirs old) → AreShort (ends.granted ++ tooks history) → AllDelivered output setting events old → AllDelivered output setting ends.now new
-  members_deliver reads may_leave clock since stance setting proper entry origin before events turns old new history kept ended started ends are apart short delivered =
-      subst (λ (now : List Event). AllDelivered output setting now new) (sym (ends.is ∙ append_assoc events ends.granted (tooks history)))
+      → (ends : Ends disk stance host source looks turns durable setting entry origin before events old new history kept ended)
+      → AreHonest host old → AreApart (hosts_of host old) → AreShort (ends.granted ++ tooks history) → AllDelivered host setting events old → AllDelivered host setting ends.now new
+  members_deliver disk stance setting proper entry origin before events turns old new history kept ended started ends are apart short delivered =
+      subst (λ (now : List Event). AllDelivered host.output setting now new) (sym (ends.is ∙ append_assoc events ends.granted (tooks history)))
       (all_deliver setting (tree_node proper.tree) (of_tree stance setting proper) (small stance setting proper) events taken turns started explained given short old new came are delivered)
     where
       taken : List Event
@@ -245,25 +247,25 @@ module _ {H A : Type 0} (honest : H → Type 0) (faults : H → ℕ) (calls : H 
           (λ turn so. so.0) says
 
       once : NoTwice (numbers old)
-      once = subst NoTwice (sym (numbers_are launches dirs old)) (none_twice (map (λ h. h.number) (hosts_of launches dirs old)) apart)
+      once = subst NoTwice (sym (numbers_are host old)) (none_twice (map (λ h. h.number) (hosts_of host old)) apart)
 
-      came : AllCame honest faults calls launches dirs output exited left source_faults looks (λ (t : Told). t.accepted ≡ true → Some_of (λ x. x ≡ t.event) taken) old new turns
-      came = subst (AllCame honest faults calls launches dirs output exited left source_faults looks (λ (t : Told). t.accepted ≡ true → Some_of (λ x. x ≡ t.event) taken) old new) (sym ends.led.are)
-          (all_came honest faults calls launches dirs output exited left source_faults looks (λ (t : Told). t.accepted ≡ true → Some_of (λ x. x ≡ t.event) taken) old life_turns new once steps.0
-          (both_all (DidTurn honest faults calls launches dirs output exited left source_faults looks) (λ (turn : Turn H A). AllAre (λ (t : Told). t.accepted ≡ true → Some_of (λ x. x ≡ t.event) taken) (told_of turn.own)) life_turns ends.led.life.turns tells))
+      came : AllCame host source looks (λ (t : Told). t.accepted ≡ true → Some_of (λ x. x ≡ t.event) taken) old new turns
+      came = subst (AllCame host source looks (λ (t : Told). t.accepted ≡ true → Some_of (λ x. x ≡ t.event) taken) old new) (sym ends.led.are)
+          (all_came host source looks (λ (t : Told). t.accepted ≡ true → Some_of (λ x. x ≡ t.event) taken) old life_turns new once steps.0
+          (both_all (DidTurn host source looks) (λ (turn : Turn H A). AllAre (λ (t : Told). t.accepted ≡ true → Some_of (λ x. x ≡ t.event) taken) (told_of turn.own)) life_turns ends.led.life.turns tells))
 
       no_grant : (b : Bool) → b ≡ false → b ≡ true → ⊥
       no_grant b is other = let bad : false ≡ true = sym is ∙ other in absurd (cc)
 
-      explained : (task : ℕ) (stream : Stream) (place : ℕ) (bytes : List ℕ) → Some_of (λ x. x ≡ Output task (named stream) place bytes) taken → HoldsOfOne (Explains honest faults calls launches dirs output exited left source_faults looks true (Output task (named stream) place bytes)) turns
+      explained : (task : ℕ) (stream : Stream) (place : ℕ) (bytes : List ℕ) → Some_of (λ x. x ≡ Output task (named stream) place bytes) taken → HoldsOfOne (Explains host source looks true (Output task (named stream) place bytes)) turns
       explained task stream place bytes there = by (some_either (λ x. x ≡ Output task (named stream) place bytes) ends.granted (tooks history) there)
         where
-          is_so : IsExplained honest faults calls launches dirs output exited left source_faults looks life_turns true (Output task (named stream) place bytes)
-              → HoldsOfOne (Explains honest faults calls launches dirs output exited left source_faults looks true (Output task (named stream) place bytes)) turns
+          is_so : IsExplained host source looks life_turns true (Output task (named stream) place bytes)
+              → HoldsOfOne (Explains host source looks true (Output task (named stream) place bytes)) turns
           is_so (inl grant) = absurd (no_grant false refl grant)
-          is_so (inr one) = subst (HoldsOfOne (Explains honest faults calls launches dirs output exited left source_faults looks true (Output task (named stream) place bytes))) (sym ends.led.are) one
+          is_so (inr one) = subst (HoldsOfOne (Explains host source looks true (Output task (named stream) place bytes))) (sym ends.led.are) one
 
           by : Some_of (λ x. x ≡ Output task (named stream) place bytes) ends.granted ⊎ Some_of (λ x. x ≡ Output task (named stream) place bytes) (tooks history)
-              → HoldsOfOne (Explains honest faults calls launches dirs output exited left source_faults looks true (Output task (named stream) place bytes)) turns
+              → HoldsOfOne (Explains host source looks true (Output task (named stream) place bytes)) turns
           by (inl grant) = absurd (no_grant false refl (all_some (λ x. is_grant x ≡ true) ends.granted ends.are_grants (Output task (named stream) place bytes) grant))
-          by (inr taken_so) = is_so (all_some (IsExplained honest faults calls launches dirs output exited left source_faults looks life_turns true) (tooks history) ends.led.life.explained (Output task (named stream) place bytes) taken_so)
+          by (inr taken_so) = is_so (all_some (IsExplained host source looks life_turns true) (tooks history) ends.led.life.explained (Output task (named stream) place bytes) taken_so)

@@ -22,6 +22,8 @@ use Rattle.site_run.specs.Lower.site_life.Turns.{Turn, DidTurn, Work}
 use Rattle.site_run.proofs.MemberLemmas.{Steps}
 use Rattle.site_run.specs.Lower.site_state.declared.ask.Entry.{Entry}
 use Rattle.world_laws.proofs.Places.{some_front, some_behind}
+use Rattle.task_host.specs.View.{HostView}
+use Rattle.jp_io.specs.View.{SourceView}
 
 module _ {H A : Type 0} where
   -- it is the executor of this number
@@ -42,53 +44,52 @@ all_there : (ts : List Told) → AllAre (λ (t : Told). Some_of (λ (x : Told). 
 all_there [] = tt
 all_there (t ∷ ts) = (inl refl, all_map (λ (u : Told). Some_of (λ (x : Told). x ≡ u) ts) (λ (u : Told). Some_of (λ (x : Told). x ≡ u) (t ∷ ts)) ts (λ u there. inr there) (all_there ts))
 
-module _ {H A : Type 0} (honest : H → Type 0) (faults : H → ℕ) (calls : H → Option (List Call)) (launches dirs : H → List ℕ) (output : H → ℕ → Stream → List ℕ) (exited : H → ℕ → Option ℤ)
-    (left : A → Option (List ℕ)) (source_faults : A → ℕ) (looks : ℕ) (IsTold : Told → Type 0) where
+module _ {H A : Type 0} (host : HostView H) (source : SourceView A) (looks : ℕ) (IsTold : Told → Type 0) where
   abbrev Did : Turn H A → Type 0
-  Did turn = DidTurn honest faults calls launches dirs output exited left source_faults looks turn × AllAre IsTold (told_of turn.own)
+  Did turn = DidTurn host source looks turn × AllAre IsTold (told_of turn.own)
 
   -- An executor's host from the beginning of the life on: its turns, and what was told in them, which is all that was told to this executor.
-  pub record ToldSo (number : ℕ) (host next : H) (past : List (Turn H A)) : Type 0 where
+  pub record ToldSo (number : ℕ) (machine next : H) (past : List (Turn H A)) : Type 0 where
     pub told : List Told
     pub claimed : List ClaimedTask
-    pub honest_stays : honest host → honest next
-    pub turns : honest host → Turns number looks (on_host launches dirs output exited host) told claimed (on_host launches dirs output exited next)
+    pub honest_stays : host.honest machine → host.honest next
+    pub turns : host.honest machine → Turns number looks (on_host host machine) told claimed (on_host host next)
     pub are_told : AllAre IsTold told
     pub all : TellsAll number told past
 
   abbrev pub CameTo : Member H A → Member H A → List (Turn H A) → Type 0
-  CameTo (Executor number host) (Executor now next) past = (now ≡ number) × ToldSo number host next past
+  CameTo (Executor number machine) (Executor now next) past = (now ≡ number) × ToldSo number machine next past
   CameTo (Operator answers line ended failed) (Operator next kept now_ended now_failed) past = Unit {0}
-  CameTo (Executor number host) (Operator next kept now_ended now_failed) past = ⊥
+  CameTo (Executor number machine) (Operator next kept now_ended now_failed) past = ⊥
   CameTo (Operator answers line ended failed) (Executor now next) past = ⊥
 
   came_start : (m : Member H A) → CameTo m m []
-  came_start (Executor number host) = (refl, record { told = []; claimed = []; honest_stays = λ h. h; turns = λ h. no_turn; are_told = tt; all = tt })
+  came_start (Executor number machine) = (refl, record { told = []; claimed = []; honest_stays = λ h. h; turns = λ h. no_turn; are_told = tt; all = tt })
   came_start (Operator answers line ended failed) = tt
 
   -- the turn is not one of this member
   abbrev IsOfOther : Member H A → Turn H A → Type 0
-  IsOfOther (Executor number host) turn = IsNumber number turn.old → ⊥
+  IsOfOther (Executor number machine) turn = IsNumber number turn.old → ⊥
   IsOfOther (Operator answers line ended failed) turn = Unit {0}
 
   tells_other : (number : ℕ) (told : List Told) (past : List (Turn H A)) (turn : Turn H A) → TellsAll number told past → (IsNumber number turn.old → AllAre (λ (t : Told). Some_of (λ (x : Told). x ≡ t) told) (told_of turn.own)) → TellsAll number told (past ++ turn ∷ [])
   tells_other number told past turn all one = all_append (λ (u : Turn H A). IsNumber number u.old → AllAre (λ (t : Told). Some_of (λ (x : Told). x ≡ t) told) (told_of u.own)) past (turn ∷ []) all (one, tt)
 
   came_other : (o m : Member H A) (past : List (Turn H A)) (turn : Turn H A) → IsOfOther o turn → CameTo o m past → CameTo o m (past ++ turn ∷ [])
-  came_other (Executor number host) (Executor now next) past turn other c =
+  came_other (Executor number machine) (Executor now next) past turn other c =
       let k = c.1 in (
         c.0,
         record { told = k.told; claimed = k.claimed; honest_stays = k.honest_stays; turns = k.turns; are_told = k.are_told; all = tells_other number k.told past turn k.all (λ is. absurd (other is)) },
       )
   came_other (Operator answers line ended failed) (Operator next kept now_ended now_failed) past turn other c = c
-  came_other (Executor number host) (Operator next kept now_ended now_failed) past turn other c = absurd c
+  came_other (Executor number machine) (Operator next kept now_ended now_failed) past turn other c = absurd c
   came_other (Operator answers line ended failed) (Executor now next) past turn other c = absurd c
 
   -- one turn more
   came_turn : (o m n : Member H A) (past : List (Turn H A)) (turn : Turn H A) (w : Worked) (own : List Entry) (gate_calls : List GateCall) (said : Said) (is_open : Bool) → turn.own ≡ own
-      → Work honest faults calls launches dirs output exited left source_faults looks m n w (tells_of [] [] Nothing false) (tells_of own gate_calls said is_open)
-      → Executed honest calls launches dirs output exited looks m n w own gate_calls → AllAre IsTold (told_of own) → CameTo o m past → CameTo o n (past ++ turn ∷ [])
-  came_turn (Executor number host) (Executor now next) (Executor then last) past turn w own gate_calls said is_open same works executed told c =
+      → Work host source looks m n w (tells_of [] [] Nothing false) (tells_of own gate_calls said is_open)
+      → Executed host looks m n w own gate_calls → AllAre IsTold (told_of own) → CameTo o m past → CameTo o n (past ++ turn ∷ [])
+  came_turn (Executor number machine) (Executor now next) (Executor then last) past turn w own gate_calls said is_open same works executed told c =
       let k = c.1 in
       let all : List Told = k.told ++ told_of own in (
         works.0 ∙ c.0,
@@ -113,8 +114,8 @@ module _ {H A : Type 0} (honest : H → Type 0) (faults : H → ℕ) (calls : H 
         },
       )
   came_turn (Operator answers line ended failed) (Operator next kept now_ended now_failed) (Operator last held then_ended then_failed) past turn w own gate_calls said is_open same works executed told c = tt
-  came_turn (Executor number host) (Executor now next) (Operator last held then_ended then_failed) past turn w own gate_calls said is_open same works executed told c = absurd works
-  came_turn (Executor number host) (Operator next kept now_ended now_failed) n past turn w own gate_calls said is_open same works executed told c = absurd c
+  came_turn (Executor number machine) (Executor now next) (Operator last held then_ended then_failed) past turn w own gate_calls said is_open same works executed told c = absurd works
+  came_turn (Executor number machine) (Operator next kept now_ended now_failed) n past turn w own gate_calls said is_open same works executed told c = absurd c
   came_turn (Operator answers line ended failed) (Operator next kept now_ended now_failed) (Executor then last) past turn w own gate_calls said is_open same works executed told c = absurd works
   came_turn (Operator answers line ended failed) (Executor now next) n past turn w own gate_calls said is_open same works executed told c = absurd c
 
@@ -132,8 +133,8 @@ module _ {H A : Type 0} (honest : H → Type 0) (faults : H → ℕ) (calls : H 
   -- an executor of another number than all of these
   others_turn : (number : ℕ) (os ms : List (Member H A)) (past : List (Turn H A)) (turn : Turn H A) → (Among number (numbers os) → ⊥) → ((n : ℕ) → IsNumber n turn.old → n ≡ number) → AllCame os ms past → AllCame os ms (past ++ turn ∷ [])
   others_turn number [] [] past turn apart its c = tt
-  others_turn number (Executor n host ∷ os) (m ∷ ms) past turn apart its c =
-      (came_other (Executor n host) m past turn (λ is. apart (inl (its n is))) c.0, others_turn number os ms past turn (λ there. apart (inr there)) its c.1)
+  others_turn number (Executor n machine ∷ os) (m ∷ ms) past turn apart its c =
+      (came_other (Executor n machine) m past turn (λ is. apart (inl (its n is))) c.0, others_turn number os ms past turn (λ there. apart (inr there)) its c.1)
   others_turn number (Operator answers line ended failed ∷ os) (m ∷ ms) past turn apart its c = (came_other (Operator answers line ended failed) m past turn tt c.0, others_turn number os ms past turn apart its c.1)
   others_turn number [] (m ∷ ms) past turn apart its c = absurd c
   others_turn number (o ∷ os) [] past turn apart its c = absurd c
@@ -141,36 +142,36 @@ module _ {H A : Type 0} (honest : H → Type 0) (faults : H → ℕ) (calls : H 
   -- the operator's turn is no executor's
   operators_turn : (os ms : List (Member H A)) (past : List (Turn H A)) (turn : Turn H A) → ((n : ℕ) → IsNumber n turn.old → ⊥) → AllCame os ms past → AllCame os ms (past ++ turn ∷ [])
   operators_turn [] [] past turn none c = tt
-  operators_turn (Executor n host ∷ os) (m ∷ ms) past turn none c = (came_other (Executor n host) m past turn (none n) c.0, operators_turn os ms past turn none c.1)
+  operators_turn (Executor n machine ∷ os) (m ∷ ms) past turn none c = (came_other (Executor n machine) m past turn (none n) c.0, operators_turn os ms past turn none c.1)
   operators_turn (Operator answers line ended failed ∷ os) (m ∷ ms) past turn none c = (came_other (Operator answers line ended failed) m past turn tt c.0, operators_turn os ms past turn none c.1)
   operators_turn [] (m ∷ ms) past turn none c = absurd c
   operators_turn (o ∷ os) [] past turn none c = absurd c
 
   -- behind the member that has the turn
   behind_turn : (o m : Member H A) (os back : List (Member H A)) (past : List (Turn H A)) (turn : Turn H A) → turn.old ≡ m → NoTwice (numbers (o ∷ os)) → CameTo o m past → AllCame os back past → AllCame os back (past ++ turn ∷ [])
-  behind_turn (Executor number host) (Executor now next) os back past turn is once c later =
+  behind_turn (Executor number machine) (Executor now next) os back past turn is once c later =
       others_turn number os back past turn once.0 (λ n at. sym (subst (IsNumber n) is at) ∙ c.0) later
   behind_turn (Operator answers line ended failed) (Operator next kept now_ended now_failed) os back past turn is once c later = operators_turn os back past turn (λ n at. subst (IsNumber n) is at) later
-  behind_turn (Executor number host) (Operator next kept now_ended now_failed) os back past turn is once c later = absurd c
+  behind_turn (Executor number machine) (Operator next kept now_ended now_failed) os back past turn is once c later = absurd c
   behind_turn (Operator answers line ended failed) (Executor now next) os back past turn is once c later = absurd c
 
   -- the executor that has the turn is among these
   among_members : (n : ℕ) (m : Member H A) (os front back : List (Member H A)) (past : List (Turn H A)) → IsNumber n m → AllCame os (front ++ m ∷ back) past → Among n (numbers os)
   among_members n m [] [] back past is c = absurd c
   among_members n m [] (k ∷ front) back past is c = absurd c
-  among_members n (Executor now next) (Executor number host ∷ os) [] back past is c = inl (sym c.0.0 ∙ is)
-  among_members n (Operator answers line ended failed) (Executor number host ∷ os) [] back past is c = absurd is
+  among_members n (Executor now next) (Executor number machine ∷ os) [] back past is c = inl (sym c.0.0 ∙ is)
+  among_members n (Operator answers line ended failed) (Executor number machine ∷ os) [] back past is c = absurd is
   among_members n (Executor now next) (Operator answers line ended failed ∷ os) [] back past is c = absurd c.0
   among_members n (Operator next kept now_ended now_failed) (Operator answers line ended failed ∷ os) [] back past is c = absurd is
-  among_members n m (Executor number host ∷ os) (k ∷ front) back past is c = inr (among_members n m os front back past is c.1)
+  among_members n m (Executor number machine ∷ os) (k ∷ front) back past is c = inr (among_members n m os front back past is c.1)
   among_members n m (Operator answers line ended failed ∷ os) (k ∷ front) back past is c = among_members n m os front back past is c.1
 
   other_before : (o m : Member H A) (os front back : List (Member H A)) (past : List (Turn H A)) (turn : Turn H A) → turn.old ≡ m → NoTwice (numbers (o ∷ os)) → AllCame os (front ++ m ∷ back) past → IsOfOther o turn
-  other_before (Executor number host) m os front back past turn is once c = λ at. once.0 (among_members number m os front back past (subst (IsNumber number) is at) c)
+  other_before (Executor number machine) m os front back past turn is once c = λ at. once.0 (among_members number m os front back past (subst (IsNumber number) is at) c)
   other_before (Operator answers line ended failed) m os front back past turn is once c = tt
 
   later_once : (o : Member H A) (os : List (Member H A)) → NoTwice (numbers (o ∷ os)) → NoTwice (numbers os)
-  later_once (Executor number host) os once = once.1
+  later_once (Executor number machine) os once = once.1
   later_once (Operator answers line ended failed) os once = once
 
   -- one of them has a turn

@@ -12,12 +12,13 @@ use Rattle.model_run.specs.declared.event.Stream.{Stream as EventStream}
 use Rattle.model_run.specs.Fitting.{Some_of}
 use Rattle.model_run.specs.State.{Setting}
 use Rattle.output_laws.specs.Streams.{AreInOrder, output_of}
+use Rattle.task_host.specs.View.{HostView}
 
 -- Member by member: each output of the tasks of an executor that these events have stands on its host.
-abbrev pub AllDelivered : {H A : Type 0} → (H → ℕ → Stream → List ℕ) → Setting → List Event → List (Member H A) → Type 0
-AllDelivered output setting events [] = Unit {0}
-AllDelivered output setting events (Executor number host ∷ members) = Delivered setting events number (output host) × AllDelivered output setting events members
-AllDelivered output setting events (Operator answers line ended failed ∷ members) = AllDelivered output setting events members
+abbrev pub AllDelivered : {H A : Type 0} → HostView H → Setting → List Event → List (Member H A) → Type 0
+AllDelivered host setting events [] = Unit {0}
+AllDelivered host setting events (Executor number machine ∷ members) = Delivered setting events number (host.output machine) × AllDelivered host setting events members
+AllDelivered host setting events (Operator answers line ended failed ∷ members) = AllDelivered host setting events members
 
 -- Each output of these events ends below the last number of 64 bits.
 abbrev pub AreShort : List Event → Type 0

@@ -1,7 +1,7 @@
 -- What becomes of the payload that is due.
 use Rattle.std.proofs.Common.{◌≡◌, ◌+◌, ◌^◌, ◌≤◌, ◌<◌, ℕ, ◌⊎◌, inl, inr, List, [], ◌∷◌, ◌++◌, length, Option, Some, None, Ok, Err, refl, sym, ap, ◌∙◌, subst, arith}
 use Rattle.std.specs.Option.{option_map}
-use Rattle.jp_disk.specs.Moments.{AtEachMoment}
+use Rattle.jp_disk.specs.Runs.{AtEachMoment}
 use Rattle.journal_core.specs.Records.{HasWithOrWithout}
 use Rattle.journal_core.specs.State.{State, Holds}
 use Rattle.field_form.specs.Forms.{Spells}
@@ -23,6 +23,7 @@ use Rattle.durable_build.specs.Kinds.{weights_of, weights_with}
 use Rattle.durable_build.specs.Taking.{HoldsLeast, IsDue, IsKind, Puts, added}
 use Rattle.durable_build.specs.Adding.{AddDone, AddLeaves, HasRoom, IsDueDelta, SpellsDue, payload_of}
 use Rattle.durable_build.proofs.KindLemmas.{weights_push}
+use Rattle.jp_disk.specs.View.{DiskView}
 
 -- the payload of the changes that are due, or of the whole image, is due
 pub due_is : (w : Weights) (before : Option Image) (e : Event) (image : Image) (delta : Option Delta) → IsDueDelta w before image delta → IsDue w before e image (payload_of e image delta)
@@ -52,25 +53,25 @@ pub adds_so : (q : Payload) (p : List ℕ) (len : ℕ) → Spells payload_form q
 adds_so q p len spells room = omega (arith, room, ap length spells.is_spelling)
 
 -- a fault leaves the length of the journal
-pub fault_keeps : {D : Type 0} (reads : D → Option (List ℕ)) (may_leave : D → List ℕ → Type 0) (clock : D → ℕ) (since : D → ℕ → List ℕ → Type 0) (w : Weights) (before : Option Image) (e : Event) (image : Image) (old new : State D) (w' : Weights) (f : TakeFault)
-    → AddDone reads may_leave clock since w before e image old new w' (Err f) → new.len ≡ old.len
-fault_keeps reads may_leave clock since w before e image old new w' Memory done = ap (λ j. j.len) done.0
-fault_keeps reads may_leave clock since w before e image old new w' Disk done = done.leaves
-fault_keeps reads may_leave clock since w before e image old new w' (Full l a) done = ap (λ j. j.len) done.leaves
-fault_keeps reads may_leave clock since w before e image old new w' Stopped done = absurd done.answers
+pub fault_keeps : {D : Type 0} (disk : DiskView D) (w : Weights) (before : Option Image) (e : Event) (image : Image) (old new : State D) (w' : Weights) (f : TakeFault)
+    → AddDone disk w before e image old new w' (Err f) → new.len ≡ old.len
+fault_keeps disk w before e image old new w' Memory done = ap (λ j. j.len) done.0
+fault_keeps disk w before e image old new w' Disk done = done.leaves
+fault_keeps disk w before e image old new w' (Full l a) done = ap (λ j. j.len) done.leaves
+fault_keeps disk w before e image old new w' Stopped done = absurd done.answers
 
-module _ {D : Type 0} (reads : D → Option (List ℕ)) (may_leave : D → List ℕ → Type 0) (clock : D → ℕ) (since : D → ℕ → List ℕ → Type 0) (w : Weights) (before : Option Image) (e : Event) (image : Image) (old new : State D)
+module _ {D : Type 0} (disk : DiskView D) (w : Weights) (before : Option Image) (e : Event) (image : Image) (old new : State D)
     (q : Payload) (due : IsDue w before e image q) where
   -- no payload was spelled
-  pub not_spelled : (f : TakeFault) → new ≡ old → SpellsDue old.len q (Err f) → AddDone reads may_leave clock since w before e image old new w (Err f)
+  pub not_spelled : (f : TakeFault) → new ≡ old → SpellsDue old.len q (Err f) → AddDone disk w before e image old new w (Err f)
   not_spelled Memory same is = (same, refl)
   not_spelled (Full l a) same is = record { payload = q; due = due; answers = is; leaves = same; weighs = refl; keeps = λ payloads holds b k. tt }
   not_spelled Disk same is = absurd is
   not_spelled Stopped same is = absurd is
 
   module _ (p : List ℕ) (spells : Spells payload_form q p) (room : old.len + (5 + length p) ≤ 2 ^ 30)
-      (moments : (payloads : List (List ℕ)) → Holds reads may_leave old payloads → AtEachMoment clock since old.disk new.disk (HasWithOrWithout payloads p)) where
-    abbrev puts : (payloads : List (List ℕ)) → Holds reads may_leave old payloads → before ≡ last_image payloads → w ≡ weights_of payloads → Puts clock since old new (record_of e image) payloads
+      (moments : (payloads : List (List ℕ)) → Holds disk old payloads → AtEachMoment disk old.disk new.disk (HasWithOrWithout payloads p)) where
+    abbrev puts : (payloads : List (List ℕ)) → Holds disk old payloads → before ≡ last_image payloads → w ≡ weights_of payloads → Puts disk old new (record_of e image) payloads
     puts payloads holds image_is weights_are = record {
       payload = p;
       tells = subst (λ (o : Option Image). record_at o p ≡ Some (record_of e image)) image_is (ap (λ (o : Option Payload). o >>= record_with before) (payload_spelled q p spells) ∙ due.tells);
@@ -86,8 +87,8 @@ module _ {D : Type 0} (reads : D → Option (List ℕ)) (may_leave : D → List 
     adds = adds_so q p old.len spells room
 
     -- it was put behind the journal
-    pub was_added : (x : Unit {0}) → AddLeaves old new (5 + length p) (Ok x) → ((payloads : List (List ℕ)) → Holds reads may_leave old payloads → Holds reads may_leave new (payloads ++ p ∷ []))
-        → AddDone reads may_leave clock since w before e image old new (weights_with w p) (Ok x)
+    pub was_added : (x : Unit {0}) → AddLeaves old new (5 + length p) (Ok x) → ((payloads : List (List ℕ)) → Holds disk old payloads → Holds disk new (payloads ++ p ∷ []))
+        → AddDone disk w before e image old new (weights_with w p) (Ok x)
     was_added x leaves holds_more = record {
       payload = q;
       due = due;
@@ -102,7 +103,7 @@ module _ {D : Type 0} (reads : D → Option (List ℕ)) (may_leave : D → List 
     }
 
     -- or it was not, or perhaps
-    pub not_added : (f : TakeFault) → (f ≡ Memory) ⊎ (f ≡ Disk) → AddLeaves old new (5 + length p) (Err f) → AddDone reads may_leave clock since w before e image old new w (Err f)
+    pub not_added : (f : TakeFault) → (f ≡ Memory) ⊎ (f ≡ Disk) → AddLeaves old new (5 + length p) (Err f) → AddDone disk w before e image old new w (Err f)
     not_added Memory fault leaves = (leaves, refl)
     not_added Disk fault leaves = record {
       payload = q;

@@ -20,11 +20,12 @@ use Rattle.durable_build.specs.Standing.{IsWhole, Keeps, Kept, image_before}
 use Rattle.durable_build.specs.Taking.{IsDue}
 use Rattle.durable_build.proofs.OrderLemmas.{whole_in_order}
 use Rattle.durable_build.proofs.TakeLemmas.{stands_last}
+use Rattle.jp_disk.specs.View.{DiskView}
 
 -- what is due by what a build keeps of its records is due by the records
-pub due_next : {D T : Type 0} (reads : D → Option (List ℕ)) (may_leave : D → List ℕ → Type 0) (stance : T → Stance) (k : Kept D T) (payloads : List (List ℕ)) (e : Event) (image : Image) (q : Payload)
-    → Keeps reads may_leave stance k payloads → IsDue k.weights (image_before stance k.build) e image q → IsDue (weights_of payloads) (last_image payloads) e image q
-due_next reads may_leave stance k payloads e image q keeps due =
+pub due_next : {D T : Type 0} (disk : DiskView D) (stance : T → Stance) (k : Kept D T) (payloads : List (List ℕ)) (e : Event) (image : Image) (q : Payload)
+    → Keeps disk stance k payloads → IsDue k.weights (image_before stance k.build) e image q → IsDue (weights_of payloads) (last_image payloads) e image q
+due_next disk stance k payloads e image q keeps due =
     subst (λ (w : Weights). IsDue w (last_image payloads) e image q) keeps.weighs
     (subst (λ (o : Option Image). IsDue k.weights o e image q) (stands_last stance k.build k.script k.agents payloads keeps.stands) due)
 

@@ -31,6 +31,7 @@ use Rattle.durable_build.specs.Standing.{BeginsWhole, IsWhole, Kept, Keeps, Open
 use Rattle.durable_build.specs.Taking.{Adds, IsBehind, IsDue, IsSized, IsSource, LeavesWhole, MayStart, Puts, Risks, TakeAnswers, TakeKeeps, TakeLeaves, agents_after, kept_agents, kept_script, script_after}
 use Rattle.durable_build.specs.Adding.{AddDone, AddKeeps, Adding}
 use Rattle.durable_build.proofs.KindLemmas.{image_push}
+use Rattle.jp_disk.specs.View.{DiskView}
 
 -- no record tells of the build that has taken no event
 pub empty_story : {T : Type 0} (stance : T → Stance) (b : Parts T) → StandsFor stance b W.unbegun → StandsForStory stance b []
@@ -105,14 +106,14 @@ module _ {T : Type 0} (stance : T → Stance) (b b' : Parts T) (e : Event) (acce
         → image_in stance b' ≡ world_image (setting_in b) (W.after_one (setting_in b) w e)
     image_next told w stands = told (W.after_one (setting_in b) w e) (goes w stands) ∙ ap (λ (s : Setting). world_image s (W.after_one (setting_in b) w e)) same
 
-module _ {D T : Type 0} (reads : D → Option (List ℕ)) (may_leave : D → List ℕ → Type 0) (clock : D → ℕ) (since : D → ℕ → List ℕ → Type 0) (stance : T → Stance) (old new : Kept D T) (e : Event)
+module _ {D T : Type 0} (disk : DiskView D) (stance : T → Stance) (old new : Kept D T) (e : Event)
     (accepted : taken (standing_of old.build) e ≡ Accepted) (same : setting_in new.build ≡ setting_in old.build)
     (goes : (w : W.Build) → StandsFor stance old.build w → StandsFor stance new.build (W.after_one (setting_in old.build) w e))
     (told : (w : W.Build) → StandsFor stance new.build w → image_in stance new.build ≡ world_image (setting_in new.build) w) where
-  pub adds : (ps : List (List ℕ)) (o : Option Sources) → Keeps reads may_leave stance old ps → MayStart (setting_in old.build) e → IsSource e o → has_begun new.build.phase ≡ true
+  pub adds : (ps : List (List ℕ)) (o : Option Sources) → Keeps disk stance old ps → MayStart (setting_in old.build) e → IsSource e o → has_begun new.build.phase ≡ true
       → new.script ≡ kept_script o old.script → new.agents ≡ kept_agents o old.agents
-      → (puts : Puts clock since old.journal new.journal (record_of e (image_in stance new.build)) ps) → Holds reads may_leave new.journal (ps ++ puts.payload ∷ []) → new.weights ≡ weights_of (ps ++ puts.payload ∷ [])
-      → new.records ≡ old.records + 1 → Adds reads may_leave clock since stance old new e ps
+      → (puts : Puts disk old.journal new.journal (record_of e (image_in stance new.build)) ps) → Holds disk new.journal (ps ++ puts.payload ∷ []) → new.weights ≡ weights_of (ps ++ puts.payload ∷ [])
+      → new.records ≡ old.records + 1 → Adds disk stance old new e ps
   adds ps o keeps may source begun script agents puts holds weighs counted = record {
     puts = puts;
     keeps = record {
@@ -125,7 +126,7 @@ module _ {D T : Type 0} (reads : D → Option (List ℕ)) (may_leave : D → Lis
     image = image_next stance old.build new.build e accepted same goes told;
   }
 
-  pub risks : (ps : List (List ℕ)) → Puts clock since old.journal new.journal (record_of e (image_in stance new.build)) ps → Risks clock since stance old new e ps
+  pub risks : (ps : List (List ℕ)) → Puts disk old.journal new.journal (record_of e (image_in stance new.build)) ps → Risks disk stance old new e ps
   risks ps puts = record { puts = puts; image = image_next stance old.build new.build e accepted same goes told }
 
 -- what the kept image says of the last record
@@ -178,13 +179,13 @@ pub stands_last : {T : Type 0} (stance : T → Stance) (b : Parts T) (script age
 stands_last stance b script agents [] stands = unbegun_is stance b stands.0
 stands_last stance b script agents (p ∷ ps) stands = begun_is stance b stands.0 ∙ sym stands.2
 
-module _ {D T : Type 0} (reads : D → Option (List ℕ)) (may_leave : D → List ℕ → Type 0) (clock : D → ℕ) (since : D → ℕ → List ℕ → Type 0) (stance : T → Stance) (old new : Kept D T) (e : Event)
+module _ {D T : Type 0} (disk : DiskView D) (stance : T → Stance) (old new : Kept D T) (e : Event)
     (running : old.stopped ≡ false) (accepted : taken (standing_of old.build) e ≡ Accepted) (before : Option Image) (remembers : Remembers stance old.build before) where
   abbrev image : Image
   image = image_in stance new.build
 
   abbrev Done : Result (Unit {0}) TakeFault → Type 0
-  Done r = AddDone reads may_leave clock since old.weights before e image old.journal new.journal new.weights r
+  Done r = AddDone disk old.weights before e image old.journal new.journal new.weights r
 
   due_here : (q : Payload) → IsDue old.weights before e image q → IsDue old.weights (image_before stance old.build) e image q
   due_here q due = subst (λ (o : Option Image). IsDue old.weights o e image q) remembers.is due
@@ -212,15 +213,15 @@ module _ {D T : Type 0} (reads : D → Option (List ℕ)) (may_leave : D → Lis
   )
 
   -- the records, where the journal kept some
-  pub puts_of : (r : Result (Unit {0}) TakeFault) (ps : List (List ℕ)) → Adding reads may_leave clock since old.weights before e image old.journal new.journal new.weights r → Keeps reads may_leave stance old ps
-      → AddKeeps reads may_leave clock since old.journal new.journal (record_of e image) new.weights ps r
+  pub puts_of : (r : Result (Unit {0}) TakeFault) (ps : List (List ℕ)) → Adding disk old.weights before e image old.journal new.journal new.weights r → Keeps disk stance old ps
+      → AddKeeps disk old.journal new.journal (record_of e image) new.weights ps r
   puts_of r ps done keeps = done.keeps ps keeps.holds (remembers.is ∙ stands_last stance old.build old.script old.agents ps keeps.stands) keeps.weighs
 
   module _ (same : setting_in new.build ≡ setting_in old.build) (goes : (w : W.Build) → StandsFor stance old.build w → StandsFor stance new.build (W.after_one (setting_in old.build) w e)) where
     -- a fault leaves no trace but that of the disk
-    pub take_failed : (f : TakeFault) (ps : List (List ℕ)) → Done (Err f) → Keeps reads may_leave stance old ps
-        → (¬ (IsErrOf {T = Unit {0}} (Err f) Memory) → (w : W.Build) → StandsFor stance new.build w → image ≡ world_image (setting_in new.build) w) → TakeKeeps reads may_leave clock since stance old new e ps (Err f)
-    take_failed Disk ps done keeps told = risks reads may_leave clock since stance old new e accepted same goes (told (λ is. cc)) ps (puts_of (Err Disk) ps done keeps)
+    pub take_failed : (f : TakeFault) (ps : List (List ℕ)) → Done (Err f) → Keeps disk stance old ps
+        → (¬ (IsErrOf {T = Unit {0}} (Err f) Memory) → (w : W.Build) → StandsFor stance new.build w → image ≡ world_image (setting_in new.build) w) → TakeKeeps disk stance old new e ps (Err f)
+    take_failed Disk ps done keeps told = risks disk stance old new e accepted same goes (told (λ is. cc)) ps (puts_of (Err Disk) ps done keeps)
     take_failed Memory ps done keeps told = tt
     take_failed (Full l a) ps done keeps told = tt
     take_failed Stopped ps done keeps told = tt

@@ -29,6 +29,7 @@ use Rattle.agent_worker.specs.declared.fault.TakeFault.TheVariants.{Memory, Disk
 use Rattle.store_laws.specs.Store.{last_image}
 use Rattle.durable_build.specs.Kinds.{is_whole_due, weights_of, weights_with}
 use Rattle.durable_build.specs.Taking.{IsDue, Puts, added}
+use Rattle.jp_disk.specs.View.{DiskView}
 
 -- What is known of the image before, and the marks of the cells and of the threads, tell what changed since: its
 -- binding variables stand now, each unmarked cell stands as it stood in it, its flow nodes and its log are the beginning
@@ -94,23 +95,23 @@ AddWeighs old q new (Ok _) = new ≡ weights_with old (payload_form.spelling q)
 AddWeighs old q new (Err e) = new ≡ old
 
 -- the weights afterwards are those of the records with the new one
-abbrev pub AddKeeps : {D : Type 0} → (D → Option (List ℕ)) → (D → List ℕ → Type 0) → (D → ℕ) → (D → ℕ → List ℕ → Type 0) → State D → State D → EventRecord → Weights → List (List ℕ) → Result (Unit {0}) TakeFault → Type 0
-AddKeeps reads may_leave clock since old new item weights payloads (Ok _) =
-    (puts : Puts clock since old new item payloads) × Holds reads may_leave new (payloads ++ puts.payload ∷ []) × (weights ≡ weights_of (payloads ++ puts.payload ∷ []))
-AddKeeps reads may_leave clock since old new item weights payloads (Err Disk) = Puts clock since old new item payloads
-AddKeeps reads may_leave clock since old new item weights payloads r = Unit {0}
+abbrev pub AddKeeps : {D : Type 0} → DiskView D → State D → State D → EventRecord → Weights → List (List ℕ) → Result (Unit {0}) TakeFault → Type 0
+AddKeeps disk old new item weights payloads (Ok _) =
+    (puts : Puts disk old new item payloads) × Holds disk new (payloads ++ puts.payload ∷ []) × (weights ≡ weights_of (payloads ++ puts.payload ∷ []))
+AddKeeps disk old new item weights payloads (Err Disk) = Puts disk old new item payloads
+AddKeeps disk old new item weights payloads r = Unit {0}
 
 -- What became of the payload that is due, with the weights and the image of the record before.
-pub record Adding {D : Type 0} (reads : D → Option (List ℕ)) (may_leave : D → List ℕ → Type 0) (clock : D → ℕ) (since : D → ℕ → List ℕ → Type 0) (w : Weights) (before : Option Image) (e : Event) (image : Image) (old new : State D) (w' : Weights)
+pub record Adding {D : Type 0} (disk : DiskView D) (w : Weights) (before : Option Image) (e : Event) (image : Image) (old new : State D) (w' : Weights)
     (r : Result (Unit {0}) TakeFault) : Type 0 where
   pub payload : Payload
   pub due : IsDue w before e image payload
   pub answers : AddAnswers old.len (added payload) r
   pub leaves : AddLeaves old new (added payload) r
   pub weighs : AddWeighs w payload w' r
-  pub keeps : (payloads : List (List ℕ)) → Holds reads may_leave old payloads → before ≡ last_image payloads → w ≡ weights_of payloads
-      → AddKeeps reads may_leave clock since old new (record_of e image) w' payloads r
+  pub keeps : (payloads : List (List ℕ)) → Holds disk old payloads → before ≡ last_image payloads → w ≡ weights_of payloads
+      → AddKeeps disk old new (record_of e image) w' payloads r
 
-abbrev pub AddDone : {D : Type 0} → (D → Option (List ℕ)) → (D → List ℕ → Type 0) → (D → ℕ) → (D → ℕ → List ℕ → Type 0) → Weights → Option Image → Event → Image → State D → State D → Weights → Result (Unit {0}) TakeFault → Type 0
-AddDone reads may_leave clock since w before e image old new w' (Err Memory) = (new ≡ old) × (w' ≡ w)
-AddDone reads may_leave clock since w before e image old new w' r = Adding reads may_leave clock since w before e image old new w' r
+abbrev pub AddDone : {D : Type 0} → DiskView D → Weights → Option Image → Event → Image → State D → State D → Weights → Result (Unit {0}) TakeFault → Type 0
+AddDone disk w before e image old new w' (Err Memory) = (new ≡ old) × (w' ≡ w)
+AddDone disk w before e image old new w' r = Adding disk w before e image old new w' r

@@ -30,6 +30,7 @@ use Rattle.durable_build.specs.declared.load.Read.{Read}
 use Rattle.build_images.specs.Images.{world_image, image_in}
 use Rattle.durable_build.specs.Kinds.{is_whole, weights_of, weights_with}
 use Rattle.durable_build.specs.Standing.{Breaks, IsDamagedAt, IsWhole, Kept, Keeps, Opening, StandsBy}
+use Rattle.jp_disk.specs.View.{DiskView}
 
 -- the setting of a numbered script on a site
 abbrev pub setting_with : List Row → Site → Setting
@@ -149,8 +150,8 @@ OpenFails file Empty = Has [] file
 OpenFails file (Damaged at) = (payloads : List (List ℕ)) × ((HasThenDamaged payloads file × (at ≡ length (framed payloads))) ⊎ (Has payloads file × IsDamagedAt payloads at))
 
 -- the file has records, and the opened build stands by them
-pub record Opened {D T : Type 0} (reads : D → Option (List ℕ)) (may_leave : D → List ℕ → Type 0) (stance : T → Stance) (file : List ℕ) (k : Kept D T) : Type 0 where
+pub record Opened {D T : Type 0} (disk : DiskView D) (stance : T → Stance) (file : List ℕ) (k : Kept D T) : Type 0 where
   pub payloads : List (List ℕ)
   pub some : 0 < length payloads
   pub has : Has payloads file
-  pub keeps : Keeps reads may_leave stance k payloads
+  pub keeps : Keeps disk stance k payloads

@@ -17,6 +17,7 @@ use Rattle.build_images.specs.Lower.build_core.Phases.{has_begun}
 use Rattle.store_laws.specs.Store.{IsStory, Mean, Told, events_of, image_at, last_image, record_at}
 use Rattle.durable_build.specs.Kinds.{is_whole, is_whole_due, weights_of}
 use Rattle.build_images.specs.Images.{world_image, image_in}
+use Rattle.jp_disk.specs.View.{DiskView}
 pub use Rattle.build_images.specs.Images.{IsWhole}
 
 -- where the last record's gate stands, if the first one's stands here
@@ -78,8 +79,8 @@ BeginsWhole None w = is_whole_due w ≡ true
 BeginsWhole (Some image) w = Unit {0}
 
 -- The journal holds these records, and the build stands by them.
-pub record Keeps {D T : Type 0} (reads : D → Option (List ℕ)) (may_leave : D → List ℕ → Type 0) (stance : T → Stance) (k : Kept D T) (payloads : List (List ℕ)) : Type 0 where
-  pub holds : Holds reads may_leave k.journal payloads
+pub record Keeps {D T : Type 0} (disk : DiskView D) (stance : T → Stance) (k : Kept D T) (payloads : List (List ℕ)) : Type 0 where
+  pub holds : Holds disk k.journal payloads
   pub weighs : k.weights ≡ weights_of payloads
   pub counted : k.records ≡ length payloads
   pub stands : StandsBy stance k.build k.script k.agents payloads

@@ -1,6 +1,6 @@
 -- When each answer to an event comes, and what it leaves (this product's own).
 use Rattle.std.specs.Prelude.{◌≡◌, ◌<◌, ◌≤◌, ◌+◌, ◌-◌, ◌^◌, ℕ, true, false, List, [], ◌∷◌, ◌++◌, length, min, Option, Some, None, IfSome, Result, Ok, Err}
-use Rattle.jp_disk.specs.Moments.{AtEachMoment}
+use Rattle.jp_disk.specs.Runs.{AtEachMoment}
 use Rattle.journal_core.specs.Records.{HasWithOrWithout}
 use Rattle.journal_core.specs.State.{State}
 use Rattle.field_form.specs.Forms.{Spells}
@@ -29,6 +29,7 @@ use Rattle.durable_build.specs.declared.store.Sources.{Sources}
 use Rattle.build_images.specs.Images.{world_image, image_in}
 use Rattle.durable_build.specs.Kinds.{is_whole_due, weights_of, weights_with}
 use Rattle.durable_build.specs.Standing.{IsWhole, Kept, Keeps, image_before, world_before}
+use Rattle.jp_disk.specs.View.{DiskView}
 
 -- how many bytes a record of this payload adds to a journal, or the greatest number of 64 bits where it adds more
 abbrev pub added : Payload → ℕ
@@ -136,7 +137,7 @@ IsSized stance old new e (Err (Full len add)) = IsAfter stance old new e × IsBe
 IsSized stance old new e (Err Stopped) = Unit {0}
 
 -- a record was to be added: a crash meanwhile leaves the records from before, or these and the new one, of the kind that is due
-pub record Puts {D : Type 0} (clock : D → ℕ) (since : D → ℕ → List ℕ → Type 0) (old new : State D) (item : EventRecord) (payloads : List (List ℕ)) : Type 0 where
+pub record Puts {D : Type 0} (disk : DiskView D) (old new : State D) (item : EventRecord) (payloads : List (List ℕ)) : Type 0 where
   pub payload : List ℕ
   pub tells : record_at (last_image payloads) payload ≡ Some item
   pub spelled : Payload
@@ -144,25 +145,25 @@ pub record Puts {D : Type 0} (clock : D → ℕ) (since : D → ℕ → List ℕ
   pub kind : IsKind (weights_of payloads) spelled
   pub least : HoldsLeast (last_image payloads) spelled
   pub room : old.len + (5 + length payload) ≤ 2 ^ 30
-  pub moments : AtEachMoment clock since old.disk new.disk (HasWithOrWithout payloads payload)
+  pub moments : AtEachMoment disk old.disk new.disk (HasWithOrWithout payloads payload)
 
 -- The accepted event has its record behind those from before, and the build stands by them all. Where it stood for a build of
 -- the definitions, the record has the image of that one after the event.
-pub record Adds {D T : Type 0} (reads : D → Option (List ℕ)) (may_leave : D → List ℕ → Type 0) (clock : D → ℕ) (since : D → ℕ → List ℕ → Type 0) (stance : T → Stance) (old new : Kept D T) (e : Event) (payloads : List (List ℕ)) : Type 0 where
-  pub puts : Puts clock since old.journal new.journal (record_of e (image_in stance new.build)) payloads
-  pub keeps : Keeps reads may_leave stance new (payloads ++ puts.payload ∷ [])
+pub record Adds {D T : Type 0} (disk : DiskView D) (stance : T → Stance) (old new : Kept D T) (e : Event) (payloads : List (List ℕ)) : Type 0 where
+  pub puts : Puts disk old.journal new.journal (record_of e (image_in stance new.build)) payloads
+  pub keeps : Keeps disk stance new (payloads ++ puts.payload ∷ [])
   pub image : IsAfter stance old new e
 
 -- The disk failed: the record of the accepted event is there or not, now and after a crash.
-pub record Risks {D T : Type 0} (clock : D → ℕ) (since : D → ℕ → List ℕ → Type 0) (stance : T → Stance) (old new : Kept D T) (e : Event) (payloads : List (List ℕ)) : Type 0 where
-  pub puts : Puts clock since old.journal new.journal (record_of e (image_in stance new.build)) payloads
+pub record Risks {D T : Type 0} (disk : DiskView D) (stance : T → Stance) (old new : Kept D T) (e : Event) (payloads : List (List ℕ)) : Type 0 where
+  pub puts : Puts disk old.journal new.journal (record_of e (image_in stance new.build)) payloads
   pub image : IsAfter stance old new e
 
 -- the store after a take; with another answer nothing was written
-abbrev pub TakeKeeps : {D T : Type 0} → (D → Option (List ℕ)) → (D → List ℕ → Type 0) → (D → ℕ) → (D → ℕ → List ℕ → Type 0) → (T → Stance) → Kept D T → Kept D T → Event → List (List ℕ) → Result Taken TakeFault → Type 0
-TakeKeeps reads may_leave clock since stance old new e payloads (Ok Accepted) = Adds reads may_leave clock since stance old new e payloads
-TakeKeeps reads may_leave clock since stance old new e payloads (Err Disk) = Risks clock since stance old new e payloads
-TakeKeeps reads may_leave clock since stance old new e payloads r = Unit {0}
+abbrev pub TakeKeeps : {D T : Type 0} → DiskView D → (T → Stance) → Kept D T → Kept D T → Event → List (List ℕ) → Result Taken TakeFault → Type 0
+TakeKeeps disk stance old new e payloads (Ok Accepted) = Adds disk stance old new e payloads
+TakeKeeps disk stance old new e payloads (Err Disk) = Risks disk stance old new e payloads
+TakeKeeps disk stance old new e payloads r = Unit {0}
 
 -- Of private functions alone: the sources that an event brings, and those that are kept then.
 abbrev pub IsSource : Event → Option Sources → Type 0

@@ -2,7 +2,7 @@
 ghost use Rattle.std.specs.Prelude.{◌≡◌, ◌≢◌, ◌⊎◌, ◌<◌, ◌+◌, ◌∷◌, List, [], ℕ, true, false, length, slice_index, IfOk, IfErr, OnOk, Some, MatchResult, IsErrOf};
 ghost use Rattle.device_faults.specs.Faults.{CountsFault};
 ghost use Rattle.jp_disk.specs.Images.{after_write};
-ghost use Rattle.jp_disk.specs.Moments.{AtEachMoment};
+ghost use Rattle.jp_disk.specs.Runs.{AtEachMoment};
 ghost use Rattle.journal_core.specs.Records.{records, Has};
 ghost use Rattle.journal_core.specs.Moments.{SinceSync};
 ghost use Rattle.journal_core.specs.Answers.{CreateRefuses, IsStarted};
@@ -72,8 +72,8 @@ impl<D: Disk, R: SavedThread + Drop> DurableBuild<D, R> {
         requires unbegun { has_begun build.phase ≡ false }
         requires stands { StandsFor R.stance build W.unbegun }
         ensures created { (file : List ℕ) → D.reads disk ≡ Some file → MatchResult result
-            (λ d. ¬ IsStarted file × Has [] file × Keeps D.reads D.may_leave R.stance d [])
-            (λ e. CreateRefuses D.reads D.may_leave file e.1 e.0) }
+            (λ d. ¬ IsStarted file × Has [] file × Keeps D.Disk R.stance d [])
+            (λ e. CreateRefuses D.Disk file e.1 e.0) }
         ensures same { (file : List ℕ) → D.reads disk ≡ Some file → 0 < length file → slice_index file 0 ≢ 1
             → IfOk result (λ d. D.reads d.journal.disk ≡ Some file) }
         ensures closed { (file : List ℕ) → D.reads disk ≡ Some file → (file ≡ []) ⊎ (slice_index file 0 ≡ 1)
@@ -82,9 +82,9 @@ impl<D: Disk, R: SavedThread + Drop> DurableBuild<D, R> {
         ensures counts { IfOk result (λ d. (d.weights ≡ weights_of []) × (d.records ≡ 0)) }
         ensures sources { IfOk result (λ d. (d.script ≡ []) × (d.agents ≡ [])) }
         ensures any_moment { (file : List ℕ) → D.reads disk ≡ Some file → MatchResult result
-            (λ d. SinceSync D.clock D.may_have_left_since D.may_leave file disk d.journal.disk (λ image. records image ≡ records file))
-            (λ e. SinceSync D.clock D.may_have_left_since D.may_leave file disk e.1 (λ image. records image ≡ records file)
-            ⊎ ((e.0 ≡ CreateFault.Disk) × AtEachMoment D.clock D.may_have_left_since disk e.1 (D.may_leave disk))) }
+            (λ d. SinceSync D.Disk file disk d.journal.disk (λ image. records image ≡ records file))
+            (λ e. SinceSync D.Disk file disk e.1 (λ image. records image ≡ records file)
+            ⊎ ((e.0 ≡ CreateFault.Disk) × AtEachMoment D.Disk disk e.1 (D.may_leave disk))) }
         ensures cause { MatchResult result
             (λ d. CountsFault (D.faults disk) (D.faults d.journal.disk) ⊥)
             (λ e. CountsFault (D.faults disk) (D.faults e.1) (e.0 ≡ CreateFault.Disk)) }
@@ -117,7 +117,7 @@ impl<D: Disk, R: SavedThread + Drop> DurableBuild<D, R> {
     /// disk's count of faults rose, which it does at no other answer. `Memory` where the memory was refused.
     pub fn open(alloc: Global, disk: D) -> Result<DurableBuild<D, R>, (StoreFault, D)>
         ensures opened { (file : List ℕ) → D.reads disk ≡ Some file → MatchResult result
-            (λ d. Opened D.reads D.may_leave R.stance file d × (D.reads d.journal.disk ≡ Some file))
+            (λ d. Opened D.Disk R.stance file d × (D.reads d.journal.disk ≡ Some file))
             (λ e. OpenFails file e.0 × (D.reads e.1 ≡ Some file)) }
         ensures undamaged { (file : List ℕ) → D.reads disk ≡ Some file → IsConsistent world_image file → IfErr result (λ e. (at : ℕ) → e.0 ≡ StoreFault.Damaged at → ⊥) }
         ensures running { IfOk result (λ d. d.stopped ≡ false) }
@@ -125,8 +125,8 @@ impl<D: Disk, R: SavedThread + Drop> DurableBuild<D, R> {
         ensures begun { IfOk result (λ d. has_begun d.build.phase ≡ true) }
         ensures whole { IfOk result (λ d. IsWhole (setting_in d.build) (image_in R.stance d.build)) }
         ensures any_moment { MatchResult result
-            (λ d. AtEachMoment D.clock D.may_have_left_since disk d.journal.disk (D.may_leave disk))
-            (λ e. AtEachMoment D.clock D.may_have_left_since disk e.1 (D.may_leave disk)) }
+            (λ d. AtEachMoment D.Disk disk d.journal.disk (D.may_leave disk))
+            (λ e. AtEachMoment D.Disk disk e.1 (D.may_leave disk)) }
         ensures cause { MatchResult result
             (λ d. CountsFault (D.faults disk) (D.faults d.journal.disk) ⊥)
             (λ e. CountsFault (D.faults disk) (D.faults e.1) (e.0 ≡ StoreFault.Disk)) }
@@ -186,8 +186,8 @@ impl<D: Disk, R: SavedThread + Drop> DurableBuild<D, R> {
         ensures whole { LeavesWhole R.stance (setting_in self.old.build) self.new.build result }
         ensures setting { OnOk result (setting_in self.new.build ≡ setting_in self.old.build) }
         ensures stands { OnOk result ((w : W.Build) → StandsFor R.stance self.old.build w → StandsFor R.stance self.new.build (W.after_one (setting_in self.old.build) w event.now)) }
-        ensures keeps { (payloads : List (List ℕ)) → Keeps D.reads D.may_leave R.stance self.old payloads
-            → TakeKeeps D.reads D.may_leave D.clock D.may_have_left_since R.stance self.old self.new event.now payloads result }
+        ensures keeps { (payloads : List (List ℕ)) → Keeps D.Disk R.stance self.old payloads
+            → TakeKeeps D.Disk R.stance self.old self.new event.now payloads result }
         ensures cause { CountsFault (D.faults self.old.journal.disk) (D.faults self.new.journal.disk) (IsErrOf result TakeFault.Disk) }
     {
         if self.stopped {

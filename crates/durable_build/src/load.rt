@@ -42,10 +42,10 @@ fn bytes_of<D: Disk>(
     entry: Record,
 ) -> Result<Bytes, StoreFault>
     requires { entry.at + 5 + entry.len < journal.old.len }
-    ensures payload { (payloads : List (List ℕ)) (k : ℕ) → Holds D.reads D.may_leave journal.old payloads
+    ensures payload { (payloads : List (List ℕ)) (k : ℕ) → Holds D.Disk journal.old payloads
         → slice_get (entries_of 0 payloads) k ≡ Some entry → IfOk result (λ bytes. slice_get payloads k ≡ Some bytes) }
     ensures fault { IfErr result (λ e. (e ≡ StoreFault.Memory) ⊎ (e ≡ StoreFault.Disk)) }
-    ensures quiet { OnlyReads D.reads D.may_leave D.clock D.may_have_left_since D.end journal.old.disk journal.new.disk }
+    ensures quiet { OnlyReads D.Disk journal.old.disk journal.new.disk }
     ensures same { (journal.new.len ≡ journal.old.len) × (journal.new.stopped ≡ journal.old.stopped) }
     ensures cause { CountsFault (D.faults journal.old.disk) (D.faults journal.new.disk) (IsErrOf result StoreFault.Disk) }
 {
@@ -63,9 +63,9 @@ fn read_opening<D: Disk>(
     entry: Record,
 ) -> Result<Source, StoreFault>
     requires { entry.at + 5 + entry.len < journal.old.len }
-    ensures found { (payloads : List (List ℕ)) (k : ℕ) (p : List ℕ) → Holds D.reads D.may_leave journal.old payloads
+    ensures found { (payloads : List (List ℕ)) (k : ℕ) (p : List ℕ) → Holds D.Disk journal.old payloads
         → slice_get (entries_of 0 payloads) k ≡ Some entry → slice_get payloads k ≡ Some p → OpensBy p entry.at result ⊎ (result ≡ Err StoreFault.Disk) }
-    ensures quiet { OnlyReads D.reads D.may_leave D.clock D.may_have_left_since D.end journal.old.disk journal.new.disk }
+    ensures quiet { OnlyReads D.Disk journal.old.disk journal.new.disk }
     ensures same { (journal.new.len ≡ journal.old.len) × (journal.new.stopped ≡ journal.old.stopped) }
     ensures cause { CountsFault (D.faults journal.old.disk) (D.faults journal.new.disk) (IsErrOf result StoreFault.Disk) }
 {
@@ -90,10 +90,10 @@ fn is_whole_at<D: Disk>(
     entry: Record,
 ) -> Result<bool, StoreFault>
     requires { entry.at + 5 + entry.len < journal.old.len }
-    ensures found { (payloads : List (List ℕ)) (k : ℕ) (p : List ℕ) → Holds D.reads D.may_leave journal.old payloads
+    ensures found { (payloads : List (List ℕ)) (k : ℕ) (p : List ℕ) → Holds D.Disk journal.old payloads
         → slice_get (entries_of 0 payloads) k ≡ Some entry → slice_get payloads k ≡ Some p → IfOk result (λ whole. whole ≡ is_whole p) }
     ensures fault { IfErr result (λ e. (e ≡ StoreFault.Memory) ⊎ (e ≡ StoreFault.Disk)) }
-    ensures quiet { OnlyReads D.reads D.may_leave D.clock D.may_have_left_since D.end journal.old.disk journal.new.disk }
+    ensures quiet { OnlyReads D.Disk journal.old.disk journal.new.disk }
     ensures same { (journal.new.len ≡ journal.old.len) × (journal.new.stopped ≡ journal.old.stopped) }
     ensures cause { CountsFault (D.faults journal.old.disk) (D.faults journal.new.disk) (IsErrOf result StoreFault.Disk) }
 {
@@ -110,9 +110,9 @@ fn last_whole<D: Disk>(
     requires some { 0 < length entries.now }
     requires within { All (λ entry. entry.at + 5 + entry.len < journal.old.len) entries.now }
     ensures inside { IfOk result (λ k. k < length entries.now) }
-    ensures found { (payloads : List (List ℕ)) → Holds D.reads D.may_leave journal.old payloads → entries.now ≡ entries_of 0 payloads → IfOk result (IsLastWhole payloads) }
+    ensures found { (payloads : List (List ℕ)) → Holds D.Disk journal.old payloads → entries.now ≡ entries_of 0 payloads → IfOk result (IsLastWhole payloads) }
     ensures fault { IfErr result (λ e. (e ≡ StoreFault.Memory) ⊎ (e ≡ StoreFault.Disk)) }
-    ensures quiet { OnlyReads D.reads D.may_leave D.clock D.may_have_left_since D.end journal.old.disk journal.new.disk }
+    ensures quiet { OnlyReads D.Disk journal.old.disk journal.new.disk }
     ensures same { (journal.new.len ≡ journal.old.len) × (journal.new.stopped ≡ journal.old.stopped) }
     ensures cause { CountsFault (D.faults journal.old.disk) (D.faults journal.new.disk) (IsErrOf result StoreFault.Disk) }
 {
@@ -143,9 +143,9 @@ fn read_next<D: Disk>(
     weights: Weights,
 ) -> Result<Read, StoreFault>
     requires { entry.at + 5 + entry.len < journal.old.len }
-    ensures found { (payloads : List (List ℕ)) (k : ℕ) (p : List ℕ) → Holds D.reads D.may_leave journal.old payloads
+    ensures found { (payloads : List (List ℕ)) (k : ℕ) (p : List ℕ) → Holds D.Disk journal.old payloads
         → slice_get (entries_of 0 payloads) k ≡ Some entry → slice_get payloads k ≡ Some p → NextBy before weights p entry.at result ⊎ (result ≡ Err StoreFault.Disk) }
-    ensures quiet { OnlyReads D.reads D.may_leave D.clock D.may_have_left_since D.end journal.old.disk journal.new.disk }
+    ensures quiet { OnlyReads D.Disk journal.old.disk journal.new.disk }
     ensures same { (journal.new.len ≡ journal.old.len) × (journal.new.stopped ≡ journal.old.stopped) }
     ensures cause { CountsFault (D.faults journal.old.disk) (D.faults journal.new.disk) (IsErrOf result StoreFault.Disk) }
 {
@@ -184,8 +184,8 @@ fn read_from<D: Disk>(
 ) -> Result<Read, StoreFault>
     requires whole { whole.at + 5 + whole.len < journal.old.len }
     requires behind { All (λ entry. entry.at + 5 + entry.len < journal.old.len) behind.now }
-    ensures found { (front payloads : List (List ℕ)) → Holds D.reads D.may_leave journal.old (front ++ payloads) → whole ∷ behind.now ≡ entries_of (length (framed front)) payloads → FoundFrom front payloads result }
-    ensures quiet { OnlyReads D.reads D.may_leave D.clock D.may_have_left_since D.end journal.old.disk journal.new.disk }
+    ensures found { (front payloads : List (List ℕ)) → Holds D.Disk journal.old (front ++ payloads) → whole ∷ behind.now ≡ entries_of (length (framed front)) payloads → FoundFrom front payloads result }
+    ensures quiet { OnlyReads D.Disk journal.old.disk journal.new.disk }
     ensures same { (journal.new.len ≡ journal.old.len) × (journal.new.stopped ≡ journal.old.stopped) }
     ensures cause { CountsFault (D.faults journal.old.disk) (D.faults journal.new.disk) (IsErrOf result StoreFault.Disk) }
 {
@@ -205,8 +205,8 @@ fn read_last<D: Disk>(
 ) -> Result<Read, StoreFault>
     requires some { 0 < length entries.now }
     requires within { All (λ entry. entry.at + 5 + entry.len < journal.old.len) entries.now }
-    ensures found { (p : List ℕ) (ps : List (List ℕ)) → is_whole p ≡ true → Holds D.reads D.may_leave journal.old (p ∷ ps) → entries.now ≡ entries_of 0 (p ∷ ps) → LastFound (p ∷ ps) result }
-    ensures quiet { OnlyReads D.reads D.may_leave D.clock D.may_have_left_since D.end journal.old.disk journal.new.disk }
+    ensures found { (p : List ℕ) (ps : List (List ℕ)) → is_whole p ≡ true → Holds D.Disk journal.old (p ∷ ps) → entries.now ≡ entries_of 0 (p ∷ ps) → LastFound (p ∷ ps) result }
+    ensures quiet { OnlyReads D.Disk journal.old.disk journal.new.disk }
     ensures same { (journal.new.len ≡ journal.old.len) × (journal.new.stopped ≡ journal.old.stopped) }
     ensures cause { CountsFault (D.faults journal.old.disk) (D.faults journal.new.disk) (IsErrOf result StoreFault.Disk) }
 {
@@ -223,12 +223,12 @@ pub fn load<D: Disk, R: SavedThread + Drop>(
 ) -> Result<Loaded<R>, StoreFault>
     requires some { 0 < length entries.now }
     requires within { All (λ entry. entry.at + 5 + entry.len < journal.old.len) entries.now }
-    ensures found { (payloads : List (List ℕ)) → Holds D.reads D.may_leave journal.old payloads → entries.now ≡ entries_of 0 payloads → LoadFinds R.stance payloads result }
+    ensures found { (payloads : List (List ℕ)) → Holds D.Disk journal.old payloads → entries.now ≡ entries_of 0 payloads → LoadFinds R.stance payloads result }
     ensures begun { IfOk result (λ l. has_begun l.build.phase ≡ true) }
     ensures kept { IfOk result (λ l. Remembers R.stance l.build l.last.image) }
     ensures whole { IfOk result (λ l. IsWhole (setting_in l.build) (image_in R.stance l.build)) }
     ensures stands { IfOk result (λ l. StandsWhere R.stance l.build) }
-    ensures quiet { OnlyReads D.reads D.may_leave D.clock D.may_have_left_since D.end journal.old.disk journal.new.disk }
+    ensures quiet { OnlyReads D.Disk journal.old.disk journal.new.disk }
     ensures same { (journal.new.len ≡ journal.old.len) × (journal.new.stopped ≡ journal.old.stopped) }
     ensures cause { CountsFault (D.faults journal.old.disk) (D.faults journal.new.disk) (IsErrOf result StoreFault.Disk) }
 {

@@ -1,7 +1,7 @@
 //! The record of an event, whole or of changes alone, and how it comes into the journal.
 ghost use Rattle.std.specs.Prelude.{◌≡◌, ◌⊎◌, ◌≤◌, ◌<◌, ◌+◌, ◌^◌, List, ℕ, [], ◌∷◌, ◌++◌, true, false, length, Some, None, IfSome, IfOk, IfErr, OnOk, IsErrOf};
 ghost use Rattle.device_faults.specs.Faults.{CountsFault};
-ghost use Rattle.jp_disk.specs.Moments.{AtEachMoment};
+ghost use Rattle.jp_disk.specs.Runs.{AtEachMoment};
 ghost use Rattle.journal_core.specs.Records.{HasWithOrWithout};
 ghost use Rattle.journal_core.specs.State.{Holds};
 ghost use Rattle.model_run.specs.World as W;
@@ -166,7 +166,7 @@ pub fn add<D: Disk, R: SavedThread + Drop>(
     requires order { IfSome last.old.image IsInOrder }
     requires marks { IfSome last.old.image (λ before. MarksChanges R.low R.touched R.stance before build.old) }
     requires first { BeginsWhole last.old.image last.old.weights }
-    ensures adds { AddDone D.reads D.may_leave D.clock D.may_have_left_since last.old.weights last.old.image event.now (image_in R.stance build.new) journal.old journal.new last.new.weights result }
+    ensures adds { AddDone D.Disk last.old.weights last.old.image event.now (image_in R.stance build.new) journal.old journal.new last.new.weights result }
     ensures last { OnOk result ((last.new.image ≡ Some (image_in R.stance build.new)) × IsInOrder (image_in R.stance build.new)) }
     ensures image { ¬ (IsErrOf result TakeFault.Memory) → HasImage R.stance build.new }
     ensures same { IsSameButMarks R.stance build.old build.new }
@@ -190,7 +190,7 @@ fn add_record<D: Disk, R: SavedThread + Drop>(
     requires order { IfSome last.old.image IsInOrder }
     requires marks { IfSome last.old.image (λ before. MarksChanges R.low R.touched R.stance before build.now) }
     requires first { BeginsWhole last.old.image last.old.weights }
-    ensures adds { AddDone D.reads D.may_leave D.clock D.may_have_left_since last.old.weights last.old.image event.now (image_in R.stance build.now) journal.old journal.new last.new.weights result }
+    ensures adds { AddDone D.Disk last.old.weights last.old.image event.now (image_in R.stance build.now) journal.old journal.new last.new.weights result }
     ensures last { OnOk result (last.new.image ≡ Some (image_in R.stance build.now)) }
     ensures image { ¬ (IsErrOf result TakeFault.Memory) → HasImage R.stance build.now }
     ensures cause { CountsFault (D.faults journal.old.disk) (D.faults journal.new.disk) (IsErrOf result TakeFault.Disk) }
@@ -214,7 +214,7 @@ fn add_changes<D: Disk>(
     requires running { journal.old.stopped ≡ false }
     requires due { (image : AnyImage) × IsInOrder image × IsDueDelta last.old.weights last.old.image image (Some changes) }
     ensures adds { (image : AnyImage) → IsDueDelta last.old.weights last.old.image image (Some changes)
-        → AddDone D.reads D.may_leave D.clock D.may_have_left_since last.old.weights last.old.image event.now image journal.old journal.new last.new.weights result }
+        → AddDone D.Disk last.old.weights last.old.image event.now image journal.old journal.new last.new.weights result }
     ensures last { (image : AnyImage) → IsDueDelta last.old.weights last.old.image image (Some changes) → OnOk result (last.new.image ≡ Some image) }
     ensures cause { CountsFault (D.faults journal.old.disk) (D.faults journal.new.disk) (IsErrOf result TakeFault.Disk) }
 {
@@ -251,7 +251,7 @@ fn add_whole<D: Disk, R: SavedThread + Drop>(
     requires running { journal.old.stopped ≡ false }
     requires begun { has_begun build.now.phase ≡ true }
     requires due { IsDueDelta last.old.weights last.old.image (image_in R.stance build.now) None }
-    ensures adds { AddDone D.reads D.may_leave D.clock D.may_have_left_since last.old.weights last.old.image event.now (image_in R.stance build.now) journal.old journal.new last.new.weights result }
+    ensures adds { AddDone D.Disk last.old.weights last.old.image event.now (image_in R.stance build.now) journal.old journal.new last.new.weights result }
     ensures last { OnOk result (last.new.image ≡ Some (image_in R.stance build.now)) }
     ensures image { ¬ (IsErrOf result TakeFault.Memory) → HasImage R.stance build.now }
     ensures cause { CountsFault (D.faults journal.old.disk) (D.faults journal.new.disk) (IsErrOf result TakeFault.Disk) }
@@ -314,10 +314,10 @@ fn append<D: Disk>(journal: &mut Journal<D>, alloc: Global, payload: &[u8]) -> R
     requires room { journal.old.len + (5 + length payload.now) ≤ 2 ^ 30 }
     ensures faults { IfErr result (λ e. (e ≡ TakeFault.Memory) ⊎ (e ≡ TakeFault.Disk)) }
     ensures leaves { AddLeaves journal.old journal.new (5 + length payload.now) result }
-    ensures acknowledged { (payloads : List (List ℕ)) → Holds D.reads D.may_leave journal.old payloads
-        → OnOk result (Holds D.reads D.may_leave journal.new (payloads ++ payload.now ∷ [])) }
-    ensures any_moment { (payloads : List (List ℕ)) → Holds D.reads D.may_leave journal.old payloads
-        → AtEachMoment D.clock D.may_have_left_since journal.old.disk journal.new.disk (HasWithOrWithout payloads payload.now) }
+    ensures acknowledged { (payloads : List (List ℕ)) → Holds D.Disk journal.old payloads
+        → OnOk result (Holds D.Disk journal.new (payloads ++ payload.now ∷ [])) }
+    ensures any_moment { (payloads : List (List ℕ)) → Holds D.Disk journal.old payloads
+        → AtEachMoment D.Disk journal.old.disk journal.new.disk (HasWithOrWithout payloads payload.now) }
     ensures cause { CountsFault (D.faults journal.old.disk) (D.faults journal.new.disk) (IsErrOf result TakeFault.Disk) }
 {
     match journal.append(alloc, payload) {

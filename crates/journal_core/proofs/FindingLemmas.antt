@@ -13,6 +13,7 @@ use Rattle.journal_core.specs.Answers.{entries_of, StandInTurn}
 use Rattle.journal_core.specs.Finding.{ReadTo, Splits}
 use Rattle.journal_core.specs.declared.record.Record.{Record}
 use Rattle.journal_core.proofs.RecordLemmas.{length-frame, framed-push, Fit-push, damaged, has_framed}
+use Rattle.jp_disk.specs.View.{DiskView}
 
 pub entries-push : (at : ℕ) (ps : List (List ℕ)) (p : List ℕ) → entries_of at (ps ++ p ∷ []) ≡ entries_of at ps ++ record { at = at + length (framed ps); len = length p } ∷ []
 entries-push at [] p = let same : at ≡ at + 0 = omega arith in ap (λ (n : ℕ). record { at = n; len = length p } ∷ []) same
@@ -82,16 +83,16 @@ pub splits_has : (file : List ℕ) (at : ℕ) (ps : List (List ℕ)) → Splits 
 splits_has file at ps s = ap records s.is ∙ has_framed ps s.gate s.rest s.closed s.fit
 
 -- a disk with this file, all of it durable
-pub stores_at : {D : Type 0} (reads : D → Option (List ℕ)) (may_leave : D → List ℕ → Type 0) (d : D) (file : List ℕ) (at len : ℕ) (ps : List (List ℕ)) → len ≡ at + 1 → reads d ≡ Some file → IsOnlyImage file (may_leave d) → Splits file at ps
-    → Stores reads may_leave d len ps
-stores_at reads may_leave d file at len ps next told only s = record {
+pub stores_at : {D : Type 0} (disk : DiskView D) (d : D) (file : List ℕ) (at len : ℕ) (ps : List (List ℕ)) → len ≡ at + 1 → disk.reads d ≡ Some file → IsOnlyImage file (disk.may_leave d) → Splits file at ps
+    → Stores disk d len ps
+stores_at disk d file at len ps next told only s = record {
   gate = s.gate;
   rest = s.rest;
   closed = s.closed;
   told = told ∙ ap (λ (l : List ℕ). Some l) s.is;
   ends = omega (arith, next, s.stands);
   fit = s.fit;
-  durable = subst (λ (f : List ℕ). IsOnlyImage f (may_leave d)) s.is only;
+  durable = subst (λ (f : List ℕ). IsOnlyImage f (disk.may_leave d)) s.is only;
 }
 
 -- a file that begins with a closed gate

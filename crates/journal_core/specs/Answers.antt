@@ -10,6 +10,7 @@ use Rattle.journal_core.specs.declared.faults.OpenFault.{OpenFault}
 use Rattle.journal_core.specs.declared.faults.OpenFault.TheVariants.{Memory, Disk, Empty, Damaged}
 use Rattle.journal_core.specs.declared.faults.CreateFault.{CreateFault}
 use Rattle.journal_core.specs.declared.faults.CreateFault.TheVariants.{Disk as CreateDisk, HasRecord}
+use Rattle.jp_disk.specs.View.{DiskView}
 
 -- Stopped exactly where the journal was stopped. Else Full exactly where its length and what the record adds are more
 -- than 1,073,741,824 bytes together, with these two numbers. Ok is the new length.
@@ -40,12 +41,12 @@ StandInTurn at [] len = len ≡ at + 1
 StandInTurn at (entry ∷ entries) len = (entry.at ≡ at) × StandInTurn (at + 5 + entry.len) entries len
 
 -- the file has records and no damaged one; the journal holds them, and these are their entries
-pub record Opens {D : Type 0} (reads : D → Option (List ℕ)) (may_leave : D → List ℕ → Type 0) (file : List ℕ) (disk : D) (len : ℕ) (entries : List Record) : Type 0 where
+pub record Opens {D : Type 0} (disk : DiskView D) (file : List ℕ) (state : D) (len : ℕ) (entries : List Record) : Type 0 where
   pub payloads : List (List ℕ)
   pub some : 0 < length payloads
   pub has : Has payloads file
   pub entries_are : entries ≡ entries_of 0 payloads
-  pub holds : Stores reads may_leave disk len payloads
+  pub holds : Stores disk state len payloads
 
 -- Empty exactly where the file has no record; Damaged exactly where it has a damaged one, with the place of its gate
 abbrev pub OpenRefuses : List ℕ → OpenFault → Type 0
@@ -59,6 +60,6 @@ abbrev pub IsStarted : List ℕ → Type 0
 IsStarted file = (slice_index file 0 ≡ 1) × (6 ≤ length file)
 
 -- HasRecord exactly where the file is started; then it is as it was, and durable
-abbrev pub CreateRefuses : {D : Type 0} → (D → Option (List ℕ)) → (D → List ℕ → Type 0) → List ℕ → D → CreateFault → Type 0
-CreateRefuses reads may_leave file disk CreateDisk = Unit {0}
-CreateRefuses reads may_leave file disk HasRecord = IsStarted file × (reads disk ≡ Some file) × IsOnlyImage file (may_leave disk)
+abbrev pub CreateRefuses : {D : Type 0} → DiskView D → List ℕ → D → CreateFault → Type 0
+CreateRefuses disk file state CreateDisk = Unit {0}
+CreateRefuses disk file state HasRecord = IsStarted file × (disk.reads state ≡ Some file) × IsOnlyImage file (disk.may_leave state)

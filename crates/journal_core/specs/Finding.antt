@@ -11,6 +11,7 @@ use Rattle.journal_core.specs.declared.head.Head.TheVariants.{Closed, Cut, Open}
 use Rattle.journal_core.specs.declared.faults.OpenFault.{OpenFault}
 use Rattle.journal_core.specs.declared.faults.OpenFault.TheVariants.{Memory, Disk, Empty, Damaged}
 use Rattle.journal_core.specs.declared.faults.CreateFault.{CreateFault}
+use Rattle.jp_disk.specs.View.{DiskView}
 
 -- what stands at this place of a file: a closed gate, an open one whose record does not end in the file, or a record
 abbrev pub IsHead : List ℕ → ℕ → Head → Type 0
@@ -48,11 +49,11 @@ WalkFinds file (Err Empty) = ⊥
 WalkFinds file (Err (Damaged at)) = OpenRefuses file (Damaged at)
 
 -- what opening answers, with the length of the journal
-abbrev pub LoadFinds : {D : Type 0} → (D → Option (List ℕ)) → (D → List ℕ → Type 0) → List ℕ → D → Result (ℕ × Vec Record Global) OpenFault → Type 0
-LoadFinds reads may_leave file disk (Ok found) = Opens reads may_leave file disk found.0 found.1.items
-LoadFinds reads may_leave file disk (Err fault) = OpenRefuses file fault
+abbrev pub LoadFinds : {D : Type 0} → DiskView D → List ℕ → D → Result (ℕ × Vec Record Global) OpenFault → Type 0
+LoadFinds disk file state (Ok found) = Opens disk file state found.0 found.1.items
+LoadFinds disk file state (Err fault) = OpenRefuses file fault
 
 -- what creating answers
-abbrev pub PrepareLeaves : {D : Type 0} → (D → Option (List ℕ)) → (D → List ℕ → Type 0) → List ℕ → D → Result (Unit {0}) CreateFault → Type 0
-PrepareLeaves reads may_leave file disk (Ok _) = ¬ IsStarted file × Has [] file × Stores reads may_leave disk 1 []
-PrepareLeaves reads may_leave file disk (Err fault) = CreateRefuses reads may_leave file disk fault
+abbrev pub PrepareLeaves : {D : Type 0} → DiskView D → List ℕ → D → Result (Unit {0}) CreateFault → Type 0
+PrepareLeaves disk file state (Ok _) = ¬ IsStarted file × Has [] file × Stores disk state 1 []
+PrepareLeaves disk file state (Err fault) = CreateRefuses disk file state fault

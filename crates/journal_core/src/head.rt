@@ -20,7 +20,7 @@ pub enum Head {
 pub fn read_exact<D: Disk>(disk: &mut D, at: u64, buf: &mut [u8]) -> Result<(), Failed>
     requires within { at + length buf.old ≤ D.end disk.old }
     requires room { at + length buf.old < 2 ^ 64 }
-    ensures quiet { OnlyReads D.reads D.may_leave D.clock D.may_have_left_since D.end disk.old disk.new }
+    ensures quiet { OnlyReads D.Disk disk.old disk.new }
     ensures bytes { (file : List ℕ) → D.reads disk.old ≡ Some file → OnOk result (buf.new ≡ take (length buf.old) (drop at file)) }
     ensures cause { HasCause (D.faults disk.old) (D.faults disk.new) result }
 {
@@ -36,7 +36,7 @@ pub fn read_exact<D: Disk>(disk: &mut D, at: u64, buf: &mut [u8]) -> Result<(), 
 pub fn read_head<D: Disk>(disk: &mut D, at: u64, end: u64) -> Result<Head, Failed>
     requires end { end ≡ D.end disk.old }
     requires within { at < end }
-    ensures quiet { OnlyReads D.reads D.may_leave D.clock D.may_have_left_since D.end disk.old disk.new }
+    ensures quiet { OnlyReads D.Disk disk.old disk.new }
     ensures found { (file : List ℕ) → D.reads disk.old ≡ Some file → IfOk result (IsHead file at) }
     ensures within { IfOk result (HeadEnds at end) }
     ensures cause { HasCause (D.faults disk.old) (D.faults disk.new) result }

@@ -2,7 +2,7 @@
 ghost use Rattle.std.specs.Prelude.{◌≡◌, ◌≢◌, ◌⊎◌, ◌≤◌, ◌<◌, ◌+◌, ◌^◌, ◌++◌, [], ◌∷◌, List, ℕ, length, true, false, IfOk, OnOk, Some, MatchResult, slice_get, slice_index, IsErrOf, vec_len};
 ghost use Rattle.std.specs.List.{All};
 ghost use Rattle.jp_disk.specs.Images.{after_write};
-ghost use Rattle.jp_disk.specs.Moments.{AtEachMoment};
+ghost use Rattle.jp_disk.specs.Runs.{AtEachMoment};
 ghost use Rattle.device_faults.specs.Faults.{CountsFault};
 ghost use Rattle.journal_core.specs.Records.{records, Has, HasWithOrWithout};
 ghost use Rattle.journal_core.specs.State.{Holds};
@@ -53,17 +53,17 @@ impl<D: Disk> Journal<D> {
     /// had.
     pub fn create(disk: D) -> Result<Journal<D>, (CreateFault, D)>
         ensures created { (file : List ℕ) → D.reads disk ≡ Some file → MatchResult result
-            (λ journal. ¬ IsStarted file × Has [] file × Holds D.reads D.may_leave journal [])
-            (λ e. CreateRefuses D.reads D.may_leave file e.1 e.0) }
+            (λ journal. ¬ IsStarted file × Has [] file × Holds D.Disk journal [])
+            (λ e. CreateRefuses D.Disk file e.1 e.0) }
         ensures same { (file : List ℕ) → D.reads disk ≡ Some file → 0 < length file → slice_index file 0 ≢ 1
             → IfOk result (λ journal. D.reads journal.disk ≡ Some file) }
         ensures closed { (file : List ℕ) → D.reads disk ≡ Some file → (file ≡ []) ⊎ (slice_index file 0 ≡ 1)
             → IfOk result (λ journal. D.reads journal.disk ≡ Some (after_write file 0 (0 ∷ []))) }
         ensures fresh { IfOk result (λ journal. (journal.len ≡ 1) × (journal.stopped ≡ false)) }
         ensures any_moment { (file : List ℕ) → D.reads disk ≡ Some file → MatchResult result
-            (λ journal. SinceSync D.clock D.may_have_left_since D.may_leave file disk journal.disk (λ image. records image ≡ records file))
-            (λ e. SinceSync D.clock D.may_have_left_since D.may_leave file disk e.1 (λ image. records image ≡ records file)
-            ⊎ ((e.0 ≡ CreateFault.Disk) × AtEachMoment D.clock D.may_have_left_since disk e.1 (D.may_leave disk))) }
+            (λ journal. SinceSync D.Disk file disk journal.disk (λ image. records image ≡ records file))
+            (λ e. SinceSync D.Disk file disk e.1 (λ image. records image ≡ records file)
+            ⊎ ((e.0 ≡ CreateFault.Disk) × AtEachMoment D.Disk disk e.1 (D.may_leave disk))) }
         ensures cause { MatchResult result
             (λ journal. CountsFault (D.faults disk) (D.faults journal.disk) ⊥)
             (λ e. CountsFault (D.faults disk) (D.faults e.1) (e.0 ≡ CreateFault.Disk)) }
@@ -89,7 +89,7 @@ impl<D: Disk> Journal<D> {
     /// which it does at no other answer. A crash leaves what it might have left before.
     pub fn open(alloc: Global, disk: D) -> Result<(Journal<D>, Vec<Record>), (OpenFault, D)>
         ensures found { (file : List ℕ) → D.reads disk ≡ Some file → MatchResult result
-            (λ found. Opens D.reads D.may_leave file found.0.disk found.0.len found.1.items)
+            (λ found. Opens D.Disk file found.0.disk found.0.len found.1.items)
             (λ e. OpenRefuses file e.0 × (D.reads e.1 ≡ Some file)) }
         ensures told { (file : List ℕ) → D.reads disk ≡ Some file → IfOk result (λ found. D.reads found.0.disk ≡ Some file) }
         ensures running { IfOk result (λ found. found.0.stopped ≡ false) }
@@ -97,8 +97,8 @@ impl<D: Disk> Journal<D> {
         ensures in_turn { IfOk result (λ found. StandInTurn 0 found.1.items found.0.len) }
         ensures each { IfOk result (λ found. All (λ entry. entry.at + 5 + entry.len < found.0.len) found.1.items) }
         ensures any_moment { MatchResult result
-            (λ found. AtEachMoment D.clock D.may_have_left_since disk found.0.disk (D.may_leave disk))
-            (λ e. AtEachMoment D.clock D.may_have_left_since disk e.1 (D.may_leave disk)) }
+            (λ found. AtEachMoment D.Disk disk found.0.disk (D.may_leave disk))
+            (λ e. AtEachMoment D.Disk disk e.1 (D.may_leave disk)) }
         ensures cause { MatchResult result
             (λ found. CountsFault (D.faults disk) (D.faults found.0.disk) ⊥)
             (λ e. CountsFault (D.faults disk) (D.faults e.1) (e.0 ≡ OpenFault.Disk)) }
@@ -121,10 +121,10 @@ impl<D: Disk> Journal<D> {
     /// rose, which it does at no other answer.
     pub fn read(&mut self, alloc: Global, entry: Record) -> Result<Bytes, ReadFault>
         requires { entry.at + 5 + entry.len < self.old.len }
-        ensures payload { (payloads : List (List ℕ)) (k : ℕ) → Holds D.reads D.may_leave self.old payloads
+        ensures payload { (payloads : List (List ℕ)) (k : ℕ) → Holds D.Disk self.old payloads
             → slice_get (entries_of 0 payloads) k ≡ Some entry → IfOk result (λ bytes. slice_get payloads k ≡ Some bytes) }
         ensures length { IfOk result (λ bytes. length bytes ≡ entry.len) }
-        ensures quiet { OnlyReads D.reads D.may_leave D.clock D.may_have_left_since D.end self.old.disk self.new.disk }
+        ensures quiet { OnlyReads D.Disk self.old.disk self.new.disk }
         ensures same { (self.new.len ≡ self.old.len) × (self.new.stopped ≡ self.old.stopped) }
         ensures cause { CountsFault (D.faults self.old.disk) (D.faults self.new.disk) (IsErrOf result ReadFault.Disk) }
     {
@@ -150,10 +150,10 @@ impl<D: Disk> Journal<D> {
     pub fn append(&mut self, alloc: Global, payload: &[u8]) -> Result<u64, AppendFault>
         ensures answers { AppendAnswers self.old.stopped self.old.len (5 + length payload.now) result }
         ensures leaves { AppendLeaves self.old self.new result }
-        ensures acknowledged { (payloads : List (List ℕ)) → Holds D.reads D.may_leave self.old payloads
-            → OnOk result (Holds D.reads D.may_leave self.new (payloads ++ payload.now ∷ [])) }
-        ensures any_moment { (payloads : List (List ℕ)) → Holds D.reads D.may_leave self.old payloads
-            → AtEachMoment D.clock D.may_have_left_since self.old.disk self.new.disk (HasWithOrWithout payloads payload.now) }
+        ensures acknowledged { (payloads : List (List ℕ)) → Holds D.Disk self.old payloads
+            → OnOk result (Holds D.Disk self.new (payloads ++ payload.now ∷ [])) }
+        ensures any_moment { (payloads : List (List ℕ)) → Holds D.Disk self.old payloads
+            → AtEachMoment D.Disk self.old.disk self.new.disk (HasWithOrWithout payloads payload.now) }
         ensures cause { CountsFault (D.faults self.old.disk) (D.faults self.new.disk) (IsErrOf result AppendFault.Disk) }
     {
         if self.stopped {

@@ -1,7 +1,7 @@
 // Makes a file ready for a first record.
 ghost use Rattle.std.specs.Prelude.{◌≡◌, ◌≢◌, ◌⊎◌, ◌<◌, ◌+◌, List, [], ◌∷◌, ℕ, length, slice_index, OnOk, Some, IsErrOf};
 ghost use Rattle.jp_disk.specs.Images.{IsOnlyImage, after_write};
-ghost use Rattle.jp_disk.specs.Moments.{AtEachMoment};
+ghost use Rattle.jp_disk.specs.Runs.{AtEachMoment};
 ghost use Rattle.device_faults.specs.Faults.{CountsFault};
 ghost use Rattle.journal_core.specs.Records.{records, Has};
 ghost use Rattle.journal_core.specs.State.{Stores};
@@ -15,9 +15,9 @@ use jp_disk::Disk;
 
 /// Closes the first gate of a file that has no room for a record.
 fn close_first<D: Disk>(disk: &mut D) -> Result<(), CreateFault>
-    ensures stored { (file : List ℕ) → D.reads disk.old ≡ Some file → OnOk result (Stores D.reads D.may_leave disk.new 1 []) }
+    ensures stored { (file : List ℕ) → D.reads disk.old ≡ Some file → OnOk result (Stores D.Disk disk.new 1 []) }
     ensures written { (file : List ℕ) → D.reads disk.old ≡ Some file → OnOk result (D.reads disk.new ≡ Some (after_write file 0 (0 ∷ []))) }
-    ensures any_moment { (file : List ℕ) → IsOnlyImage file (D.may_leave disk.old) → length file < 6 → AtEachMoment D.clock D.may_have_left_since disk.old disk.new (Has []) }
+    ensures any_moment { (file : List ℕ) → IsOnlyImage file (D.may_leave disk.old) → length file < 6 → AtEachMoment D.Disk disk.old disk.new (Has []) }
     ensures within { OnOk result (0 < D.end disk.new) }
     ensures only_disk { IsErrOf result CreateFault.HasRecord → ⊥ }
     ensures cause { CountsFault (D.faults disk.old) (D.faults disk.new) (IsErrOf result CreateFault.Disk) }
@@ -32,10 +32,10 @@ fn close_first<D: Disk>(disk: &mut D) -> Result<(), CreateFault>
 pub fn prepare<D: Disk>(disk: &mut D) -> Result<(), CreateFault>
     ensures same { (file : List ℕ) → D.reads disk.old ≡ Some file → 0 < length file → slice_index file 0 ≢ 1 → OnOk result (D.reads disk.new ≡ Some file) }
     ensures closed { (file : List ℕ) → D.reads disk.old ≡ Some file → (file ≡ []) ⊎ (slice_index file 0 ≡ 1) → OnOk result (D.reads disk.new ≡ Some (after_write file 0 (0 ∷ []))) }
-    ensures left { (file : List ℕ) → D.reads disk.old ≡ Some file → PrepareLeaves D.reads D.may_leave file disk.new result }
+    ensures left { (file : List ℕ) → D.reads disk.old ≡ Some file → PrepareLeaves D.Disk file disk.new result }
     ensures any_moment { (file : List ℕ) → D.reads disk.old ≡ Some file
-        → SinceSync D.clock D.may_have_left_since D.may_leave file disk.old disk.new (λ image. records image ≡ records file)
-        ⊎ (IsErrOf result CreateFault.Disk × AtEachMoment D.clock D.may_have_left_since disk.old disk.new (D.may_leave disk.old)) }
+        → SinceSync D.Disk file disk.old disk.new (λ image. records image ≡ records file)
+        ⊎ (IsErrOf result CreateFault.Disk × AtEachMoment D.Disk disk.old disk.new (D.may_leave disk.old)) }
     ensures within { OnOk result (0 < D.end disk.new) }
     ensures cause { CountsFault (D.faults disk.old) (D.faults disk.new) (IsErrOf result CreateFault.Disk) }
 {

@@ -1,6 +1,6 @@
 // A record, and how it is written.
 ghost use Rattle.std.specs.Prelude.{◌≡◌, ◌≤◌, ◌<◌, ◌+◌, ◌^◌, ◌++◌, [], ◌∷◌, List, ℕ, length, IfOk, OnOk};
-ghost use Rattle.jp_disk.specs.Moments.{AtEachMoment};
+ghost use Rattle.jp_disk.specs.Runs.{AtEachMoment};
 ghost use Rattle.device_faults.specs.Faults.{HasCause};
 ghost use Rattle.journal_core.specs.Records.{body, HasWithOrWithout};
 ghost use Rattle.journal_core.specs.State.{Stores};
@@ -40,10 +40,10 @@ pub fn write_record<D: Disk>(disk: &mut D, gate: u64, block: &[u8]) -> Result<()
     ensures end { D.end disk.old ≤ D.end disk.new }
     ensures reached { OnOk result (gate + 1 + length block.now ≤ D.end disk.new) }
     ensures cause { HasCause (D.faults disk.old) (D.faults disk.new) result }
-    ensures stored { (payloads : List (List ℕ)) (payload : List ℕ) → length payload < 2 ^ 32 → block.now ≡ body payload → Stores D.reads D.may_leave disk.old (gate + 1) payloads
-        → OnOk result (Stores D.reads D.may_leave disk.new (gate + 1 + length block.now) (payloads ++ payload ∷ [])) }
-    ensures any_moment { (payloads : List (List ℕ)) (payload : List ℕ) → length payload < 2 ^ 32 → block.now ≡ body payload → Stores D.reads D.may_leave disk.old (gate + 1) payloads
-        → AtEachMoment D.clock D.may_have_left_since disk.old disk.new (HasWithOrWithout payloads payload) }
+    ensures stored { (payloads : List (List ℕ)) (payload : List ℕ) → length payload < 2 ^ 32 → block.now ≡ body payload → Stores D.Disk disk.old (gate + 1) payloads
+        → OnOk result (Stores D.Disk disk.new (gate + 1 + length block.now) (payloads ++ payload ∷ [])) }
+    ensures any_moment { (payloads : List (List ℕ)) (payload : List ℕ) → length payload < 2 ^ 32 → block.now ≡ body payload → Stores D.Disk disk.old (gate + 1) payloads
+        → AtEachMoment D.Disk disk.old disk.new (HasWithOrWithout payloads payload) }
 {
     write_durably(disk, gate + 1, block)?;
     write_durably(disk, gate, &[1])

@@ -1,7 +1,7 @@
 // Walks the gates of a file.
 ghost use Rattle.std.specs.Prelude.{◌≡◌, ◌≤◌, ◌<◌, ◌+◌, ◌^◌, List, ℕ, length, IfOk, Some, IsErrOf, vec_len};
 ghost use Rattle.std.specs.List.{All};
-ghost use Rattle.jp_disk.specs.Moments.{AtEachMoment};
+ghost use Rattle.jp_disk.specs.Runs.{AtEachMoment};
 ghost use Rattle.device_faults.specs.Faults.{CountsFault};
 ghost use Rattle.journal_core.specs.Moments.{OnlyReads};
 ghost use Rattle.journal_core.specs.Answers.{StandInTurn};
@@ -21,7 +21,7 @@ fn walk_gates<D: Disk>(
 ) -> Result<(u64, Vec<Record>), OpenFault>
     requires end { end ≡ D.end disk.old }
     requires room { 6 ≤ end }
-    ensures quiet { OnlyReads D.reads D.may_leave D.clock D.may_have_left_since D.end disk.old disk.new }
+    ensures quiet { OnlyReads D.Disk disk.old disk.new }
     ensures found { (file : List ℕ) → D.reads disk.old ≡ Some file → WalkFinds file result }
     ensures within { IfOk result (λ found. found.0 < end) }
     ensures each { IfOk result (λ found. All (λ entry. entry.at + 5 + entry.len ≤ found.0) found.1.items) }
@@ -50,9 +50,9 @@ fn walk_gates<D: Disk>(
 /// The length of the journal in a file and its records, where there is one. It syncs first, so that what it finds is
 /// durable, and writes nothing.
 pub fn load<D: Disk>(alloc: Global, disk: &mut D) -> Result<(u64, Vec<Record>), OpenFault>
-    ensures found { (file : List ℕ) → D.reads disk.old ≡ Some file → LoadFinds D.reads D.may_leave file disk.new result }
+    ensures found { (file : List ℕ) → D.reads disk.old ≡ Some file → LoadFinds D.Disk file disk.new result }
     ensures told { (file : List ℕ) → D.reads disk.old ≡ Some file → D.reads disk.new ≡ Some file }
-    ensures any_moment { AtEachMoment D.clock D.may_have_left_since disk.old disk.new (D.may_leave disk.old) }
+    ensures any_moment { AtEachMoment D.Disk disk.old disk.new (D.may_leave disk.old) }
     ensures some { IfOk result (λ found. 0 < found.0) }
     ensures within { IfOk result (λ found. found.0 ≤ D.end disk.new) }
     ensures each { IfOk result (λ found. All (λ entry. entry.at + 5 + entry.len < found.0) found.1.items) }

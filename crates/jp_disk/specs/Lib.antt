@@ -5,3 +5,5 @@ pub mod Reading
 pub mod Medium
 pub mod MediumLaws
 pub mod History
+pub mod Runs
+pub mod View

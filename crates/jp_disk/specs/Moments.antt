@@ -7,10 +7,3 @@ pub record TimePasses (before now : ℕ) (past since : ℕ → List ℕ → Type
   pub later : before ≤ now
   pub nothing_else : (t : ℕ) (image : List ℕ) → t ≤ before → since t image → past t image ⊎ may_leave image
   pub keeps : (t : ℕ) (image : List ℕ) → t ≤ before → past t image → since t image
-
--- A crash at any moment from `old` to `new`, two states of a disk, leaves an image that has P.
-pub record AtEachMoment {D : Type 0} (clock : D → ℕ) (since : D → ℕ → List ℕ → Type 0) (old new : D) (P : List ℕ → Type 0) : Type 0 where
-  pub later : clock old ≤ clock new
-  pub each : (image : List ℕ) → since new (clock old) image → P image
-  -- so that a run that began earlier goes on
-  pub before : (t : ℕ) (image : List ℕ) → t ≤ clock old → since new t image → since old t image ⊎ P image

@@ -91,7 +91,7 @@ impl<R: Files<File = File> + Eprint, D: Disk> Disk for LockedDisk<'_, R, D> {
     /// As the trait says. Beside it, of each of these calls: the lock is asked for once, and a call fails only where it is
     /// refused, and then leaves the disk below as it was, or where the disk below failed (`guarded`).
     fn len(&mut self) -> Result<u64, Failed>
-        ensures guarded { IsGuarded D.faults self.old self.new result }
+        ensures guarded { IsGuarded D.Disk self.old self.new result }
 
         ensures length { IfOk result (λ n. n ≡ D.end self.new.disk) }
         ensures end { OnErr result (D.end self.new.disk ≡ D.end self.old.disk) }
@@ -107,7 +107,7 @@ impl<R: Files<File = File> + Eprint, D: Disk> Disk for LockedDisk<'_, R, D> {
     }
 
     fn read_at(&mut self, at: u64, buf: &mut [u8]) -> Result<usize, Failed>
-        ensures guarded { IsGuarded D.faults self.old self.new result }
+        ensures guarded { IsGuarded D.Disk self.old self.new result }
 
         ensures count { IfOk result (IsReadCount (D.end self.old.disk) at buf.old) }
         ensures bytes { IfOk result (λ n. IfSome (D.reads self.old.disk) (λ file. HasRead file at n buf.old buf.new)) }
@@ -126,7 +126,7 @@ impl<R: Files<File = File> + Eprint, D: Disk> Disk for LockedDisk<'_, R, D> {
     fn write_at(&mut self, at: u64, bytes: &[u8]) -> Result<(), Failed>
         requires within { at ≤ D.end self.old.disk }
         requires room { at + length bytes.now < 2 ^ 64 }
-        ensures guarded { IsGuarded D.faults self.old self.new result }
+        ensures guarded { IsGuarded D.Disk self.old self.new result }
 
         ensures written { OnOk result (IfSome (D.reads self.old.disk) (λ file. D.reads self.new.disk ≡ Some (after_write file at bytes.now))) }
         ensures told { IfSome (D.reads self.old.disk) (λ file. IsSomeAnd (D.reads self.new.disk) (λ now. IsTornWrite at (length bytes.now) file now)) }
@@ -144,7 +144,7 @@ impl<R: Files<File = File> + Eprint, D: Disk> Disk for LockedDisk<'_, R, D> {
     }
 
     fn sync(&mut self) -> Result<(), Failed>
-        ensures guarded { IsGuarded D.faults self.old self.new result }
+        ensures guarded { IsGuarded D.Disk self.old self.new result }
 
         ensures durable { OnOk result (IfSome (D.reads self.old.disk) (λ file. IsOnlyImage file (D.may_leave self.new.disk))) }
         ensures end { D.end self.new.disk ≡ D.end self.old.disk }

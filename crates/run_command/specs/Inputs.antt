@@ -1,6 +1,7 @@
 -- What a call takes from a source of bytes. This product's own.
 use Rattle.std.specs.Prelude.{◌≡◌, ℕ, List, Option}
 use Rattle.device_faults.specs.Faults.{Rose}
+use Rattle.jp_io.specs.View.{SourceView}
 
 -- The bytes that the source had left before the call and after it, where it tells them, and its counts of faults.
 pub record Input : Type 0 where
@@ -9,8 +10,8 @@ pub record Input : Type 0 where
   pub before : ℕ
   pub after : ℕ
 
-abbrev pub taken_from : {S : Type 0} → (S → Option (List ℕ)) → (S → ℕ) → S → S → Input
-taken_from left faults old new = record { left = left old; rest = left new; before = faults old; after = faults new }
+abbrev pub taken_from : {S : Type 0} → SourceView S → S → S → Input
+taken_from source old new = record { left = source.left old; rest = source.left new; before = source.faults old; after = source.faults new }
 
 -- it was not asked
 pub record IsUnread (input : Input) : Type 0 where

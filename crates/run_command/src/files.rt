@@ -28,12 +28,12 @@ pub fn read_files<S: Source>(
     script: &mut S,
     agents: &mut S,
 ) -> Result<Files, ReadFault>
-    ensures script { IfOk result (λ files. ReadWhole script_limit (taken_from S.left S.faults script.old script.new) files.script.items) }
-    ensures agents { IfOk result (λ files. ReadWhole agents_limit (taken_from S.left S.faults agents.old agents.new) files.agents.items) }
+    ensures script { IfOk result (λ files. ReadWhole script_limit (taken_from S.Source script.old script.new) files.script.items) }
+    ensures agents { IfOk result (λ files. ReadWhole agents_limit (taken_from S.Source agents.old agents.new) files.agents.items) }
     ensures most_script { TakesAtMost (script_limit + 1) (S.left script.old) (S.left script.new) }
     ensures most_agents { TakesAtMost (agents_limit + 1) (S.left agents.old) (S.left agents.new) }
-    ensures failed { IsErrOf result Failed → HasFailed (taken_from S.left S.faults script.old script.new) ⊎ HasFailed (taken_from S.left S.faults agents.old agents.new) }
-    ensures wanting { IsErrOf result Memory → IsCalm (taken_from S.left S.faults script.old script.new) × IsCalm (taken_from S.left S.faults agents.old agents.new) }
+    ensures failed { IsErrOf result Failed → HasFailed (taken_from S.Source script.old script.new) ⊎ HasFailed (taken_from S.Source agents.old agents.new) }
+    ensures wanting { IsErrOf result Memory → IsCalm (taken_from S.Source script.old script.new) × IsCalm (taken_from S.Source agents.old agents.new) }
 {
     let script = read_up_to(alloc, script, SCRIPT_LIMIT + 1)?;
     let agents = read_up_to(alloc, agents, FILE_LIMIT + 1)?;

@@ -4,7 +4,7 @@ use Rattle.std.specs.Prelude.{nat_lt, if◌then◌else◌, codes}
 use Rattle.std.specs.Str.{is_utf8}
 use Rattle.serde_json.specs.Data.{Data}
 use Rattle.serde_json.specs.Read.{read}
-use Rattle.jp_disk.specs.Moments.{AtEachMoment}
+use Rattle.jp_disk.specs.Runs.{AtEachMoment}
 use Rattle.jp_disk.proofs.MomentLemmas.{runs_on, at_each_weaker, starts}
 use Rattle.journal_core.specs.Answers.{IsStarted}
 use Rattle.journal_core.specs.Moments.{SinceSync}
@@ -48,6 +48,7 @@ use Rattle.saved_run.specs.declared.life.BeginFault.TheVariants.{Take}
 use Rattle.saved_run.specs.Lives.{image_after, Goes, IsBegun, StartFaults, MayRisk, Stands, Begins, BeginRefuses, StartFails}
 use Rattle.saved_run.proofs.LifeLemmas.{saves_world}
 use Rattle.saved_run.proofs.SavedLemmas.{same_standing, told_none, told_start, survives_all, survives_risked}
+use Rattle.jp_disk.specs.View.{DiskView}
 
 -- the executors of an agents file have numbers of their own
 site_numbered : (a : List ℕ) (site : Site) → agents_file a ≡ Means site → AreNumbered site
@@ -82,16 +83,16 @@ goes_begun stance setting script agents fresh new mean same stands here running 
   stands = subst (λ (s : Setting). StandsFor stance new.build (after_one s unbegun (event.Start script agents))) same (goes unbegun stands);
 }
 
-module _ {D T : Type 0} (reads : D → Option (List ℕ)) (may_leave : D → List ℕ → Type 0) (clock : D → ℕ) (since : D → ℕ → List ℕ → Type 0) (stance : T → Stance) (setting : Setting) (script agents file : List ℕ) (disk : D) (fresh new : Kept D T)
-    (mean : Mean script agents setting) (same : setting_in fresh.build ≡ setting) (stands : StandsFor stance fresh.build unbegun) (unstarted : IsStarted file → ⊥) (none : Has [] file) (keeps_none : Keeps reads may_leave stance fresh [])
-    (quiet : SinceSync clock since may_leave file disk fresh.journal.disk (λ image. records image ≡ records file)) where
+module _ {D T : Type 0} (disk : DiskView D) (stance : T → Stance) (setting : Setting) (script agents file : List ℕ) (state : D) (fresh new : Kept D T)
+    (mean : Mean script agents setting) (same : setting_in fresh.build ≡ setting) (stands : StandsFor stance fresh.build unbegun) (unstarted : IsStarted file → ⊥) (none : Has [] file) (keeps_none : Keeps disk stance fresh [])
+    (quiet : SinceSync disk file state fresh.journal.disk (λ image. records image ≡ records file)) where
   abbrev start : Event
   start = event.Start script agents
 
   starts_accepted : taken (standing_of fresh.build) start ≡ Accepted
   starts_accepted = ap (λ (b : Standing). taken b start) (same_standing stance fresh.build unbegun stands)
 
-  told_here : (puts : Puts clock since fresh.journal new.journal (record_of start (image_in stance new.build)) [])
+  told_here : (puts : Puts disk fresh.journal new.journal (record_of start (image_in stance new.build)) [])
       → ((w : Build) → StandsFor stance fresh.build w → image_in stance new.build ≡ world_image (setting_in fresh.build) (after_one (setting_in fresh.build) w start)) → IsTold setting (start ∷ []) (puts.payload ∷ [])
   told_here puts image =
       told_start setting script agents puts.payload (record_of start (image_in stance new.build)) mean puts.tells refl
@@ -101,37 +102,37 @@ module _ {D T : Type 0} (reads : D → Option (List ℕ)) (may_leave : D → Lis
   stores_none image has = record { payloads = []; has = has; told = told_none setting }
 
   module _ (taken : List Event) (risked : Option Event) (some : (image : List ℕ) → Stores setting [] image → Survives setting [] taken risked image) where
-    before_start : AtEachMoment clock since quiet.synced fresh.journal.disk (Survives setting [] taken risked)
-    before_start = at_each_weaker clock since quiet.synced fresh.journal.disk (λ image. records image ≡ records file) (Survives setting [] taken risked) (λ image is. some image (stores_none image (is ∙ none))) quiet.from_then
+    before_start : AtEachMoment disk quiet.synced fresh.journal.disk (Survives setting [] taken risked)
+    before_start = at_each_weaker disk quiet.synced fresh.journal.disk (λ image. records image ≡ records file) (Survives setting [] taken risked) (λ image is. some image (stores_none image (is ∙ none))) quiet.from_then
 
-    with_start : ((image : List ℕ) → Stores setting (start ∷ []) image → Survives setting [] taken risked image) → (now : D) (p : List ℕ) → IsTold setting (start ∷ []) (p ∷ []) → AtEachMoment clock since fresh.journal.disk now (HasWithOrWithout [] p) → SinceSync clock since may_leave file disk now (Survives setting [] taken risked)
+    with_start : ((image : List ℕ) → Stores setting (start ∷ []) image → Survives setting [] taken risked image) → (now : D) (p : List ℕ) → IsTold setting (start ∷ []) (p ∷ []) → AtEachMoment disk fresh.journal.disk now (HasWithOrWithout [] p) → SinceSync disk file state now (Survives setting [] taken risked)
     with_start all now p told moments = record {
       synced = quiet.synced;
       up_to = quiet.up_to;
       durable = quiet.durable;
-      from_then = runs_on clock since quiet.synced fresh.journal.disk now (Survives setting [] taken risked) before_start
-          (at_each_weaker clock since fresh.journal.disk now (HasWithOrWithout [] p) (Survives setting [] taken risked) (λ image has. either image has) moments);
+      from_then = runs_on disk quiet.synced fresh.journal.disk now (Survives setting [] taken risked) before_start
+          (at_each_weaker disk fresh.journal.disk now (HasWithOrWithout [] p) (Survives setting [] taken risked) (λ image has. either image has) moments);
     }
       where
         either : (image : List ℕ) → HasWithOrWithout [] p image → Survives setting [] taken risked image
         either image (inl has) = some image (stores_none image has)
         either image (inr has) = all image (record { payloads = p ∷ []; has = has; told = told })
 
-    without_start : (now : State D) → now ≡ fresh.journal → SinceSync clock since may_leave file disk now.disk (Survives setting [] taken risked)
-    without_start now is = subst (λ (j : State D). SinceSync clock since may_leave file disk j.disk (Survives setting [] taken risked)) (sym is) (record { synced = quiet.synced; up_to = quiet.up_to; durable = quiet.durable; from_then = before_start })
+    without_start : (now : State D) → now ≡ fresh.journal → SinceSync disk file state now.disk (Survives setting [] taken risked)
+    without_start now is = subst (λ (j : State D). SinceSync disk file state j.disk (Survives setting [] taken risked)) (sym is) (record { synced = quiet.synced; up_to = quiet.up_to; durable = quiet.durable; from_then = before_start })
 
   pub begins_taken : (answer : Taken) (life : Life D T) → life.durable ≡ new → answer ≡ taken (standing_of fresh.build) start → setting_in new.build ≡ setting_in fresh.build → TakeLeaves stance fresh new start (Ok answer)
-      → ((w : Build) → StandsFor stance fresh.build w → StandsFor stance new.build (after_one (setting_in fresh.build) w start)) → TakeKeeps reads may_leave clock since stance fresh new start [] (Ok answer) → Begins reads may_leave clock since stance setting start file disk life
+      → ((w : Build) → StandsFor stance fresh.build w → StandsFor stance new.build (after_one (setting_in fresh.build) w start)) → TakeKeeps disk stance fresh new start [] (Ok answer) → Begins disk stance setting start file state life
   begins_taken Accepted life at is here leaves goes a =
       let told = told_here a.puts a.image in
       let now : setting_in new.build ≡ setting = here ∙ same in
       record {
         fresh = unstarted;
-        stands = subst (λ (k : Kept D T). Stands reads may_leave clock since stance setting (start ∷ []) k) (sym at) (record {
+        stands = subst (λ (k : Kept D T). Stands disk stance setting (start ∷ []) k) (sym at) (record {
           goes = goes_begun stance setting script agents fresh new mean same stands here leaves.0 goes;
           saves = record { payloads = a.puts.payload ∷ []; keeps = a.keeps; told = subst (λ (s : Setting). IsTold s (start ∷ []) (a.puts.payload ∷ [])) (sym now) told };
         });
-        moments = subst (λ (k : Kept D T). SinceSync clock since may_leave file disk k.journal.disk (Survives setting [] (start ∷ []) None)) (sym at)
+        moments = subst (λ (k : Kept D T). SinceSync disk file state k.journal.disk (Survives setting [] (start ∷ []) None)) (sym at)
             (with_start (start ∷ []) None (λ image stores. record { kept = []; front = record { begins = ([], refl); within = inl (start ∷ [], refl) }; stores = stores })
             (λ image stores. survives_all setting [] (start ∷ []) None image (start ∷ [], refl) stores) new.journal.disk a.puts.payload told a.puts.moments);
       }
@@ -139,7 +140,7 @@ module _ {D T : Type 0} (reads : D → Option (List ℕ)) (may_leave : D → Lis
   begins_taken (WrongPlace kept) life at is here leaves goes keeps = let bad : WrongPlace kept ≡ Accepted = is ∙ starts_accepted in absurd (cc)
   begins_taken Finished life at is here leaves goes keeps = let bad : Finished ≡ Accepted = is ∙ starts_accepted in absurd (cc)
 
-  unrisked : (f : TakeFault) → new.journal ≡ fresh.journal → MayRisk f (Some start) None → StartFails reads may_leave clock since stance setting start file disk new.journal.disk f
+  unrisked : (f : TakeFault) → new.journal ≡ fresh.journal → MayRisk f (Some start) None → StartFails disk stance setting start file state new.journal.disk f
   unrisked f is may = record {
     fresh = unstarted;
     none = none;
@@ -149,7 +150,7 @@ module _ {D T : Type 0} (reads : D → Option (List ℕ)) (may_leave : D → Lis
   }
 
   pub start_fails : (f : TakeFault) → fresh.stopped ≡ false → TakeAnswers stance fresh new start (Err f) → TakeLeaves stance fresh new start (Err f)
-      → TakeKeeps reads may_leave clock since stance fresh new start [] (Err f) → StartFails reads may_leave clock since stance setting start file disk new.journal.disk f
+      → TakeKeeps disk stance fresh new start [] (Err f) → StartFails disk stance setting start file state new.journal.disk f
   start_fails Memory running answers leaves keeps = unrisked Memory leaves.1 refl
   start_fails (Full len add) running answers leaves keeps = unrisked (Full len add) leaves.1 refl
   start_fails Stopped running answers leaves keeps = let bad : false ≡ true = sym running ∙ answers in absurd (cc)
@@ -187,12 +188,12 @@ start_faults stance setting old new e (Full at add) same stands running len weig
 start_faults stance setting old new e Stopped same stands running len weighs answers size = let bad : false ≡ true = sym running ∙ answers in absurd (cc)
 
 -- the take of a `Start` failed
-pub start_refused : {D : Type 0} (reads : D → Option (List ℕ)) (may_leave : D → List ℕ → Type 0) (clock : D → ℕ) (since : D → ℕ → List ℕ → Type 0) {T : Type 0} (stance : T → Stance) (setting : Setting) (start : Event) (file : List ℕ) (disk now : D) (f : TakeFault)
-    → StartFaults setting start f → StartFails reads may_leave clock since stance setting start file disk now f → BeginRefuses reads may_leave clock since stance setting start file disk (Take f) now
-start_refused reads may_leave clock since stance setting start file disk now Memory faults fails = (faults, inr (inr fails))
-start_refused reads may_leave clock since stance setting start file disk now Disk faults fails = (faults, inr (inr fails))
-start_refused reads may_leave clock since stance setting start file disk now (Full at add) faults fails = (faults, fails)
-start_refused reads may_leave clock since stance setting start file disk now Stopped faults fails = (faults, inr (inr fails))
+pub start_refused : {D : Type 0} (disk : DiskView D) {T : Type 0} (stance : T → Stance) (setting : Setting) (start : Event) (file : List ℕ) (state now : D) (f : TakeFault)
+    → StartFaults setting start f → StartFails disk stance setting start file state now f → BeginRefuses disk stance setting start file state (Take f) now
+start_refused disk stance setting start file state now Memory faults fails = (faults, inr (inr fails))
+start_refused disk stance setting start file state now Disk faults fails = (faults, inr (inr fails))
+start_refused disk stance setting start file state now (Full at add) faults fails = (faults, fails)
+start_refused disk stance setting start file state now Stopped faults fails = (faults, inr (inr fails))
 
 -- what a crash leaves where a journal was not made
 pub since_started : {A B : Type 0} (f : CreateFault) → f ≡ HasRecord → A ⊎ ((f ≡ CreateDisk) × B) → A
@@ -216,26 +217,26 @@ nothing : 0 < 0 → ⊥
 nothing lt = omega (arith, lt)
 
 -- a store that was opened, and is that of these events
-pub reopened : {D T : Type 0} (reads : D → Option (List ℕ)) (may_leave : D → List ℕ → Type 0) (clock : D → ℕ) (since : D → ℕ → List ℕ → Type 0) (stance : T → Stance) (setting : Setting) (events : List Event) (file : List ℕ) (k : Kept D T)
-    → Opened reads may_leave stance file k → k.stopped ≡ false → Stores setting events file → Stands reads may_leave clock since stance setting events k
-reopened {D} {T} reads may_leave clock since stance setting events file k o running stores =
+pub reopened : {D T : Type 0} (disk : DiskView D) (stance : T → Stance) (setting : Setting) (events : List Event) (file : List ℕ) (k : Kept D T)
+    → Opened disk stance file k → k.stopped ≡ false → Stores setting events file → Stands disk stance setting events k
+reopened {D} {T} disk stance setting events file k o running stores =
     one o.payloads stores.told.records o.some o.keeps (subst (Told None stores.told.records) (same_payloads stores.payloads o.payloads file stores.has o.has) stores.told.spelled) stores.told.story stores.told.due stores.told.are
   where
-    one : (ps : List (List ℕ)) (rs : List EventRecord) → 0 < length ps → Keeps reads may_leave stance k ps → Told None rs ps → IsStory world_image setting rs → AllDue setting unbegun rs → events_of rs ≡ events
-        → Stands reads may_leave clock since stance setting events k
+    one : (ps : List (List ℕ)) (rs : List EventRecord) → 0 < length ps → Keeps disk stance k ps → Told None rs ps → IsStory world_image setting rs → AllDue setting unbegun rs → events_of rs ≡ events
+        → Stands disk stance setting events k
     one [] rs some keeps spelled story due are = absurd (nothing some)
     one (p ∷ ps) [] some keeps spelled story due are = absurd spelled
     one (p ∷ ps) (r ∷ rs) some keeps spelled story due are =
         let o = keeps.stands.1 in
         let same : setting ≡ setting_in k.build = same_setting (setting_in k.build) setting k.script k.agents p r o spelled.0 story.starts in
-        let saves : Saves reads may_leave stance k events = record { payloads = p ∷ ps; keeps = keeps; told = subst (λ (s : Setting). IsTold s events (p ∷ ps)) same (record { records = r ∷ rs; spelled = spelled; story = story; due = due; are = are }) } in
+        let saves : Saves disk stance k events = record { payloads = p ∷ ps; keeps = keeps; told = subst (λ (s : Setting). IsTold s events (p ∷ ps)) same (record { records = r ∷ rs; spelled = spelled; story = story; due = due; are = are }) } in
         record {
           goes = record {
             same = sym same;
             proper = subst IsProper (sym same) (mean_proper k.script k.agents (setting_in k.build) o.mean);
             begun = subst (λ (es : List Event). (world_in setting es).started ≡ true) are (begun_all setting (r.event ∷ []) (events_of rs) (starts_first setting r.event (is_start setting r.event story.starts)));
             running = running;
-            stands = saves_world reads may_leave clock since stance setting events k (sym same) saves;
+            stands = saves_world disk stance setting events k (sym same) saves;
           };
           saves = saves;
         }

@@ -1,7 +1,7 @@
 -- What a take makes of a life.
 use Rattle.std.specs.Prelude.{◌+◌, if◌then◌else◌, length, IfSome, IsSome}
 use Rattle.std.proofs.Common.{◌≡◌, ◌⊎◌, ◌≤◌, ℕ, Bool, true, false, List, [], ◌∷◌, ◌++◌, Option, Some, None, Ok, Err, inl, inr, refl, sym, ap, ◌∙◌, subst, append-nil, append_assoc}
-use Rattle.jp_disk.specs.Moments.{AtEachMoment}
+use Rattle.jp_disk.specs.Runs.{AtEachMoment}
 use Rattle.jp_disk.proofs.MomentLemmas.{runs_on, at_each_weaker, starts}
 use Rattle.journal_core.specs.Records.{HasWithOrWithout, Walked, framed}
 use Rattle.journal_core.specs.State.{State}
@@ -30,6 +30,7 @@ use Rattle.durable_build.proofs.Sizes.{due_adds}
 use Rattle.saved_run.specs.Saved.{IsTold, Saves, Stores, Survives, journal_length, journal_weights}
 use Rattle.saved_run.specs.Lives.{image_after, Goes, IsFull, IsOf, MayRisk, Lasts, FailsBy, TellsFault, TellsStore}
 use Rattle.saved_run.proofs.SavedLemmas.{same_standing, told_more, survives_all, survives_risked, survives_more, survives_risk}
+use Rattle.jp_disk.specs.View.{DiskView}
 
 if_some : (o : Option Event) (P Q : Event → Type 0) → ((e : Event) → P e → Q e) → IfSome o P → IfSome o Q
 if_some None P Q goes is = tt
@@ -66,24 +67,24 @@ tells_stopped {D} {T} stance kept new fault is tells = subst (λ (k : Kept D T).
     same (Full at add) t = t
     same Stopped t = t
 
-module _ {D T : Type 0} (reads : D → Option (List ℕ)) (may_leave : D → List ℕ → Type 0) (clock : D → ℕ) (since : D → ℕ → List ℕ → Type 0) (stance : T → Stance) where
+module _ {D T : Type 0} (disk : DiskView D) (stance : T → Stance) where
   -- a build that is saved stands for that of its events
-  pub saves_world : (setting : Setting) (events : List Event) (kept : Kept D T) → setting_in kept.build ≡ setting → Saves reads may_leave stance kept events → StandsFor stance kept.build (world_in setting events)
+  pub saves_world : (setting : Setting) (events : List Event) (kept : Kept D T) → setting_in kept.build ≡ setting → Saves disk stance kept events → StandsFor stance kept.build (world_in setting events)
   saves_world setting events kept same saves =
       let t = saves.told in
       subst (λ (es : List Event). StandsFor stance kept.build (world_in setting es)) t.are
       (subst (λ (x : Setting). StandsFor stance kept.build (world_in x (events_of t.records))) same (saves.keeps.story t.records t.spelled t.story))
 
   -- what a crash leaves of a life, and what stands on its disk now
-  pub saved_image : (setting : Setting) (events : List Event) (kept : Kept D T) (image : List ℕ) → setting_in kept.build ≡ setting → Saves reads may_leave stance kept events → may_leave kept.journal.disk image → Stores setting events image
+  pub saved_image : (setting : Setting) (events : List Event) (kept : Kept D T) (image : List ℕ) → setting_in kept.build ≡ setting → Saves disk stance kept events → disk.may_leave kept.journal.disk image → Stores setting events image
   saved_image setting events kept image same saves left = record {
     payloads = saves.payloads;
-    has = stores_has reads may_leave kept.journal.disk kept.journal.len saves.payloads image saves.keeps.holds left;
+    has = stores_has disk kept.journal.disk kept.journal.len saves.payloads image saves.keeps.holds left;
     told = subst (λ (x : Setting). IsTold x events saves.payloads) same saves.told;
   }
 
   -- the journal's length is that of the file that the disk tells, and its records weigh what the file's do
-  saved_store : (events : List Event) (kept : Kept D T) → Saves reads may_leave stance kept events → IfSome (reads kept.journal.disk) (λ file. (kept.journal.len ≡ journal_length file) × (kept.weights ≡ journal_weights file))
+  saved_store : (events : List Event) (kept : Kept D T) → Saves disk stance kept events → IfSome (disk.reads kept.journal.disk) (λ file. (kept.journal.len ≡ journal_length file) × (kept.weights ≡ journal_weights file))
   saved_store events kept saves =
       let h = saves.keeps.holds in
       let has = sym (has_framed saves.payloads h.gate h.rest h.closed h.fit) in
@@ -92,39 +93,39 @@ module _ {D T : Type 0} (reads : D → Option (List ℕ)) (may_leave : D → Lis
 
   -- a take that failed by one of these events failed by one of those
   pub fails_by : (setting : Setting) (entry : Option (List ℕ)) (origin : D) (before events : List Event) (Cause Other : Event → Type 0) (fault : TakeFault) (kept : Kept D T) → ((e : Event) → Cause e → Other e)
-      → FailsBy reads may_leave clock since stance setting entry origin before events Cause fault kept → FailsBy reads may_leave clock since stance setting entry origin before events Other fault kept
+      → FailsBy disk stance setting entry origin before events Cause fault kept → FailsBy disk stance setting entry origin before events Other fault kept
   fails_by setting entry origin before events Cause Other fault kept goes f = (f.0, if_some f.0.refused Cause Other goes f.1)
 
   -- what is said of a take that failed hangs on its journal and its weights alone
   pub fails_same : (setting : Setting) (entry : Option (List ℕ)) (origin : D) (before events : List Event) (Cause : Event → Type 0) (fault : TakeFault) (kept new : Kept D T) → new.journal ≡ kept.journal → new.weights ≡ kept.weights
-      → FailsBy reads may_leave clock since stance setting entry origin before events Cause fault kept → FailsBy reads may_leave clock since stance setting entry origin before events Cause fault new
+      → FailsBy disk stance setting entry origin before events Cause fault kept → FailsBy disk stance setting entry origin before events Cause fault new
   fails_same setting entry origin before events Cause fault kept new same weighs f = (
     record {
       refused = f.0.refused;
       is_next = f.0.is_next;
       full = subst (λ (w : Weights). IfSome f.0.refused (λ (e : Event). IsFull w (Some (image_after setting events)) e (image_after setting (events ++ e ∷ [])) new.journal.len fault)) (sym weighs)
           (subst (λ (j : State D). IfSome f.0.refused (λ (e : Event). IsFull kept.weights (Some (image_after setting events)) e (image_after setting (events ++ e ∷ [])) j.len fault)) (sym same) f.0.full);
-      sized = λ known. subst (λ (w : Weights). IfSome (reads new.journal.disk) (TellsStore w fault)) (sym weighs) (subst (λ (j : State D). IfSome (reads j.disk) (TellsStore kept.weights fault)) (sym same) (f.0.sized known));
+      sized = λ known. subst (λ (w : Weights). IfSome (disk.reads new.journal.disk) (TellsStore w fault)) (sym weighs) (subst (λ (j : State D). IfSome (disk.reads j.disk) (TellsStore kept.weights fault)) (sym same) (f.0.sized known));
       risked = f.0.risked;
       may_risk = f.0.may_risk;
-      moments = λ known. subst (λ (j : State D). AtEachMoment clock since origin j.disk (Survives setting before events f.0.risked)) (sym same) (f.0.moments known);
-      images = λ known image left. f.0.images known image (subst (λ (j : State D). may_leave j.disk image) same left);
+      moments = λ known. subst (λ (j : State D). AtEachMoment disk origin j.disk (Survives setting before events f.0.risked)) (sym same) (f.0.moments known);
+      images = λ known image left. f.0.images known image (subst (λ (j : State D). disk.may_leave j.disk image) same left);
     },
     f.1,
   )
 
   -- a life from its own disk on
-  pub lasts_here : ((d : D) (image : List ℕ) → since d (clock d) image → may_leave d image) → (setting : Setting) (entry : Option (List ℕ)) (events : List Event) (kept : Kept D T) → Goes stance setting events kept
-      → (IsSome entry → Saves reads may_leave stance kept events) → Lasts reads may_leave clock since stance setting entry kept.journal.disk events events kept
+  pub lasts_here : ((d : D) (image : List ℕ) → disk.may_have_left_since d (disk.clock d) image → disk.may_leave d image) → (setting : Setting) (entry : Option (List ℕ)) (events : List Event) (kept : Kept D T) → Goes stance setting events kept
+      → (IsSome entry → Saves disk stance kept events) → Lasts disk stance setting entry kept.journal.disk events events kept
   lasts_here only_now setting entry events kept goes saves = record {
     goes = goes;
     goes_on = ([], sym (append-nil events));
     saves = saves;
-    moments = λ known. starts clock since kept.journal.disk (Survives setting events events None)
+    moments = λ known. starts disk kept.journal.disk (Survives setting events events None)
         (λ image left. survives_all setting events events None image ([], sym (append-nil events)) (saved_image setting events kept image goes.same (saves known) (only_now kept.journal.disk image left)));
   }
 
-  module _ (setting : Setting) (entry : Option (List ℕ)) (origin : D) (before events : List Event) (old new : Kept D T) (e : Event) (lasts : Lasts reads may_leave clock since stance setting entry origin before events old)
+  module _ (setting : Setting) (entry : Option (List ℕ)) (origin : D) (before events : List Event) (old new : Kept D T) (e : Event) (lasts : Lasts disk stance setting entry origin before events old)
       (accepted : answer_to setting (world_in setting events) e ≡ Accepted) (due : next_grant setting (world_in setting events) ≡ grant_of e) where
     -- the build accepts what its world accepts
     pub is_accepted : taken (standing_of old.build) e ≡ Accepted
@@ -144,8 +145,8 @@ module _ {D T : Type 0} (reads : D → Option (List ℕ)) (may_leave : D → Lis
     kept_risked image (inr stores) = survives_risked setting before events e image lasts.goes_on stores
 
     -- where the disk told its bytes, the store has the events from before
-    module _ (saves : Saves reads may_leave stance old events) where
-      told_next : (puts : Puts clock since old.journal new.journal (record_of e (image_in stance new.build)) saves.payloads)
+    module _ (saves : Saves disk stance old events) where
+      told_next : (puts : Puts disk old.journal new.journal (record_of e (image_in stance new.build)) saves.payloads)
           → ((w : Build) → StandsFor stance old.build w → image_in stance new.build ≡ world_image (setting_in old.build) (after_one (setting_in old.build) w e))
           → IsTold setting (events ++ e ∷ []) (saves.payloads ++ puts.payload ∷ [])
       told_next puts image =
@@ -158,19 +159,19 @@ module _ {D T : Type 0} (reads : D → Option (List ℕ)) (may_leave : D → Lis
       with_or_without p image told (inr has) = inr (record { payloads = saves.payloads ++ p ∷ []; has = has; told = told })
 
       -- a record that was to be added
-      added_moments : (puts : Puts clock since old.journal new.journal (record_of e (image_in stance new.build)) saves.payloads)
+      added_moments : (puts : Puts disk old.journal new.journal (record_of e (image_in stance new.build)) saves.payloads)
           → ((w : Build) → StandsFor stance old.build w → image_in stance new.build ≡ world_image (setting_in old.build) (after_one (setting_in old.build) w e))
           → (taken : List Event) (risked : Option Event) → ((image : List ℕ) → Stores setting events image ⊎ Stores setting (events ++ e ∷ []) image → Survives setting before taken risked image)
-          → AtEachMoment clock since origin old.journal.disk (Survives setting before taken risked) → AtEachMoment clock since origin new.journal.disk (Survives setting before taken risked)
+          → AtEachMoment disk origin old.journal.disk (Survives setting before taken risked) → AtEachMoment disk origin new.journal.disk (Survives setting before taken risked)
       added_moments puts image taken risked kept so_far =
-          runs_on clock since origin old.journal.disk new.journal.disk (Survives setting before taken risked) so_far
-          (at_each_weaker clock since old.journal.disk new.journal.disk (HasWithOrWithout saves.payloads puts.payload) (Survives setting before taken risked)
+          runs_on disk origin old.journal.disk new.journal.disk (Survives setting before taken risked) so_far
+          (at_each_weaker disk old.journal.disk new.journal.disk (HasWithOrWithout saves.payloads puts.payload) (Survives setting before taken risked)
           (λ at has. kept at (with_or_without puts.payload at (told_next puts image) has)) puts.moments)
 
     -- It was taken.
     pub lasts_taken : (answer : Taken) → answer ≡ taken (standing_of old.build) e → setting_in new.build ≡ setting_in old.build → TakeLeaves stance old new e (Ok answer)
         → ((w : Build) → StandsFor stance old.build w → StandsFor stance new.build (after_one (setting_in old.build) w e))
-        → ((ps : List (List ℕ)) → Keeps reads may_leave stance old ps → TakeKeeps reads may_leave clock since stance old new e ps (Ok answer)) → Lasts reads may_leave clock since stance setting entry origin before (events ++ e ∷ []) new
+        → ((ps : List (List ℕ)) → Keeps disk stance old ps → TakeKeeps disk stance old new e ps (Ok answer)) → Lasts disk stance setting entry origin before (events ++ e ∷ []) new
     lasts_taken Accepted is same leaves stands keeps =
         let here : setting_in new.build ≡ setting = same ∙ lasts.goes.same in
         record {
@@ -191,7 +192,7 @@ module _ {D T : Type 0} (reads : D → Option (List ℕ)) (may_leave : D → Lis
               let s = lasts.saves known in
               let a = keeps s.payloads s.keeps in
               added_moments s a.puts a.image (events ++ e ∷ []) None kept_all
-              (at_each_weaker clock since origin old.journal.disk (Survives setting before events None) (Survives setting before (events ++ e ∷ []) None) (survives_more setting before events e) (lasts.moments known));
+              (at_each_weaker disk origin old.journal.disk (Survives setting before events None) (Survives setting before (events ++ e ∷ []) None) (survives_more setting before events e) (lasts.moments known));
         }
     lasts_taken NotOpen is same leaves stands keeps = let bad : NotOpen ≡ Accepted = is ∙ is_accepted in absurd (cc)
     lasts_taken (WrongPlace kept) is same leaves stands keeps = let bad : WrongPlace kept ≡ Accepted = is ∙ is_accepted in absurd (cc)
@@ -210,48 +211,48 @@ module _ {D T : Type 0} (reads : D → Option (List ℕ)) (may_leave : D → Lis
         ∙ ap (λ (b : Bool). if b then Some (image_after setting events) else None) lasts.goes.begun
 
     calm : (fault : TakeFault) → new.journal ≡ old.journal → IsOf setting events fault (Some e) → IsFull new.weights (Some (image_after setting events)) e (image_after setting (events ++ e ∷ [])) old.journal.len fault → MayRisk fault (Some e) None
-        → (IsSome entry → IfSome (reads old.journal.disk) (TellsStore new.weights fault)) → FailsBy reads may_leave clock since stance setting entry origin before events (λ (x : Event). x ≡ e) fault new
+        → (IsSome entry → IfSome (disk.reads old.journal.disk) (TellsStore new.weights fault)) → FailsBy disk stance setting entry origin before events (λ (x : Event). x ≡ e) fault new
     calm fault same of full may sized = (
       record {
         refused = Some e;
         is_next = of;
         full = subst (λ (j : State D). IsFull new.weights (Some (image_after setting events)) e (image_after setting (events ++ e ∷ [])) j.len fault) (sym same) full;
-        sized = λ known. subst (λ (j : State D). IfSome (reads j.disk) (TellsStore new.weights fault)) (sym same) (sized known);
+        sized = λ known. subst (λ (j : State D). IfSome (disk.reads j.disk) (TellsStore new.weights fault)) (sym same) (sized known);
         risked = None;
         may_risk = may;
-        moments = λ known. subst (λ (j : State D). AtEachMoment clock since origin j.disk (Survives setting before events None)) (sym same) (lasts.moments known);
-        images = λ known image left. inl (saved_image setting events old image lasts.goes.same (lasts.saves known) (subst (λ (j : State D). may_leave j.disk image) same left));
+        moments = λ known. subst (λ (j : State D). AtEachMoment disk origin j.disk (Survives setting before events None)) (sym same) (lasts.moments known);
+        images = λ known image left. inl (saved_image setting events old image lasts.goes.same (lasts.saves known) (subst (λ (j : State D). disk.may_leave j.disk image) same left));
       },
       refl,
     )
 
     -- It was not taken.
-    pub fails_taken : ((d : D) (t : ℕ) (image : List ℕ) → t ≤ clock d → may_leave d image → since d t image) → (fault : TakeFault) → TakeAnswers stance old new e (Err fault) → IsSized stance old new e (Err fault) → TakeLeaves stance old new e (Err fault)
-        → ((ps : List (List ℕ)) → Keeps reads may_leave stance old ps → TakeKeeps reads may_leave clock since stance old new e ps (Err fault)) → FailsBy reads may_leave clock since stance setting entry origin before events (λ (x : Event). x ≡ e) fault new
-    fails_taken counts_now Memory answers size leaves keeps = calm Memory leaves.1 tt tt refl (λ known. unsized new.weights (reads old.journal.disk) Memory (λ file. tt))
+    pub fails_taken : ((d : D) (t : ℕ) (image : List ℕ) → t ≤ disk.clock d → disk.may_leave d image → disk.may_have_left_since d t image) → (fault : TakeFault) → TakeAnswers stance old new e (Err fault) → IsSized stance old new e (Err fault) → TakeLeaves stance old new e (Err fault)
+        → ((ps : List (List ℕ)) → Keeps disk stance old ps → TakeKeeps disk stance old new e ps (Err fault)) → FailsBy disk stance setting entry origin before events (λ (x : Event). x ≡ e) fault new
+    fails_taken counts_now Memory answers size leaves keeps = calm Memory leaves.1 tt tt refl (λ known. unsized new.weights (disk.reads old.journal.disk) Memory (λ file. tt))
     fails_taken counts_now (Full len add) answers size leaves keeps =
         calm (Full len add) leaves.1 (record { accepted = accepted; due = due })
         (answers.2, answers.3, due_adds old.weights new.weights (image_before stance old.build) (Some (image_after setting events)) (image_in stance new.build) (image_after setting (events ++ e ∷ [])) e add (sym leaves.2.0) (image_before_is size.1) (image_is size.0) answers.4) refl
-        (λ known. subst (λ (n : ℕ). IfSome (reads old.journal.disk) (λ file. (n ≡ journal_length file) × (new.weights ≡ journal_weights file))) (sym answers.2)
-        (subst (λ (w : Weights). IfSome (reads old.journal.disk) (λ file. (old.journal.len ≡ journal_length file) × (w ≡ journal_weights file))) (sym leaves.2.0) (saved_store events old (lasts.saves known))))
+        (λ known. subst (λ (n : ℕ). IfSome (disk.reads old.journal.disk) (λ file. (n ≡ journal_length file) × (new.weights ≡ journal_weights file))) (sym answers.2)
+        (subst (λ (w : Weights). IfSome (disk.reads old.journal.disk) (λ file. (old.journal.len ≡ journal_length file) × (w ≡ journal_weights file))) (sym leaves.2.0) (saved_store events old (lasts.saves known))))
     fails_taken counts_now Stopped answers size leaves keeps = let bad : false ≡ true = sym lasts.goes.running ∙ answers in absurd (cc)
     fails_taken counts_now Disk answers size leaves keeps = (
       record {
         refused = Some e;
         is_next = record { accepted = accepted; due = due };
         full = tt;
-        sized = λ known. unsized new.weights (reads new.journal.disk) Disk (λ file. tt);
+        sized = λ known. unsized new.weights (disk.reads new.journal.disk) Disk (λ file. tt);
         risked = Some e;
         may_risk = refl;
         moments = λ known.
             let s = lasts.saves known in
             let r = keeps s.payloads s.keeps in
             added_moments s r.puts r.image events (Some e) kept_risked
-            (at_each_weaker clock since origin old.journal.disk (Survives setting before events None) (Survives setting before events (Some e)) (survives_risk setting before events (Some e)) (lasts.moments known));
+            (at_each_weaker disk origin old.journal.disk (Survives setting before events None) (Survives setting before events (Some e)) (survives_risk setting before events (Some e)) (lasts.moments known));
         images = λ known image left.
             let s = lasts.saves known in
             let r = keeps s.payloads s.keeps in
-            with_or_without s r.puts.payload image (told_next s r.puts r.image) (r.puts.moments.each image (counts_now new.journal.disk (clock old.journal.disk) image r.puts.moments.later left));
+            with_or_without s r.puts.payload image (told_next s r.puts r.image) (r.puts.moments.each image (counts_now new.journal.disk (disk.clock old.journal.disk) image r.puts.moments.later left));
       },
       refl,
     )

@@ -24,6 +24,7 @@ use Rattle.saved_run.specs.declared.life.Life.{Life}
 use Rattle.saved_run.specs.Going.{GoesOn, begins, grants, hears}
 use Rattle.saved_run.specs.Lives.{Lasts, FailsBy, IsCaused, by_grant, by_line, SoFar, Turned, Broken}
 use Rattle.saved_run.proofs.LifeLemmas.{fails_by, fails_same, saved_image, unsized}
+use Rattle.jp_disk.specs.View.{DiskView}
 
 pub positive : (n : ℕ) → (n ≡ 0 → ⊥) → 0 < n
 positive zero some = absurd (some refl)
@@ -33,50 +34,50 @@ positive (suc n) some = omega arith
 decides_whole : (b : Build) (kept line : List ℕ) → kept_line kept ≡ kept_line line → (e : Event) → Decides b kept e → Decides b line e
 decides_whole b kept line same e d = record { said = d.said; kept = sym same ∙ d.kept; request = d.request; answer = d.answer; open_now = d.open_now }
 
-module _ {D T : Type 0} (reads : D → Option (List ℕ)) (may_leave : D → List ℕ → Type 0) (clock : D → ℕ) (since : D → ℕ → List ℕ → Type 0) (stance : T → Stance) (setting : Setting) (entry : Option (List ℕ)) (origin : D) (before : List Event) where
+module _ {D T : Type 0} (disk : DiskView D) (stance : T → Stance) (setting : Setting) (entry : Option (List ℕ)) (origin : D) (before : List Event) where
   -- memory was refused, and nothing was written
-  pub wanting : (Cause : Event → Type 0) (events : List Event) (kept : Kept D T) → Lasts reads may_leave clock since stance setting entry origin before events kept
-      → FailsBy reads may_leave clock since stance setting entry origin before events Cause Memory kept
+  pub wanting : (Cause : Event → Type 0) (events : List Event) (kept : Kept D T) → Lasts disk stance setting entry origin before events kept
+      → FailsBy disk stance setting entry origin before events Cause Memory kept
   wanting Cause events kept lasts = (
     record {
       refused = None;
       is_next = tt;
       full = tt;
-      sized = λ known. unsized kept.weights (reads kept.journal.disk) Memory (λ file. tt);
+      sized = λ known. unsized kept.weights (disk.reads kept.journal.disk) Memory (λ file. tt);
       risked = None;
       may_risk = refl;
       moments = lasts.moments;
-      images = λ known image left. inl (saved_image reads may_leave clock since stance setting events kept image lasts.goes.same (lasts.saves known) left);
+      images = λ known image left. inl (saved_image disk stance setting events kept image lasts.goes.same (lasts.saves known) left);
     },
     tt,
   )
 
   -- a line that decides nothing, and one whose decision was to be taken
-  pub hears_passed : (events : List Event) (line : List ℕ) (kept : Kept D T) → Lasts reads may_leave clock since stance setting entry origin before events kept → IsPassedOver (world_in setting events) line
-      → (now : List Event) × Lasts reads may_leave clock since stance setting entry origin before now kept × Hears setting (world_in setting events) line events now
+  pub hears_passed : (events : List Event) (line : List ℕ) (kept : Kept D T) → Lasts disk stance setting entry origin before events kept → IsPassedOver (world_in setting events) line
+      → (now : List Event) × Lasts disk stance setting entry origin before now kept × Hears setting (world_in setting events) line events now
   hears_passed events line kept lasts passed = (events, lasts, passes_over passed)
 
   pub hears_taken : (events : List Event) (line : List ℕ) (e : Event) (new : Kept D T) (r : Result (Unit {0}) TakeFault) → Decides (world_in setting events) line e → answer_to setting (world_in setting events) e ≡ Accepted
-      → MatchResult r (λ _. Lasts reads may_leave clock since stance setting entry origin before (events ++ e ∷ []) new) (λ f. FailsBy reads may_leave clock since stance setting entry origin before events (λ (x : Event). x ≡ e) f new)
-      → MatchResult r (λ _. (now : List Event) × Lasts reads may_leave clock since stance setting entry origin before now new × Hears setting (world_in setting events) line events now)
-      (λ f. FailsBy reads may_leave clock since stance setting entry origin before events (Decides (world_in setting events) line) f new)
+      → MatchResult r (λ _. Lasts disk stance setting entry origin before (events ++ e ∷ []) new) (λ f. FailsBy disk stance setting entry origin before events (λ (x : Event). x ≡ e) f new)
+      → MatchResult r (λ _. (now : List Event) × Lasts disk stance setting entry origin before now new × Hears setting (world_in setting events) line events now)
+      (λ f. FailsBy disk stance setting entry origin before events (Decides (world_in setting events) line) f new)
   hears_taken events line e new (Ok u) decided accepted lasts = (events ++ e ∷ [], lasts, decides e decided accepted)
   hears_taken events line e new (Err f) decided accepted fails =
-      fails_by reads may_leave clock since stance setting entry origin before events (λ (x : Event). x ≡ e) (Decides (world_in setting events) line) f new (λ x is. subst (Decides (world_in setting events) line) (sym is) decided) fails
+      fails_by disk stance setting entry origin before events (λ (x : Event). x ≡ e) (Decides (world_in setting events) line) f new (λ x is. subst (Decides (world_in setting events) line) (sym is) decided) fails
 
   -- the grant that is due is why it was to be taken
   pub granted_by : (events : List Event) (left : Option (List ℕ)) (request executor : ℕ) (fault : TakeFault) (new : Kept D T) → next_grant setting (world_in setting events) ≡ Some (request, executor)
-      → FailsBy reads may_leave clock since stance setting entry origin before events (λ (x : Event). x ≡ GrantedEvent request executor) fault new
-      → FailsBy reads may_leave clock since stance setting entry origin before events (IsCaused setting events left []) fault new
+      → FailsBy disk stance setting entry origin before events (λ (x : Event). x ≡ GrantedEvent request executor) fault new
+      → FailsBy disk stance setting entry origin before events (IsCaused setting events left []) fault new
   granted_by events left request executor fault new due fails =
-      fails_by reads may_leave clock since stance setting entry origin before events (λ (x : Event). x ≡ GrantedEvent request executor) (IsCaused setting events left []) fault new
+      fails_by disk stance setting entry origin before events (λ (x : Event). x ≡ GrantedEvent request executor) (IsCaused setting events left []) fault new
       (λ x is. subst (IsCaused setting events left []) (sym is) (by_grant request executor due)) fails
 
   -- a life that broke off is stopped: its journal stays, and what its records weigh
   pub broken_stopped : (old left : Option (List ℕ)) (fault : TakeFault) (life new : Life D T) → new.durable.journal ≡ life.durable.journal → new.durable.weights ≡ life.durable.weights
-      → Broken reads may_leave clock since stance setting entry origin before old left fault life → Broken reads may_leave clock since stance setting entry origin before old left fault new
+      → Broken disk stance setting entry origin before old left fault life → Broken disk stance setting entry origin before old left fault new
   broken_stopped old left fault life new same weighs b =
-      let f = fails_same reads may_leave clock since stance setting entry origin before b.events (IsCaused setting b.events left b.part) fault life.durable new.durable same weighs (b.fails, b.caused) in
+      let f = fails_same disk stance setting entry origin before b.events (IsCaused setting b.events left b.part) fault life.durable new.durable same weighs (b.fails, b.caused) in
       record {
         events = b.events;
         has_answers = b.has_answers;
@@ -92,16 +93,16 @@ module _ {D T : Type 0} (reads : D → Option (List ℕ)) (may_leave : D → Lis
       }
 
   module _ (old left : Option (List ℕ)) (events : List Event) (life : Life D T) where
-    pub rests_ended : SoFar reads may_leave clock since stance setting entry origin before old left [] events life → (world_in setting events).ended ≡ true
-        → Turned reads may_leave clock since stance setting entry origin before old left (Some Ended) life
+    pub rests_ended : SoFar disk stance setting entry origin before old left [] events life → (world_in setting events).ended ≡ true
+        → Turned disk stance setting entry origin before old left (Some Ended) life
     rests_ended so ended = record { events = events; part = []; so_far = so; turns = (ended, refl) }
 
-    pub rests_waiting : SoFar reads may_leave clock since stance setting entry origin before old left [] events life → (world_in setting events).ended ≡ false → next_grant setting (world_in setting events) ≡ None
-        → (waiting_inputs (world_in setting events).shared.requests ≡ 0) ⊎ (life.has_answers ≡ false) → Turned reads may_leave clock since stance setting entry origin before old left (Some Waits) life
+    pub rests_waiting : SoFar disk stance setting entry origin before old left [] events life → (world_in setting events).ended ≡ false → next_grant setting (world_in setting events) ≡ None
+        → (waiting_inputs (world_in setting events).shared.requests ≡ 0) ⊎ (life.has_answers ≡ false) → Turned disk stance setting entry origin before old left (Some Waits) life
     rests_waiting so going none idle = record { events = events; part = []; so_far = so; turns = (going, none, idle, refl) }
 
-    pub breaks : (fault : TakeFault) (new : Life D T) → SoFar reads may_leave clock since stance setting entry origin before old left [] events life → (world_in setting events).ended ≡ false
-        → FailsBy reads may_leave clock since stance setting entry origin before events (IsCaused setting events left []) fault new.durable → Broken reads may_leave clock since stance setting entry origin before old left fault new
+    pub breaks : (fault : TakeFault) (new : Life D T) → SoFar disk stance setting entry origin before old left [] events life → (world_in setting events).ended ≡ false
+        → FailsBy disk stance setting entry origin before events (IsCaused setting events left []) fault new.durable → Broken disk stance setting entry origin before old left fault new
     breaks fault new so going fails = record {
       events = events;
       has_answers = life.has_answers;
@@ -116,9 +117,9 @@ module _ {D T : Type 0} (reads : D → Option (List ℕ)) (may_leave : D → Lis
       caused = fails.1;
     }
 
-    pub turns_granted : (request executor : ℕ) (new : Life D T) → SoFar reads may_leave clock since stance setting entry origin before old left [] events life → (world_in setting events).ended ≡ false
+    pub turns_granted : (request executor : ℕ) (new : Life D T) → SoFar disk stance setting entry origin before old left [] events life → (world_in setting events).ended ≡ false
         → next_grant setting (world_in setting events) ≡ Some (request, executor) → new.has_answers ≡ life.has_answers
-        → Lasts reads may_leave clock since stance setting entry origin before (events ++ GrantedEvent request executor ∷ []) new.durable → Turned reads may_leave clock since stance setting entry origin before old left None new
+        → Lasts disk stance setting entry origin before (events ++ GrantedEvent request executor ∷ []) new.durable → Turned disk stance setting entry origin before old left None new
     turns_granted request executor new so going due same lasts = record {
       events = events ++ GrantedEvent request executor ∷ [];
       part = [];
@@ -135,11 +136,11 @@ module _ {D T : Type 0} (reads : D → Option (List ℕ)) (may_leave : D → Lis
 
     module _ (next : Option (List ℕ)) where
       -- more was read behind
-      consumed : (part : List ℕ) (so : SoFar reads may_leave clock since stance setting entry origin before old left [] events life) → Consumes left next part → Consumes old next (so.read ++ part)
+      consumed : (part : List ℕ) (so : SoFar disk stance setting entry origin before old left [] events life) → Consumes left next part → Consumes old next (so.read ++ part)
       consumed part so more = Consumes-trans old left next so.read part (subst (Consumes old left) (append-nil so.read) so.answers) more
 
-      pub rests_failed : (part : List ℕ) → SoFar reads may_leave clock since stance setting entry origin before old left [] events life → (world_in setting events).ended ≡ false → Listens setting (world_in setting events)
-          → life.has_answers ≡ true → NoNewline part → Consumes left next part → Turned reads may_leave clock since stance setting entry origin before old next (Some AnswersFailed) life
+      pub rests_failed : (part : List ℕ) → SoFar disk stance setting entry origin before old left [] events life → (world_in setting events).ended ≡ false → Listens setting (world_in setting events)
+          → life.has_answers ≡ true → NoNewline part → Consumes left next part → Turned disk stance setting entry origin before old next (Some AnswersFailed) life
       rests_failed part so going listens has plain more = record {
         events = events;
         part = part;
@@ -154,9 +155,9 @@ module _ {D T : Type 0} (reads : D → Option (List ℕ)) (may_leave : D → Lis
       }
 
       -- memory was refused in the middle of a line
-      pub breaks_reading : (line : List ℕ) (new : Life D T) → SoFar reads may_leave clock since stance setting entry origin before old left [] events life → (world_in setting events).ended ≡ false
-          → Listens setting (world_in setting events) → life.has_answers ≡ true → NoNewline line → Consumes left next line → Lasts reads may_leave clock since stance setting entry origin before events new.durable
-          → Broken reads may_leave clock since stance setting entry origin before old next Memory new
+      pub breaks_reading : (line : List ℕ) (new : Life D T) → SoFar disk stance setting entry origin before old left [] events life → (world_in setting events).ended ≡ false
+          → Listens setting (world_in setting events) → life.has_answers ≡ true → NoNewline line → Consumes left next line → Lasts disk stance setting entry origin before events new.durable
+          → Broken disk stance setting entry origin before old next Memory new
       breaks_reading line new so going listens has plain more lasts =
           let f = wanting (IsCaused setting events next line) events new.durable lasts in
           record {
@@ -174,12 +175,12 @@ module _ {D T : Type 0} (reads : D → Option (List ℕ)) (may_leave : D → Lis
           }
 
       -- the take of a line's decision failed
-      pub breaks_line : (fault : TakeFault) (kept line : List ℕ) (end : LineEnd) (again : Bool) (new : Life D T) → SoFar reads may_leave clock since stance setting entry origin before old left [] events life → (world_in setting events).ended ≡ false
+      pub breaks_line : (fault : TakeFault) (kept line : List ℕ) (end : LineEnd) (again : Bool) (new : Life D T) → SoFar disk stance setting entry origin before old left [] events life → (world_in setting events).ended ≡ false
           → Listens setting (world_in setting events) → life.has_answers ≡ true → NoNewline line → Consumes left next (read_bytes end line)
-          → EndsLine end again → (again ≡ false → IsAtEnd next) → kept_line kept ≡ kept_line line → FailsBy reads may_leave clock since stance setting entry origin before events (Decides (world_in setting events) kept) fault new.durable
-          → Broken reads may_leave clock since stance setting entry origin before old next fault new
+          → EndsLine end again → (again ≡ false → IsAtEnd next) → kept_line kept ≡ kept_line line → FailsBy disk stance setting entry origin before events (Decides (world_in setting events) kept) fault new.durable
+          → Broken disk stance setting entry origin before old next fault new
       breaks_line fault kept line end again new so going listens has plain more ends at_end same fails =
-          let f = fails_by reads may_leave clock since stance setting entry origin before events (Decides (world_in setting events) kept) (IsCaused setting events next (read_bytes end line)) fault new.durable
+          let f = fails_by disk stance setting entry origin before events (Decides (world_in setting events) kept) (IsCaused setting events next (read_bytes end line)) fault new.durable
           (λ e d. by_line line end plain ends at_end (decides_whole (world_in setting events) kept line same e d)) fails in
           record {
             events = events;
@@ -195,9 +196,9 @@ module _ {D T : Type 0} (reads : D → Option (List ℕ)) (may_leave : D → Lis
             caused = f.1;
           }
 
-      pub turns_heard : (now : List Event) (line : List ℕ) (end : LineEnd) (new : Life D T) → SoFar reads may_leave clock since stance setting entry origin before old left [] events life → Listens setting (world_in setting events)
+      pub turns_heard : (now : List Event) (line : List ℕ) (end : LineEnd) (new : Life D T) → SoFar disk stance setting entry origin before old left [] events life → Listens setting (world_in setting events)
           → life.has_answers ≡ true → NoNewline line → EndsLine end new.has_answers → Hears setting (world_in setting events) line events now → Consumes left next (read_bytes end line)
-          → (new.has_answers ≡ false → IsAtEnd next) → Lasts reads may_leave clock since stance setting entry origin before now new.durable → Turned reads may_leave clock since stance setting entry origin before old next None new
+          → (new.has_answers ≡ false → IsAtEnd next) → Lasts disk stance setting entry origin before now new.durable → Turned disk stance setting entry origin before old next None new
       turns_heard now line end new so listens has plain ends heard more at_end lasts = record {
         events = now;
         part = [];
@@ -212,15 +213,15 @@ module _ {D T : Type 0} (reads : D → Option (List ℕ)) (may_leave : D → Lis
       }
 
     -- a turn behind which the life goes on
-    pub goes_further : (new : Life D T) (next : Option (List ℕ)) (t : Turned reads may_leave clock since stance setting entry origin before old next None new)
-        → SoFar reads may_leave clock since stance setting entry origin before old next [] t.events new
-    goes_further new next t = subst (λ part. SoFar reads may_leave clock since stance setting entry origin before old next part t.events new) t.turns t.so_far
+    pub goes_further : (new : Life D T) (next : Option (List ℕ)) (t : Turned disk stance setting entry origin before old next None new)
+        → SoFar disk stance setting entry origin before old next [] t.events new
+    goes_further new next t = subst (λ part. SoFar disk stance setting entry origin before old next part t.events new) t.turns t.so_far
 
 -- a life that goes on is one so far
-pub so_far_here : {D T : Type 0} (reads : D → Option (List ℕ)) (may_leave : D → List ℕ → Type 0) (clock : D → ℕ) (since : D → ℕ → List ℕ → Type 0) (stance : T → Stance) (setting : Setting) (entry : Option (List ℕ)) (origin : D) (before : List Event)
-    (left : Option (List ℕ)) (life : Life D T) → Lasts reads may_leave clock since stance setting entry origin before before life.durable → life.has_answers ≡ true
-    → SoFar reads may_leave clock since stance setting entry origin before left left [] before life
-so_far_here reads may_leave clock since stance setting entry origin before left life lasts has = record {
+pub so_far_here : {D T : Type 0} (disk : DiskView D) (stance : T → Stance) (setting : Setting) (entry : Option (List ℕ)) (origin : D) (before : List Event)
+    (left : Option (List ℕ)) (life : Life D T) → Lasts disk stance setting entry origin before before life.durable → life.has_answers ≡ true
+    → SoFar disk stance setting entry origin before left left [] before life
+so_far_here disk stance setting entry origin before left life lasts has = record {
   lasts = lasts;
   read = [];
   goes = subst (λ (h : Bool). GoesOn setting before before [] h) (sym has) begins;

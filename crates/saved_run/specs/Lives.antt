@@ -2,7 +2,7 @@
 use Rattle.std.specs.Prelude.{◌≡◌, ◌⊎◌, ◌+◌, ◌<◌, ◌^◌, ℕ, Bool, true, false, List, [], ◌∷◌, ◌++◌, Option, Some, None, Result, IfSome, IsSome, IsSomeAnd, MatchResult}
 use Rattle.std.specs.Io.KnownBytes.{Consumes, IsAtEnd}
 use Rattle.jp_disk.specs.Images.{IsOnlyImage}
-use Rattle.jp_disk.specs.Moments.{AtEachMoment}
+use Rattle.jp_disk.specs.Runs.{AtEachMoment}
 use Rattle.journal_core.specs.Answers.{IsStarted}
 use Rattle.journal_core.specs.Moments.{SinceSync}
 use Rattle.journal_core.specs.Records.{Has, records}
@@ -33,6 +33,7 @@ use Rattle.saved_run.specs.declared.life.BeginFault.TheVariants.{HasBuild, Take}
 use Rattle.saved_run.specs.declared.life.Life.{Life}
 use Rattle.saved_run.specs.Going.{GoesOn}
 use Rattle.saved_run.specs.Saved.{Saves, Stores, Survives, journal_length, journal_weights}
+use Rattle.jp_disk.specs.View.{DiskView}
 
 -- an event behind the first
 abbrev pub IsLater : Event → Type 0
@@ -114,19 +115,19 @@ abbrev pub MayRisk : TakeFault → Option Event → Option Event → Type 0
 MayRisk Disk refused risked = risked ≡ refused
 MayRisk fault refused risked = risked ≡ None
 
-module _ {D T : Type 0} (reads : D → Option (List ℕ)) (may_leave : D → List ℕ → Type 0) (clock : D → ℕ) (since : D → ℕ → List ℕ → Type 0) (stance : T → Stance) where
+module _ {D T : Type 0} (disk : DiskView D) (stance : T → Stance) where
   -- The build goes on from these events, and the store has them.
   pub record Stands (setting : Setting) (events : List Event) (kept : Kept D T) : Type 0 where
     pub goes : Goes stance setting events kept
-    pub saves : Saves reads may_leave stance kept events
+    pub saves : Saves disk stance kept events
 
   -- A life since the moment `origin` of its disk, at which these were the events. `entry` is what the disk told of its bytes before that:
   -- where it told them, the store has the events of now, and a crash since `origin` leaves a front of them.
   pub record Lasts (setting : Setting) (entry : Option (List ℕ)) (origin : D) (before events : List Event) (kept : Kept D T) : Type 0 where
     pub goes : Goes stance setting events kept
     pub goes_on : (more : List Event) × (events ≡ before ++ more)
-    pub saves : IsSome entry → Saves reads may_leave stance kept events
-    pub moments : IsSome entry → AtEachMoment clock since origin kept.journal.disk (Survives setting before events None)
+    pub saves : IsSome entry → Saves disk stance kept events
+    pub moments : IsSome entry → AtEachMoment disk origin kept.journal.disk (Survives setting before events None)
 
   -- The take of an accepted event answered this fault. Where the disk told its bytes, all events from before it are durable, and a crash leaves
   -- a front of them; or them and that event, where the disk failed.
@@ -134,11 +135,11 @@ module _ {D T : Type 0} (reads : D → Option (List ℕ)) (may_leave : D → Lis
     pub refused : Option Event
     pub is_next : IsOf setting events fault refused
     pub full : IfSome refused (λ e. IsFull kept.weights (Some (image_after setting events)) e (image_after setting (events ++ e ∷ [])) kept.journal.len fault)
-    pub sized : IsSome entry → IfSome (reads kept.journal.disk) (TellsStore kept.weights fault)
+    pub sized : IsSome entry → IfSome (disk.reads kept.journal.disk) (TellsStore kept.weights fault)
     pub risked : Option Event
     pub may_risk : MayRisk fault refused risked
-    pub moments : IsSome entry → AtEachMoment clock since origin kept.journal.disk (Survives setting before events risked)
-    pub images : IsSome entry → (image : List ℕ) → may_leave kept.journal.disk image → Stores setting events image ⊎ IsSomeAnd risked (λ e. Stores setting (events ++ e ∷ []) image)
+    pub moments : IsSome entry → AtEachMoment disk origin kept.journal.disk (Survives setting before events risked)
+    pub images : IsSome entry → (image : List ℕ) → disk.may_leave kept.journal.disk image → Stores setting events image ⊎ IsSomeAnd risked (λ e. Stores setting (events ++ e ∷ []) image)
 
   -- And the event was one of these.
   abbrev pub FailsBy : Setting → Option (List ℕ) → D → List Event → List Event → (Event → Type 0) → TakeFault → Kept D T → Type 0
@@ -174,23 +175,23 @@ module _ {D T : Type 0} (reads : D → Option (List ℕ)) (may_leave : D → Lis
     pub caused : IfSome fails.refused (IsCaused setting events left part)
 
   -- A build was begun, over a file without a record.
-  pub record Begins (setting : Setting) (start : Event) (file : List ℕ) (disk : D) (life : Life D T) : Type 0 where
+  pub record Begins (setting : Setting) (start : Event) (file : List ℕ) (state : D) (life : Life D T) : Type 0 where
     pub fresh : ¬ (IsStarted file)
     pub stands : Stands setting (start ∷ []) life.durable
-    pub moments : SinceSync clock since may_leave file disk life.durable.journal.disk (Survives setting [] (start ∷ []) None)
+    pub moments : SinceSync disk file state life.durable.journal.disk (Survives setting [] (start ∷ []) None)
 
   -- The take of a `Start` failed, over a file without a record: a crash leaves no record, or that of the `Start`, where the disk failed.
-  pub record StartFails (setting : Setting) (start : Event) (file : List ℕ) (disk now : D) (fault : TakeFault) : Type 0 where
+  pub record StartFails (setting : Setting) (start : Event) (file : List ℕ) (state now : D) (fault : TakeFault) : Type 0 where
     pub fresh : ¬ (IsStarted file)
     pub none : Has [] file
     pub risked : Option Event
     pub may_risk : MayRisk fault (Some start) risked
-    pub moments : SinceSync clock since may_leave file disk now (Survives setting [] [] risked)
+    pub moments : SinceSync disk file state now (Survives setting [] [] risked)
 
   -- A build was not begun. Either a crash leaves what it might have left before; or, since a moment at which the file was durable, what has
   -- the records of the file; or the take of the `Start` failed, as it did where its record did not fit.
   abbrev pub BeginRefuses : Setting → Event → List ℕ → D → BeginFault → D → Type 0
-  BeginRefuses setting start file disk HasBuild now = IsStarted file × (reads now ≡ Some file) × IsOnlyImage file (may_leave now) × SinceSync clock since may_leave file disk now (λ image. records image ≡ records file)
-  BeginRefuses setting start file disk (Take (Full at add)) now = StartFaults setting start (Full at add) × StartFails setting start file disk now (Full at add)
-  BeginRefuses setting start file disk (Take fault) now =
-      StartFaults setting start fault × (AtEachMoment clock since disk now (may_leave disk) ⊎ (SinceSync clock since may_leave file disk now (λ image. records image ≡ records file) ⊎ StartFails setting start file disk now fault))
+  BeginRefuses setting start file state HasBuild now = IsStarted file × (disk.reads now ≡ Some file) × IsOnlyImage file (disk.may_leave now) × SinceSync disk file state now (λ image. records image ≡ records file)
+  BeginRefuses setting start file state (Take (Full at add)) now = StartFaults setting start (Full at add) × StartFails setting start file state now (Full at add)
+  BeginRefuses setting start file state (Take fault) now =
+      StartFaults setting start fault × (AtEachMoment disk state now (disk.may_leave state) ⊎ (SinceSync disk file state now (λ image. records image ≡ records file) ⊎ StartFails setting start file state now fault))

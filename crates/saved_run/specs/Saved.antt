@@ -12,6 +12,7 @@ use Rattle.journal_core.specs.Records.{Has, framed, records}
 use Rattle.durable_build.specs.Lower.delta_records.declared.weights.Weights.{Weights}
 use Rattle.durable_build.specs.Kinds.{weights_of}
 use Rattle.durable_build.specs.Standing.{Kept, Keeps}
+use Rattle.jp_disk.specs.View.{DiskView}
 
 -- These payloads are the records of one build, with just these events: each was accepted, has the image of the build behind it, and makes a
 -- grant where one is due.
@@ -48,7 +49,7 @@ pub record Survives (setting : Setting) (before taken : List Event) (risked : Op
   pub stores : Stores setting kept file
 
 -- The disk holds the records of these events, all of them durable, and the build goes on from them.
-pub record Saves {D T : Type 0} (reads : D → Option (List ℕ)) (may_leave : D → List ℕ → Type 0) (stance : T → Stance) (kept : Kept D T) (events : List Event) : Type 0 where
+pub record Saves {D T : Type 0} (disk : DiskView D) (stance : T → Stance) (kept : Kept D T) (events : List Event) : Type 0 where
   pub payloads : List (List ℕ)
-  pub keeps : Keeps reads may_leave stance kept payloads
+  pub keeps : Keeps disk stance kept payloads
   pub told : IsTold (setting_in kept.build) events payloads

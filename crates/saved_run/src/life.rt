@@ -1,7 +1,7 @@
 //! A life.
 ghost use Rattle.std.specs.Prelude.{◌≡◌, ◌∷◌, ◌++◌, [], ℕ, List, Option, Some, true, false, IfOk, IfErr, MatchResult, IsErrOf};
 ghost use Rattle.device_faults.specs.Faults.{CountsFault};
-ghost use Rattle.jp_disk.specs.Moments.{AtEachMoment};
+ghost use Rattle.jp_disk.specs.Runs.{AtEachMoment};
 ghost use Rattle.durable_build.specs.Lower.build_core.Builds.{StandsFor, setting_in};
 ghost use Rattle.durable_build.specs.Lower.build_core.Phases.{has_begun, has_ended};
 ghost use Rattle.durable_build.specs.Lower.build_images.Images.{image_in, world_image};
@@ -66,8 +66,8 @@ impl<D: Disk, R: SavedThread + Drop> Life<D, R> {
     ) -> Result<Life<D, R>, (BeginFault, D)>
         requires mean { Mean script agents (script_setting tree site) }
         ensures begun { (file : List ℕ) → D.reads disk ≡ Some file → MatchResult result
-            (λ life. Begins D.reads D.may_leave D.clock D.may_have_left_since R.stance (script_setting tree site) (Event.Start script agents) file disk life)
-            (λ e. BeginRefuses D.reads D.may_leave D.clock D.may_have_left_since R.stance (script_setting tree site) (Event.Start script agents) file disk e.0 e.1) }
+            (λ life. Begins D.Disk R.stance (script_setting tree site) (Event.Start script agents) file disk life)
+            (λ e. BeginRefuses D.Disk R.stance (script_setting tree site) (Event.Start script agents) file disk e.0 e.1) }
         ensures made { IfOk result (λ life. IsBegun R.stance (script_setting tree site) script agents life.durable) }
         ensures faults { IfErr result (λ e. TellsStart (script_setting tree site) (Event.Start script agents) e.0) }
         ensures fresh { IfOk result (λ life. life.has_answers ≡ true) }
@@ -102,17 +102,17 @@ impl<D: Disk, R: SavedThread + Drop> Life<D, R> {
     pub fn reopen(alloc: Global, disk: D) -> Result<Life<D, R>, (StoreFault, D)>
         ensures stands { (file : List ℕ) → D.reads disk ≡ Some file → MatchResult result
             (λ life. (D.reads life.durable.journal.disk ≡ Some file) × ((setting : Setting) (events : List AnEvent) → Stores setting events file
-            → Stands D.reads D.may_leave D.clock D.may_have_left_since R.stance setting events life.durable))
+            → Stands D.Disk R.stance setting events life.durable))
             (λ e. OpenFails file e.0 × (D.reads e.1 ≡ Some file)) }
-        ensures opened { (file : List ℕ) → D.reads disk ≡ Some file → IfOk result (λ life. Opened D.reads D.may_leave R.stance file life.durable) }
+        ensures opened { (file : List ℕ) → D.reads disk ≡ Some file → IfOk result (λ life. Opened D.Disk R.stance file life.durable) }
         ensures running { IfOk result (λ life. life.durable.stopped ≡ false) }
         ensures begun { IfOk result (λ life. has_begun life.durable.build.phase ≡ true) }
         ensures whole { IfOk result (λ life. IsWhole (setting_in life.durable.build) (image_in R.stance life.durable.build)) }
         ensures undamaged { (file : List ℕ) → D.reads disk ≡ Some file → IsConsistent world_image file → IfErr result (λ e. (at : ℕ) → e.0 ≡ StoreFault.Damaged at → ⊥) }
         ensures fresh { IfOk result (λ life. life.has_answers ≡ true) }
         ensures any_moment { MatchResult result
-            (λ life. AtEachMoment D.clock D.may_have_left_since disk life.durable.journal.disk (D.may_leave disk))
-            (λ e. AtEachMoment D.clock D.may_have_left_since disk e.1 (D.may_leave disk)) }
+            (λ life. AtEachMoment D.Disk disk life.durable.journal.disk (D.may_leave disk))
+            (λ e. AtEachMoment D.Disk disk e.1 (D.may_leave disk)) }
         ensures cause { MatchResult result
             (λ life. CountsFault (D.faults disk) (D.faults life.durable.journal.disk) ⊥)
             (λ e. CountsFault (D.faults disk) (D.faults e.1) (e.0 ≡ StoreFault.Disk)) }
@@ -141,10 +141,10 @@ impl<D: Disk, R: SavedThread + Drop> Life<D, R> {
         answers: &mut A,
     ) -> Result<Rest, TakeFault>
         ensures rested { (setting : Setting) (entry : Option (List ℕ)) (origin : D) (before : List AnEvent) (first : Option (List ℕ)) (events : List AnEvent)
-            → SoFar D.reads D.may_leave D.clock D.may_have_left_since R.stance setting entry origin before first (A.left answers.old) [] events self.old
+            → SoFar D.Disk R.stance setting entry origin before first (A.left answers.old) [] events self.old
             → MatchResult result
-            (λ rest. Turned D.reads D.may_leave D.clock D.may_have_left_since R.stance setting entry origin before first (A.left answers.new) (Some rest) self.new)
-            (λ fault. Broken D.reads D.may_leave D.clock D.may_have_left_since R.stance setting entry origin before first (A.left answers.new) fault self.new) }
+            (λ rest. Turned D.Disk R.stance setting entry origin before first (A.left answers.new) (Some rest) self.new)
+            (λ fault. Broken D.Disk R.stance setting entry origin before first (A.left answers.new) fault self.new) }
         ensures over { self.old.durable.stopped ≡ true → (result ≡ Err TakeFault.Stopped) × (self.new ≡ self.old) × (answers.new ≡ answers.old) }
         ensures faults { self.old.durable.stopped ≡ false → IfErr result (TellsFault R.stance self.new.durable) }
         ensures running { MatchResult result (λ rest. self.new.durable.stopped ≡ false) (λ fault. self.new.durable.stopped ≡ true) }
@@ -172,10 +172,10 @@ impl<D: Disk, R: SavedThread + Drop> Life<D, R> {
     ) -> Result<Rest, TakeFault>
         requires running { self.old.durable.stopped ≡ false }
         ensures rested { (setting : Setting) (entry : Option (List ℕ)) (origin : D) (before : List AnEvent) (first : Option (List ℕ)) (events : List AnEvent)
-            → SoFar D.reads D.may_leave D.clock D.may_have_left_since R.stance setting entry origin before first (A.left answers.old) [] events self.old
+            → SoFar D.Disk R.stance setting entry origin before first (A.left answers.old) [] events self.old
             → MatchResult result
-            (λ rest. Turned D.reads D.may_leave D.clock D.may_have_left_since R.stance setting entry origin before first (A.left answers.new) (Some rest) self.new)
-            (λ fault. Broken D.reads D.may_leave D.clock D.may_have_left_since R.stance setting entry origin before first (A.left answers.new) fault self.new) }
+            (λ rest. Turned D.Disk R.stance setting entry origin before first (A.left answers.new) (Some rest) self.new)
+            (λ fault. Broken D.Disk R.stance setting entry origin before first (A.left answers.new) fault self.new) }
         ensures runs { MatchResult result (λ rest. self.new.durable.stopped ≡ false) (TellsFault R.stance self.new.durable) }
         ensures ended { result ≡ Ok Rest.Ended → has_ended self.new.durable.build.phase ≡ true }
         ensures answers { CountsFault (A.faults answers.old) (A.faults answers.new) (result ≡ Ok Rest.AnswersFailed) }
@@ -198,10 +198,10 @@ impl<D: Disk, R: SavedThread + Drop> Life<D, R> {
         answers: &mut A,
     ) -> Result<Option<Rest>, TakeFault>
         ensures turned { (setting : Setting) (entry : Option (List ℕ)) (origin : D) (before : List AnEvent) (first : Option (List ℕ)) (events : List AnEvent)
-            → SoFar D.reads D.may_leave D.clock D.may_have_left_since R.stance setting entry origin before first (A.left answers.old) [] events self.old
+            → SoFar D.Disk R.stance setting entry origin before first (A.left answers.old) [] events self.old
             → MatchResult result
-            (λ rest. Turned D.reads D.may_leave D.clock D.may_have_left_since R.stance setting entry origin before first (A.left answers.new) rest self.new)
-            (λ fault. Broken D.reads D.may_leave D.clock D.may_have_left_since R.stance setting entry origin before first (A.left answers.new) fault self.new) }
+            (λ rest. Turned D.Disk R.stance setting entry origin before first (A.left answers.new) rest self.new)
+            (λ fault. Broken D.Disk R.stance setting entry origin before first (A.left answers.new) fault self.new) }
         ensures runs { StaysRunning R.stance self.old.durable self.new.durable result }
         ensures ended { result ≡ Ok (Some Rest.Ended) → has_ended self.new.durable.build.phase ≡ true }
         ensures answers { CountsFault (A.faults answers.old) (A.faults answers.new) (result ≡ Ok (Some Rest.AnswersFailed)) }
@@ -234,11 +234,11 @@ impl<D: Disk, R: SavedThread + Drop> Life<D, R> {
     ) -> Result<Option<Rest>, TakeFault>
         requires has_answers { self.old.has_answers ≡ true }
         ensures turned { (setting : Setting) (entry : Option (List ℕ)) (origin : D) (before : List AnEvent) (first : Option (List ℕ)) (events : List AnEvent)
-            → SoFar D.reads D.may_leave D.clock D.may_have_left_since R.stance setting entry origin before first (A.left answers.old) [] events self.old
+            → SoFar D.Disk R.stance setting entry origin before first (A.left answers.old) [] events self.old
             → Listens setting (world_in setting events) → (world_in setting events).ended ≡ false
             → MatchResult result
-            (λ rest. Turned D.reads D.may_leave D.clock D.may_have_left_since R.stance setting entry origin before first (A.left answers.new) rest self.new)
-            (λ fault. Broken D.reads D.may_leave D.clock D.may_have_left_since R.stance setting entry origin before first (A.left answers.new) fault self.new) }
+            (λ rest. Turned D.Disk R.stance setting entry origin before first (A.left answers.new) rest self.new)
+            (λ fault. Broken D.Disk R.stance setting entry origin before first (A.left answers.new) fault self.new) }
         ensures runs { StaysRunning R.stance self.old.durable self.new.durable result }
         ensures not_ended { result ≡ Ok (Some Rest.Ended) → ⊥ }
         ensures answers { CountsFault (A.faults answers.old) (A.faults answers.new) (result ≡ Ok (Some Rest.AnswersFailed)) }
@@ -261,11 +261,11 @@ impl<D: Disk, R: SavedThread + Drop> Life<D, R> {
     /// Takes the decision in a line, where it decides an open input; else it is passed over.
     fn hear(&mut self, alloc: Global, line: &[u8]) -> Result<(), TakeFault>
         ensures hears { (setting : Setting) (entry : Option (List ℕ)) (origin : D) (before events : List AnEvent)
-            → Lasts D.reads D.may_leave D.clock D.may_have_left_since R.stance setting entry origin before events self.old.durable
+            → Lasts D.Disk R.stance setting entry origin before events self.old.durable
             → Listens setting (world_in setting events) → (world_in setting events).ended ≡ false
             → MatchResult result
-            (λ _. (now : List AnEvent) × Lasts D.reads D.may_leave D.clock D.may_have_left_since R.stance setting entry origin before now self.new.durable × Hears setting (world_in setting events) line.now events now)
-            (λ fault. FailsBy D.reads D.may_leave D.clock D.may_have_left_since R.stance setting entry origin before events (Decides (world_in setting events) line.now) fault self.new.durable) }
+            (λ _. (now : List AnEvent) × Lasts D.Disk R.stance setting entry origin before now self.new.durable × Hears setting (world_in setting events) line.now events now)
+            (λ fault. FailsBy D.Disk R.stance setting entry origin before events (Decides (world_in setting events) line.now) fault self.new.durable) }
         ensures runs { StaysRunning R.stance self.old.durable self.new.durable result }
         ensures has_answers { self.new.has_answers ≡ self.old.has_answers }
         ensures disk { CountsFault (D.faults self.old.durable.journal.disk) (D.faults self.new.durable.journal.disk) (IsErrOf result TakeFault.Disk) }
@@ -294,12 +294,12 @@ impl<D: Disk, R: SavedThread + Drop> Life<D, R> {
     fn take(&mut self, alloc: Global, event: &Event) -> Result<(), TakeFault>
         requires later { IsLater event.now }
         ensures takes { (setting : Setting) (entry : Option (List ℕ)) (origin : D) (before events : List AnEvent)
-            → Lasts D.reads D.may_leave D.clock D.may_have_left_since R.stance setting entry origin before events self.old.durable
+            → Lasts D.Disk R.stance setting entry origin before events self.old.durable
             → answer_to setting (world_in setting events) event.now ≡ Accepted
             → next_grant setting (world_in setting events) ≡ grant_of event.now
             → MatchResult result
-            (λ _. Lasts D.reads D.may_leave D.clock D.may_have_left_since R.stance setting entry origin before (events ++ event.now ∷ []) self.new.durable)
-            (λ fault. FailsBy D.reads D.may_leave D.clock D.may_have_left_since R.stance setting entry origin before events (λ e. e ≡ event.now) fault self.new.durable) }
+            (λ _. Lasts D.Disk R.stance setting entry origin before (events ++ event.now ∷ []) self.new.durable)
+            (λ fault. FailsBy D.Disk R.stance setting entry origin before events (λ e. e ≡ event.now) fault self.new.durable) }
         ensures runs { StaysRunning R.stance self.old.durable self.new.durable result }
         ensures has_answers { self.new.has_answers ≡ self.old.has_answers }
         ensures disk { CountsFault (D.faults self.old.durable.journal.disk) (D.faults self.new.durable.journal.disk) (IsErrOf result TakeFault.Disk) }

@@ -26,6 +26,7 @@ use Rattle.site_gate.specs.Tales.{tells_of}
 use Rattle.site_gate.specs.Turning.{IsCausedIn, IsCausedBy, removed_in, removed, exit_in, exits_of, tasks_of, IsPart, LaunchesClaimed, ExecutorTurn}
 use Rattle.site_gate.proofs.ClaimLaws.{tasks-append}
 use Rattle.site_gate.proofs.PartLemmas.{all_append, all_map, part_none, part_more, part_wider}
+use Rattle.task_host.specs.View.{HostView}
 
 -- What follows a serve is never another serve, a pause, a halt or nothing.
 no_claim : (order : Order) (before : List Deed) → [] ≡ Claims (claim.Order order) ∷ before → ⊥
@@ -159,11 +160,11 @@ work_removed looks (Pauses ∷ past) lawful = work_removed looks past lawful.1
 work_removed looks (Halts ∷ past) lawful = work_removed looks past lawful.1
 work_removed looks (Serves order acts answer ∷ past) lawful = acts_removed order looks acts (removed past) (work_told past []) lawful.0.1 (work_removed looks past lawful.1)
 
-module _ {H : Type 0} (calls : H → Option (List Call)) (launches dirs : H → List ℕ) (output : H → ℕ → Stream → List ℕ) (exit : H → ℕ → Option ℤ) where
+module _ {H : Type 0} (host : HostView H) (exit : H → ℕ → Option ℤ) where
   -- An executor's work over a gate that was new is a turn.
   pub executor_turn : (number looks : ℕ) (honest : Type 0) (own : List Entry) (gate_calls : List GateCall) (said : Said) (is_open : Bool) (old now : H) (worked : Worked)
-      → Works number looks honest (telling calls launches dirs output exit (λ t. t) old (tells_of [] [] Nothing false)) (telling calls launches dirs output exit (λ t. t) now (tells_of own gate_calls said is_open)) worked
-      → ExecutorTurn number looks honest own gate_calls (calls old) (calls now) (on_host launches dirs output exit old) (on_host launches dirs output exit now) worked
+      → Works number looks honest (telling host exit (λ t. t) old (tells_of [] [] Nothing false)) (telling host exit (λ t. t) now (tells_of own gate_calls said is_open)) worked
+      → ExecutorTurn number looks honest own gate_calls (host.calls old) (host.calls now) (on_host host exit old) (on_host host exit now) worked
   executor_turn number looks honest own gate_calls said is_open old now worked w =
       let so = w.so_far in
       record {
@@ -175,7 +176,7 @@ module _ {H : Type 0} (calls : H → Option (List Call)) (launches dirs : H → 
         reports = so.reports;
         claimed = so.claimed;
         ends = w.ends;
-        launched = subst (λ (c : List ClaimedTask). LaunchesClaimed c (launches old) (launches now)) (sym so.claimed) (work_launches looks w.past (launches old) (launches now) so.lawful so.launched);
+        launched = subst (λ (c : List ClaimedTask). LaunchesClaimed c (host.launches old) (host.launches now)) (sym so.claimed) (work_launches looks w.past (host.launches old) (host.launches now) so.lawful so.launched);
         caused = subst (AllAre (λ (t : Told). IsCausedBy looks w.past t.event)) (sym so.told) (work_caused looks w.past so.lawful);
         removals = subst (λ (t : List Told). IsPart (removed w.past) (exits_of t)) (sym so.told) (work_removed looks w.past so.lawful);
         on_host = so.on_host;

@@ -29,6 +29,8 @@ use Rattle.site_gate.specs.Tales.{tells_of}
 use Rattle.site_gate.specs.Turns.{WorksThrough, TakesTurn, Executed}
 use Rattle.site_gate.proofs.TrailLemmas.{none_of, none_first, under-first, under-second, entries_of-append, same_front, answered_later, answered_sooner}
 use Rattle.site_gate.proofs.TurnLaws.{executor_turn}
+use Rattle.task_host.specs.View.{HostView}
+use Rattle.jp_io.specs.View.{SourceView}
 
 -- The calls of a gate whose pass was taken in: what was seen of the history then, and what the pass had seen before, are beginnings of one
 -- history. They were answered behind the latter.
@@ -50,24 +52,24 @@ whole_again v u new other w s same j whole =
     let joined = parts-join u other w j in
     omega arith
 
-module _ {H A : Type 0} (honest : H → Type 0) (faults : H → ℕ) (calls : H → Option (List Call)) (launches dirs : H → List ℕ) (output : H → ℕ → Stream → List ℕ) (exit : H → ℕ → Option ℤ)
-    (left : A → Option (List ℕ)) (source_faults : A → ℕ) (looks : ℕ) where
+module _ {H A : Type 0} (host : HostView H) (exit : H → ℕ → Option ℤ)
+    (source : SourceView A) (looks : ℕ) where
   -- a member's work, by what its gate told before it and tells after it
   abbrev Work : Member H A → Member H A → Worked → GateTells → GateTells → Type 0
-  Work m m' worked old now = WorksAs honest faults (telling calls launches dirs output exit (λ t. t)) (λ t. t) left source_faults looks m m' old now worked
+  Work m m' worked old now = WorksAs host (telling host exit (λ t. t)) (λ t. t) source looks m m' old now worked
 
   pub works_by : {G : Type 0} (tells : G → GateTells) (m m' : Member H A) (g g' : G) (worked : Worked)
-      → WorksAs honest faults (telling calls launches dirs output exit tells) tells left source_faults looks m m' g g' worked → Work m m' worked (tells g) (tells g')
-  works_by tells (Executor number host) (Executor now next) g g' worked w = w
+      → WorksAs host (telling host exit tells) tells source looks m m' g g' worked → Work m m' worked (tells g) (tells g')
+  works_by tells (Executor number machine) (Executor now next) g g' worked w = w
   works_by tells (Operator answers line ended failed) (Operator next kept now_ended now_failed) g g' worked w = w
-  works_by tells (Executor number host) (Operator next kept now_ended now_failed) g g' worked w = absurd w
+  works_by tells (Executor number machine) (Operator next kept now_ended now_failed) g g' worked w = absurd w
   works_by tells (Operator answers line ended failed) (Executor now next) g g' worked w = absurd w
 
   pub executed : (m m' : Member H A) (own : List Entry) (gate_calls : List GateCall) (said : Said) (is_open : Bool) (worked : Worked) → Work m m' worked (tells_of [] [] Nothing false) (tells_of own gate_calls said is_open)
-      → Executed honest calls launches dirs output exit looks m m' worked own gate_calls
-  executed (Executor number host) (Executor now next) own gate_calls said is_open worked w = executor_turn calls launches dirs output exit number looks (honest host) own gate_calls said is_open host next worked w.3
+      → Executed host exit looks m m' worked own gate_calls
+  executed (Executor number machine) (Executor now next) own gate_calls said is_open worked w = executor_turn host exit number looks (host.honest machine) own gate_calls said is_open machine next worked w.3
   executed (Operator answers line ended failed) (Operator next kept now_ended now_failed) own gate_calls said is_open worked w = tt
-  executed (Executor number host) (Operator next kept now_ended now_failed) own gate_calls said is_open worked w = absurd w
+  executed (Executor number machine) (Operator next kept now_ended now_failed) own gate_calls said is_open worked w = absurd w
   executed (Operator answers line ended failed) (Executor now next) own gate_calls said is_open worked w = absurd w
 
   -- Work through a pass, by that over its gate.
@@ -91,7 +93,7 @@ module _ {H A : Type 0} (honest : H → Type 0) (faults : H → ℕ) (calls : H 
 
   -- A pass was split off, work was done through it, and it was taken in again.
   pub did_turn : {B : Type 0} (answers : Answers B Entry Ask Reply) (v u new other w : Known Entry B) (m m' : Member H A) (worked : Worked) → Splits v u new → WorksThrough answers (Work m m' worked) new other → Joins u other w
-      → TakesTurn answers (Work m m' worked) (Executed honest calls launches dirs output exit looks m m' worked) v w
+      → TakesTurn answers (Work m m' worked) (Executed host exit looks m m' worked) v w
   did_turn {B} answers v u new other w m m' worked s t j =
       let n = s.number in
       let mine = j.mine.0 in

@@ -19,6 +19,7 @@ use Rattle.site_state.specs.declared.ask.Reply.{Reply}
 use Rattle.site_gate.specs.Saying.{AreAnswered, WereAnswered}
 use Rattle.site_gate.specs.Tales.{tells_of}
 use Rattle.site_gate.specs.Turning.{ExecutorTurn}
+use Rattle.task_host.specs.View.{HostView}
 
 -- Work through a pass, which knew v before it and knows w behind it: what it was by the entries of the pass, and by the calls of a gate that
 -- was new; and each of these calls was answered by the state.
@@ -56,9 +57,9 @@ pub record TakesTurn {B : Type 0} (answers : Answers B Entry Ask Reply) (works :
 
 module _ {H A : Type 0} where
   -- what an executor did; of the operator its work says all
-  abbrev pub Executed : (H → Type 0) → (H → Option (List Call)) → (H → List ℕ) → (H → List ℕ) → (H → ℕ → Stream → List ℕ) → (H → ℕ → Option ℤ) → ℕ → Member H A → Member H A → Worked → List Entry → List GateCall → Type 0
-  Executed honest host_calls launches dirs output exited looks (Executor number host) (Executor now next) worked own calls =
-      ExecutorTurn number looks (honest host) own calls (host_calls host) (host_calls next) (on_host launches dirs output exited host) (on_host launches dirs output exited next) worked
-  Executed honest host_calls launches dirs output exited looks (Operator answers line ended failed) (Operator next kept now_ended now_failed) worked own calls = Unit {0}
-  Executed honest host_calls launches dirs output exited looks (Executor number host) (Operator next kept now_ended now_failed) worked own calls = ⊥
-  Executed honest host_calls launches dirs output exited looks (Operator answers line ended failed) (Executor now next) worked own calls = ⊥
+  abbrev pub Executed : HostView H → ℕ → Member H A → Member H A → Worked → List Entry → List GateCall → Type 0
+  Executed host looks (Executor number machine) (Executor now next) worked own calls =
+      ExecutorTurn number looks (host.honest machine) own calls (host.calls machine) (host.calls next) (on_host host machine) (on_host host next) worked
+  Executed host looks (Operator answers line ended failed) (Operator next kept now_ended now_failed) worked own calls = Unit {0}
+  Executed host looks (Executor number machine) (Operator next kept now_ended now_failed) worked own calls = ⊥
+  Executed host looks (Operator answers line ended failed) (Executor now next) worked own calls = ⊥

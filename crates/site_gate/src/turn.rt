@@ -46,7 +46,7 @@ fn work_over<
     requires since { length (known pass).seen ≡ B.since }
     ensures belongs { IsPassOf program.now result.1 }
     ensures worked { WorksThrough (λ base history ask reply new. Says R.stance base.value.build history ask reply new)
-        (λ old now. WorksAs H.honest H.faults (telling H.calls H.launches H.dirs H.output H.exited (λ tells. tells)) (λ tells. tells) A.left A.faults looks member.old member.new old now result.0)
+        (λ old now. WorksAs H.Host (telling H.Host (λ tells. tells)) (λ tells. tells) A.Source looks member.old member.new old now result.0)
         (known pass) (known result.1) }
 {
     let mut gate: SiteGate<'_, W, D, R, B> = SiteGate::new(rt, alloc, program, pass);
@@ -76,7 +76,7 @@ pub fn work_through<
     requires belongs { IsPassOf program.now pass }
     ensures belongs { IsPassOf program.now result.1 }
     ensures worked { WorksThrough (λ base history ask reply new. Says R.stance base.value.build history ask reply new)
-        (λ old now. WorksAs H.honest H.faults (telling H.calls H.launches H.dirs H.output H.exited (λ tells. tells)) (λ tells. tells) A.left A.faults looks member.old member.new old now result.0)
+        (λ old now. WorksAs H.Host (telling H.Host (λ tells. tells)) (λ tells. tells) A.Source looks member.old member.new old now result.0)
         (known pass) (known result.1) }
 {
     work_over::<Brand, W, D, R, H, A>(rt, alloc, program, pass, member, looks)
@@ -108,8 +108,8 @@ pub fn take_turn<W: Wait + Clock + AllocGlobal, D: Disk, R: SavedThread + Drop, 
     ensures belongs { IsPassOf program.now pass.new }
     ensures whole { (known pass.old).parts ≡ all_parts → (known pass.new).parts ≡ all_parts }
     ensures turn { IfOk result (λ worked. TakesTurn (λ base history ask reply new. Says R.stance base.value.build history ask reply new)
-        (λ old now. WorksAs H.honest H.faults (telling H.calls H.launches H.dirs H.output H.exited (λ tells. tells)) (λ tells. tells) A.left A.faults looks member.old member.new old now worked)
-        (Executed H.honest H.calls H.launches H.dirs H.output H.exited looks member.old member.new worked) (known pass.old) (known pass.new)) }
+        (λ old now. WorksAs H.Host (telling H.Host (λ tells. tells)) (λ tells. tells) A.Source looks member.old member.new old now worked)
+        (Executed H.Host looks member.old member.new worked) (known pass.old) (known pass.new)) }
     ensures refused { IfErr result (λ _. (known pass.new ≡ known pass.old) × (member.new ≡ member.old)) }
 {
     let Ok(own) = program.split(rt, pass) else {

@@ -24,6 +24,8 @@ use Rattle.site_gate.specs.Turning.{IsCausedBy}
 use Rattle.site_gate.proofs.PartLemmas.{all_append, all_map}
 use Rattle.site_life.specs.Turns.{Turn, IsIn, HoldsOfOne, MadeOf, DidTurn, Explains, IsExplained}
 use Rattle.site_life.proofs.MadeLemmas.{all_merged}
+use Rattle.task_host.specs.View.{HostView}
+use Rattle.jp_io.specs.View.{SourceView}
 
 module _ {A : Type 0} where
   in_first : (x : A) (xs ys : List A) → IsIn x xs → IsIn x (xs ++ ys)
@@ -134,22 +136,21 @@ operator_told (Given line answer ∷ past) events t told is = ⊎_elim
     (λ (more : IsIn t told.1). (line, in_second line (given_in past) (line ∷ []) (inl refl), told_decides line answer told.1 t told.3 more))
     (in_either t told.0 told.1 (subst (IsIn t) told.4 is))
 
-module _ {H A : Type 0} (honest : H → Type 0) (faults : H → ℕ) (calls : H → Option (List Call)) (launches dirs : H → List ℕ) (output : H → ℕ → Stream → List ℕ) (exited : H → ℕ → Option ℤ)
-    (left : A → Option (List ℕ)) (source_faults : A → ℕ) (looks : ℕ) where
+module _ {H A : Type 0} (host : HostView H) (source : SourceView A) (looks : ℕ) where
   abbrev Did : Turn H A → Type 0
-  Did turn = DidTurn honest faults calls launches dirs output exited left source_faults looks turn
+  Did turn = DidTurn host source looks turn
 
   abbrev Explained : Turn H A → Told → Type 0
-  Explained turn t = Explains honest faults calls launches dirs output exited left source_faults looks t.accepted t.event turn
+  Explained turn t = Explains host source looks t.accepted t.event turn
 
   abbrev ExplainedBy : List (Turn H A) → Told → Type 0
-  ExplainedBy turns t = HoldsOfOne (Explains honest faults calls launches dirs output exited left source_faults looks t.accepted t.event) turns
+  ExplainedBy turns t = HoldsOfOne (Explains host source looks t.accepted t.event) turns
 
   -- each event of a turn comes from its member
   turn_told : (old new : Member H A) (worked : Worked) (own : List Entry) (gate_calls : List GateCall) (said : Said) (is_open : Bool) (launched : List ℕ)
       → Did (record { old = old; now = new; worked = worked; own = own; calls = gate_calls; said = said; is_open = is_open; launches = launched })
       → (t : Told) → IsIn t (told_of own) → Explained (record { old = old; now = new; worked = worked; own = own; calls = gate_calls; said = said; is_open = is_open; launches = launched }) t
-  turn_told (Executor number host) (Executor now next) worked own gate_calls said is_open launched d t is = record {
+  turn_told (Executor number machine) (Executor now next) worked own gate_calls said is_open launched d t is = record {
     told = is;
     comes = (d.executed, of_one (λ (x : Told). IsCausedBy looks d.executed.past x.event) t (told_of own) d.executed.caused is);
   }
@@ -157,7 +158,7 @@ module _ {H A : Type 0} (honest : H → Type 0) (faults : H → ℕ) (calls : H 
     told = is;
     comes = (d.works.0, operator_told d.works.0.past d.works.0.so_far.events t d.works.0.so_far.decided (subst (IsIn t) d.works.0.so_far.told is));
   }
-  turn_told (Executor number host) (Operator next kept now_ended now_failed) worked own gate_calls said is_open launched d t is = absurd d.works
+  turn_told (Executor number machine) (Operator next kept now_ended now_failed) worked own gate_calls said is_open launched d t is = absurd d.works
   turn_told (Operator answers line ended failed) (Executor now next) worked own gate_calls said is_open launched d t is = absurd d.works
 
   turn_explains : (turn : Turn H A) → Did turn → AllAre (EntryIs (Explained turn)) turn.own
@@ -172,9 +173,9 @@ module _ {H A : Type 0} (honest : H → Type 0) (faults : H → ℕ) (calls : H 
 
   -- Each event of the history of a life comes from a member, or is a grant.
   pub events_explained : (turns : List (Turn H A)) (history : List Entry) → AllAre Did turns → MadeOf [] turns history
-      → AllAre (λ (t : Told). HoldsOfOne (Explains honest faults calls launches dirs output exited left source_faults looks t.accepted t.event) turns) (told_of history)
-      × AllAre (IsExplained honest faults calls launches dirs output exited left source_faults looks turns true) (tooks history)
-      × AllAre (IsExplained honest faults calls launches dirs output exited left source_faults looks turns false) (pending history)
+      → AllAre (λ (t : Told). HoldsOfOne (Explains host source looks t.accepted t.event) turns) (told_of history)
+      × AllAre (IsExplained host source looks turns true) (tooks history)
+      × AllAre (IsExplained host source looks turns false) (pending history)
   events_explained turns history did made =
       let all = made_explained turns turns [] history (λ t by. by) did made tt in
       (told_are (ExplainedBy turns) history all, tooks_are (ExplainedBy turns) history all, pending_are (ExplainedBy turns) history all)

@@ -16,6 +16,7 @@ use Rattle.site_gate.specs.Turning.{tasks_of, IsPart}
 use Rattle.site_gate.proofs.ClaimLaws.{claims_differ}
 use Rattle.site_gate.proofs.PartLemmas.{part_differs, part_beside, part_none, part_wider}
 use Rattle.site_life.specs.Turns.{Turn, MadeOf, Launches, launches_of}
+use Rattle.task_host.specs.View.{HostView}
 
 -- the tasks that these entries claim
 abbrev claims_in : List Entry → List ℕ
@@ -83,22 +84,22 @@ module _ {H A : Type 0} where
   turns_differ before (turn ∷ turns) after t once =
       differ_apart (claims_in before) (claims_in turn.own) (claims_in t.0) (all_claims turns) (claims_merge before turn.own t.0 t.1) (turns_differ t.0 turns after t.2 once)
 
-  launches_claimed : (launches : H → List ℕ) (old now : Member H A) (own : List Entry) (more : List ℕ) → Launches launches old now own more → IsPart more (claims_in own)
-  launches_claimed launches (Executor number host) (Executor now next) own more l = l.1
-  launches_claimed launches (Operator answers line ended failed) (Operator next kept now_ended now_failed) own more l = subst (λ (xs : List ℕ). IsPart xs (claims_in own)) (sym l) (part_wider [] [] (claims_in own) part_none)
-  launches_claimed launches (Executor number host) (Operator next kept now_ended now_failed) own more l = absurd l
-  launches_claimed launches (Operator answers line ended failed) (Executor now next) own more l = absurd l
+  launches_claimed : (host : HostView H) (old now : Member H A) (own : List Entry) (more : List ℕ) → Launches host old now own more → IsPart more (claims_in own)
+  launches_claimed host (Executor number machine) (Executor now next) own more l = l.1
+  launches_claimed host (Operator answers line ended failed) (Operator next kept now_ended now_failed) own more l = subst (λ (xs : List ℕ). IsPart xs (claims_in own)) (sym l) (part_wider [] [] (claims_in own) part_none)
+  launches_claimed host (Executor number machine) (Operator next kept now_ended now_failed) own more l = absurd l
+  launches_claimed host (Operator answers line ended failed) (Executor now next) own more l = absurd l
 
-  abbrev LaunchesIn : (H → List ℕ) → Turn H A → Type 0
-  LaunchesIn launches turn = Launches launches turn.old turn.now turn.own turn.launches
+  abbrev LaunchesIn : HostView H → Turn H A → Type 0
+  LaunchesIn host turn = Launches host turn.old turn.now turn.own turn.launches
 
-  launches_part : (launches : H → List ℕ) (turns : List (Turn H A)) → AllAre (LaunchesIn launches) turns → IsPart (launches_of turns) (all_claims turns)
-  launches_part launches [] all = part_none
-  launches_part launches (turn ∷ turns) all = part_beside turn.launches (launches_of turns) (claims_in turn.own) (all_claims turns)
-      (launches_claimed launches turn.old turn.now turn.own turn.launches all.0) (launches_part launches turns all.1)
+  launches_part : (host : HostView H) (turns : List (Turn H A)) → AllAre (LaunchesIn host) turns → IsPart (launches_of turns) (all_claims turns)
+  launches_part host [] all = part_none
+  launches_part host (turn ∷ turns) all = part_beside turn.launches (launches_of turns) (claims_in turn.own) (all_claims turns)
+      (launches_claimed host turn.old turn.now turn.own turn.launches all.0) (launches_part host turns all.1)
 
 -- In the turns of a life with a legal history no task is launched twice.
-pub launches_differ : {H A B T : Type 0} (stance : T → Stance) (opening : B → Parts T) (base : B) (launches : H → List ℕ) (turns : List (Turn H A)) (history : List Entry)
-    → IsLegal (λ b h x y new. Says stance (opening b) h x y new) base history → MadeOf [] turns history → AllAre (LaunchesIn launches) turns → IsDistinct nat_eq (launches_of turns)
-launches_differ stance opening base launches turns history legal made all =
-    part_differs (launches_of turns) (all_claims turns) (launches_part launches turns all) (turns_differ [] turns history made (claims_differ stance opening base history legal))
+pub launches_differ : {H A B T : Type 0} (stance : T → Stance) (opening : B → Parts T) (base : B) (host : HostView H) (turns : List (Turn H A)) (history : List Entry)
+    → IsLegal (λ b h x y new. Says stance (opening b) h x y new) base history → MadeOf [] turns history → AllAre (LaunchesIn host) turns → IsDistinct nat_eq (launches_of turns)
+launches_differ stance opening base host turns history legal made all =
+    part_differs (launches_of turns) (all_claims turns) (launches_part host turns all) (turns_differ [] turns history made (claims_differ stance opening base history legal))

@@ -33,11 +33,12 @@ use Rattle.site_life.proofs.RoundsLemmas.{rounds_made}
 use Rattle.site_life.proofs.OrderLemmas.{life_answered, life_halted, life_orders}
 use Rattle.site_life.proofs.WaitLemmas.{life_waited}
 use Rattle.site_life.proofs.WayLemmas.{no_way, are_ways, rounds_ways}
+use Rattle.task_host.specs.View.{HostView}
+use Rattle.jp_io.specs.View.{SourceView}
 
-module _ {H A : Type 0} (honest : H → Type 0) (faults : H → ℕ) (calls : H → Option (List Call)) (launches dirs : H → List ℕ) (output : H → ℕ → Stream → List ℕ) (exited : H → ℕ → Option ℤ)
-    (left : A → Option (List ℕ)) (source_faults : A → ℕ) (looks : ℕ) where
+module _ {H A : Type 0} (host : HostView H) (source : SourceView A) (looks : ℕ) where
   abbrev Did : Turn H A → Type 0
-  Did turn = DidTurn honest faults calls launches dirs output exited left source_faults looks turn
+  Did turn = DidTurn host source looks turn
 
   module _ {S B T : Type 0} (stance : T → Stance) (opening : B → Parts T) (history : S → List Entry) (base : S → B) where
     abbrev answers : B → List Entry → Ask → Reply → List Entry → Type 0
@@ -61,7 +62,7 @@ module _ {H A : Type 0} (honest : H → Type 0) (faults : H → ℕ) (calls : H 
     -- Rounds over a lock that was just opened, and its closing, are a life.
     pub lives : (old now : List (Member H A)) (v w : Known Entry B) (state : S) (start : B) (how : Result Progress Memory) → v.base ≡ Some start → v.seen ≡ []
         → TakesRounds Did answers old now v w how → Ends history base answers w state
-        → Life honest faults calls launches dirs output exited left source_faults looks answers start (base state) old now (history state) how
+        → Life host source looks answers start (base state) old now (history state) how
     lives old now v w state start how is first r e =
         let begun : entries_of v.numbers v.seen ≡ [] = ap (entries_of v.numbers) first in
         let went = subst (λ (es : List Entry). RoundsFrom answers (base state) r.rounds old es r.members r.before) begun (r.went_on (base state) e.start e.own) in
@@ -70,7 +71,7 @@ module _ {H A : Type 0} (honest : H → Type 0) (faults : H → ℕ) (calls : H 
         let made : MadeOf [] (turns_of r.rounds ++ r.last) (history state) = made_join (turns_of r.rounds) r.last [] r.before (history state)
         (rounds_made answers (base state) r.rounds old r.members [] r.before went)
         (last_made (base state) r.last r.members r.before now r.part (history state) how ended) in
-        let events = events_explained honest faults calls launches dirs output exited left source_faults looks (turns_of r.rounds ++ r.last) (history state) r.did made in
+        let events = events_explained host source looks (turns_of r.rounds ++ r.last) (history state) r.did made in
         let answered = life_answered answers (base state) r.rounds r.last old r.members now r.before r.part (history state) how went ended in
         let ways = rounds_ways Did answers (base state) r.rounds r.last old old r.members [] r.before r.did went (no_way Did old) in
         record {
@@ -86,16 +87,16 @@ module _ {H A : Type 0} (honest : H → Type 0) (faults : H → ℕ) (calls : H 
           turns = r.did;
           ways = last_ways (base state) old r.last r.members r.before now r.part (history state) how ended ways.1 ways.0;
           answered = answered;
-          halted = life_halted honest faults calls launches dirs output exited left source_faults looks stance (opening (base state)) (turns_of r.rounds ++ r.last) (history state) r.did answered;
+          halted = life_halted host source looks stance (opening (base state)) (turns_of r.rounds ++ r.last) (history state) r.did answered;
           orders = life_orders answers (base state) (turns_of r.rounds ++ r.last) (history state) answered;
           claimed_once = claims_differ stance opening (base state) (history state) e.legal;
-          launched_once = launches_differ stance opening (base state) launches (turns_of r.rounds ++ r.last) (history state) e.legal made
-              (all_map Did (λ (turn : Turn H A). Launches launches turn.old turn.now turn.own turn.launches) (turns_of r.rounds ++ r.last) (λ turn d. d.launched) r.did);
+          launched_once = launches_differ stance opening (base state) host (turns_of r.rounds ++ r.last) (history state) e.legal made
+              (all_map Did (λ (turn : Turn H A). Launches host.launches turn.old turn.now turn.own turn.launches) (turns_of r.rounds ++ r.last) (λ turn d. d.launched) r.did);
           told = events.0;
           came = ∥∥₁_map r.goes.came (λ (f : CameUnder answers v → CameUnder answers w).
               subst (EachIs (Came (answers (base state))) []) (sym e.past)
               (each_all (Came (answers (base state))) w.numbers [] w.seen e.own (f (none_came v first) (base state) e.start)));
-          waited = life_waited honest faults calls launches dirs output exited left source_faults looks stance opening (base state) r.rounds r.last old r.members now r.before r.part (history state) how r.did went ended;
+          waited = life_waited host source looks stance opening (base state) r.rounds r.last old r.members now r.before r.part (history state) how r.did went ended;
           explained = events.1;
           at_risk = events.2;
         }

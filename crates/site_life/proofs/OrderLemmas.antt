@@ -40,6 +40,8 @@ use Rattle.site_life.specs.Rounds.{Round, AllAsked, RoundsFrom, WereAsked, turns
 use Rattle.site_life.specs.Turns.{Turn, IsIn, Work, DidTurn}
 use Rattle.site_life.proofs.ComeLemmas.{said_by}
 use Rattle.site_life.proofs.GoingLemmas.{both_true}
+use Rattle.task_host.specs.View.{HostView}
+use Rattle.jp_io.specs.View.{SourceView}
 
 module _ {A : Type 0} where
   in_front : (x : A) (xs ys : List A) → IsIn x xs → IsIn x (xs ++ ys)
@@ -164,26 +166,25 @@ module _ {T : Type 0} (stance : T → Stance) (b : Parts T) where
   halted_in : (history : List Entry) → AnsweredIn (said_by stance b) history gate_call.Halt → is_some (kept_fault history) ≡ true
   halted_in history a = subst (λ (l : List Entry). is_some (kept_fault l) ≡ true) a.3 (halt_kept a.0 a.1 a.2 (kept_fault a.0) refl a.4)
 
-module _ {H A : Type 0} (honest : H → Type 0) (faults : H → ℕ) (calls : H → Option (List Call)) (launches dirs : H → List ℕ) (output : H → ℕ → Stream → List ℕ) (exited : H → ℕ → Option ℤ)
-    (left : A → Option (List ℕ)) (source_faults : A → ℕ) (looks : ℕ) where
+module _ {H A : Type 0} (host : HostView H) (source : SourceView A) (looks : ℕ) where
   abbrev Did : Turn H A → Type 0
-  Did turn = DidTurn honest faults calls launches dirs output exited left source_faults looks turn
+  Did turn = DidTurn host source looks turn
 
   -- who met want of memory called for a halt
   member_halts : (m n : Member H A) (own : List Entry) (gate_calls : List GateCall) (said : Said) (is_open : Bool)
-      → Work honest faults calls launches dirs output exited left source_faults looks m n worked.Memory (tells_of [] [] Nothing false) (tells_of own gate_calls said is_open) → IsIn gate_call.Halt gate_calls
-  member_halts (Executor number host) (Executor now next) own gate_calls said is_open w =
+      → Work host source looks m n worked.Memory (tells_of [] [] Nothing false) (tells_of own gate_calls said is_open) → IsIn gate_call.Halt gate_calls
+  member_halts (Executor number machine) (Executor now next) own gate_calls said is_open w =
       let same : gate_calls ≡ work_reports number w.3.ends.0 [] ++ gate_call.Halt ∷ [] = w.3.so_far.reports ∙ ap (λ (past : List Deed). work_reports number past []) w.3.ends.1 in
       subst (IsIn gate_call.Halt) (sym same) (at_end gate_call.Halt (work_reports number w.3.ends.0 []))
   member_halts (Operator answers line ended failed) (Operator next kept now_ended now_failed) own gate_calls said is_open w =
       let same : gate_calls ≡ operator_calls w.0.ends.0 [] ++ gate_call.Halt ∷ [] = w.0.so_far.calls ∙ ap (λ (past : List OperatorDeed). operator_calls past []) w.0.ends.1 in
       subst (IsIn gate_call.Halt) (sym same) (at_end gate_call.Halt (operator_calls w.0.ends.0 []))
-  member_halts (Executor number host) (Operator next kept now_ended now_failed) own gate_calls said is_open w = absurd w
+  member_halts (Executor number machine) (Operator next kept now_ended now_failed) own gate_calls said is_open w = absurd w
   member_halts (Operator answers line ended failed) (Executor now next) own gate_calls said is_open w = absurd w
 
   turn_halts : (turn : Turn H A) → Did turn → turn.worked ≡ worked.Memory → IsIn gate_call.Halt turn.calls
   turn_halts turn d is = member_halts turn.old turn.now turn.own turn.calls turn.said turn.is_open
-      (subst (λ (x : Worked). Work honest faults calls launches dirs output exited left source_faults looks turn.old turn.now x (tells_of [] [] Nothing false) (tells_of turn.own turn.calls turn.said turn.is_open)) is d.works)
+      (subst (λ (x : Worked). Work host source looks turn.old turn.now x (tells_of [] [] Nothing false) (tells_of turn.own turn.calls turn.said turn.is_open)) is d.works)
 
   pub life_halted : {T : Type 0} (stance : T → Stance) (b : Parts T) (turns : List (Turn H A)) (history : List Entry) → AllAre Did turns → ∥ AreSo (said_by stance b) history turns ∥₁
       → ∥ AllAre (λ (turn : Turn H A). turn.worked ≡ worked.Memory → is_some (kept_fault history) ≡ true) turns ∥₁

@@ -28,6 +28,8 @@ use Rattle.site_life.specs.Orders.{AllAnswered, ClaimsGaveSo, OrdersAreSo}
 use Rattle.site_life.specs.Rounds.{Round, AllAsked, RoundsFrom, WereAsked, turns_of}
 use Rattle.site_life.specs.Turns.{Turn}
 use Rattle.site_life.specs.Waiting.{Waited}
+use Rattle.task_host.specs.View.{HostView}
+use Rattle.jp_io.specs.View.{SourceView}
 
 each_so : (P Q : List Entry → Entry → Type 0) → ((before : List Entry) (entry : Entry) → P before entry → Q before entry) → (before es : List Entry) → EachIs P before es → EachIs Q before es
 each_so P Q so before [] each = tt
@@ -116,11 +118,10 @@ module _ {B C : Type 0} (answers : Answers B Entry Ask Reply) (others : Answers 
     ends_so last members before now part history (Ok come) e = (e.0, e.1, e.2, ∥∥₁_map e.3 (all_asked_so before part last), so history ask.Look (reply.Progress come) [] e.4, e.5)
     ends_so last members before now part history (Err memory) e = (e.0, e.1, e.2, e.3, ∥∥₁_map e.4 (all_asked_so before part last))
 
-    module _ (honest : H → Type 0) (faults : H → ℕ) (calls : H → Option (List Call)) (launches dirs : H → List ℕ) (output : H → ℕ → Stream → List ℕ) (exited : H → ℕ → Option ℤ)
-        (left : A → Option (List ℕ)) (source_faults : A → ℕ) (looks : ℕ) where
+    module _ (host : HostView H) (source : SourceView A) (looks : ℕ) where
       pub life_over : (start : B) (old now : List (Member H A)) (history : List Entry) (how : Result Progress Memory)
-          → (life : Life honest faults calls launches dirs output exited left source_faults looks answers start base old now history how)
-          → LifeOf honest faults calls launches dirs output exited left source_faults looks others at old now (turns_of life.rounds ++ life.last) history
+          → (life : Life host source looks answers start base old now history how)
+          → LifeOf host source looks others at old now (turns_of life.rounds ++ life.last) history
       life_over start old now history how life =
           let turns = turns_of life.rounds ++ life.last in
           record {

@@ -31,6 +31,8 @@ use Rattle.site_gate.proofs.CallLemmas.{site_says}
 use Rattle.site_life.proofs.AskedLemmas.{were_asked, asked_sooner, all_later}
 use Rattle.site_life.proofs.GoingLemmas.{both_true, goes_same, goes_further, goes_turn}
 use Rattle.site_life.proofs.MadeLemmas.{made_more, merge_behind}
+use Rattle.task_host.specs.View.{HostView}
+use Rattle.jp_io.specs.View.{SourceView}
 
 -- what holds for each want of memory
 pub on_refusal : {X : Type 0} (P : Result X Memory → Type 0) (how : Result X Memory) → IsErr how → ((memory : Memory) → P (Err memory)) → P how
@@ -94,23 +96,22 @@ module _ {H A : Type 0} (Did : Turn H A → Type 0) where
     turns_are items i w s = (s.were, sym (take-append-drop i items) ∙ ap (λ (ms : List (Member H A)). ms ++ drop i items) s.had)
 
 -- what a turn added to the launches of an executor's host
-module _ {H A : Type 0} (honest : H → Type 0) (faults : H → ℕ) (calls : H → Option (List Call)) (launches dirs : H → List ℕ) (output : H → ℕ → Stream → List ℕ) (exited : H → ℕ → Option ℤ)
-    (left : A → Option (List ℕ)) (source_faults : A → ℕ) (looks : ℕ) where
+module _ {H A : Type 0} (host : HostView H) (source : SourceView A) (looks : ℕ) where
   abbrev Did : Turn H A → Type 0
-  Did turn = DidTurn honest faults calls launches dirs output exited left source_faults looks turn
+  Did turn = DidTurn host source looks turn
 
   abbrev Works : Member H A → Member H A → Worked → GateTells → GateTells → Type 0
-  Works m n worked from to = Work honest faults calls launches dirs output exited left source_faults looks m n worked from to
+  Works m n worked from to = Work host source looks m n worked from to
 
-  pub launched_in : (m n : Member H A) (worked : Worked) (own : List Entry) (gate_calls : List GateCall) → Executed honest calls launches dirs output exited looks m n worked own gate_calls → (more : List ℕ) × Launches launches m n own more
-  launched_in (Executor number host) (Executor now next) worked own gate_calls e = (e.launched.more, (e.launched.added, e.launched.part))
+  pub launched_in : (m n : Member H A) (worked : Worked) (own : List Entry) (gate_calls : List GateCall) → Executed host looks m n worked own gate_calls → (more : List ℕ) × Launches host m n own more
+  launched_in (Executor number machine) (Executor now next) worked own gate_calls e = (e.launched.more, (e.launched.added, e.launched.part))
   launched_in (Operator answers line ended failed) (Operator next kept now_ended now_failed) worked own gate_calls e = ([], refl)
-  launched_in (Executor number host) (Operator next kept now_ended now_failed) worked own gate_calls e = absurd e
+  launched_in (Executor number machine) (Operator next kept now_ended now_failed) worked own gate_calls e = absurd e
   launched_in (Operator answers line ended failed) (Executor now next) worked own gate_calls e = absurd e
 
   -- the turn of the next member
   pub turn_taken : {B T : Type 0} (stance : T → Stance) (opening : B → Parts T) (old items : List (Member H A)) (i : ℕ) (v w u : Known Entry B) (m n d : Member H A) (worked : Worked) → i < length items → m ≡ slice_index_or items i d
-      → TakesTurn (site_says stance opening) (Works m n worked) (Executed honest calls launches dirs output exited looks m n worked) w u → TurnsSoFar Did (site_says stance opening) old items i v w
+      → TakesTurn (site_says stance opening) (Works m n worked) (Executed host looks m n worked) w u → TurnsSoFar Did (site_says stance opening) old items i v w
       → TurnsSoFar Did (site_says stance opening) old (slice_set items i n) (i + 1) v u
   turn_taken stance opening old items i v w u m n d worked inside is t s =
       let added = launched_in m n worked t.own t.calls t.executed in

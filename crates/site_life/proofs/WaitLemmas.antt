@@ -43,6 +43,8 @@ use Rattle.site_life.proofs.ComeLemmas.{said_by, asked_here}
 use Rattle.site_life.proofs.GoingLemmas.{both_true}
 use Rattle.site_life.proofs.MadeLemmas.{same_rest}
 use Rattle.site_life.proofs.WayLemmas.{all_two}
+use Rattle.task_host.specs.View.{HostView}
+use Rattle.jp_io.specs.View.{SourceView}
 
 -- how many lines
 abbrev count : List Entry → ℕ
@@ -289,24 +291,23 @@ module _ {H A : Type 0} where
   operators-append (Executor number host ∷ xs) ys = operators-append xs ys
   operators-append (Operator answers line ended failed ∷ xs) ys = let rest = operators-append xs ys in omega arith
 
-module _ {H A : Type 0} (honest : H → Type 0) (faults : H → ℕ) (calls : H → Option (List Call)) (launches dirs : H → List ℕ) (output : H → ℕ → Stream → List ℕ) (exited : H → ℕ → Option ℤ)
-    (left : A → Option (List ℕ)) (source_faults : A → ℕ) (looks : ℕ) where
+module _ {H A : Type 0} (host : HostView H) (source : SourceView A) (looks : ℕ) where
   abbrev Did : Turn H A → Type 0
-  Did turn = DidTurn honest faults calls launches dirs output exited left source_faults looks turn
+  Did turn = DidTurn host source looks turn
 
   -- what a turn is: an executor's, which puts no line; or an operator's, which heeds what is open
   abbrev IsOfKind : Member H A → Member H A → List Entry → List GateCall → Type 0
-  IsOfKind (Executor number host) (Executor now next) own gate_calls = lines own ≡ []
+  IsOfKind (Executor number machine) (Executor now next) own gate_calls = lines own ≡ []
   IsOfKind (Operator answers line ended failed) (Operator next kept now_ended now_failed) own gate_calls = Heeded false gate_calls
-  IsOfKind (Executor number host) (Operator next kept now_ended now_failed) own gate_calls = ⊥
+  IsOfKind (Executor number machine) (Operator next kept now_ended now_failed) own gate_calls = ⊥
   IsOfKind (Operator answers line ended failed) (Executor now next) own gate_calls = ⊥
 
   turn_kind : (m n : Member H A) (worked : Worked) (own : List Entry) (gate_calls : List GateCall) (said : Said) (is_open : Bool)
-      → Work honest faults calls launches dirs output exited left source_faults looks m n worked (tells_of [] [] Nothing false) (tells_of own gate_calls said is_open) → IsOfKind m n own gate_calls
-  turn_kind (Executor number host) (Executor now next) worked own gate_calls said is_open w = w.4
+      → Work host source looks m n worked (tells_of [] [] Nothing false) (tells_of own gate_calls said is_open) → IsOfKind m n own gate_calls
+  turn_kind (Executor number machine) (Executor now next) worked own gate_calls said is_open w = w.4
   turn_kind (Operator answers line ended failed) (Operator next kept now_ended now_failed) worked own gate_calls said is_open w =
       subst (Heeded false) (sym w.0.so_far.calls) (operator_heeds w.0.past w.0.so_far.lawful).0
-  turn_kind (Executor number host) (Operator next kept now_ended now_failed) worked own gate_calls said is_open w = absurd w
+  turn_kind (Executor number machine) (Operator next kept now_ended now_failed) worked own gate_calls said is_open w = absurd w
   turn_kind (Operator answers line ended failed) (Executor now next) worked own gate_calls said is_open w = absurd w
 
   kind_of : (turn : Turn H A) → Did turn → IsOfKind turn.old turn.now turn.own turn.calls
@@ -314,9 +315,9 @@ module _ {H A : Type 0} (honest : H → Type 0) (faults : H → ℕ) (calls : H 
 
   -- a member is of one kind before its turn and behind it
   one_kind : (m n : Member H A) (ms ns : List (Member H A)) (own : List Entry) (gate_calls : List GateCall) → IsOfKind m n own gate_calls → operators ns ≡ operators ms → operators (n ∷ ns) ≡ operators (m ∷ ms)
-  one_kind (Executor number host) (Executor now next) ms ns own gate_calls k rest = rest
+  one_kind (Executor number machine) (Executor now next) ms ns own gate_calls k rest = rest
   one_kind (Operator answers line ended failed) (Operator next kept now_ended now_failed) ms ns own gate_calls k rest = ap suc rest
-  one_kind (Executor number host) (Operator next kept now_ended now_failed) ms ns own gate_calls k rest = absurd k
+  one_kind (Executor number machine) (Operator next kept now_ended now_failed) ms ns own gate_calls k rest = absurd k
   one_kind (Operator answers line ended failed) (Executor now next) ms ns own gate_calls k rest = absurd k
 
   same_operators : (turns : List (Turn H A)) → AllAre Did turns → operators (nows_of turns) ≡ operators (olds_of turns)
@@ -326,9 +327,9 @@ module _ {H A : Type 0} (honest : H → Type 0) (faults : H → ℕ) (calls : H 
   -- one turn of a member, among those of others of whom none, or at most one, is an operator
   by_kind : (P : Type 0) (m n : Member H A) (ms : List (Member H A)) (own : List Entry) (gate_calls : List GateCall) (most : ℕ) → IsOfKind m n own gate_calls → operators (m ∷ ms) ≤ most
       → (lines own ≡ [] → operators ms ≤ most → P) → (Heeded false gate_calls → suc (operators ms) ≤ most → P) → P
-  by_kind P (Executor number host) (Executor now next) ms own gate_calls most k few one two = one k few
+  by_kind P (Executor number machine) (Executor now next) ms own gate_calls most k few one two = one k few
   by_kind P (Operator answers line ended failed) (Operator next kept now_ended now_failed) ms own gate_calls most k few one two = two k few
-  by_kind P (Executor number host) (Operator next kept now_ended now_failed) ms own gate_calls most k few one two = absurd k
+  by_kind P (Executor number machine) (Operator next kept now_ended now_failed) ms own gate_calls most k few one two = absurd k
   by_kind P (Operator answers line ended failed) (Executor now next) ms own gate_calls most k few one two = absurd k
 
   -- turns of executors put no line

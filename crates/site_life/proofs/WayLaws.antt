@@ -11,6 +11,7 @@ use Rattle.site_gate.proofs.PartLemmas.{all_append, all_first, all_map}
 use Rattle.site_life.specs.Turns.{IsIn, Launches, MadeOf, Turn}
 use Rattle.site_life.specs.Ways.{Chained, Way}
 use Rattle.site_life.proofs.LaunchLaws.{claims_merge}
+use Rattle.task_host.specs.View.{HostView}
 
 all_second : {A : Type 0} (P : A → Type 0) (xs ys zs : List A) → IsMergeOf xs ys zs → AllAre P zs → AllAre P ys
 all_second P xs ys [] m all = subst (AllAre P) (sym m.1) tt
@@ -32,41 +33,41 @@ IsClaimedIn history task = IsIn task (tasks_of (claimed_of history))
 abbrev AreClaimedIn : List Entry → List Entry → Type 0
 AreClaimedIn history es = AllAre (IsClaimedIn history) (tasks_of (claimed_of es))
 
-module _ {H : Type 0} (launches : H → List ℕ) (history : List Entry) where
+module _ {H : Type 0} (host : HostView H) (history : List Entry) where
   -- What a host has launched more, with tasks that were claimed.
   abbrev pub LaunchesMore : H → H → Type 0
-  LaunchesMore host now = (more : List ℕ) × (launches now ≡ launches host ++ more) × AllAre (IsClaimedIn history) more
+  LaunchesMore machine now = (more : List ℕ) × (host.launches now ≡ host.launches machine ++ more) × AllAre (IsClaimedIn history) more
 
-  pub launches_same : (host : H) → LaunchesMore host host
-  launches_same host = ([], sym (append-nil (launches host)), tt)
+  pub launches_same : (machine : H) → LaunchesMore machine machine
+  launches_same machine = ([], sym (append-nil (host.launches machine)), tt)
 
-module _ {H A : Type 0} (launches : H → List ℕ) (history : List Entry) where
+module _ {H A : Type 0} (host : HostView H) (history : List Entry) where
   abbrev pub MemberLaunches : Member H A → Member H A → Type 0
-  MemberLaunches (Executor number host) (Executor now next) = LaunchesMore launches history host next
+  MemberLaunches (Executor number machine) (Executor now next) = LaunchesMore host history machine next
   MemberLaunches (Operator answers line ended failed) (Operator next kept now_ended now_failed) = Unit {0}
-  MemberLaunches (Executor number host) (Operator next kept now_ended now_failed) = ⊥
+  MemberLaunches (Executor number machine) (Operator next kept now_ended now_failed) = ⊥
   MemberLaunches (Operator answers line ended failed) (Executor now next) = ⊥
 
   launches_none : (m n : Member H A) → n ≡ m → MemberLaunches m n
-  launches_none (Executor number host) n is = subst (MemberLaunches (Executor number host)) (sym is) (launches_same launches history host)
+  launches_none (Executor number machine) n is = subst (MemberLaunches (Executor number machine)) (sym is) (launches_same host history machine)
   launches_none (Operator answers line ended failed) n is = subst (MemberLaunches (Operator answers line ended failed)) (sym is) tt
 
   launches_then : (m k n : Member H A) → MemberLaunches m k → MemberLaunches k n → MemberLaunches m n
-  launches_then (Executor number host) (Executor mid between) (Executor now next) one more = (
+  launches_then (Executor number machine) (Executor mid between) (Executor now next) one more = (
     one.0 ++ more.0,
-    more.1 ∙ ap (λ (l : List ℕ). l ++ more.0) one.1 ∙ append_assoc (launches host) one.0 more.0,
+    more.1 ∙ ap (λ (l : List ℕ). l ++ more.0) one.1 ∙ append_assoc (host.launches machine) one.0 more.0,
     all_append (IsClaimedIn history) one.0 more.0 one.2 more.2,
   )
   launches_then (Operator answers line ended failed) (Operator mid held mid_ended mid_failed) (Operator next kept now_ended now_failed) one more = tt
-  launches_then (Executor number host) (Executor mid between) (Operator next kept now_ended now_failed) one more = absurd more
-  launches_then (Executor number host) (Operator mid held mid_ended mid_failed) n one more = absurd one
+  launches_then (Executor number machine) (Executor mid between) (Operator next kept now_ended now_failed) one more = absurd more
+  launches_then (Executor number machine) (Operator mid held mid_ended mid_failed) n one more = absurd one
   launches_then (Operator answers line ended failed) (Executor mid between) n one more = absurd one
   launches_then (Operator answers line ended failed) (Operator mid held mid_ended mid_failed) (Executor now next) one more = absurd more
 
-  turn_launches : (old now : Member H A) (own : List Entry) (added : List ℕ) → AreClaimedIn history own → Launches launches old now own added → MemberLaunches old now
-  turn_launches (Executor number host) (Executor now next) own added claims l = (added, l.0, all_first (IsClaimedIn history) added l.1.0 (tasks_of (claimed_of own)) l.1.1 claims)
+  turn_launches : (old now : Member H A) (own : List Entry) (added : List ℕ) → AreClaimedIn history own → Launches host old now own added → MemberLaunches old now
+  turn_launches (Executor number machine) (Executor now next) own added claims l = (added, l.0, all_first (IsClaimedIn history) added l.1.0 (tasks_of (claimed_of own)) l.1.1 claims)
   turn_launches (Operator answers line ended failed) (Operator next kept now_ended now_failed) own added claims l = tt
-  turn_launches (Executor number host) (Operator next kept now_ended now_failed) own added claims l = absurd l
+  turn_launches (Executor number machine) (Operator next kept now_ended now_failed) own added claims l = absurd l
   turn_launches (Operator answers line ended failed) (Executor now next) own added claims l = absurd l
 
   -- what turns have made has the claims from before them
@@ -75,16 +76,16 @@ module _ {H A : Type 0} (launches : H → List ℕ) (history : List Entry) where
   claims_before before (turn ∷ turns) after made claims =
       all_first (IsClaimedIn history) (tasks_of (claimed_of before)) (tasks_of (claimed_of turn.own)) (tasks_of (claimed_of made.0)) (claims_merge before turn.own made.0 made.1) (claims_before made.0 turns after made.2 claims)
 
-  turns_launch : (old now : Member H A) (turns : List (Turn H A)) (before own : List Entry) → Chained old turns now → AllAre (λ (turn : Turn H A). Launches launches turn.old turn.now turn.own turn.launches) turns → MadeOf before turns own → AreClaimedIn history own → MemberLaunches old now
+  turns_launch : (old now : Member H A) (turns : List (Turn H A)) (before own : List Entry) → Chained old turns now → AllAre (λ (turn : Turn H A). Launches host.launches turn.old turn.now turn.own turn.launches) turns → MadeOf before turns own → AreClaimedIn history own → MemberLaunches old now
   turns_launch old now [] before own chain did made claims = launches_none old now chain
   turns_launch old now (turn ∷ turns) before own chain did made claims =
       let mid = claims_before made.0 turns own made.2 claims in
       let here = all_second (IsClaimedIn history) (tasks_of (claimed_of before)) (tasks_of (claimed_of turn.own)) (tasks_of (claimed_of made.0)) (claims_merge before turn.own made.0 made.1) mid in
       launches_then old turn.now now (subst (λ (m : Member H A). MemberLaunches m turn.now) chain.0 (turn_launches turn.old turn.now turn.own turn.launches here did.0)) (turns_launch turn.now now turns made.0 own chain.1 did.1 made.2 claims)
 
-  module _ (Did : Turn H A → Type 0) (launched : (turn : Turn H A) → Did turn → Launches launches turn.old turn.now turn.own turn.launches) where
+  module _ (Did : Turn H A → Type 0) (launched : (turn : Turn H A) → Did turn → Launches host turn.old turn.now turn.own turn.launches) where
     way_launches : (old now : Member H A) → Way Did history old now → MemberLaunches old now
-    way_launches old now way = turns_launch old now way.turns [] way.own way.chain (all_map Did (λ (turn : Turn H A). Launches launches turn.old turn.now turn.own turn.launches) way.turns launched way.did) way.made
+    way_launches old now way = turns_launch old now way.turns [] way.own way.chain (all_map Did (λ (turn : Turn H A). Launches host.launches turn.old turn.now turn.own turn.launches) way.turns launched way.did) way.made
         (all_first (IsClaimedIn history) (tasks_of (claimed_of way.own)) (tasks_of (claimed_of way.others)) (tasks_of (claimed_of history)) (claims_merge way.own way.others history way.part) (all_in (tasks_of (claimed_of history))))
 
     -- each host has launched, in the life, only tasks that were claimed in it

@@ -24,6 +24,8 @@ use Rattle.site_life.specs.Rounds.{Round, AllAsked, AreTurnsOf, IsRound, RoundsF
 use Rattle.site_life.specs.Turns.{Turn, MadeOf, launches_of, HoldsOfOne, DidTurn, Explains, IsExplained}
 use Rattle.site_life.specs.Waiting.{Waited, operators}
 use Rattle.site_life.specs.Ways.{Way}
+use Rattle.task_host.specs.View.{HostView}
+use Rattle.jp_io.specs.View.{SourceView}
 
 -- How it ended: behind a whole round, where a look said of the state at the closing that there is no other; or within a round, where memory
 -- was wanted before the next member's turn. `part` has the entries of that round, which stand behind all others; each answer that a member was
@@ -35,8 +37,7 @@ EndsWith answers base last members before now part history (Ok come) =
 EndsWith {H} {A} answers base last members before now part history (Err memory) =
     (others : List (Member H A)) × AreTurnsOf last others members now × MadeOf [] last part × (before ++ part ≡ history) × ∥ AllAsked (answers base) before part last ∥₁
 
-module _ {H A : Type 0} (honest : H → Type 0) (faults : H → ℕ) (calls : H → Option (List Call)) (launches dirs : H → List ℕ) (output : H → ℕ → Stream → List ℕ) (exited : H → ℕ → Option ℤ)
-    (left : A → Option (List ℕ)) (source_faults : A → ℕ) (looks : ℕ) where
+module _ {H A : Type 0} (host : HostView H) (source : SourceView A) (looks : ℕ) where
   -- A life of these members, from the base on: its history, and what became of them.
   pub record Life {B : Type 0} (answers : Answers B Entry Ask Reply) (start base : B) (old now : List (Member H A)) (history : List Entry) (how : Result Progress Memory) : Type 0 where
     pub base_stays : base ≡ start
@@ -50,9 +51,9 @@ module _ {H A : Type 0} (honest : H → Type 0) (faults : H → ℕ) (calls : H 
     pub went_on : RoundsFrom answers base rounds old [] members before
     pub ends : EndsWith answers base last members before now part history how
     -- what each turn was
-    pub turns : AllAre (DidTurn honest faults calls launches dirs output exited left source_faults looks) (turns_of rounds ++ last)
+    pub turns : AllAre (DidTurn host source looks) (turns_of rounds ++ last)
     -- and so each member's own way, from what it was to what it became
-    pub ways : AllZip (Way (DidTurn honest faults calls launches dirs output exited left source_faults looks) history) old now
+    pub ways : AllZip (Way (DidTurn host source looks) history) old now
     -- each answer that a member was given is the state's, at a beginning of the history where the entries of that call stand
     pub answered : ∥ AllAre (λ (turn : Turn H A). AllAnswered (answers base) history turn.calls) (turns_of rounds ++ last) ∥₁
     -- who met want of memory has halted the build, where nothing had stopped it
@@ -63,14 +64,14 @@ module _ {H A : Type 0} (honest : H → Type 0) (faults : H → ℕ) (calls : H 
     pub claimed_once : IsDistinct nat_eq (tasks_of (claimed_of history))
     pub launched_once : IsDistinct nat_eq (launches_of (turns_of rounds ++ last))
     -- each event that was reported or decided, and was taken or kept by the disk or the limit, comes from a member
-    pub told : AllAre (λ (t : Told). HoldsOfOne (Explains honest faults calls launches dirs output exited left source_faults looks t.accepted t.event) (turns_of rounds ++ last)) (told_of history)
+    pub told : AllAre (λ (t : Told). HoldsOfOne (Explains host source looks t.accepted t.event) (turns_of rounds ++ last)) (told_of history)
     -- each decision stands directly behind its line, which decided it there; and one that failed is that of a line
     pub came : ∥ EachIs (Came (answers base)) [] history ∥₁
     -- where at most one of them is an operator: each answer line was heard only where an input was open since the line before it
     pub waited : operators old ≤ 1 → ∥ EachIs (Waited (answers base)) [] history ∥₁
     -- so each event that was taken is explained, and the one whose record the disk may have though it failed
-    pub explained : AllAre (IsExplained honest faults calls launches dirs output exited left source_faults looks (turns_of rounds ++ last) true) (tooks history)
-    pub at_risk : AllAre (IsExplained honest faults calls launches dirs output exited left source_faults looks (turns_of rounds ++ last) false) (pending history)
+    pub explained : AllAre (IsExplained host source looks (turns_of rounds ++ last) true) (tooks history)
+    pub at_risk : AllAre (IsExplained host source looks (turns_of rounds ++ last) false) (pending history)
 
   -- a life whose turns these are, one behind the other
   pub record LifeOf {B : Type 0} (answers : Answers B Entry Ask Reply) (base : B) (old now : List (Member H A)) (turns : List (Turn H A)) (history : List Entry) : Type 0 where

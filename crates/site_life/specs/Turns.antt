@@ -18,6 +18,8 @@ use Rattle.site_gate.specs.Lower.site_state.declared.ask.Entry.{Entry}
 use Rattle.site_gate.specs.Tales.{claimed_of, is_grant, tells_of, told_of}
 use Rattle.site_gate.specs.Turning.{tasks_of, IsPart, IsCausedBy, ExecutorTurn}
 use Rattle.site_gate.specs.Turns.{Executed}
+use Rattle.task_host.specs.View.{HostView}
+use Rattle.jp_io.specs.View.{SourceView}
 
 -- A turn: the member before it and behind it, how its work ended, the entries that it left in the history, the calls of its gate, what
 -- that said last and whether a line could still be given to it, and what it added to the launches of its host.
@@ -54,31 +56,30 @@ module _ {H A : Type 0} where
 
   -- What an executor added to the launches of its host are tasks that it claimed in this turn, each at most once for its claim. The
   -- operator launches nothing.
-  abbrev pub Launches : (H → List ℕ) → Member H A → Member H A → List Entry → List ℕ → Type 0
-  Launches launches (Executor number host) (Executor now next) own more = (launches next ≡ launches host ++ more) × IsPart more (tasks_of (claimed_of own))
-  Launches launches (Operator answers line ended failed) (Operator next kept now_ended now_failed) own more = more ≡ []
-  Launches launches (Executor number host) (Operator next kept now_ended now_failed) own more = ⊥
-  Launches launches (Operator answers line ended failed) (Executor now next) own more = ⊥
+  abbrev pub Launches : HostView H → Member H A → Member H A → List Entry → List ℕ → Type 0
+  Launches host (Executor number machine) (Executor now next) own more = (host.launches next ≡ host.launches machine ++ more) × IsPart more (tasks_of (claimed_of own))
+  Launches host (Operator answers line ended failed) (Operator next kept now_ended now_failed) own more = more ≡ []
+  Launches host (Executor number machine) (Operator next kept now_ended now_failed) own more = ⊥
+  Launches host (Operator answers line ended failed) (Executor now next) own more = ⊥
 
-module _ {H A : Type 0} (honest : H → Type 0) (faults : H → ℕ) (calls : H → Option (List Call)) (launches dirs : H → List ℕ) (output : H → ℕ → Stream → List ℕ) (exited : H → ℕ → Option ℤ)
-    (left : A → Option (List ℕ)) (source_faults : A → ℕ) (looks : ℕ) where
+module _ {H A : Type 0} (host : HostView H) (source : SourceView A) (looks : ℕ) where
   -- a member's work, by what its gate told before it and tells behind it
   abbrev pub Work : Member H A → Member H A → Worked → GateTells → GateTells → Type 0
-  Work m n worked old now = WorksAs honest faults (telling calls launches dirs output exited (λ t. t)) (λ t. t) left source_faults looks m n old now worked
+  Work m n worked old now = WorksAs host (telling host (λ t. t)) (λ t. t) source looks m n old now worked
 
   -- What a turn was: the member did its work over a gate that was new, and this is what the entries of the turn tell.
   pub record DidTurn (turn : Turn H A) : Type 0 where
     pub works : Work turn.old turn.now turn.worked (tells_of [] [] Nothing false) (tells_of turn.own turn.calls turn.said turn.is_open)
-    pub executed : Executed honest calls launches dirs output exited looks turn.old turn.now turn.worked turn.own turn.calls
-    pub launched : Launches launches turn.old turn.now turn.own turn.launches
+    pub executed : Executed host looks turn.old turn.now turn.worked turn.own turn.calls
+    pub launched : Launches host turn.old turn.now turn.own turn.launches
 
   -- An executor reported the event in one of its serves, with its cause there; a line that the operator read and gave decides it.
   abbrev pub ComesFrom : Event → Member H A → Member H A → Worked → List Entry → List GateCall → GateTells → Type 0
-  ComesFrom e (Executor number host) (Executor now next) worked own gate_calls told =
-      (did : ExecutorTurn number looks (honest host) own gate_calls (calls host) (calls next) (on_host launches dirs output exited host) (on_host launches dirs output exited next) worked) × IsCausedBy looks did.past e
+  ComesFrom e (Executor number machine) (Executor now next) worked own gate_calls told =
+      (did : ExecutorTurn number looks (host.honest machine) own gate_calls (host.calls machine) (host.calls next) (on_host host machine) (on_host host next) worked) × IsCausedBy looks did.past e
   ComesFrom e (Operator answers line ended failed) (Operator next kept now_ended now_failed) worked own gate_calls told =
-      (did : Operates (tells_of [] [] Nothing false) told (left answers) (left next) line kept ended now_ended worked) × ((given : List ℕ) × IsIn given (given_in did.past) × ((request : ℕ) × Decides given request e))
-  ComesFrom e (Executor number host) (Operator next kept now_ended now_failed) worked own gate_calls told = ⊥
+      (did : Operates (tells_of [] [] Nothing false) told (source.left answers) (source.left next) line kept ended now_ended worked) × ((given : List ℕ) × IsIn given (given_in did.past) × ((request : ℕ) × Decides given request e))
+  ComesFrom e (Executor number machine) (Operator next kept now_ended now_failed) worked own gate_calls told = ⊥
   ComesFrom e (Operator answers line ended failed) (Executor now next) worked own gate_calls told = ⊥
 
   -- The event was taken in this turn, or its take was kept from the disk by a fault, as `accepted` says; and it comes from the member.

@@ -73,7 +73,7 @@ fn take_rounds<W: Wait + Clock + AllocGlobal, D: Disk, R: SavedThread + Drop, H:
     requires whole { (known pass.old).parts ≡ all_parts }
     ensures belongs { IsPassOf program.now pass.new }
     ensures whole { (known pass.new).parts ≡ all_parts }
-    ensures rounds { TakesRounds (DidTurn H.honest H.faults H.calls H.launches H.dirs H.output H.exited A.left A.faults looks)
+    ensures rounds { TakesRounds (DidTurn H.Host A.Source looks)
         (λ base history ask reply new. Says R.stance base.value.build history ask reply new)
         members.old members.new (known pass.old) (known pass.new) result }
 {
@@ -103,7 +103,7 @@ fn live_in<W: Wait + Clock + AllocGlobal, D: Disk, R: SavedThread + Drop, H: Hos
     requires belongs { IsPassOf program pass }
     requires whole { (known pass).parts ≡ all_parts }
     requires first { (known pass).seen ≡ [] }
-    ensures lives { (start : _) → (known pass).base ≡ Some start → Life H.honest H.faults H.calls H.launches H.dirs H.output H.exited A.left A.faults looks
+    ensures lives { (start : _) → (known pass).base ≡ Some start → Life H.Host A.Source looks
         (λ base history ask reply new. Says R.stance base.value.build history ask reply new)
         start result.0.base members.old members.new result.0.history.items result.1 }
 {
@@ -141,7 +141,7 @@ pub fn live<W: Wait + Clock + AllocGlobal, D: Disk, R: SavedThread + Drop, H: Ho
 ) -> Result<(SiteState<D, R>, Result<Progress, Memory>), (Memory, SiteState<D, R>)>
     requires looks { 0 < looks }
     requires fresh { state.history.items ≡ [] }
-    ensures lives { IfOk result (λ r. Life H.honest H.faults H.calls H.launches H.dirs H.output H.exited A.left A.faults looks
+    ensures lives { IfOk result (λ r. Life H.Host A.Source looks
         (λ base history ask reply new. Says R.stance base.value.build history ask reply new)
         state.base r.0.base members.old members.new r.0.history.items r.1) }
     ensures back { IfErr result (λ e. (e.1 ≡ state) × (members.new ≡ members.old)) }

@@ -46,7 +46,7 @@ pub fn take_round<
     requires whole { (known pass.old).parts ≡ all_parts }
     ensures belongs { IsPassOf program.now pass.new }
     ensures whole { (known pass.new).parts ≡ all_parts }
-    ensures round { TakesRound (DidTurn H.honest H.faults H.calls H.launches H.dirs H.output H.exited A.left A.faults looks)
+    ensures round { TakesRound (DidTurn H.Host A.Source looks)
         (λ base history ask reply new. Says R.stance base.value.build history ask reply new) members.old members.new (known pass.old) (known pass.new) result }
 {
     for member in members.iter_mut() {

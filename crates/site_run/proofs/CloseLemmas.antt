@@ -31,6 +31,9 @@ use Rattle.site_threads.specs.Lower.site_life.Lives.{Life, LifeOf}
 use Rattle.site_threads.specs.Lower.site_life.Ways.{Way}
 use Rattle.site_threads.specs.Lower.site_life.Turns.{DidTurn}
 use Rattle.site_run.specs.Ending.{any_failed, ended_as, rest_of}
+use Rattle.jp_disk.specs.View.{DiskView}
+use Rattle.task_host.specs.View.{HostView}
+use Rattle.jp_io.specs.View.{SourceView}
 
 -- Whether a count rose can be decided, so that what is merely known of it is so.
 rose_or_not : (before now : ℕ) → Rose before now ⊎ ¬ (Rose before now)
@@ -142,57 +145,56 @@ fault_tells {H = H} {A = A} stance now h members how fault full is = by (kept_fa
         never q e = cc
     by None kept (Err memory) ended = subst (TellsFault stance now) (err_same take.Memory fault ended) tt
 
-module _ {D T : Type 0} (reads : D → Option (List ℕ)) (may_leave : D → List ℕ → Type 0) (clock : D → ℕ) (since : D → ℕ → List ℕ → Type 0) (faults : D → ℕ) (stance : T → Stance) where
+module _ {D T : Type 0} (disk : DiskView D) (stance : T → Stance) where
   -- the count of faults of the disk, over the opening and the life
   pub disk_counts : {H A : Type 0} (durable opened kept : Kept D T) (made h : List Entry) (capacity : ℕ) (members : List (Member H A)) (how : Result Progress Memory) (ended : Result Rest TakeFault)
-      → Facts reads may_leave clock since faults stance durable opened made → kept_fault made ≡ None → ∥ IsSite reads may_leave clock since faults stance opened kept h capacity ∥₁ → ended ≡ ended_as (kept_fault h) how members
-      → CountsFault (faults durable.journal.disk) (faults kept.journal.disk) (ended ≡ Err take.Disk)
+      → Facts disk stance durable opened made → kept_fault made ≡ None → ∥ IsSite disk stance opened kept h capacity ∥₁ → ended ≡ ended_as (kept_fault h) how members
+      → CountsFault (disk.faults durable.journal.disk) (disk.faults kept.journal.disk) (ended ≡ Err take.Disk)
   disk_counts durable opened kept made h capacity members how ended facts none site is =
-      let same : faults opened.journal.disk ≡ faults durable.journal.disk = facts.calm (λ disk. let bad : None ≡ Some take.Disk = sym none ∙ disk in absurd (cc)) in
-      let below : faults opened.journal.disk ≤ faults kept.journal.disk = ∥∥₁_elim site (less_prop (faults opened.journal.disk) (faults kept.journal.disk)) (λ s. s.facts.count) in
-      subst (λ (n : ℕ). CountsFault n (faults kept.journal.disk) (ended ≡ Err take.Disk)) same (record {
+      let same : disk.faults opened.journal.disk ≡ disk.faults durable.journal.disk = facts.calm (λ state. let bad : None ≡ Some take.Disk = sym none ∙ state in absurd (cc)) in
+      let below : disk.faults opened.journal.disk ≤ disk.faults kept.journal.disk = ∥∥₁_elim site (less_prop (disk.faults opened.journal.disk) (disk.faults kept.journal.disk)) (λ s. s.facts.count) in
+      subst (λ (n : ℕ). CountsFault n (disk.faults kept.journal.disk) (ended ≡ Err take.Disk)) same (record {
         never_falls = below;
-        calm = λ other. ∥∥₁_elim site (same_prop (faults kept.journal.disk) (faults opened.journal.disk)) (λ s. s.facts.calm (λ disk. other (is ∙ disk_ended members how (kept_fault h) disk)));
-        failed = λ failed. rose_known (faults opened.journal.disk) (faults kept.journal.disk) (∥∥₁_map site (λ s. s.facts.rose (fault_of members how (kept_fault h) (sym is ∙ failed))));
+        calm = λ other. ∥∥₁_elim site (same_prop (disk.faults kept.journal.disk) (disk.faults opened.journal.disk)) (λ s. s.facts.calm (λ state. other (is ∙ disk_ended members how (kept_fault h) state)));
+        failed = λ failed. rose_known (disk.faults opened.journal.disk) (disk.faults kept.journal.disk) (∥∥₁_map site (λ s. s.facts.rose (fault_of members how (kept_fault h) (sym is ∙ failed))));
       })
 
   -- the fault of a life tells what it is
   pub err_tells : {H A : Type 0} (opened kept : Kept D T) (h : List Entry) (capacity : ℕ) (members : List (Member H A)) (how : Result Progress Memory) (ended : Result Rest TakeFault)
-      → ∥ IsSite reads may_leave clock since faults stance opened kept h capacity ∥₁ → ended ≡ ended_as (kept_fault h) how members → IfErr ended (λ fault. ∥ TellsFault stance kept fault ∥₁)
+      → ∥ IsSite disk stance opened kept h capacity ∥₁ → ended ≡ ended_as (kept_fault h) how members → IfErr ended (λ fault. ∥ TellsFault stance kept fault ∥₁)
   err_tells opened kept h capacity members how (Ok rest) site is = tt
   err_tells opened kept h capacity members how (Err fault) site is = ∥∥₁_map site (λ s. fault_tells stance kept h members how fault s.facts.full (sym is))
 
   -- and so does that of an opening
-  pub opening_tells : (durable now : Kept D T) (made : List Entry) (fault : TakeFault) → OpenRefuses stance durable now made fault → Facts reads may_leave clock since faults stance durable now made → TellsFault stance now fault
+  pub opening_tells : (durable now : Kept D T) (made : List Entry) (fault : TakeFault) → OpenRefuses stance durable now made fault → Facts disk stance durable now made → TellsFault stance now fault
   opening_tells durable now made fault (inl refuses) facts = kept_tells stance facts.full.0 now made fault facts.full.1 refuses.1
   opening_tells durable now made fault (inr wants) facts = subst (TellsFault stance now) (sym wants.2) tt
 
   -- the count over an opening that was refused
-  pub opening_counts : (durable now : Kept D T) (made : List Entry) (fault : TakeFault) → OpenRefuses stance durable now made fault → Facts reads may_leave clock since faults stance durable now made → CountsFault (faults durable.journal.disk) (faults now.journal.disk) (fault ≡ take.Disk)
+  pub opening_counts : (durable now : Kept D T) (made : List Entry) (fault : TakeFault) → OpenRefuses stance durable now made fault → Facts disk stance durable now made → CountsFault (disk.faults durable.journal.disk) (disk.faults now.journal.disk) (fault ≡ take.Disk)
   opening_counts durable now made fault (inl refuses) facts = record {
     never_falls = facts.count;
-    calm = λ other. facts.calm (λ disk. other (same_kept fault take.Disk (sym refuses.1 ∙ disk)));
+    calm = λ other. facts.calm (λ state. other (same_kept fault take.Disk (sym refuses.1 ∙ state)));
     failed = λ is. facts.rose (refuses.1 ∙ ap Some is);
   }
   opening_counts durable now made fault (inr wants) facts = record {
     never_falls = facts.count;
-    calm = λ other. ap (λ (n : Kept D T). faults n.journal.disk) wants.1;
+    calm = λ other. ap (λ (n : Kept D T). disk.faults n.journal.disk) wants.1;
     failed = λ is. let bad : take.Memory ≡ take.Disk = sym wants.2 ∙ is in absurd (cc);
   }
 
   -- what is known of a state is known of it from its opening on
   pub known_from : {B : Type 0} (value : B → Kept D T) (start base : B) (opened kept : Kept D T) (h : List Entry) (capacity : ℕ) → base ≡ start → value start ≡ opened
-      → ∥ IsSite reads may_leave clock since faults stance (value base) kept h capacity ∥₁ → ∥ IsSite reads may_leave clock since faults stance opened kept h capacity ∥₁
-  known_from value start base opened kept h capacity same is known = subst (λ (k : Kept D T). ∥ IsSite reads may_leave clock since faults stance k kept h capacity ∥₁) (ap value same ∙ is) known
+      → ∥ IsSite disk stance (value base) kept h capacity ∥₁ → ∥ IsSite disk stance opened kept h capacity ∥₁
+  known_from value start base opened kept h capacity same is known = subst (λ (k : Kept D T). ∥ IsSite disk stance k kept h capacity ∥₁) (ap value same ∙ is) known
 
-module _ {H A : Type 0} (honest : H → Type 0) (faults : H → ℕ) (calls : H → Option (List Call)) (launches dirs : H → List ℕ) (output : H → ℕ → Stream → List ℕ) (exited : H → ℕ → Option ℤ)
-    (left : A → Option (List ℕ)) (source_faults : A → ℕ) (looks : ℕ) {B : Type 0} (answers : Answers B Entry Ask Reply) where
-  no_ways : (ms : List (Member H A)) → AllZip (Way (DidTurn honest faults calls launches dirs output exited left source_faults looks) []) ms ms
+module _ {H A : Type 0} (host : HostView H) (source : SourceView A) (looks : ℕ) {B : Type 0} (answers : Answers B Entry Ask Reply) where
+  no_ways : (ms : List (Member H A)) → AllZip (Way (DidTurn host source looks) []) ms ms
   no_ways [] = tt
   no_ways (m ∷ ms) = (record { turns = []; chain = refl; did = tt; own = []; made = refl; others = []; part = (refl, refl) }, no_ways ms)
 
   -- a life in which nothing was done
-  no_life : (memory : Memory) (base : B) (members : List (Member H A)) → Life honest faults calls launches dirs output exited left source_faults looks answers base base members members [] (Err memory)
+  no_life : (memory : Memory) (base : B) (members : List (Member H A)) → Life host source looks answers base base members members [] (Err memory)
   unfolding IsDistinct
   no_life memory base members = record {
     base_stays = refl;
@@ -219,17 +221,17 @@ module _ {H A : Type 0} (honest : H → Type 0) (faults : H → ℕ) (calls : H 
   }
 
   -- and its turns
-  pub no_turns : (base : B) (members : List (Member H A)) → LifeOf honest faults calls launches dirs output exited left source_faults looks answers base members members [] []
+  pub no_turns : (base : B) (members : List (Member H A)) → LifeOf host source looks answers base members members [] []
   unfolding no_life
   no_turns base members = record { how = Err (record {}); life = no_life (record {}) base members; are = refl }
 
-  pub nothing_done : (memory : Memory) (base b : B) (old now : List (Member H A)) (h : List Entry) → b ≡ base → now ≡ old → h ≡ [] → Life honest faults calls launches dirs output exited left source_faults looks answers base b old now h (Err memory)
+  pub nothing_done : (memory : Memory) (base b : B) (old now : List (Member H A)) (h : List Entry) → b ≡ base → now ≡ old → h ≡ [] → Life host source looks answers base b old now h (Err memory)
   nothing_done memory base b old now h same_base same none =
-      subst (λ (x : B). Life honest faults calls launches dirs output exited left source_faults looks answers base x old now h (Err memory)) (sym same_base)
-      (subst (λ (ms : List (Member H A)). Life honest faults calls launches dirs output exited left source_faults looks answers base base old ms h (Err memory)) (sym same)
-      (subst (λ (es : List Entry). Life honest faults calls launches dirs output exited left source_faults looks answers base base old old es (Err memory)) (sym none) (no_life memory base old)))
+      subst (λ (x : B). Life host source looks answers base x old now h (Err memory)) (sym same_base)
+      (subst (λ (ms : List (Member H A)). Life host source looks answers base base old ms h (Err memory)) (sym same)
+      (subst (λ (es : List Entry). Life host source looks answers base base old old es (Err memory)) (sym none) (no_life memory base old)))
 
   -- the base stays
-  pub same_start : (start base : B) (old now : List (Member H A)) (h : List Entry) (how : Result Progress Memory) → Life honest faults calls launches dirs output exited left source_faults looks answers start base old now h how
-      → Life honest faults calls launches dirs output exited left source_faults looks answers base base old now h how
-  same_start start base old now h how life = subst (λ (x : B). Life honest faults calls launches dirs output exited left source_faults looks answers x base old now h how) (sym life.base_stays) life
+  pub same_start : (start base : B) (old now : List (Member H A)) (h : List Entry) (how : Result Progress Memory) → Life host source looks answers start base old now h how
+      → Life host source looks answers base base old now h how
+  same_start start base old now h how life = subst (λ (x : B). Life host source looks answers x base old now h how) (sym life.base_stays) life

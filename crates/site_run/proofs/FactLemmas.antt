@@ -4,7 +4,7 @@ use Rattle.std.specs.Prelude.{IfOk, fold}
 use Rattle.std.proofs.lemmas.List.Sums.{fold-append}
 use Rattle.std.proofs.Math.Logic.{∥∥₁_map}
 use Rattle.device_faults.specs.Faults.{Rose}
-use Rattle.jp_disk.specs.Moments.{AtEachMoment}
+use Rattle.jp_disk.specs.Runs.{AtEachMoment}
 use Rattle.jp_disk.proofs.MomentLemmas.{runs_on, at_each_weaker}
 use Rattle.journal_core.specs.Records.{Has, framed}
 use Rattle.saved_run.specs.Lower.record_form.declared.record.EventRecord.{EventRecord}
@@ -38,6 +38,7 @@ use Rattle.site_threads.proofs.Lower.site_state.HistoryLaws.{kept_fault-append, 
 use Rattle.site_run.specs.Ending.{ended_as}
 use Rattle.site_run.specs.Lives.{KeepsOn}
 use Rattle.site_run.proofs.StoreLemmas.{due_append, events-append, follows_append, no_payloads, no_records}
+use Rattle.jp_disk.specs.View.{DiskView}
 
 -- fronts of records
 front_within : (xs ys : List (List ℕ)) (k : ℕ) → (n : ℕ) × (take k xs ≡ take n (xs ++ ys))
@@ -114,15 +115,15 @@ rest_calm members how (Some fault) rest is = absurd (cc)
 none_disk : None ≡ Some Disk → ⊥
 none_disk e = cc
 
-module _ {D T : Type 0} (reads : D → Option (List ℕ)) (may_leave : D → List ℕ → Type 0) (clock : D → ℕ) (since : D → ℕ → List ℕ → Type 0) (faults : D → ℕ) (stance : T → Stance)
-    (first mid last : Kept D T) (made h : List Entry) (none : kept_fault made ≡ None) (one : Facts reads may_leave clock since faults stance first mid made) (two : Facts reads may_leave clock since faults stance mid last h) where
+module _ {D T : Type 0} (disk : DiskView D) (stance : T → Stance)
+    (first mid last : Kept D T) (made h : List Entry) (none : kept_fault made ≡ None) (one : Facts disk stance first mid made) (two : Facts disk stance mid last h) where
   kept_both : kept_fault (made ++ h) ≡ kept_fault h
   kept_both = kept_fault-append made h none
 
-  calm_first : faults mid.journal.disk ≡ faults first.journal.disk
-  calm_first = one.calm (λ disk. none_disk (sym none ∙ disk))
+  calm_first : disk.faults mid.journal.disk ≡ disk.faults first.journal.disk
+  calm_first = one.calm (λ state. none_disk (sym none ∙ state))
 
-  module _ (payloads : List (List ℕ)) (g : Grown reads may_leave clock since stance first mid made payloads) (k : Grown reads may_leave clock since stance mid last h (payloads ++ g.added)) where
+  module _ (payloads : List (List ℕ)) (g : Grown disk stance first mid made payloads) (k : Grown disk stance mid last h (payloads ++ g.added)) where
     none_last : g.last ≡ []
     none_last = no_payloads (last_image (payloads ++ g.added)) g.last_records g.last (no_records g.last_records (g.last_events ∙ none_pending made none)) g.last_spelled
 
@@ -132,20 +133,20 @@ module _ {D T : Type 0} (reads : D → Option (List ℕ)) (may_leave : D → Lis
     order : (payloads ++ g.added) ++ k.added ≡ payloads ++ both
     order = append_assoc payloads g.added k.added
 
-    moments_first : AtEachMoment clock since first.journal.disk mid.journal.disk (HasFront payloads (both ++ k.last))
-    moments_first = at_each_weaker clock since first.journal.disk mid.journal.disk (HasFront payloads g.added) (HasFront payloads (both ++ k.last))
+    moments_first : AtEachMoment disk first.journal.disk mid.journal.disk (HasFront payloads (both ++ k.last))
+    moments_first = at_each_weaker disk first.journal.disk mid.journal.disk (HasFront payloads g.added) (HasFront payloads (both ++ k.last))
         (λ image front. subst (λ (xs : List (List ℕ)). HasFront payloads xs image) (sym (append_assoc g.added k.added k.last)) (front_first payloads g.added (k.added ++ k.last) image front))
-        (subst (λ (xs : List (List ℕ)). AtEachMoment clock since first.journal.disk mid.journal.disk (HasFront payloads xs)) (ap (λ (xs : List (List ℕ)). g.added ++ xs) none_last ∙ append-nil g.added) g.moments)
+        (subst (λ (xs : List (List ℕ)). AtEachMoment disk first.journal.disk mid.journal.disk (HasFront payloads xs)) (ap (λ (xs : List (List ℕ)). g.added ++ xs) none_last ∙ append-nil g.added) g.moments)
 
-    moments_then : AtEachMoment clock since mid.journal.disk last.journal.disk (HasFront payloads (both ++ k.last))
-    moments_then = at_each_weaker clock since mid.journal.disk last.journal.disk (HasFront (payloads ++ g.added) (k.added ++ k.last)) (HasFront payloads (both ++ k.last))
+    moments_then : AtEachMoment disk mid.journal.disk last.journal.disk (HasFront payloads (both ++ k.last))
+    moments_then = at_each_weaker disk mid.journal.disk last.journal.disk (HasFront (payloads ++ g.added) (k.added ++ k.last)) (HasFront payloads (both ++ k.last))
         (λ image front. subst (λ (xs : List (List ℕ)). HasFront payloads xs image) (sym (append_assoc g.added k.added k.last)) (front_then payloads g.added (k.added ++ k.last) image front)) k.moments
 
     images_then : (image : List ℕ) → Has ((payloads ++ g.added) ++ k.added) image ⊎ Has ((payloads ++ g.added) ++ k.added ++ k.last) image → Has (payloads ++ both) image ⊎ Has (payloads ++ both ++ k.last) image
     images_then image (inl has) = inl (subst (λ (xs : List (List ℕ)). Has xs image) order has)
     images_then image (inr has) = inr (subst (λ (xs : List (List ℕ)). Has (xs ++ k.last) image) order has)
 
-    grown_then : Grown reads may_leave clock since stance first last (made ++ h) payloads
+    grown_then : Grown disk stance first last (made ++ h) payloads
     grown_then = record {
       records = g.records ++ k.records;
       events = events-append g.records k.records ∙ ap (λ (es : List Event). es ++ events_of k.records) g.events ∙ ap (λ (es : List Event). tooks made ++ es) k.events ∙ sym (tooks-append made h);
@@ -156,23 +157,23 @@ module _ {D T : Type 0} (reads : D → Option (List ℕ)) (may_leave : D → Lis
       last = k.last;
       last_spelled = subst (λ (xs : List (List ℕ)). Told (last_image xs) k.last_records k.last) order k.last_spelled;
       go_on = subst (GoOn stance first.build) (sym (append_assoc g.records k.records k.last_records))
-          (go_on_then stance first.build mid.build (tooks made) (one.shown none) g.records (k.records ++ k.last_records) g.events (on_so_far reads may_leave clock since stance first mid made none payloads g) k.go_on);
+          (go_on_then stance first.build mid.build (tooks made) (one.shown none) g.records (k.records ++ k.last_records) g.events (on_so_far disk stance first mid made none payloads g) k.go_on);
       whole = subst (AllAre (λ (r : EventRecord). IsWhole (setting_in first.build) r.image)) (sym (append_assoc g.records k.records k.last_records))
-          (all_append (λ (r : EventRecord). IsWhole (setting_in first.build) r.image) g.records (k.records ++ k.last_records) (whole_so_far reads may_leave clock since stance first mid made none payloads g)
+          (all_append (λ (r : EventRecord). IsWhole (setting_in first.build) r.image) g.records (k.records ++ k.last_records) (whole_so_far disk stance first mid made none payloads g)
           (subst (λ (s : Setting). AllAre (λ (r : EventRecord). IsWhole s r.image) (k.records ++ k.last_records)) (one.shown none).setting k.whole));
       ends = k.ends ∙ ap (λ (ps : List (List ℕ)). length (framed ps) + 1) order;
       weighs = k.weighs ∙ ap weights_of order;
       full = full_then stance (weights_of (payloads ++ both)) (last_image (payloads ++ both)) last made h none (subst (λ (ps : List (List ℕ)). IsFullAt stance (weights_of ps) (last_image ps) last h) order k.full);
-      keeps = λ calm. subst (Keeps reads may_leave stance last) order (k.keeps (sym kept_both ∙ calm));
-      moments = runs_on clock since first.journal.disk mid.journal.disk last.journal.disk (HasFront payloads (both ++ k.last)) moments_first moments_then;
+      keeps = λ calm. subst (Keeps disk stance last) order (k.keeps (sym kept_both ∙ calm));
+      moments = runs_on disk first.journal.disk mid.journal.disk last.journal.disk (HasFront payloads (both ++ k.last)) moments_first moments_then;
       images = λ image left. images_then image (k.images image left);
     }
 
   -- both as one
-  pub facts_then : Facts reads may_leave clock since faults stance first last (made ++ h)
+  pub facts_then : Facts disk stance first last (made ++ h)
   facts_then = record {
-    count = let a : faults first.journal.disk ≤ faults mid.journal.disk = one.count in let b : faults mid.journal.disk ≤ faults last.journal.disk = two.count in omega (arith, a, b);
-    rose = λ is. subst (λ (n : ℕ). Rose n (faults last.journal.disk)) calm_first (two.rose (sym kept_both ∙ is));
+    count = let a : disk.faults first.journal.disk ≤ disk.faults mid.journal.disk = one.count in let b : disk.faults mid.journal.disk ≤ disk.faults last.journal.disk = two.count in omega (arith, a, b);
+    rose = λ is. subst (λ (n : ℕ). Rose n (disk.faults last.journal.disk)) calm_first (two.rose (sym kept_both ∙ is));
     calm = λ other. two.calm (λ is. other (kept_both ∙ is)) ∙ calm_first;
     longer = let a : first.journal.len ≤ mid.journal.len = one.longer in let b : mid.journal.len ≤ last.journal.len = two.longer in omega (arith, a, b);
     counted =
@@ -189,23 +190,23 @@ module _ {D T : Type 0} (reads : D → Option (List ℕ)) (may_leave : D → Lis
   }
 
   -- Where no fault is kept the store has all records from before, and those of the events that were taken.
-  keeps_then : kept_fault h ≡ None → (payloads : List (List ℕ)) → Keeps reads may_leave stance first payloads → KeepsOn reads may_leave clock since stance first last payloads
+  keeps_then : kept_fault h ≡ None → (payloads : List (List ℕ)) → Keeps disk stance first payloads → KeepsOn disk stance first last payloads
   keeps_then calm payloads keeps =
       let g = facts_then.grown payloads keeps in
       let nothing : g.last ≡ [] = no_payloads (last_image (payloads ++ g.added)) g.last_records g.last (no_records g.last_records (g.last_events ∙ none_pending (made ++ h) (kept_both ∙ calm))) g.last_spelled in (
         g.added,
         g.keeps (kept_both ∙ calm),
-        subst (λ (xs : List (List ℕ)). AtEachMoment clock since first.journal.disk last.journal.disk (HasFront payloads xs)) (ap (λ (xs : List (List ℕ)). g.added ++ xs) nothing ∙ append-nil g.added) g.moments,
+        subst (λ (xs : List (List ℕ)). AtEachMoment disk first.journal.disk last.journal.disk (HasFront payloads xs)) (ap (λ (xs : List (List ℕ)). g.added ++ xs) nothing ∙ append-nil g.added) g.moments,
       )
 
-module _ {D T : Type 0} (reads : D → Option (List ℕ)) (may_leave : D → List ℕ → Type 0) (clock : D → ℕ) (since : D → ℕ → List ℕ → Type 0) (faults : D → ℕ) (stance : T → Stance)
-    (first mid last : Kept D T) (made h : List Entry) (capacity : ℕ) (none : kept_fault made ≡ None) (one : Facts reads may_leave clock since faults stance first mid made)
-    (known : ∥ IsSite reads may_leave clock since faults stance mid last h capacity ∥₁) where
-  pub facts_all : ∥ Facts reads may_leave clock since faults stance first last (made ++ h) ∥₁
-  facts_all = ∥∥₁_map known (λ site. facts_then reads may_leave clock since faults stance first mid last made h none one site.facts)
+module _ {D T : Type 0} (disk : DiskView D) (stance : T → Stance)
+    (first mid last : Kept D T) (made h : List Entry) (capacity : ℕ) (none : kept_fault made ≡ None) (one : Facts disk stance first mid made)
+    (known : ∥ IsSite disk stance mid last h capacity ∥₁) where
+  pub facts_all : ∥ Facts disk stance first last (made ++ h) ∥₁
+  facts_all = ∥∥₁_map known (λ site. facts_then disk stance first mid last made h none one site.facts)
 
   pub rests_keep : {H A : Type 0} (members : List (Member H A)) (how : Result Progress NoMemory) (ended : Result Rest TakeFault) → ended ≡ ended_as (kept_fault h) how members
-      → IfOk ended (λ rest. (payloads : List (List ℕ)) → Keeps reads may_leave stance first payloads → ∥ KeepsOn reads may_leave clock since stance first last payloads ∥₁)
+      → IfOk ended (λ rest. (payloads : List (List ℕ)) → Keeps disk stance first payloads → ∥ KeepsOn disk stance first last payloads ∥₁)
   rests_keep members how (Err fault) is = tt
   rests_keep members how (Ok rest) is = λ payloads keeps.
-      ∥∥₁_map known (λ site. keeps_then reads may_leave clock since faults stance first mid last made h none one site.facts (rest_calm members how (kept_fault h) rest is) payloads keeps)
+      ∥∥₁_map known (λ site. keeps_then disk stance first mid last made h none one site.facts (rest_calm members how (kept_fault h) rest is) payloads keeps)

@@ -43,6 +43,8 @@ use Rattle.site_run.specs.Serving.{AreHonest, AllFit, AreServed, hosts_of}
 use Rattle.site_threads.proofs.Lower.site_life.MadeLemmas.{made_behind, made_join}
 use Rattle.site_run.proofs.WalkLemmas.{all_behind, all_front}
 use Rattle.site_run.proofs.MemberLemmas.{Steps, steps_of, steps_then, rounds_steps, claims_of_all, SaysSo, AllCame, all_came, all_served}
+use Rattle.task_host.specs.View.{HostView}
+use Rattle.jp_io.specs.View.{SourceView}
 
 -- what the entries of a history tell was taken in it
 pub told_taken : (h : List Entry) → AllAre (λ (t : Told). t.accepted ≡ true → Some_of (λ x. x ≡ t.event) (tooks h)) (told_of h)
@@ -136,10 +138,9 @@ pub claims_once : {B T H A : Type 0} (stance : T → Stance) (opening : B → Pa
 claims_once stance opening base turns h legal made =
     none_twice (claims_of_all turns) (subst (IsDistinct nat_eq) (claims_are turns) (launches_differ stance opening base (λ (h : List ℕ). h) (map claim_turn turns) h legal (claims_made [] turns h made) (claims_launched turns)))
 
-module _ {H A : Type 0} (honest : H → Type 0) (faults : H → ℕ) (calls : H → Option (List Call)) (launches dirs : H → List ℕ) (output : H → ℕ → Stream → List ℕ) (exited : H → ℕ → Option ℤ)
-    (left : A → Option (List ℕ)) (source_faults : A → ℕ) (looks : ℕ) where
+module _ {H A : Type 0} (host : HostView H) (source : SourceView A) (looks : ℕ) where
   module _ {B T : Type 0} (stance : T → Stance) (opening : B → Parts T) (start base : B) (old new : List (Member H A)) (h : List Entry) (how : Result Progress Memory)
-      (life : Life honest faults calls launches dirs output exited left source_faults looks (λ b history x y more. Says stance (opening b) history x y more) start base old new h how) where
+      (life : Life host source looks (λ b history x y more. Says stance (opening b) history x y more) start base old new h how) where
     abbrev pub all_turns : List (Turn H A)
     all_turns = turns_of life.rounds ++ life.last
 
@@ -161,49 +162,49 @@ module _ {H A : Type 0} (honest : H → Type 0) (faults : H → ℕ) (calls : H 
 
     -- what became of the members, where the history tells this
     pub came_all : (IsTold : Told → Type 0) (IsGiven : ClaimedTask → Type 0) → AllAre IsTold (told_of h) → AllAre IsGiven (claimed_of h)
-        → AllCame honest faults calls launches dirs output exited left source_faults looks IsTold IsGiven old new (claims_of_all all_turns)
+        → AllCame host source looks IsTold IsGiven old new (claims_of_all all_turns)
     came_all IsTold IsGiven told given =
-        all_came honest faults calls launches dirs output exited left source_faults looks IsTold IsGiven old all_turns new steps_all.0 life.turns (made_says IsTold IsGiven all_turns h steps_all.1 told given) once_all
+        all_came host source looks IsTold IsGiven old all_turns new steps_all.0 life.turns (made_says IsTold IsGiven all_turns h steps_all.1 told given) once_all
 
     all_so : {X : Type 0} (xs : List X) → AllAre (λ (x : X). Unit {0}) xs
     all_so [] = tt
     all_so (x ∷ xs) = (tt, all_so xs)
 
     -- Executors keep their numbers, and what could not be read of the answers was counted.
-    pub life_serves : AreServed honest faults calls left source_faults old new
-    life_serves = all_served honest faults calls launches dirs output exited left source_faults looks (λ (t : Told). Unit {0}) (λ (c : ClaimedTask). Unit {0}) old new (claims_of_all all_turns)
+    pub life_serves : AreServed host source old new
+    life_serves = all_served host source looks (λ (t : Told). Unit {0}) (λ (c : ClaimedTask). Unit {0}) old new (claims_of_all all_turns)
         (came_all (λ (t : Told). Unit {0}) (λ (c : ClaimedTask). Unit {0}) (all_so (told_of h)) (all_so (claimed_of h)))
 
   -- executors keep their numbers
-  same_numbers : (os ms : List (Member H A)) → AreServed honest faults calls left source_faults os ms → map (λ (x : ExecutorHost). x.number) (hosts_of launches dirs ms) ≡ map (λ (x : ExecutorHost). x.number) (hosts_of launches dirs os)
+  same_numbers : (os ms : List (Member H A)) → AreServed host source os ms → map (λ (x : ExecutorHost). x.number) (hosts_of host ms) ≡ map (λ (x : ExecutorHost). x.number) (hosts_of host os)
   same_numbers [] [] c = refl
-  same_numbers (Executor number host ∷ os) (Executor now next ∷ ms) c = cons_same c.0.0 (same_numbers os ms c.1)
+  same_numbers (Executor number machine ∷ os) (Executor now next ∷ ms) c = cons_same c.0.0 (same_numbers os ms c.1)
   same_numbers (Operator answers line ended failed ∷ os) (Operator next kept now_ended now_failed ∷ ms) c = same_numbers os ms c.1
-  same_numbers (Executor number host ∷ os) (Operator next kept now_ended now_failed ∷ ms) c = absurd c
+  same_numbers (Executor number machine ∷ os) (Operator next kept now_ended now_failed ∷ ms) c = absurd c
   same_numbers (Operator answers line ended failed ∷ os) (Executor now next ∷ ms) c = absurd c
   same_numbers [] (m ∷ ms) c = absurd c
   same_numbers (o ∷ os) [] c = absurd c
 
   -- over all hosts no task was launched twice
-  pub once_fit : (setting : Setting) (p : Node) (e : setting.script ≡ term 0 p) (small : Small setting) (now : List Event) (old new : List (Member H A)) → AreServed honest faults calls left source_faults old new → AllFit launches dirs setting now new
-      → AreApart (hosts_of launches dirs old) → IsDistinct nat_eq (all_launches (hosts_of launches dirs new))
-  once_fit setting p e small now old new served fit apart = no_task_twice setting p e small now (hosts_of launches dirs new) fit (subst (IsDistinct nat_eq) (sym (same_numbers old new served)) apart)
+  pub once_fit : (setting : Setting) (p : Node) (e : setting.script ≡ term 0 p) (small : Small setting) (now : List Event) (old new : List (Member H A)) → AreServed host source old new → AllFit host setting now new
+      → AreApart (hosts_of host old) → IsDistinct nat_eq (all_launches (hosts_of host new))
+  once_fit setting p e small now old new served fit apart = no_task_twice setting p e small now (hosts_of host new) fit (subst (IsDistinct nat_eq) (sym (same_numbers old new served)) apart)
 
   module _ (setting : Setting) (p : Node) (e : setting.script ≡ term 0 p) (small : Small setting) (begun : List Event) (started : (world_in setting begun).started ≡ true) where
     -- the events of a life
     pub fit_life : (taken : List Event) → AllTaken setting begun taken → (os ms : List (Member H A)) (seen : List ℕ)
-        → AllCame honest faults calls launches dirs output exited left source_faults looks (λ (t : Told). t.accepted ≡ true → Some_of (λ x. x ≡ t.event) taken) (λ (c : ClaimedTask). InLife setting begun taken c.executor c.task) os ms seen
-        → AreHonest honest os → AllFit launches dirs setting begun os → AllFit launches dirs setting (begun ++ taken) ms
+        → AllCame host source looks (λ (t : Told). t.accepted ≡ true → Some_of (λ x. x ≡ t.event) taken) (λ (c : ClaimedTask). InLife setting begun taken c.executor c.task) os ms seen
+        → AreHonest host os → AllFit host setting begun os → AllFit host setting (begun ++ taken) ms
     fit_life taken all [] [] seen c are fit = tt
-    fit_life taken all (Executor number host ∷ os) (Executor now next ∷ ms) seen c are fit =
+    fit_life taken all (Executor number machine ∷ os) (Executor now next ∷ ms) seen c are fit =
         let k = c.0.1 in (
-          subst (λ (n : ℕ). Fits setting (begun ++ taken) n (tasks_at (launches next) (dirs next))) (sym c.0.0)
-              (life_fits setting p e small begun taken number looks (on_host launches dirs output exited host) (on_host launches dirs output exited next) k.told k.claimed started all
+          subst (λ (n : ℕ). Fits setting (begun ++ taken) n (tasks_at (host.launches next) (host.dirs next))) (sym c.0.0)
+              (life_fits setting p e small begun taken number looks (on_host host machine) (on_host host next) k.told k.claimed started all
               (record { taken_so = k.are_told; given = k.are_given; once = all_differ (tasks_of k.claimed) k.once }) (k.turns are.0) fit.0),
           fit_life taken all os ms seen c.1 are.1 fit.1,
         )
     fit_life taken all (Operator answers line ended failed ∷ os) (Operator next kept now_ended now_failed ∷ ms) seen c are fit = fit_life taken all os ms seen c.1 are fit
-    fit_life taken all (Executor number host ∷ os) (Operator next kept now_ended now_failed ∷ ms) seen c are fit = absurd c.0
+    fit_life taken all (Executor number machine ∷ os) (Operator next kept now_ended now_failed ∷ ms) seen c are fit = absurd c.0
     fit_life taken all (Operator answers line ended failed ∷ os) (Executor now next ∷ ms) seen c are fit = absurd c.0
     fit_life taken all [] (m ∷ ms) seen c are fit = absurd c
     fit_life taken all (o ∷ os) [] seen c are fit = absurd c

@@ -51,6 +51,8 @@ use Rattle.site_run.proofs.FactLemmas.{rest_calm}
 use Rattle.site_run.proofs.FitLemmas.{steps_all}
 use Rattle.site_run.proofs.WalkLemmas.{all_behind, all_front}
 use Rattle.site_run.proofs.MemberLemmas.{Steps, said_failed}
+use Rattle.task_host.specs.View.{HostView}
+use Rattle.jp_io.specs.View.{SourceView}
 
 -- what an operator did last is no line that was refused, and no halt
 abbrev IsWell : List Ask → Type 0
@@ -175,18 +177,17 @@ module _ {H A : Type 0} where
   EndsWell (Executor number host) w = Unit {0}
   EndsWell (Operator answers line ended failed) w = (w ≡ worked.Stopped → ⊥) × (w ≡ worked.Memory → ⊥)
 
-module _ {H A : Type 0} (honest : H → Type 0) (faults : H → ℕ) (calls : H → Option (List Call)) (launches dirs : H → List ℕ) (output : H → ℕ → Stream → List ℕ) (exited : H → ℕ → Option ℤ)
-    (left : A → Option (List ℕ)) (source_faults : A → ℕ) (looks : ℕ) where
+module _ {H A : Type 0} (host : HostView H) (source : SourceView A) (looks : ℕ) where
   abbrev DoesWork : Member H A → Member H A → Worked → List Entry → List GateCall → Said → Bool → Type 0
-  DoesWork m n w own gate_calls said is_open = Work honest faults calls launches dirs output exited left source_faults looks m n w (tells_of [] [] Nothing false) (tells_of own gate_calls said is_open)
+  DoesWork m n w own gate_calls said is_open = Work host source looks m n w (tells_of [] [] Nothing false) (tells_of own gate_calls said is_open)
 
   -- In a life that keeps no fault each turn of an operator ends so.
   well_turn : {T : Type 0} (stance : T → Stance) (opening : Parts T) (history : List Entry) → kept_fault history ≡ None → (m n : Member H A) (w : Worked) (own : List Entry) (gate_calls : List GateCall) (said : Said) (is_open : Bool)
       → DoesWork m n w own gate_calls said is_open → AllAnswered (λ h a r new. Says stance opening h a r new) history gate_calls → EndsWell m w
-  well_turn stance opening history calm (Executor number host) n w own gate_calls said is_open works asked = tt
+  well_turn stance opening history calm (Executor number machine) n w own gate_calls said is_open works asked = tt
   well_turn stance opening history calm (Operator answers line ended failed) (Executor now next) w own gate_calls said is_open works asked = absurd works
   well_turn stance opening history calm (Operator answers line ended failed) (Operator next kept now_ended now_failed) w own gate_calls said is_open works asked =
-      let o : Operates _ _ (left answers) (left next) line kept ended now_ended w = works.0 in
+      let o : Operates _ _ (source.left answers) (source.left next) line kept ended now_ended w = works.0 in
       (stops w o.past o.so_far.calls o.ends, wants w o.past o.so_far.calls o.ends)
     where
       stops : (x : Worked) (past : List Ask) → gate_calls ≡ operator_calls past [] → OperatorEnds ended past x → x ≡ worked.Stopped → ⊥
@@ -210,17 +211,17 @@ module _ {H A : Type 0} (honest : H → Type 0) (faults : H → ℕ) (calls : H 
   -- What an operator has read so far, what it keeps of the next line, and which lines were heard.
   record HeardSo (heard : List (List ℕ)) (answers next : A) (kept : List ℕ) (now_ended now_failed : Bool) : Type 0 where
     read : List ℕ
-    consumes : Consumes (left answers) (left next) read
+    consumes : Consumes (source.left answers) (source.left next) read
     keeps : kept ≡ short (if now_ended then [] else begun_after [] read)
     lines_are : heard ≡ heard_in read (not now_ended)
     whole : now_failed ≡ false → now_ended ≡ false → begun_after [] read ≡ []
 
   abbrev AllHeard : List (List ℕ) → List (Member H A) → List (Member H A) → Type 0
   AllHeard heard [] [] = heard ≡ []
-  AllHeard heard (Executor number host ∷ old) (Executor now next ∷ new) = AllHeard heard old new
+  AllHeard heard (Executor number machine ∷ old) (Executor now next ∷ new) = AllHeard heard old new
   AllHeard heard (Operator answers line ended failed ∷ []) (Operator next kept now_ended now_failed ∷ []) = line ≡ [] → ended ≡ false → HeardSo heard answers next kept now_ended now_failed
   AllHeard heard (Operator answers line ended failed ∷ (o ∷ old)) (Operator next kept now_ended now_failed ∷ (m ∷ new)) = Unit {0}
-  AllHeard heard (Executor number host ∷ old) (Operator next kept now_ended now_failed ∷ new) = ⊥
+  AllHeard heard (Executor number machine ∷ old) (Operator next kept now_ended now_failed ∷ new) = ⊥
   AllHeard heard (Operator answers line ended failed ∷ old) (Executor now next ∷ new) = ⊥
   AllHeard heard (Operator answers line ended failed ∷ []) (Operator next kept now_ended now_failed ∷ (m ∷ new)) = ⊥
   AllHeard heard (Operator answers line ended failed ∷ (o ∷ old)) (Operator next kept now_ended now_failed ∷ []) = ⊥
@@ -229,10 +230,10 @@ module _ {H A : Type 0} (honest : H → Type 0) (faults : H → ℕ) (calls : H 
 
   heard_first : (ms : List (Member H A)) → AllHeard [] ms ms
   heard_first [] = refl
-  heard_first (Executor number host ∷ ms) = heard_first ms
+  heard_first (Executor number machine ∷ ms) = heard_first ms
   heard_first (Operator answers line ended failed ∷ []) = λ fresh going. record {
     read = [];
-    consumes = Consumes-nil (left answers);
+    consumes = Consumes-nil (source.left answers);
     keeps = fresh ∙ sym (take-nil 1026) ∙ ap (λ (e : Bool). short (if e then [] else [])) (sym going);
     lines_are = ap (λ (e : Bool). heard_in [] (not e)) (sym going);
     whole = λ calm more. refl;
@@ -241,7 +242,7 @@ module _ {H A : Type 0} (honest : H → Type 0) (faults : H → ℕ) (calls : H 
 
   -- one turn of the operator
   one_turn : (heard : List (List ℕ)) (answers next last : A) (kept held : List ℕ) (now_ended then_ended now_failed then_failed : Bool) (w : Worked) (own : List Entry) (gate_calls : List GateCall) (said : Said) (is_open : Bool)
-      → Operates (tells_of [] [] Nothing false) (tells_of own gate_calls said is_open) (left next) (left last) kept held now_ended then_ended w → (w ≡ worked.Stopped → ⊥) × (w ≡ worked.Memory → ⊥)
+      → Operates (tells_of [] [] Nothing false) (tells_of own gate_calls said is_open) (source.left next) (source.left last) kept held now_ended then_ended w → (w ≡ worked.Stopped → ⊥) × (w ≡ worked.Memory → ⊥)
       → (w ≡ worked.AnswersFailed → then_failed ≡ true) → ((w ≡ worked.AnswersFailed → ⊥) → then_failed ≡ now_failed)
       → HeardSo heard answers next kept now_ended now_failed → HeardSo (heard ++ lines own) answers last held then_ended then_failed
   one_turn heard answers next last kept held true then_ended now_failed then_failed w own gate_calls said is_open o well fails same h =
@@ -250,7 +251,7 @@ module _ {H A : Type 0} (honest : H → Type 0) (faults : H → ℕ) (calls : H 
       let still : then_ended ≡ true = o.ended_so in
       record {
         read = h.read;
-        consumes = subst (λ (l : Option (List ℕ)). Consumes (left answers) l h.read) (sym over.1) h.consumes;
+        consumes = subst (λ (l : Option (List ℕ)). Consumes (source.left answers) l h.read) (sym over.1) h.consumes;
         keeps = over.2 ∙ h.keeps ∙ ap (λ (e : Bool). short (if e then [] else begun_after [] h.read)) (sym still);
         lines_are = ap (λ (l : List (List ℕ)). heard ++ l) nothing ∙ append-nil heard ∙ h.lines_are ∙ ap (λ (e : Bool). heard_in h.read (not e)) (sym still);
         whole = λ calm going. absurd (true_not_false then_ended still going);
@@ -266,7 +267,7 @@ module _ {H A : Type 0} (honest : H → Type 0) (faults : H → ℕ) (calls : H 
       let still : then_ended ≡ has_ended o.past = o.ended_so in
       record {
         read = h.read ++ x;
-        consumes = Consumes-trans (left answers) (left next) (left last) h.read x h.consumes o.read;
+        consumes = Consumes-trans (source.left answers) (source.left next) (source.left last) h.read x h.consumes o.read;
         keeps = gives.kept well.1 ∙ ap (λ (l : List ℕ). short (if has_ended o.past then [] else l)) (sym rest) ∙ ap (λ (e : Bool). short (if e then [] else begun_after [] (h.read ++ x))) (sym still);
         lines_are = all ∙ sum (has_ended o.past) h.read x begun rest whole ∙ ap (λ (e : Bool). heard_in (h.read ++ x) (not e)) (sym still);
         whole = λ calm going. rest ∙ by calm (sym still ∙ going) (said_failed w);
@@ -287,12 +288,12 @@ module _ {H A : Type 0} (honest : H → Type 0) (faults : H → ℕ) (calls : H 
       → AllHeard heard os (front ++ m ∷ back) → AllHeard (heard ++ lines own) os (front ++ n ∷ back)
   heard_turn heard [] [] back m n w own gate_calls said is_open works well h = absurd h
   heard_turn heard [] (k ∷ front) back m n w own gate_calls said is_open works well h = absurd h
-  heard_turn heard (Executor number host ∷ os) [] back (Executor now next) (Executor after last) w own gate_calls said is_open works well h =
+  heard_turn heard (Executor number machine ∷ os) [] back (Executor now next) (Executor after last) w own gate_calls said is_open works well h =
       subst (λ (l : List (List ℕ)). AllHeard l os back) (sym (ap (λ (l : List (List ℕ)). heard ++ l) works.4 ∙ append-nil heard)) h
-  heard_turn heard (Executor number host ∷ os) [] back (Executor now next) (Operator last held then_ended then_failed) w own gate_calls said is_open works well h = absurd works
-  heard_turn heard (Executor number host ∷ os) [] back (Operator next kept now_ended now_failed) n w own gate_calls said is_open works well h = absurd h
-  heard_turn heard (Executor number host ∷ os) (Executor now next ∷ front) back m n w own gate_calls said is_open works well h = heard_turn heard os front back m n w own gate_calls said is_open works well h
-  heard_turn heard (Executor number host ∷ os) (Operator next kept now_ended now_failed ∷ front) back m n w own gate_calls said is_open works well h = absurd h
+  heard_turn heard (Executor number machine ∷ os) [] back (Executor now next) (Operator last held then_ended then_failed) w own gate_calls said is_open works well h = absurd works
+  heard_turn heard (Executor number machine ∷ os) [] back (Operator next kept now_ended now_failed) n w own gate_calls said is_open works well h = absurd h
+  heard_turn heard (Executor number machine ∷ os) (Executor now next ∷ front) back m n w own gate_calls said is_open works well h = heard_turn heard os front back m n w own gate_calls said is_open works well h
+  heard_turn heard (Executor number machine ∷ os) (Operator next kept now_ended now_failed ∷ front) back m n w own gate_calls said is_open works well h = absurd h
   heard_turn heard (Operator answers line ended failed ∷ []) [] [] (Operator next kept now_ended now_failed) (Operator last held then_ended then_failed) w own gate_calls said is_open works well h =
       λ fresh going. one_turn heard answers next last kept held now_ended then_ended now_failed then_failed w own gate_calls said is_open works.0 well works.2 works.3 (h fresh going)
   heard_turn heard (Operator answers line ended failed ∷ []) [] [] (Operator next kept now_ended now_failed) (Executor after last) w own gate_calls said is_open works well h = absurd works
@@ -319,7 +320,7 @@ module _ {H A : Type 0} (honest : H → Type 0) (faults : H → ℕ) (calls : H 
   abbrev Well : Turn H A → Type 0
   Well turn = EndsWell turn.old turn.worked
 
-  heard_turns : (heard : List (List ℕ)) (os ms : List (Member H A)) (turns : List (Turn H A)) (ns : List (Member H A)) → Steps ms turns ns → AllAre (DidTurn honest faults calls launches dirs output exited left source_faults looks) turns → AllAre Well turns
+  heard_turns : (heard : List (List ℕ)) (os ms : List (Member H A)) (turns : List (Turn H A)) (ns : List (Member H A)) → Steps ms turns ns → AllAre (DidTurn host source looks) turns → AllAre Well turns
       → AllHeard heard os ms → AllHeard (heard ++ lines_told turns) os ns
   heard_turns heard os ms [] ns steps did well h = subst (λ (l : List (List ℕ)). AllHeard l os ns) (sym (append-nil heard)) (subst (AllHeard heard os) steps h)
   heard_turns heard os ms (turn ∷ turns) ns steps did well h =
@@ -327,12 +328,12 @@ module _ {H A : Type 0} (honest : H → Type 0) (faults : H → ℕ) (calls : H 
       (heard_turns (heard ++ lines turn.own) os (steps.0 ++ turn.now ∷ steps.1) turns ns steps.3 did.1 well.1
       (heard_turn heard os steps.0 steps.1 turn.old turn.now turn.worked turn.own turn.calls turn.said turn.is_open did.0.works well.0 (subst (AllHeard heard os) steps.2 h)))
 
-  heard_at_end : (heard : List (List ℕ)) (os ns : List (Member H A)) → AllHeard heard os ns → AreHeard left heard os ns
+  heard_at_end : (heard : List (List ℕ)) (os ns : List (Member H A)) → AllHeard heard os ns → AreHeard source heard os ns
   heard_at_end heard [] [] h = h
-  heard_at_end heard (Executor number host ∷ os) (Executor now next ∷ ns) h = heard_at_end heard os ns h
+  heard_at_end heard (Executor number machine ∷ os) (Executor now next ∷ ns) h = heard_at_end heard os ns h
   heard_at_end heard (Operator answers line ended failed ∷ []) (Operator next kept now_ended now_failed ∷ []) h = λ fresh going. let s = h fresh going in (s.read, s.consumes, s.lines_are, s.whole)
   heard_at_end heard (Operator answers line ended failed ∷ (o ∷ os)) (Operator next kept now_ended now_failed ∷ (m ∷ ns)) h = tt
-  heard_at_end heard (Executor number host ∷ os) (Operator next kept now_ended now_failed ∷ ns) h = absurd h
+  heard_at_end heard (Executor number machine ∷ os) (Operator next kept now_ended now_failed ∷ ns) h = absurd h
   heard_at_end heard (Operator answers line ended failed ∷ os) (Executor now next ∷ ns) h = absurd h
   heard_at_end heard (Operator answers line ended failed ∷ []) (Operator next kept now_ended now_failed ∷ (m ∷ ns)) h = absurd h
   heard_at_end heard (Operator answers line ended failed ∷ (o ∷ os)) (Operator next kept now_ended now_failed ∷ []) h = absurd h
@@ -340,7 +341,7 @@ module _ {H A : Type 0} (honest : H → Type 0) (faults : H → ℕ) (calls : H 
   heard_at_end heard (o ∷ os) [] h = absurd h
 
   abbrev Did : Turn H A → Type 0
-  Did turn = DidTurn honest faults calls launches dirs output exited left source_faults looks turn
+  Did turn = DidTurn host source looks turn
 
   abbrev olds : List (Turn H A) → List (Member H A)
   olds turns = map (λ (turn : Turn H A). turn.old) turns
@@ -352,9 +353,9 @@ module _ {H A : Type 0} (honest : H → Type 0) (faults : H → ℕ) (calls : H 
   -- one member's turn among others: it has put no line, or it is the operator
   one_of_kind : (P : Type 0) (m n : Member H A) (ms : List (Member H A)) (w : Worked) (own : List Entry) (gate_calls : List GateCall) (said : Said) (is_open : Bool) → DoesWork m n w own gate_calls said is_open
       → (lines own ≡ [] → operators (m ∷ ms) ≡ operators ms → P) → (operators (m ∷ ms) ≡ suc (operators ms) → P) → P
-  one_of_kind P (Executor number host) (Executor now next) ms w own gate_calls said is_open works one two = one works.4 refl
+  one_of_kind P (Executor number machine) (Executor now next) ms w own gate_calls said is_open works one two = one works.4 refl
   one_of_kind P (Operator answers line ended failed) n ms w own gate_calls said is_open works one two = two refl
-  one_of_kind P (Executor number host) (Operator next kept now_ended now_failed) ms w own gate_calls said is_open works one two = absurd works
+  one_of_kind P (Executor number machine) (Operator next kept now_ended now_failed) ms w own gate_calls said is_open works one two = absurd works
 
   -- where at most one of the members is an operator, the lines of a round are those of its turns
   made_told : (turns : List (Turn H A)) (xs ys : List Entry) → AllAre Did turns → MadeOf xs turns ys → operators (olds turns) ≤ 1 → (lines xs ≡ []) ⊎ (operators (olds turns) ≡ 0) → lines ys ≡ lines xs ++ lines_told turns
@@ -394,7 +395,7 @@ module _ {H A : Type 0} (honest : H → Type 0) (faults : H → ℕ) (calls : H 
     part_told : (turns : List (Turn H A)) (others old now : List (Member H A)) (before part : List Entry) → AllAre Did turns → AreTurnsOf turns others old now → MadeOf [] turns part → operators old ≤ 1 → lines (before ++ part) ≡ lines before ++ lines_told turns
     part_told turns others old now before part did are made few =
         lines-append before part ∙ ap (λ (l : List (List ℕ)). lines before ++ l)
-        (made_told turns [] part did made (few_olds honest faults calls launches dirs output exited left source_faults looks stance (opening base) turns others old now are few) (inl refl))
+        (made_told turns [] part did made (few_olds host source looks stance (opening base) turns others old now are few) (inl refl))
 
     rounds_told : (rounds : List (Round H A)) (old : List (Member H A)) (before : List Entry) (now : List (Member H A)) (after : List Entry) → AllAre Did (turns_of rounds) → RoundsFrom answers_of base rounds old before now after → operators old ≤ 1
         → (lines after ≡ lines before ++ lines_told (turns_of rounds)) × (operators now ≤ 1)
@@ -402,7 +403,7 @@ module _ {H A : Type 0} (honest : H → Type 0) (faults : H → ℕ) (calls : H 
     rounds_told (round ∷ rounds) old before now after did r few =
         let here = all_front Did round.turns (turns_of rounds) did in
         let first = part_told round.turns [] old r.0 before r.1 here r.2 r.3 few in
-        let later = rounds_told rounds r.0 (before ++ r.1) now after (all_behind Did round.turns (turns_of rounds) did) r.7 (few_nows honest faults calls launches dirs output exited left source_faults looks stance (opening base) round.turns [] old r.0 here r.2 few) in
+        let later = rounds_told rounds r.0 (before ++ r.1) now after (all_behind Did round.turns (turns_of rounds) did) r.7 (few_nows host source looks stance (opening base) round.turns [] old r.0 here r.2 few) in
         (later.0 ∙ ap (λ (l : List (List ℕ)). l ++ lines_told (turns_of rounds)) first ∙ append_assoc (lines before) (lines_told round.turns) (lines_told (turns_of rounds)) ∙ ap (λ (l : List (List ℕ)). lines before ++ l) (sym (told-append round.turns (turns_of rounds))), later.1)
 
     life_told : (history : List Entry) (rounds : List (Round H A)) (last : List (Turn H A)) (old members : List (Member H A)) (before : List Entry) (new : List (Member H A)) (part : List Entry) (how : Result Progress NoMemory) → AllAre Did (turns_of rounds ++ last)
@@ -416,12 +417,12 @@ module _ {H A : Type 0} (honest : H → Type 0) (faults : H → ℕ) (calls : H 
         by (Err memory) e = sym (ap lines e.3) ∙ part_told last e.0 members new before part (all_behind Did (turns_of rounds) last did) e.1 e.2 (rounds_told rounds old [] members before (all_front Did (turns_of rounds) last did) went few).1
 
   -- what is said of an operator that is the last of the members
-  heard_same : (heard told : List (List ℕ)) (os ns : List (Member H A)) → (operators os ≤ 1 → heard ≡ told) → AreHeard left told os ns → AreHeard left heard os ns
+  heard_same : (heard told : List (List ℕ)) (os ns : List (Member H A)) → (operators os ≤ 1 → heard ≡ told) → AreHeard source told os ns → AreHeard source heard os ns
   heard_same heard told [] [] same h = same (omega arith) ∙ h
-  heard_same heard told (Executor number host ∷ os) (Executor now next ∷ ns) same h = heard_same heard told os ns same h
+  heard_same heard told (Executor number machine ∷ os) (Executor now next ∷ ns) same h = heard_same heard told os ns same h
   heard_same heard told (Operator answers line ended failed ∷ []) (Operator next kept now_ended now_failed ∷ []) same h = λ fresh going. let s = h fresh going in (s.0, s.1, same (omega arith) ∙ s.2, s.3)
   heard_same heard told (Operator answers line ended failed ∷ (o ∷ os)) (Operator next kept now_ended now_failed ∷ (m ∷ ns)) same h = tt
-  heard_same heard told (Executor number host ∷ os) (Operator next kept now_ended now_failed ∷ ns) same h = absurd h
+  heard_same heard told (Executor number machine ∷ os) (Operator next kept now_ended now_failed ∷ ns) same h = absurd h
   heard_same heard told (Operator answers line ended failed ∷ os) (Executor now next ∷ ns) same h = absurd h
   heard_same heard told (Operator answers line ended failed ∷ []) (Operator next kept now_ended now_failed ∷ (m ∷ ns)) same h = absurd h
   heard_same heard told (Operator answers line ended failed ∷ (o ∷ os)) (Operator next kept now_ended now_failed ∷ []) same h = absurd h
@@ -430,7 +431,7 @@ module _ {H A : Type 0} (honest : H → Type 0) (faults : H → ℕ) (calls : H 
 
   -- Where a life rests the lines of its history are those that its operator read.
   module _ {B T : Type 0} (stance : T → Stance) (opening : B → Parts T) (start base : B) (old new : List (Member H A)) (h : List Entry) (how : Result Progress NoMemory)
-      (life : Life honest faults calls launches dirs output exited left source_faults looks (λ b history x y more. Says stance (opening b) history x y more) start base old new h how) where
+      (life : Life host source looks (λ b history x y more. Says stance (opening b) history x y more) start base old new h how) where
     abbrev turns : List (Turn H A)
     turns = turns_of life.rounds ++ life.last
 
@@ -442,12 +443,12 @@ module _ {H A : Type 0} (honest : H → Type 0) (faults : H → ℕ) (calls : H 
     well_turns calm (turn ∷ ts) did asked =
         (well_turn stance (opening base) h calm turn.old turn.now turn.worked turn.own turn.calls turn.said turn.is_open did.0.works asked.0, well_turns calm ts did.1 asked.1)
 
-    pub life_heard : (ended : Result Rest TakeFault) → ended ≡ ended_as (kept_fault h) how new → IfOk ended (λ rest. ∥ AreHeard left (lines h) old new ∥₁)
+    pub life_heard : (ended : Result Rest TakeFault) → ended ≡ ended_as (kept_fault h) how new → IfOk ended (λ rest. ∥ AreHeard source (lines h) old new ∥₁)
     life_heard (Err fault) is = tt
     life_heard (Ok rest) is =
         ∥∥₁_map life.answered (λ asked.
         heard_same (lines h) (lines_told turns) old new
         (life_told stance opening base h life.rounds life.last old life.members life.before new life.part how life.turns life.went_on life.ends)
         (heard_at_end (lines_told turns) old new
-        (heard_turns [] old old turns new (steps_all honest faults calls launches dirs output exited left source_faults looks stance opening start base old new h how life).0 life.turns
+        (heard_turns [] old old turns new (steps_all host source looks stance opening start base old new h how life).0 life.turns
         (well_turns (rest_calm new how (kept_fault h) rest is) turns life.turns asked) (heard_first old))))

@@ -37,6 +37,8 @@ use Rattle.std.specs.Io.KnownBytes.{IsAtEnd}
 use Rattle.std.proofs.KnownBytes.{Consumes-nil, Consumes-trans}
 use Rattle.site_run.specs.Serving.{AreServed, HostStays, ReadOn}
 use Rattle.world_laws.proofs.Places.{some_front, some_behind}
+use Rattle.task_host.specs.View.{HostView}
+use Rattle.jp_io.specs.View.{SourceView}
 
 -- no number stands twice in the second of two lists, or in both
 twice_behind : (xs ys : List ℕ) → NoTwice (xs ++ ys) → NoTwice ys
@@ -133,42 +135,41 @@ said_failed worked.AnswersFailed = inl refl
 abbrev pub SaysSo : {H A : Type 0} → (Told → Type 0) → (ClaimedTask → Type 0) → Turn H A → Type 0
 SaysSo IsTold IsGiven turn = AllAre IsTold (told_of turn.own) × AllAre IsGiven (claimed_of turn.own)
 
-module _ {H A : Type 0} (honest : H → Type 0) (faults : H → ℕ) (calls : H → Option (List Call)) (launches dirs : H → List ℕ) (output : H → ℕ → Stream → List ℕ) (exited : H → ℕ → Option ℤ)
-    (left : A → Option (List ℕ)) (source_faults : A → ℕ) (looks : ℕ) (IsTold : Told → Type 0) (IsGiven : ClaimedTask → Type 0) where
+module _ {H A : Type 0} (host : HostView H) (source : SourceView A) (looks : ℕ) (IsTold : Told → Type 0) (IsGiven : ClaimedTask → Type 0) where
   abbrev Did : Turn H A → Type 0
-  Did turn = DidTurn honest faults calls launches dirs output exited left source_faults looks turn
+  Did turn = DidTurn host source looks turn
 
   -- An executor's host, from the beginning of the life on: its turns, and what was told and given in them; its claims are among those seen.
-  pub record CameOn (number : ℕ) (host next : H) (seen : List ℕ) : Type 0 where
+  pub record CameOn (number : ℕ) (machine next : H) (seen : List ℕ) : Type 0 where
     pub told : List Told
     pub claimed : List ClaimedTask
-    pub stays : HostStays (honest host) (honest next) (faults host) (faults next) (calls host) (calls next)
-    pub turns : honest host → Turns number looks (on_host launches dirs output exited host) told claimed (on_host launches dirs output exited next)
+    pub stays : HostStays (host.honest machine) (host.honest next) (host.faults machine) (host.faults next) (host.calls machine) (host.calls next)
+    pub turns : host.honest machine → Turns number looks (on_host host machine) told claimed (on_host host next)
     pub are_told : AllAre IsTold told
     pub are_given : AllAre IsGiven claimed
     pub once : NoTwice (tasks_of claimed)
     pub among : (n : ℕ) → Among n (tasks_of claimed) → Among n seen
 
   abbrev pub CameTo : Member H A → Member H A → List ℕ → Type 0
-  CameTo (Executor number host) (Executor now next) seen = (now ≡ number) × CameOn number host next seen
-  CameTo (Operator answers line ended failed) (Operator next kept now_ended now_failed) seen = ReadOn (left answers) (left next) (source_faults answers) (source_faults next) ended now_ended failed now_failed
-  CameTo (Executor number host) (Operator next kept now_ended now_failed) seen = ⊥
+  CameTo (Executor number machine) (Executor now next) seen = (now ≡ number) × CameOn number machine next seen
+  CameTo (Operator answers line ended failed) (Operator next kept now_ended now_failed) seen = ReadOn (source.left answers) (source.left next) (source.faults answers) (source.faults next) ended now_ended failed now_failed
+  CameTo (Executor number machine) (Operator next kept now_ended now_failed) seen = ⊥
   CameTo (Operator answers line ended failed) (Executor now next) seen = ⊥
 
   came_start : (m : Member H A) → CameTo m m []
-  came_start (Executor number host) = (
+  came_start (Executor number machine) = (
     refl,
     record { told = []; claimed = []; stays = record { honest_stays = (λ h. h, λ h. h); never_falls = omega arith; called = λ list is. (list, [], is, sym (append-nil list)) }; turns = λ h. no_turn; are_told = tt; are_given = tt; once = tt; among = λ n there. there },
   )
   came_start (Operator answers line ended failed) = record {
     read = [];
-    answers = Consumes-nil (left answers);
+    answers = Consumes-nil (source.left answers);
     at_end = λ not is. let bad : false ≡ true = sym not ∙ is in absurd (cc);
     counts = λ calm. record { never_falls = omega arith; calm = λ _. refl; failed = λ is. let bad : false ≡ true = sym calm ∙ is in absurd (cc) };
   }
 
   came_later : (o m : Member H A) (seen more : List ℕ) → CameTo o m seen → CameTo o m (seen ++ more)
-  came_later (Executor number host) (Executor now next) seen more c = (
+  came_later (Executor number machine) (Executor now next) seen more c = (
     c.0,
     record {
       told = c.1.told;
@@ -182,7 +183,7 @@ module _ {H A : Type 0} (honest : H → Type 0) (faults : H → ℕ) (calls : H 
     },
   )
   came_later (Operator answers line ended failed) (Operator next kept now_ended now_failed) seen more c = c
-  came_later (Executor number host) (Operator next kept now_ended now_failed) seen more c = absurd c
+  came_later (Executor number machine) (Operator next kept now_ended now_failed) seen more c = absurd c
   came_later (Operator answers line ended failed) (Executor now next) seen more c = absurd c
 
   -- counts of faults, one turn more
@@ -204,17 +205,17 @@ module _ {H A : Type 0} (honest : H → Type 0) (faults : H → ℕ) (calls : H 
   end_then false has mid last before same now is = now is
 
   -- one turn more
-  came_turn : (o m n : Member H A) (w : Worked) (own : List Entry) (gate_calls : List GateCall) (said : Said) (is_open : Bool) (seen : List ℕ) → Work honest faults calls launches dirs output exited left source_faults looks m n w (tells_of [] [] Nothing false) (tells_of own gate_calls said is_open)
-      → Executed honest calls launches dirs output exited looks m n w own gate_calls → AllAre IsTold (told_of own) → AllAre IsGiven (claimed_of own) → NoTwice (tasks_of (claimed_of own))
+  came_turn : (o m n : Member H A) (w : Worked) (own : List Entry) (gate_calls : List GateCall) (said : Said) (is_open : Bool) (seen : List ℕ) → Work host source looks m n w (tells_of [] [] Nothing false) (tells_of own gate_calls said is_open)
+      → Executed host looks m n w own gate_calls → AllAre IsTold (told_of own) → AllAre IsGiven (claimed_of own) → NoTwice (tasks_of (claimed_of own))
       → ((x : ℕ) → Among x seen → Among x (tasks_of (claimed_of own)) → ⊥) → CameTo o m seen → CameTo o n (seen ++ tasks_of (claimed_of own))
-  came_turn (Executor number host) (Executor now next) (Executor then last) w own gate_calls said is_open seen works executed told given once apart c =
+  came_turn (Executor number machine) (Executor now next) (Executor then last) w own gate_calls said is_open seen works executed told given once apart c =
       let k = c.1 in
       let own_claims : List ClaimedTask = claimed_of own in (
         works.0 ∙ c.0,
         record {
           told = k.told ++ told_of own;
           claimed = k.claimed ++ own_claims;
-          stays = stays_then (honest host) (honest next) (honest last) (faults host) (faults next) (faults last) (calls host) (calls next) (calls last) k.stays works.1 works.2 executed.past executed.called;
+          stays = stays_then (host.honest machine) (host.honest next) (host.honest last) (host.faults machine) (host.faults next) (host.faults last) (host.calls machine) (host.calls next) (host.calls last) k.stays works.1 works.2 executed.past executed.called;
           turns = λ h. another_turn (k.turns h) (record {
             past = executed.past;
             lawful = executed.lawful;
@@ -237,12 +238,12 @@ module _ {H A : Type 0} (honest : H → Type 0) (faults : H → ℕ) (calls : H 
       let o = works.0 in
       record {
         read = c.read ++ read_in o.past;
-        answers = Consumes-trans (left answers) (left next) (left last) c.read (read_in o.past) c.answers o.read;
-        at_end = λ not is. end_then now_ended (has_ended o.past) (left next) (left last) (c.at_end not) (λ over. (o.over over).1) o.at_end (sym o.ended_so ∙ is);
-        counts = λ calm. counts_then (source_faults answers) (source_faults next) (source_faults last) now_failed then_failed (w ≡ worked.AnswersFailed) (c.counts calm) works.1 works.2 works.3 (said_failed w);
+        answers = Consumes-trans (source.left answers) (source.left next) (source.left last) c.read (read_in o.past) c.answers o.read;
+        at_end = λ not is. end_then now_ended (has_ended o.past) (source.left next) (source.left last) (c.at_end not) (λ over. (o.over over).1) o.at_end (sym o.ended_so ∙ is);
+        counts = λ calm. counts_then (source.faults answers) (source.faults next) (source.faults last) now_failed then_failed (w ≡ worked.AnswersFailed) (c.counts calm) works.1 works.2 works.3 (said_failed w);
       }
-  came_turn (Executor number host) (Executor now next) (Operator last held then_ended then_failed) w own gate_calls said is_open seen works executed told given once apart c = absurd works
-  came_turn (Executor number host) (Operator next kept now_ended now_failed) n w own gate_calls said is_open seen works executed told given once apart c = absurd c
+  came_turn (Executor number machine) (Executor now next) (Operator last held then_ended then_failed) w own gate_calls said is_open seen works executed told given once apart c = absurd works
+  came_turn (Executor number machine) (Operator next kept now_ended now_failed) n w own gate_calls said is_open seen works executed told given once apart c = absurd c
   came_turn (Operator answers line ended failed) (Operator next kept now_ended now_failed) (Executor then last) w own gate_calls said is_open seen works executed told given once apart c = absurd works
   came_turn (Operator answers line ended failed) (Executor now next) n w own gate_calls said is_open seen works executed told given once apart c = absurd c
 
@@ -287,11 +288,11 @@ module _ {H A : Type 0} (honest : H → Type 0) (faults : H → ℕ) (calls : H 
   pub all_came : (old : List (Member H A)) (turns : List (Turn H A)) (new : List (Member H A)) → Steps old turns new → AllAre Did turns → AllAre (SaysSo IsTold IsGiven) turns → NoTwice (claims_of_all turns) → AllCame old new (claims_of_all turns)
   all_came old turns new steps did says once = all_steps old old turns new [] steps did says once (all_start old)
 
-  pub all_served : (os ms : List (Member H A)) (seen : List ℕ) → AllCame os ms seen → AreServed honest faults calls left source_faults os ms
+  pub all_served : (os ms : List (Member H A)) (seen : List ℕ) → AllCame os ms seen → AreServed host source os ms
   all_served [] [] seen c = tt
-  all_served (Executor number host ∷ os) (Executor now next ∷ ms) seen c = ((c.0.0, c.0.1.stays), all_served os ms seen c.1)
+  all_served (Executor number machine ∷ os) (Executor now next ∷ ms) seen c = ((c.0.0, c.0.1.stays), all_served os ms seen c.1)
   all_served (Operator answers line ended failed ∷ os) (Operator next kept now_ended now_failed ∷ ms) seen c = (c.0, all_served os ms seen c.1)
-  all_served (Executor number host ∷ os) (Operator next kept now_ended now_failed ∷ ms) seen c = absurd c.0
+  all_served (Executor number machine ∷ os) (Operator next kept now_ended now_failed ∷ ms) seen c = absurd c.0
   all_served (Operator answers line ended failed ∷ os) (Executor now next ∷ ms) seen c = absurd c.0
   all_served [] (m ∷ ms) seen c = absurd c
   all_served (o ∷ os) [] seen c = absurd c

@@ -5,7 +5,7 @@ use Rattle.std.proofs.lemmas.List.{map-append, take-map}
 use Rattle.std.proofs.Math.Seq.{take-nil}
 use Rattle.std.specs.Prelude.{Bool, if◌then◌else◌, fold, IfSome, IsSome, IsSomeAnd}
 use Rattle.std.proofs.lemmas.List.Sums.{fold-append}
-use Rattle.jp_disk.specs.Moments.{AtEachMoment}
+use Rattle.jp_disk.specs.Runs.{AtEachMoment}
 use Rattle.jp_disk.proofs.MomentLemmas.{runs_on, at_each_weaker}
 use Rattle.journal_core.specs.Records.{Has, Walked, framed}
 use Rattle.journal_core.proofs.StepLemmas.{stores_has}
@@ -37,6 +37,7 @@ use Rattle.site_threads.specs.Lower.site_state.Facts.{Facts, Grown, HasFront, Is
 use Rattle.site_threads.specs.Lower.site_state.Histories.{tooks, kept_fault, pending, at_risk}
 use Rattle.site_threads.proofs.Lower.site_state.HistoryLaws.{tooks-append, no_fault, none_pending, pending-append}
 use Rattle.site_run.proofs.WalkLemmas.{IsFaultOf, ShowsAll, shows_shown}
+use Rattle.jp_disk.specs.View.{DiskView}
 
 -- records, their events and payloads
 pub events-append : (rs qs : List EventRecord) → events_of (rs ++ qs) ≡ events_of rs ++ events_of qs
@@ -157,31 +158,31 @@ told_nothing w None = tt
 told_nothing w (Some file) = tt
 
 -- Where memory was wanted nothing more was written.
-module _ {D T : Type 0} (reads : D → Option (List ℕ)) (may_leave : D → List ℕ → Type 0) (clock : D → ℕ) (since : D → ℕ → List ℕ → Type 0) (stance : T → Stance)
-    (setting : Setting) (entry : Option (List ℕ)) (origin : D) (before es : List Event) (kept : Kept D T) (lasts : Lasts reads may_leave clock since stance setting entry origin before es kept) where
-  wants_so : Fails reads may_leave clock since stance setting entry origin before es Memory kept
+module _ {D T : Type 0} (disk : DiskView D) (stance : T → Stance)
+    (setting : Setting) (entry : Option (List ℕ)) (origin : D) (before es : List Event) (kept : Kept D T) (lasts : Lasts disk stance setting entry origin before es kept) where
+  wants_so : Fails disk stance setting entry origin before es Memory kept
   wants_so = record {
     refused = None;
     is_next = tt;
     full = tt;
-    sized = λ known. told_nothing kept.weights (reads kept.journal.disk);
+    sized = λ known. told_nothing kept.weights (disk.reads kept.journal.disk);
     risked = None;
     may_risk = refl;
     moments = lasts.moments;
     images = λ known image left. inl (record {
       payloads = (lasts.saves known).payloads;
-      has = stores_has reads may_leave kept.journal.disk kept.journal.len (lasts.saves known).payloads image (lasts.saves known).keeps.holds left;
+      has = stores_has disk kept.journal.disk kept.journal.len (lasts.saves known).payloads image (lasts.saves known).keeps.holds left;
       told = subst (λ (s : Setting). IsTold s es (lasts.saves known).payloads) lasts.goes.same (lasts.saves known).told;
     });
   }
 
-  pub wants : (f : Fails reads may_leave clock since stance setting entry origin before es Memory kept) × (f.refused ≡ None)
+  pub wants : (f : Fails disk stance setting entry origin before es Memory kept) × (f.refused ≡ None)
   unfolding wants_so
   wants = (wants_so, refl)
 
-module _ {D T : Type 0} (reads : D → Option (List ℕ)) (may_leave : D → List ℕ → Type 0) (clock : D → ℕ) (since : D → ℕ → List ℕ → Type 0) (faults : D → ℕ) (stance : T → Stance)
+module _ {D T : Type 0} (disk : DiskView D) (stance : T → Stance)
     (setting : Setting) (entry : Option (List ℕ)) (origin : D) (before es : List Event) (k0 k1 : Kept D T) (h : List Entry)
-    (lasts : Lasts reads may_leave clock since stance setting entry origin before es k0) (facts : Facts reads may_leave clock since faults stance k0 k1 h) where
+    (lasts : Lasts disk stance setting entry origin before es k0) (facts : Facts disk stance k0 k1 h) where
   -- the events of before the life, and those of it
   abbrev now : List Event
   now = es ++ tooks h
@@ -194,7 +195,7 @@ module _ {D T : Type 0} (reads : D → Option (List ℕ)) (may_leave : D → Lis
 
   -- where the disk told its bytes
   module _ (known : IsSome entry) where
-    abbrev saves : Saves reads may_leave stance k0 es
+    abbrev saves : Saves disk stance k0 es
     saves = lasts.saves known
 
     abbrev payloads : List (List ℕ)
@@ -203,7 +204,7 @@ module _ {D T : Type 0} (reads : D → Option (List ℕ)) (may_leave : D → Lis
     abbrev told : IsTold setting es payloads
     told = subst (λ (s : Setting). IsTold s es payloads) lasts.goes.same saves.told
 
-    abbrev grown : Grown reads may_leave clock since stance k0 k1 h payloads
+    abbrev grown : Grown disk stance k0 k1 h payloads
     grown = facts.grown payloads saves.keeps
 
     begun_told : (W.world_in setting (events_of told.records)).started ≡ true
@@ -307,13 +308,13 @@ module _ {D T : Type 0} (reads : D → Option (List ℕ)) (may_leave : D → Lis
         by (inl r) = inl (r.0 ++ tooks h, ap (λ (xs : List Event). xs ++ tooks h) r.1 ∙ append_assoc s.kept r.0 (tooks h))
         by (inr none) = absurd none
 
-    moments_of : (risked : Option Event) → one_or_none (pending h) risked → AtEachMoment clock since origin k1.journal.disk (Survives setting before now risked)
+    moments_of : (risked : Option Event) → one_or_none (pending h) risked → AtEachMoment disk origin k1.journal.disk (Survives setting before now risked)
     moments_of risked is =
-        runs_on clock since origin k0.journal.disk k1.journal.disk (Survives setting before now risked)
-        (at_each_weaker clock since origin k0.journal.disk (Survives setting before es None) (Survives setting before now risked) (survives_still risked) (lasts.moments known))
-        (at_each_weaker clock since k0.journal.disk k1.journal.disk (HasFront payloads all_payloads) (Survives setting before now risked) (survives risked is) grown.moments)
+        runs_on disk origin k0.journal.disk k1.journal.disk (Survives setting before now risked)
+        (at_each_weaker disk origin k0.journal.disk (Survives setting before es None) (Survives setting before now risked) (survives_still risked) (lasts.moments known))
+        (at_each_weaker disk k0.journal.disk k1.journal.disk (HasFront payloads all_payloads) (Survives setting before now risked) (survives risked is) grown.moments)
 
-    images_of : (risked : Option Event) → one_or_none (pending h) risked → (image : List ℕ) → may_leave k1.journal.disk image → Stores setting now image ⊎ IsSomeAnd risked (λ e. Stores setting (now ++ e ∷ []) image)
+    images_of : (risked : Option Event) → one_or_none (pending h) risked → (image : List ℕ) → disk.may_leave k1.journal.disk image → Stores setting now image ⊎ IsSomeAnd risked (λ e. Stores setting (now ++ e ∷ []) image)
     images_of risked is image left = by risked is (grown.images image left)
       where
         all_have : Has (payloads ++ grown.added ++ grown.last) image → Stores setting (es ++ (tooks h ++ pending h)) image
@@ -326,7 +327,7 @@ module _ {D T : Type 0} (reads : D → Option (List ℕ)) (may_leave : D → Lis
         by (Some e) one (inr has) = inr (subst (λ (xs : List Event). Stores setting xs image) (ap (λ (ps : List Event). es ++ (tooks h ++ ps)) one ∙ sym (append_assoc es (tooks h) (e ∷ []))) (all_have has))
 
   -- Where no fault is kept the life goes on.
-  pub lasts_on : kept_fault h ≡ None → Lasts reads may_leave clock since stance setting entry origin before now k1
+  pub lasts_on : kept_fault h ≡ None → Lasts disk stance setting entry origin before now k1
   lasts_on none =
       let all = shows_shown stance setting lasts.goes.proper k0.build k1.build es (tooks h) opened (facts.shown none) in
       record {
@@ -375,7 +376,7 @@ module _ {D T : Type 0} (reads : D → Option (List ℕ)) (may_leave : D → Lis
     sizes Stopped (Some e) of behind_image full size = absurd of
 
     -- the journal ends behind the records of the events that were taken, and they are what is weighed
-    length_told : (known : IsSome entry) (f : TakeFault) (ev : Option Event) → one_or_none (pending h) (risked_of f ev) → (before_image : Option Image) → IsFull stance k1.weights before_image k1 f ev → (file : List ℕ) → may_leave k1.journal.disk file
+    length_told : (known : IsSome entry) (f : TakeFault) (ev : Option Event) → one_or_none (pending h) (risked_of f ev) → (before_image : Option Image) → IsFull stance k1.weights before_image k1 f ev → (file : List ℕ) → disk.may_leave k1.journal.disk file
         → TellsStore k1.weights f file
     length_told known Memory ev one behind_image full file left = tt
     length_told known Disk ev one behind_image full file left = tt
@@ -394,12 +395,12 @@ module _ {D T : Type 0} (reads : D → Option (List ℕ)) (may_leave : D → Lis
         only (inl has) = has
         only (inr has) = subst (λ (ps : List (List ℕ)). Has ps file) (ap (λ (ps : List (List ℕ)). payloads known ++ (grown known).added ++ ps) no_last ∙ append-nil (payloads known ++ (grown known).added)) has
 
-    told_length : (o : Option (List ℕ)) (f : TakeFault) → IfSome o (may_leave k1.journal.disk) → ((file : List ℕ) → may_leave k1.journal.disk file → TellsStore k1.weights f file) → IfSome o (TellsStore k1.weights f)
+    told_length : (o : Option (List ℕ)) (f : TakeFault) → IfSome o (disk.may_leave k1.journal.disk) → ((file : List ℕ) → disk.may_leave k1.journal.disk file → TellsStore k1.weights f file) → IfSome o (TellsStore k1.weights f)
     told_length None f left all = tt
     told_length (Some file) f left all = all file left
 
     -- Where a fault stopped it, it broke off behind the events that were taken.
-    fails_so : IfSome (reads k1.journal.disk) (may_leave k1.journal.disk) → IsFaultOf setting now fault event → Fails reads may_leave clock since stance setting entry origin before now fault k1
+    fails_so : IfSome (disk.reads k1.journal.disk) (disk.may_leave k1.journal.disk) → IsFaultOf setting now fault event → Fails disk stance setting entry origin before now fault k1
     fails_so told_image of =
         let behind_image : Option Image = facts.full.0 in
         let full : IsFull stance k1.weights behind_image k1 fault event = full_of stance k1.weights behind_image k1 front fault event none (subst (IsFullAt stance k1.weights behind_image k1) is facts.full.1) in
@@ -407,17 +408,17 @@ module _ {D T : Type 0} (reads : D → Option (List ℕ)) (may_leave : D → Lis
           refused = event;
           is_next = is_of fault event of;
           full = sizes fault event of behind_image full (λ w at. sized_of k1.weights (setting_in k0.build) w front fault event none (subst (IsSizedAt k1.weights (setting_in k0.build) w) is (facts.size w at)));
-          sized = λ known. told_length (reads k1.journal.disk) fault told_image (length_told known fault event risks behind_image full);
+          sized = λ known. told_length (disk.reads k1.journal.disk) fault told_image (length_told known fault event risks behind_image full);
           risked = risked_of fault event;
           may_risk = may_risk fault event;
           moments = λ known. moments_of known (risked_of fault event) risks;
           images = λ known. images_of known (risked_of fault event) risks;
         }
 
-    pub fails_on : IfSome (reads k1.journal.disk) (may_leave k1.journal.disk) → IsFaultOf setting now fault event → (f : Fails reads may_leave clock since stance setting entry origin before now fault k1) × (f.refused ≡ event)
+    pub fails_on : IfSome (disk.reads k1.journal.disk) (disk.may_leave k1.journal.disk) → IsFaultOf setting now fault event → (f : Fails disk stance setting entry origin before now fault k1) × (f.refused ≡ event)
     unfolding fails_so
     fails_on told_image of = (fails_so told_image of, refl)
 
   -- Where memory was wanted and no fault is kept, nothing more was written.
-  pub wants_on : kept_fault h ≡ None → (f : Fails reads may_leave clock since stance setting entry origin before now Memory k1) × (f.refused ≡ None)
-  wants_on none = wants reads may_leave clock since stance setting entry origin before now k1 (lasts_on none)
+  pub wants_on : kept_fault h ≡ None → (f : Fails disk stance setting entry origin before now Memory k1) × (f.refused ≡ None)
+  wants_on none = wants disk stance setting entry origin before now k1 (lasts_on none)

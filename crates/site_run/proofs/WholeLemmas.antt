@@ -60,6 +60,9 @@ use Rattle.site_run.proofs.StoreLemmas.{lasts_on, fails_on, wants, wants_on}
 use Rattle.site_run.proofs.EndLemmas.{rests_so, goes_then, goes_taken}
 use Rattle.site_run.proofs.FitLemmas.{told_taken, life_serves, once_fit, came_all, fit_life}
 use Rattle.model_syntax.specs.TreeNodes.{tree_node}
+use Rattle.jp_disk.specs.View.{DiskView}
+use Rattle.task_host.specs.View.{HostView}
+use Rattle.jp_io.specs.View.{SourceView}
 
 -- a promise where there are few is known where what it promises is
 few_known : (n : ℕ) (X : Type 0) → (n ≤ 1 → ∥ X ∥₁) → ∥ (n ≤ 1 → X) ∥₁
@@ -130,19 +133,19 @@ grants_refused : {T : Type 0} {stance : T → Stance} {b : Parts T} {es : List E
 grants_refused g = subst (AllAre (λ (t : Told). ⊥)) (sym (grants_silent g).told) tt
 
 -- a life that broke off so, with why the event came that was not taken
-breaks_with : {D T : Type 0} (reads : D → Option (List ℕ)) (may_leave : D → List ℕ → Type 0) (clock : D → ℕ) (since : D → ℕ → List ℕ → Type 0) (stance : T → Stance) (setting : Setting) (entry : Option (List ℕ)) (origin : D) (before : List Event)
-    (Refused : Event → Type 0) (now : List Event) (fault : TakeFault) (kept : Kept D T) (event : Option Event) → (f : Fails reads may_leave clock since stance setting entry origin before now fault kept) × (f.refused ≡ event)
-    → IfSome event (λ e. IsGrantOr Refused e × ((heard : List (List ℕ)) × Comes setting Refused now e heard)) → BreaksBehind reads may_leave clock since stance setting entry origin before Refused now fault kept
-breaks_with reads may_leave clock since stance setting entry origin before Refused now fault kept event f caused =
+breaks_with : {D T : Type 0} (disk : DiskView D) (stance : T → Stance) (setting : Setting) (entry : Option (List ℕ)) (origin : D) (before : List Event)
+    (Refused : Event → Type 0) (now : List Event) (fault : TakeFault) (kept : Kept D T) (event : Option Event) → (f : Fails disk stance setting entry origin before now fault kept) × (f.refused ≡ event)
+    → IfSome event (λ e. IsGrantOr Refused e × ((heard : List (List ℕ)) × Comes setting Refused now e heard)) → BreaksBehind disk stance setting entry origin before Refused now fault kept
+breaks_with disk stance setting entry origin before Refused now fault kept event f caused =
     record { fails = f.0; caused = subst (λ (r : Option Event). IfSome r (λ e. IsGrantOr Refused e × ((heard : List (List ℕ)) × Comes setting Refused now e heard))) (sym f.1) caused }
 
 -- the counts of faults of a disk, by what was kept
 pub counts_kept : (first last : ℕ) (kept : Option TakeFault) (Fails : Type 0) → first ≤ last → (kept ≡ Some Disk → Rose first last) → (¬ (kept ≡ Some Disk) → last ≡ first) → (Fails → kept ≡ Some Disk) → (kept ≡ Some Disk → Fails) → CountsFault first last Fails
 counts_kept first last kept Fails below rose calm so is = record { never_falls = below; calm = λ other. calm (λ disk. other (is disk)); failed = λ failed. rose (so failed) }
 
-module _ {D T : Type 0} (reads : D → Option (List ℕ)) (may_leave : D → List ℕ → Type 0) (clock : D → ℕ) (since : D → ℕ → List ℕ → Type 0) (disk_faults : D → ℕ) (stance : T → Stance)
-    (told_image : (d : D) → IfSome (reads d) (may_leave d)) where
-  module _ (setting : Setting) (entry : Option (List ℕ)) (origin : D) (before events : List Event) (durable : Kept D T) (lasts : Lasts reads may_leave clock since stance setting entry origin before events durable) where
+module _ {D T : Type 0} (disk : DiskView D) (stance : T → Stance)
+    (told_image : (d : D) → IfSome (disk.reads d) (disk.may_leave d)) where
+  module _ (setting : Setting) (entry : Option (List ℕ)) (origin : D) (before events : List Event) (durable : Kept D T) (lasts : Lasts disk stance setting entry origin before events durable) where
     abbrev shown_first : ShowsAll stance setting lasts.goes.proper durable.build events
     shown_first = record { same = lasts.goes.same; begun = lasts.goes.begun; stands = lasts.goes.stands }
 
@@ -161,9 +164,9 @@ module _ {D T : Type 0} (reads : D → Option (List ℕ)) (may_leave : D → Lis
         all_fit_more setting (tree_node lasts.goes.proper.tree) (of_tree stance setting lasts.goes.proper) (small stance setting lasts.goes.proper) now (e ∷ []) hosts started (record { begun = started; accepted = accepted }, tt) fit
 
     -- an opening that broke off behind these grants
-    breaks_opening : (granted : List Event) (fault : TakeFault) (disk : D) (k : Kept D T) → AllAre (λ e. is_grant e ≡ true) granted → GoesBy setting (λ e. ⊥) events (events ++ granted) [] → disk ≡ k.journal.disk
-        → BreaksBehind reads may_leave clock since stance setting entry origin before (λ e. ⊥) (events ++ granted) fault k → OpeningBreaks reads may_leave clock since stance setting entry origin before events fault disk
-    breaks_opening made fault disk k are goes same breaks = record {
+    breaks_opening : (granted : List Event) (fault : TakeFault) (state : D) (k : Kept D T) → AllAre (λ e. is_grant e ≡ true) granted → GoesBy setting (λ e. ⊥) events (events ++ granted) [] → state ≡ k.journal.disk
+        → BreaksBehind disk stance setting entry origin before (λ e. ⊥) (events ++ granted) fault k → OpeningBreaks disk stance setting entry origin before events fault state
+    breaks_opening made fault state k are goes same breaks = record {
       granted = made;
       are_grants = are;
       goes = goes;
@@ -175,12 +178,12 @@ module _ {D T : Type 0} (reads : D → Option (List ℕ)) (may_leave : D → Lis
     }
 
     -- Memory was wanted before any grant that a stop had left out.
-    pub opening_wants : (disk : D) → disk ≡ durable.journal.disk → OpeningBreaks reads may_leave clock since stance setting entry origin before events Memory disk
-    opening_wants disk same =
+    pub opening_wants : (state : D) → state ≡ durable.journal.disk → OpeningBreaks disk stance setting entry origin before events Memory state
+    opening_wants state same =
         let none : events ≡ events ++ [] = sym (append-nil events) in
-        breaks_opening [] Memory disk durable tt (subst (λ (es : List Event). GoesBy setting (λ e. ⊥) events es []) none begins) same
-        (subst (λ (es : List Event). BreaksBehind reads may_leave clock since stance setting entry origin before (λ e. ⊥) es Memory durable) none
-        (breaks_with reads may_leave clock since stance setting entry origin before (λ e. ⊥) events Memory durable None (wants reads may_leave clock since stance setting entry origin before events durable lasts) tt))
+        breaks_opening [] Memory state durable tt (subst (λ (es : List Event). GoesBy setting (λ e. ⊥) events es []) none begins) same
+        (subst (λ (es : List Event). BreaksBehind disk stance setting entry origin before (λ e. ⊥) es Memory durable) none
+        (breaks_with disk stance setting entry origin before (λ e. ⊥) events Memory durable None (wants disk stance setting entry origin before events durable lasts) tt))
 
     module _ (made : List Entry) (grants : Grants stance durable.build made) where
       -- the events behind the grants that a stop had left out
@@ -191,39 +194,38 @@ module _ {D T : Type 0} (reads : D → Option (List ℕ)) (may_leave : D → Lis
       goes_made = subst (GoesBy setting (λ e. ⊥) events begun) (grants_silent grants).heard (grants_go stance setting lasts.goes.proper (λ e. ⊥) events grants events [] shown_first begins)
 
       -- The opening of a life that was refused.
-      pub opening_breaks : (k : Kept D T) (fault : TakeFault) (disk : D) → Facts reads may_leave clock since disk_faults stance durable k made → kept_fault made ≡ Some fault → disk ≡ k.journal.disk
-          → OpeningBreaks reads may_leave clock since stance setting entry origin before events fault disk
-      opening_breaks k fault disk facts kept same = by (grants_stop stance setting lasts.goes.proper (λ e. ⊥) events grants [] refl (subst (ShowsAll stance setting lasts.goes.proper durable.build) (sym (append-nil events)) shown_first))
+      pub opening_breaks : (k : Kept D T) (fault : TakeFault) (state : D) → Facts disk stance durable k made → kept_fault made ≡ Some fault → state ≡ k.journal.disk
+          → OpeningBreaks disk stance setting entry origin before events fault state
+      opening_breaks k fault state facts kept same = by (grants_stop stance setting lasts.goes.proper (λ e. ⊥) events grants [] refl (subst (ShowsAll stance setting lasts.goes.proper durable.build) (sym (append-nil events)) shown_first))
         where
-          by : (kept_fault made ≡ None) ⊎ StoppedBy stance setting lasts.goes.proper (λ e. ⊥) events made → OpeningBreaks reads may_leave clock since stance setting entry origin before events fault disk
+          by : (kept_fault made ≡ None) ⊎ StoppedBy stance setting lasts.goes.proper (λ e. ⊥) events made → OpeningBreaks disk stance setting entry origin before events fault state
           by (inl none) = absurd (no_fault fault (sym kept ∙ none))
           by (inr s) =
               let here : s.fault ≡ fault = same_fault s.fault fault (sym (kept_last s.front s.fault s.event s.none) ∙ ap kept_fault (sym s.is) ∙ kept) in
               let now_is : events ++ tooks s.front ≡ begun = ap (λ (es : List Event). events ++ es) (sym (tooks_front s.front s.fault s.event) ∙ ap tooks (sym s.is)) in
               let of : IsFaultOf setting begun s.fault s.event = subst (λ (es : List Event). IsFaultOf setting es s.fault s.event) now_is s.of in
-              let fails = fails_on reads may_leave clock since disk_faults stance setting entry origin before events durable k made lasts facts s.front s.fault s.event s.is s.none (told_image k.journal.disk) of in
-              subst (λ (f : TakeFault). OpeningBreaks reads may_leave clock since stance setting entry origin before events f disk) here (breaks_opening (tooks made) s.fault disk k (grants_are grants) goes_made same
-              (breaks_with reads may_leave clock since stance setting entry origin before (λ e. ⊥) begun s.fault k s.event fails (caused_by setting (λ e. ⊥) begun s.fault s.event of (λ e some. told_last (λ (t : Told). ⊥) made s.front s.fault e (same_last made s.front s.fault s.event e some s.is) (grants_refused grants)))))
+              let fails = fails_on disk stance setting entry origin before events durable k made lasts facts s.front s.fault s.event s.is s.none (told_image k.journal.disk) of in
+              subst (λ (f : TakeFault). OpeningBreaks disk stance setting entry origin before events f state) here (breaks_opening (tooks made) s.fault state k (grants_are grants) goes_made same
+              (breaks_with disk stance setting entry origin before (λ e. ⊥) begun s.fault k s.event fails (caused_by setting (λ e. ⊥) begun s.fault s.event of (λ e some. told_last (λ (t : Told). ⊥) made s.front s.fault e (same_last made s.front s.fault s.event e some s.is) (grants_refused grants)))))
 
-      module _ (opened : Kept D T) (facts : Facts reads may_leave clock since disk_faults stance durable opened made) (none : kept_fault made ≡ None) where
-        lasts_opened : Lasts reads may_leave clock since stance setting entry origin before begun opened
-        lasts_opened = lasts_on reads may_leave clock since disk_faults stance setting entry origin before events durable opened made lasts facts none
+      module _ (opened : Kept D T) (facts : Facts disk stance durable opened made) (none : kept_fault made ≡ None) where
+        lasts_opened : Lasts disk stance setting entry origin before begun opened
+        lasts_opened = lasts_on disk stance setting entry origin before events durable opened made lasts facts none
 
         shown_opened : ShowsAll stance setting lasts.goes.proper opened.build begun
         shown_opened = shows_shown stance setting lasts.goes.proper durable.build opened.build events (tooks made) shown_first (facts.shown none)
 
-        module _ {H A : Type 0} (honest : H → Type 0) (faults : H → ℕ) (calls : H → Option (List Call)) (launches dirs : H → List ℕ) (output : H → ℕ → Stream → List ℕ) (exited : H → ℕ → Option ℤ)
-            (left : A → Option (List ℕ)) (source_faults : A → ℕ) (looks : ℕ) {B : Type 0} (opening : B → Parts T) (start base : B) (old new : List (Member H A)) (h : List Entry) (how : Result Progress NoMemory)
-            (life : Life honest faults calls launches dirs output exited left source_faults looks (λ b history x y more. Says stance (opening b) history x y more) start base old new h how)
+        module _ {H A : Type 0} (host : HostView H) (source : SourceView A) (looks : ℕ) {B : Type 0} (opening : B → Parts T) (start base : B) (old new : List (Member H A)) (h : List Entry) (how : Result Progress NoMemory)
+            (life : Life host source looks (λ b history x y more. Says stance (opening b) history x y more) start base old new h how)
             (is_base : opening base ≡ opened.build) (kept : Kept D T) (capacity : ℕ) where
           abbrev turns : List (Turn H A)
           turns = turns_of life.rounds ++ life.last
 
           abbrev Reported : Event → Type 0
-          Reported = IsReported reads may_leave clock since stance honest faults calls launches dirs output exited left source_faults looks turns
+          Reported = IsReported disk stance host source looks turns
 
           abbrev Refused : Event → Type 0
-          Refused = IsRefused reads may_leave clock since stance honest faults calls launches dirs output exited left source_faults looks turns
+          Refused = IsRefused disk stance host source looks turns
 
           abbrev now : List Event
           now = begun ++ tooks h
@@ -233,22 +235,22 @@ module _ {D T : Type 0} (reads : D → Option (List ℕ)) (may_leave : D → Lis
               (subst (λ (b : Parts T). EachIs (Came (λ history x y more. Says stance b history x y more)) [] h) is_base came))
 
           -- the life that the build of the events replied to, and when tasks were claimed in it
-          led : LifeOf honest faults calls launches dirs output exited left source_faults looks (replies setting) begun old new turns h
+          led : LifeOf host source looks (replies setting) begun old new turns h
           led = life_over (λ b history x y more. Says stance (opening b) history x y more) (replies setting) base begun
               (λ history x y more says. replies_so stance setting lasts.goes.proper opened.build begun shown_opened history x y more (subst (λ (b : Parts T). Says stance b history x y more) is_base says))
-              honest faults calls launches dirs output exited left source_faults looks start old new h how life
+              host source looks start old new h how life
 
           claimed : ∥ EachIs (ClaimedInTime setting begun) [] h ∥₁
           claimed = claimed_in_time setting begun h led.life.legal
 
-          module _ (at : At stance setting lasts.goes.proper Reported begun h) (site : Facts reads may_leave clock since disk_faults stance opened kept h) where
+          module _ (at : At stance setting lasts.goes.proper Reported begun h) (site : Facts disk stance opened kept h) where
             goes_all : GoesBy setting Reported events now (lines h)
             goes_all = goes_then setting (λ e. ⊥) Reported events begun now [] (lines h) (λ x never. absurd never) goes_made at.goes
 
             started : (W.world_in setting events).started ≡ true
             started = lasts.goes.begun
 
-            fits_all : AreHonest honest old → AllFit launches dirs setting events old → AllFit launches dirs setting now new
+            fits_all : AreHonest host old → AllFit host setting events old → AllFit host setting now new
             fits_all are fit =
                 let p = tree_node lasts.goes.proper.tree in
                 let e = of_tree stance setting lasts.goes.proper in
@@ -256,44 +258,44 @@ module _ {D T : Type 0} (reads : D → Option (List ℕ)) (may_leave : D → Lis
                 let begun_first : (W.world_in setting begun).started ≡ true = shown_opened.begun in
                 let later = goes_taken setting Reported begun now (lines h) begun_first at.goes in
                 let taken_then : AllTaken setting begun (tooks h) = subst (AllTaken setting begun) (append_cancel_left begun later.0 (tooks h) (sym later.1)) later.2 in
-                let fit_begun : AllFit launches dirs setting begun old = came_fit (λ e. ⊥) begun [] goes_made (hosts_of launches dirs old) fit in
-                fit_life honest faults calls launches dirs output exited left source_faults looks setting p e s begun begun_first (tooks h) taken_then old new _
-                (came_all honest faults calls launches dirs output exited left source_faults looks stance opening start base old new h how life (λ (t : _). t.accepted ≡ true → Some_of (λ x. x ≡ t.event) (tooks h))
+                let fit_begun : AllFit host setting begun old = came_fit (λ e. ⊥) begun [] goes_made (hosts_of host old) fit in
+                fit_life host source looks setting p e s begun begun_first (tooks h) taken_then old new _
+                (came_all host source looks stance opening start base old new h how life (λ (t : _). t.accepted ≡ true → Some_of (λ x. x ≡ t.event) (tooks h))
                 (λ (c : _). InLife setting begun (tooks h) c.executor c.task) (told_taken h) at.given)
                 are fit_begun
 
-            life_served : AreServed honest faults calls left source_faults old new
-            life_served = life_serves honest faults calls launches dirs output exited left source_faults looks stance opening start base old new h how life
+            life_served : AreServed host source old new
+            life_served = life_serves host source looks stance opening start base old new h how life
 
             -- it was stopped by a fault
-            breaks_so : (s : StoppedBy stance setting lasts.goes.proper Reported begun h) → BreaksBehind reads may_leave clock since stance setting entry origin before Refused now s.fault kept
+            breaks_so : (s : StoppedBy stance setting lasts.goes.proper Reported begun h) → BreaksBehind disk stance setting entry origin before Refused now s.fault kept
             breaks_so s =
                 let now_is : begun ++ tooks s.front ≡ now = ap (λ (es : List Event). begun ++ es) (sym (tooks_front s.front s.fault s.event) ∙ ap tooks (sym s.is)) in
                 let of : IsFaultOf setting now s.fault s.event = subst (λ (es : List Event). IsFaultOf setting es s.fault s.event) now_is s.of in
-                breaks_with reads may_leave clock since stance setting entry origin before Refused now s.fault kept s.event
-                (fails_on reads may_leave clock since disk_faults stance setting entry origin before begun opened kept h lasts_opened site s.front s.fault s.event s.is s.none (told_image kept.journal.disk) of)
+                breaks_with disk stance setting entry origin before Refused now s.fault kept s.event
+                (fails_on disk stance setting entry origin before begun opened kept h lasts_opened site s.front s.fault s.event s.is s.none (told_image kept.journal.disk) of)
                 (caused_by setting Refused now s.fault s.event of (λ e some. told_last _ h s.front s.fault e (same_last h s.front s.fault s.event e some s.is) life.told))
 
             -- it rests, or memory was wanted
             rests_or_wants : kept_fault h ≡ None → (r : Result Progress NoMemory) → IfOk r (λ come. RestsWith (rest_of come new) setting (W.world_in setting now) new)
-                → EndsBehind reads may_leave clock since stance setting entry origin before Refused now new kept (ended_as None r new)
+                → EndsBehind disk stance setting entry origin before Refused now new kept (ended_as None r new)
             rests_or_wants calm (Ok come) rests = record {
-              lasts = lasts_on reads may_leave clock since disk_faults stance setting entry origin before begun opened kept h lasts_opened site calm;
+              lasts = lasts_on disk stance setting entry origin before begun opened kept h lasts_opened site calm;
               rests = rests;
             }
             rests_or_wants calm (Err memory) rests =
-                breaks_with reads may_leave clock since stance setting entry origin before Refused now Memory kept None
-                (wants_on reads may_leave clock since disk_faults stance setting entry origin before begun opened kept h lasts_opened site calm) tt
+                breaks_with disk stance setting entry origin before Refused now Memory kept None
+                (wants_on disk stance setting entry origin before begun opened kept h lasts_opened site calm) tt
 
             ends_by : (kept_fault h ≡ None) ⊎ StoppedBy stance setting lasts.goes.proper Reported begun h → (kept_fault h ≡ None → IfOk how (λ come. RestsWith (rest_of come new) setting (W.world_in setting now) new))
-                → EndsBehind reads may_leave clock since stance setting entry origin before Refused now new kept (ended_as (kept_fault h) how new)
-            ends_by (inl calm) rests = subst (λ (f : Option TakeFault). EndsBehind reads may_leave clock since stance setting entry origin before Refused now new kept (ended_as f how new)) (sym calm) (rests_or_wants calm how (rests calm))
+                → EndsBehind disk stance setting entry origin before Refused now new kept (ended_as (kept_fault h) how new)
+            ends_by (inl calm) rests = subst (λ (f : Option TakeFault). EndsBehind disk stance setting entry origin before Refused now new kept (ended_as f how new)) (sym calm) (rests_or_wants calm how (rests calm))
             ends_by (inr s) rests =
-                subst (λ (f : Option TakeFault). EndsBehind reads may_leave clock since stance setting entry origin before Refused now new kept (ended_as f how new)) (sym (ap kept_fault s.is ∙ kept_last s.front s.fault s.event s.none)) (breaks_so s)
+                subst (λ (f : Option TakeFault). EndsBehind disk stance setting entry origin before Refused now new kept (ended_as f how new)) (sym (ap kept_fault s.is ∙ kept_last s.front s.fault s.event s.none)) (breaks_so s)
 
             ends_so : (ended : Result Rest TakeFault) → AllAre (λ (turn : Turn H A). AllAre (IsOrderOf setting begun (tooks h)) (orders_in turn.calls)) turns → (operators old ≤ 1 → EachIs (HeardInTime setting begun) [] h) → EachIs (ClaimedInTime setting begun) [] h → ended ≡ ended_as (kept_fault h) how new
                 → (kept_fault h ≡ None → IfOk how (λ come. RestsWith (rest_of come new) setting (W.world_in setting now) new))
-                → Ends reads may_leave clock since stance honest faults calls launches dirs output exited left source_faults looks turns durable setting entry origin before events old new h kept ended
+                → Ends disk stance host source looks turns durable setting entry origin before events old new h kept ended
             ends_so ended orders in_time claims is rests = record {
               granted = tooks made;
               are_grants = grants_are grants;
@@ -305,16 +307,16 @@ module _ {D T : Type 0} (reads : D → Option (List ℕ)) (may_leave : D → Lis
               claims = claims;
               orders = orders;
               in_time = in_time;
-              ends = subst (EndsBehind reads may_leave clock since stance setting entry origin before Refused now new kept) (sym is) (ends_by at.stops rests);
+              ends = subst (EndsBehind disk stance setting entry origin before Refused now new kept) (sym is) (ends_by at.stops rests);
               fits = fits_all;
-              fits_next = λ are fit e accepted. next_fit Reported now (lines h) goes_all (hosts_of launches dirs new) (fits_all are fit) e accepted;
+              fits_next = λ are fit e accepted. next_fit Reported now (lines h) goes_all (hosts_of host new) (fits_all are fit) e accepted;
               others = came_fit Reported now (lines h) goes_all;
               others_next = λ hosts fit e accepted. next_fit Reported now (lines h) goes_all hosts (came_fit Reported now (lines h) goes_all hosts fit) e accepted;
-              once = λ are fit apart. once_fit honest faults calls launches dirs output exited left source_faults looks setting (tree_node lasts.goes.proper.tree) (of_tree stance setting lasts.goes.proper) (small stance setting lasts.goes.proper) now old new life_served (fits_all are fit) apart;
+              once = λ are fit apart. once_fit host source looks setting (tree_node lasts.goes.proper.tree) (of_tree stance setting lasts.goes.proper) (small stance setting lasts.goes.proper) now old new life_served (fits_all are fit) apart;
             }
 
           -- what the last look said, of a state that no fault stopped
-          look_rests : IsSite reads may_leave clock since disk_faults stance opened kept h capacity → kept_fault h ≡ None → (r : Result Progress NoMemory)
+          look_rests : IsSite disk stance opened kept h capacity → kept_fault h ≡ None → (r : Result Progress NoMemory)
               → EndsWith (λ b history x y more. Says stance (opening b) history x y more) base life.last life.members life.before new life.part h r → ∥ IfOk r (λ come. RestsWith (rest_of come new) setting (W.world_in setting now) new) ∥₁
           look_rests site calm (Err memory) ends = ∣ tt ∣₁
           look_rests site calm (Ok come) ends =
@@ -336,23 +338,23 @@ module _ {D T : Type 0} (reads : D → Option (List ℕ)) (may_leave : D → Lis
               (subst (λ (b : Parts T). EachIs (Waited (λ history x y more. Says stance b history x y more)) [] h) is_base waited)))
 
           -- A life, by what its members did and by what is known of the state behind it.
-          pub life_ends : ∥ IsSite reads may_leave clock since disk_faults stance opened kept h capacity ∥₁ → (ended : Result Rest TakeFault) → ended ≡ ended_as (kept_fault h) how new
-              → ∥ Ends reads may_leave clock since stance honest faults calls launches dirs output exited left source_faults looks turns durable setting entry origin before events old new h kept ended ∥₁
+          pub life_ends : ∥ IsSite disk stance opened kept h capacity ∥₁ → (ended : Result Rest TakeFault) → ended ≡ ended_as (kept_fault h) how new
+              → ∥ Ends disk stance host source looks turns durable setting entry origin before events old new h kept ended ∥₁
           life_ends known ended is = ∥∥₁_elim known ∥∥₁_prop (λ site. ∥∥₁_elim told ∥∥₁_prop (λ at. ∥∥₁_elim ordered ∥∥₁_prop (λ orders. ∥∥₁_elim timed ∥∥₁_prop (λ in_time. ∥∥₁_elim claimed ∥∥₁_prop (λ claims. by site at orders in_time claims (calm_or_not (kept_fault h)))))))
             where
               calm_or_not : (f : Option TakeFault) → (f ≡ None) ⊎ (f ≡ None → ⊥)
               calm_or_not None = inl refl
               calm_or_not (Some f) = inr (λ none. no_fault f none)
 
-              by : IsSite reads may_leave clock since disk_faults stance opened kept h capacity → At stance setting lasts.goes.proper Reported begun h → AllAre (λ (turn : Turn H A). AllAre (IsOrderOf setting begun (tooks h)) (orders_in turn.calls)) turns
+              by : IsSite disk stance opened kept h capacity → At stance setting lasts.goes.proper Reported begun h → AllAre (λ (turn : Turn H A). AllAre (IsOrderOf setting begun (tooks h)) (orders_in turn.calls)) turns
                   → (operators old ≤ 1 → EachIs (HeardInTime setting begun) [] h) → EachIs (ClaimedInTime setting begun) [] h → (kept_fault h ≡ None) ⊎ (kept_fault h ≡ None → ⊥)
-                  → ∥ Ends reads may_leave clock since stance honest faults calls launches dirs output exited left source_faults looks turns durable setting entry origin before events old new h kept ended ∥₁
+                  → ∥ Ends disk stance host source looks turns durable setting entry origin before events old new h kept ended ∥₁
               by site at orders in_time claims (inl calm) = ∥∥₁_map (look_rests site calm how life.ends) (λ rests. ends_so at site.facts ended orders in_time claims is (λ none. rests))
               by site at orders in_time claims (inr fault) = ∣ ends_so at site.facts ended orders in_time claims is (λ none. absurd (fault none)) ∣₁
 
     -- An opening that was refused, either way.
-    pub opening_refused : (made : List Entry) (k : Kept D T) (fault : TakeFault) (disk : D) → OpenRefuses stance durable k made fault → Facts reads may_leave clock since disk_faults stance durable k made → disk ≡ k.journal.disk
-        → OpeningBreaks reads may_leave clock since stance setting entry origin before events fault disk
-    opening_refused made k fault disk (inl refuses) facts same = opening_breaks made refuses.0 k fault disk facts refuses.1 same
-    opening_refused made k fault disk (inr wants) facts same =
-        subst (λ (f : TakeFault). OpeningBreaks reads may_leave clock since stance setting entry origin before events f disk) (sym wants.2) (opening_wants disk (same ∙ ap (λ (n : Kept D T). n.journal.disk) wants.1))
+    pub opening_refused : (made : List Entry) (k : Kept D T) (fault : TakeFault) (state : D) → OpenRefuses stance durable k made fault → Facts disk stance durable k made → state ≡ k.journal.disk
+        → OpeningBreaks disk stance setting entry origin before events fault state
+    opening_refused made k fault state (inl refuses) facts same = opening_breaks made refuses.0 k fault state facts refuses.1 same
+    opening_refused made k fault state (inr wants) facts same =
+        subst (λ (f : TakeFault). OpeningBreaks disk stance setting entry origin before events f state) (sym wants.2) (opening_wants state (same ∙ ap (λ (n : Kept D T). n.journal.disk) wants.1))

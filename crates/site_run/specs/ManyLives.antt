@@ -16,31 +16,33 @@ use Rattle.site_threads.specs.Lower.site_state.declared.ask.Entry.{Entry}
 use Rattle.site_threads.specs.Lower.site_life.Turns.{Turn}
 use Rattle.site_run.specs.Lives.{Ends, OpeningBreaks}
 use Rattle.site_run.specs.Serving.{AreHonest, AreServed, hosts_of}
+use Rattle.jp_disk.specs.View.{DiskView}
+use Rattle.task_host.specs.View.{HostView}
+use Rattle.jp_io.specs.View.{SourceView}
 
-module _ {D T H A : Type 0} (reads : D → Option (List ℕ)) (may_leave : D → List ℕ → Type 0) (clock : D → ℕ) (since : D → ℕ → List ℕ → Type 0) (stance : T → Stance)
-    (honest : H → Type 0) (faults : H → ℕ) (calls : H → Option (List Call)) (launches dirs : H → List ℕ) (output : H → ℕ → Stream → List ℕ) (exited : H → ℕ → Option ℤ)
-    (left : A → Option (List ℕ)) (source_faults : A → ℕ) (looks : ℕ) where
+module _ {D T H A : Type 0} (disk : DiskView D) (stance : T → Stance)
+    (host : HostView H) (source : SourceView A) (looks : ℕ) where
   -- A life of these members over a build of these events, with the disk and the members behind it: it was led to its end, or its opening was
   -- refused and no member had a turn.
   pub data OneLife (setting : Setting) (events : List Event) (old : List (Member H A)) : D → List (Member H A) → Type 0 where
     led : {entry : Option (List ℕ)} {origin : D} {before : List Event} {durable kept : Kept D T} {turns : List (Turn H A)} {new : List (Member H A)} {history : List Entry} {ended : Result Rest TakeFault}
-        → IsSome entry → Lasts reads may_leave clock since stance setting entry origin before events durable
-        → Ends reads may_leave clock since stance honest faults calls launches dirs output exited left source_faults looks turns durable setting entry origin before events old new history kept ended
-        → AreServed honest faults calls left source_faults old new → OneLife setting events old kept.journal.disk new
-    refused : {entry : Option (List ℕ)} {origin : D} {before : List Event} {durable : Kept D T} {disk : D} (fault : TakeFault)
-        → IsSome entry → Lasts reads may_leave clock since stance setting entry origin before events durable
-        → OpeningBreaks reads may_leave clock since stance setting entry origin before events fault disk → OneLife setting events old disk old
+        → IsSome entry → Lasts disk stance setting entry origin before events durable
+        → Ends disk stance host source looks turns durable setting entry origin before events old new history kept ended
+        → AreServed host source old new → OneLife setting events old kept.journal.disk new
+    refused : {entry : Option (List ℕ)} {origin : D} {before : List Event} {durable : Kept D T} {state : D} (fault : TakeFault)
+        → IsSome entry → Lasts disk stance setting entry origin before events durable
+        → OpeningBreaks disk stance setting entry origin before events fault state → OneLife setting events old state old
 
   -- What the next life begins with: an image that a crash may leave, with these events; and members with the same hosts.
-  pub record HandsOn (disk : D) (members : List (Member H A)) (setting : Setting) (events : List Event) (next : List (Member H A)) : Type 0 where
+  pub record HandsOn (state : D) (members : List (Member H A)) (setting : Setting) (events : List Event) (next : List (Member H A)) : Type 0 where
     pub image : List ℕ
-    pub leaves : may_leave disk image
+    pub leaves : disk.may_leave state image
     pub stores : Stores setting events image
-    pub hosts : hosts_of launches dirs next ≡ hosts_of launches dirs members
-    pub honest_stay : AreHonest honest members → AreHonest honest next
+    pub hosts : hosts_of host next ≡ hosts_of host members
+    pub honest_stay : AreHonest host members → AreHonest host next
 
   -- one life or more
   pub data Lives (setting : Setting) (events : List Event) (old : List (Member H A)) : D → List (Member H A) → Type 0 where
-    one : {disk : D} {new : List (Member H A)} → OneLife setting events old disk new → Lives setting events old disk new
-    more : {mid disk : D} {members next new : List (Member H A)} {later : Setting} {then : List Event} → Lives setting events old mid members → HandsOn mid members later then next
-        → OneLife later then next disk new → Lives setting events old disk new
+    one : {state : D} {new : List (Member H A)} → OneLife setting events old state new → Lives setting events old state new
+    more : {mid state : D} {members next new : List (Member H A)} {later : Setting} {then : List Event} → Lives setting events old mid members → HandsOn mid members later then next
+        → OneLife later then next state new → Lives setting events old state new

@@ -10,6 +10,8 @@ use Rattle.launch_laws.specs.Fitting as fitting
 use Rattle.launch_laws.specs.Fitting.{ExecutorHost}
 use Rattle.model_run.specs.declared.event.Event.{Event}
 use Rattle.model_run.specs.State.{Setting}
+use Rattle.task_host.specs.View.{HostView}
+use Rattle.jp_io.specs.View.{SourceView}
 
 -- What became of an operator's answers, by what they had left at the beginning and at the end and by its two marks: these bytes were read; it
 -- says that they are at their end only where they are; and that they could not be read exactly where their source counted a fault.
@@ -28,29 +30,29 @@ pub record HostStays (was_honest honest : Type 0) (faults now_faults : ℕ) (cal
 
 module _ {H A : Type 0} where
   -- the hosts of the executors among them are honest
-  abbrev pub AreHonest : (H → Type 0) → List (Member H A) → Type 0
-  AreHonest honest [] = Unit {0}
-  AreHonest honest (Executor number host ∷ members) = honest host × AreHonest honest members
-  AreHonest honest (Operator answers line ended failed ∷ members) = AreHonest honest members
+  abbrev pub AreHonest : HostView H → List (Member H A) → Type 0
+  AreHonest host [] = Unit {0}
+  AreHonest host (Executor number machine ∷ members) = host.honest machine × AreHonest host members
+  AreHonest host (Operator answers line ended failed ∷ members) = AreHonest host members
 
   -- the hosts of the executors among them, with their numbers
-  abbrev pub hosts_of : (H → List ℕ) → (H → List ℕ) → List (Member H A) → List ExecutorHost
-  hosts_of launches dirs [] = []
-  hosts_of launches dirs (Executor number host ∷ members) = record { number = number; tasks = tasks_at (launches host) (dirs host) } ∷ hosts_of launches dirs members
-  hosts_of launches dirs (Operator answers line ended failed ∷ members) = hosts_of launches dirs members
+  abbrev pub hosts_of : HostView H → List (Member H A) → List ExecutorHost
+  hosts_of host [] = []
+  hosts_of host (Executor number machine ∷ members) = record { number = number; tasks = tasks_at (host.launches machine) (host.dirs machine) } ∷ hosts_of host members
+  hosts_of host (Operator answers line ended failed ∷ members) = hosts_of host members
 
   -- they fit these events
-  abbrev pub AllFit : (H → List ℕ) → (H → List ℕ) → Setting → List Event → List (Member H A) → Type 0
-  AllFit launches dirs setting events members = fitting.AllFit setting events (hosts_of launches dirs members)
+  abbrev pub AllFit : HostView H → Setting → List Event → List (Member H A) → Type 0
+  AllFit host setting events members = fitting.AllFit setting events (hosts_of host members)
 
   -- Member by member: an executor stays one, of the same number, and its host stays one; and an operator reads on.
-  abbrev pub AreServed : (H → Type 0) → (H → ℕ) → (H → Option (List Call)) → (A → Option (List ℕ)) → (A → ℕ) → List (Member H A) → List (Member H A) → Type 0
-  AreServed honest host_faults calls left faults [] [] = Unit {0}
-  AreServed honest host_faults calls left faults (Executor number host ∷ old) (Executor now next ∷ new) =
-      ((now ≡ number) × HostStays (honest host) (honest next) (host_faults host) (host_faults next) (calls host) (calls next)) × AreServed honest host_faults calls left faults old new
-  AreServed honest host_faults calls left faults (Operator answers line ended failed ∷ old) (Operator next kept now_ended now_failed ∷ new) =
-      ReadOn (left answers) (left next) (faults answers) (faults next) ended now_ended failed now_failed × AreServed honest host_faults calls left faults old new
-  AreServed honest host_faults calls left faults (Executor number host ∷ old) (Operator next kept now_ended now_failed ∷ new) = ⊥
-  AreServed honest host_faults calls left faults (Operator answers line ended failed ∷ old) (Executor now next ∷ new) = ⊥
-  AreServed honest host_faults calls left faults [] (member ∷ new) = ⊥
-  AreServed honest host_faults calls left faults (member ∷ old) [] = ⊥
+  abbrev pub AreServed : HostView H → SourceView A → List (Member H A) → List (Member H A) → Type 0
+  AreServed host source [] [] = Unit {0}
+  AreServed host source (Executor number machine ∷ old) (Executor now next ∷ new) =
+      ((now ≡ number) × HostStays (host.honest machine) (host.honest next) (host.faults machine) (host.faults next) (host.calls machine) (host.calls next)) × AreServed host source old new
+  AreServed host source (Operator answers line ended failed ∷ old) (Operator next kept now_ended now_failed ∷ new) =
+      ReadOn (source.left answers) (source.left next) (source.faults answers) (source.faults next) ended now_ended failed now_failed × AreServed host source old new
+  AreServed host source (Executor number machine ∷ old) (Operator next kept now_ended now_failed ∷ new) = ⊥
+  AreServed host source (Operator answers line ended failed ∷ old) (Executor now next ∷ new) = ⊥
+  AreServed host source [] (member ∷ new) = ⊥
+  AreServed host source (member ∷ old) [] = ⊥

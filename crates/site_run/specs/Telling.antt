@@ -19,6 +19,7 @@ use Rattle.site_threads.specs.Lower.site_state.declared.ask.Entry.TheVariants.{T
 use Rattle.site_threads.specs.Lower.site_state.Claims.{order_as}
 use Rattle.site_threads.specs.Lower.site_state.Histories.{lines, tooks}
 use Rattle.site_run.specs.Going.{heard_in}
+use Rattle.jp_io.specs.View.{SourceView}
 
 -- the orders that the claims among these calls gave
 abbrev pub orders_in : List GateCall → List Order
@@ -63,7 +64,7 @@ HeardInTime setting begun before (Took event) = Unit {0}
 HeardInTime setting begun before (Claimed executor task keep_out kept_log kept_out) = Unit {0}
 HeardInTime setting begun before (Failed fault event) = Unit {0}
 
-module _ {H A : Type 0} (left : A → Option (List ℕ)) where
+module _ {H A : Type 0} (source : SourceView A) where
   -- These lines were heard: the whole lines, each of at most 1,024 bytes, in what an operator read of its answers; and the last one, where they
   -- ended within it. Nothing of another line was read, but where the answers could not be read. It is said of an operator behind whom no other
   -- member stands, of whose answers nothing was read before.
@@ -71,7 +72,7 @@ module _ {H A : Type 0} (left : A → Option (List ℕ)) where
   AreHeard heard [] [] = heard ≡ []
   AreHeard heard (Executor number host ∷ old) (Executor now next ∷ new) = AreHeard heard old new
   AreHeard heard (Operator answers line ended failed ∷ []) (Operator next kept now_ended now_failed ∷ []) =
-      line ≡ [] → ended ≡ false → (read : List ℕ) × Consumes (left answers) (left next) read × (heard ≡ heard_in read (not now_ended))
+      line ≡ [] → ended ≡ false → (read : List ℕ) × Consumes (source.left answers) (source.left next) read × (heard ≡ heard_in read (not now_ended))
       × (now_failed ≡ false → now_ended ≡ false → begun_after [] read ≡ [])
   AreHeard heard (Operator answers line ended failed ∷ (o ∷ old)) (Operator next kept now_ended now_failed ∷ (m ∷ new)) = Unit {0}
   AreHeard heard (Executor number host ∷ old) (Operator next kept now_ended now_failed ∷ new) = ⊥

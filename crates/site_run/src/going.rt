@@ -80,21 +80,21 @@ pub fn go_on<
     requires looks { 0 < looks }
     requires running { durable.stopped ≡ false }
     requires begun { has_begun durable.build.phase ≡ true }
-    ensures lives { IfOk result (λ l. LivesOn D.reads D.may_leave D.clock D.may_have_left_since R.stance
-        H.honest H.faults H.calls H.launches H.dirs H.output H.exited A.left A.faults looks
-        D.faults (λ base. base.value) (λ base history ask reply new. Says R.stance base.value.build history ask reply new)
+    ensures lives { IfOk result (λ l. LivesOn D.Disk R.stance
+        H.Host A.Source looks
+        (λ base. base.value) (λ base history ask reply new. Says R.stance base.value.build history ask reply new)
         durable members.old.items members.new.items l.site.base l.site.history.items l.site.durable l.ended) }
     ensures refused { IfErr result (λ e. (made : List Entry) × (now : Kept D R) × OpenRefuses R.stance durable now made e.0
-        × Facts D.reads D.may_leave D.clock D.may_have_left_since D.faults R.stance durable now made × (e.1 ≡ now.journal.disk)
+        × Facts D.Disk R.stance durable now made × (e.1 ≡ now.journal.disk)
         × TellsFault R.stance now e.0) }
     ensures breaks { IfErr result (λ e. (setting : Setting) (entry : Option (List ℕ)) (origin : D) (before events : List AnEvent)
-        → Lasts D.reads D.may_leave D.clock D.may_have_left_since R.stance setting entry origin before events durable
-        → OpeningBreaks D.reads D.may_leave D.clock D.may_have_left_since R.stance setting entry origin before events e.0 e.1) }
+        → Lasts D.Disk R.stance setting entry origin before events durable
+        → OpeningBreaks D.Disk R.stance setting entry origin before events e.0 e.1) }
     ensures back { IfErr result (λ e. members.new.items ≡ members.old.items) }
     ensures len { length members.new.items ≡ length members.old.items }
-    ensures served { IfOk result (λ l. AreServed H.honest H.faults H.calls A.left A.faults members.old.items members.new.items) }
-    ensures keeps { IfOk result (λ l. IfOk l.ended (λ rest. (payloads : List (List ℕ)) → Keeps D.reads D.may_leave R.stance durable payloads
-        → ∥ KeepsOn D.reads D.may_leave D.clock D.may_have_left_since R.stance durable l.site.durable payloads ∥₁)) }
+    ensures served { IfOk result (λ l. AreServed H.Host A.Source members.old.items members.new.items) }
+    ensures keeps { IfOk result (λ l. IfOk l.ended (λ rest. (payloads : List (List ℕ)) → Keeps D.Disk R.stance durable payloads
+        → ∥ KeepsOn D.Disk R.stance durable l.site.durable payloads ∥₁)) }
     ensures faults { IfOk result (λ l. IfErr l.ended (λ fault. ∥ TellsFault R.stance l.site.durable fault ∥₁)) }
     ensures failed { IfOk result (λ l. l.ended ≡ Ok Rest.AnswersFailed → any_failed members.new.items ≡ true) }
     ensures disk { MatchResult result
@@ -124,7 +124,7 @@ fn live_on<
 ) -> Lived<D, R>
     requires looks { 0 < looks }
     requires fresh { site.history.items ≡ [] }
-    ensures lives { (how : Result Come NoMemory) × Life H.honest H.faults H.calls H.launches H.dirs H.output H.exited A.left A.faults looks
+    ensures lives { (how : Result Come NoMemory) × Life H.Host A.Source looks
         (λ base history ask reply new. Says R.stance base.value.build history ask reply new) site.base result.site.base members.old.items members.new.items result.site.history.items how
         × (result.ended ≡ ended_as (kept_fault result.site.history.items) how members.new.items) }
 {

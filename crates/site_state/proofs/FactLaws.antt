@@ -2,7 +2,7 @@
 use Rattle.std.proofs.Common.{◌≡◌, ◌⊎◌, ◌≤◌, ◌∙◌, ℕ, ◌+◌, zero, suc, inl, inr, true, false, List, [], ◌∷◌, ◌++◌, length, take, Option, Some, None, Result, Ok, Err, refl, sym, ap, subst, append_assoc, append-nil, arith, length-append}
 use Rattle.std.specs.Prelude.{IsErrOf, OnOk, fold}
 use Rattle.device_faults.specs.Faults.{Rose}
-use Rattle.jp_disk.specs.Moments.{AtEachMoment}
+use Rattle.jp_disk.specs.Runs.{AtEachMoment}
 use Rattle.jp_disk.proofs.MomentLemmas.{starts, runs_on, at_each_weaker, rose_later}
 use Rattle.journal_core.specs.Records.{Has, HasWithOrWithout, framed}
 use Rattle.journal_core.proofs.StepLemmas.{stores_has}
@@ -38,6 +38,7 @@ use Rattle.site_state.specs.Facts.{IsMeant, GoOn, HasFront, Grown, IsFull, IsSiz
 use Rattle.site_state.specs.Grants.{noted}
 use Rattle.site_state.proofs.HistoryLaws.{tooks-append, kept_fault-append, fault_not_none, pending-append, none_pending, none_full, full-append, none_sized, sized-append}
 use Rattle.site_state.proofs.WorldLaws.{IsInOrder, next_in_order, same_answer}
+use Rattle.jp_disk.specs.View.{DiskView}
 
 fold-append : (s : Setting) (w : W.Build) (es fs : List Event) → fold (W.after_one s) w (es ++ fs) ≡ fold (W.after_one s) (fold (W.after_one s) w es) fs
 fold-append s w [] fs = refl
@@ -117,8 +118,8 @@ module _ {T : Type 0} (stance : T → Stance) where
       meant (subst (λ (x : W.Build). x.started ≡ true) is_world begun_here) (subst (StandsFor stance b) is_world at_here)) in
       (follows_more world_image s w records r so_far.0 answered pictured, due_more s w records r so_far.1 due_here)
 
-module _ {D T : Type 0} (reads : D → Option (List ℕ)) (may_leave : D → List ℕ → Type 0) (clock : D → ℕ) (since : D → ℕ → List ℕ → Type 0) (stance : T → Stance) (opening old : Kept D T) (h : List Entry) (none : kept_fault h ≡ None) (ps : List (List ℕ))
-    (g : Grown reads may_leave clock since stance opening old h ps) where
+module _ {D T : Type 0} (disk : DiskView D) (stance : T → Stance) (opening old : Kept D T) (h : List Entry) (none : kept_fault h ≡ None) (ps : List (List ℕ))
+    (g : Grown disk stance opening old h ps) where
   -- while no fault is kept no record is pending
   no_last_records : g.last_records ≡ []
   no_last_records = no_records g.last_records (g.last_events ∙ none_pending h none)
@@ -141,24 +142,24 @@ module _ {D T : Type 0} (reads : D → Option (List ℕ)) (may_leave : D → Lis
   whole_more : (r : EventRecord) → IsWhole (setting_in opening.build) r.image → AllAre (λ (r : EventRecord). IsWhole (setting_in opening.build) r.image) (g.records ++ r ∷ [])
   whole_more r whole = all_append (λ (r : EventRecord). IsWhole (setting_in opening.build) r.image) g.records (r ∷ []) whole_so_far (whole, tt)
 
-  front_so_far : AtEachMoment clock since opening.journal.disk old.journal.disk (HasFront ps g.added)
-  front_so_far = subst (λ (xs : List (List ℕ)). AtEachMoment clock since opening.journal.disk old.journal.disk (HasFront ps xs)) only_added g.moments
+  front_so_far : AtEachMoment disk opening.journal.disk old.journal.disk (HasFront ps g.added)
+  front_so_far = subst (λ (xs : List (List ℕ)). AtEachMoment disk opening.journal.disk old.journal.disk (HasFront ps xs)) only_added g.moments
 
   module _ (new : Kept D T) where
-    moments_more : (p : List ℕ) → AtEachMoment clock since old.journal.disk new.journal.disk (HasWithOrWithout (ps ++ g.added) p) → AtEachMoment clock since opening.journal.disk new.journal.disk (HasFront ps (g.added ++ p ∷ []))
+    moments_more : (p : List ℕ) → AtEachMoment disk old.journal.disk new.journal.disk (HasWithOrWithout (ps ++ g.added) p) → AtEachMoment disk opening.journal.disk new.journal.disk (HasFront ps (g.added ++ p ∷ []))
     moments_more p run =
-        runs_on clock since opening.journal.disk old.journal.disk new.journal.disk (HasFront ps (g.added ++ p ∷ []))
-        (at_each_weaker clock since opening.journal.disk old.journal.disk (HasFront ps g.added) (HasFront ps (g.added ++ p ∷ [])) (front_more ps g.added p) front_so_far)
-        (at_each_weaker clock since old.journal.disk new.journal.disk (HasWithOrWithout (ps ++ g.added) p) (HasFront ps (g.added ++ p ∷ [])) (either_front ps g.added p) run)
+        runs_on disk opening.journal.disk old.journal.disk new.journal.disk (HasFront ps (g.added ++ p ∷ []))
+        (at_each_weaker disk opening.journal.disk old.journal.disk (HasFront ps g.added) (HasFront ps (g.added ++ p ∷ [])) (front_more ps g.added p) front_so_far)
+        (at_each_weaker disk old.journal.disk new.journal.disk (HasWithOrWithout (ps ++ g.added) p) (HasFront ps (g.added ++ p ∷ [])) (either_front ps g.added p) run)
 
     -- a record more
-    pub grown_more : (e : Event) → Adds reads may_leave clock since stance old new e (ps ++ g.added) → GoOn stance opening.build (g.records ++ record_of e (image_in stance new.build) ∷ [])
-        → IsWhole (setting_in opening.build) (image_in stance new.build) → Grown reads may_leave clock since stance opening new (h ++ Took e ∷ []) ps
+    pub grown_more : (e : Event) → Adds disk stance old new e (ps ++ g.added) → GoOn stance opening.build (g.records ++ record_of e (image_in stance new.build) ∷ [])
+        → IsWhole (setting_in opening.build) (image_in stance new.build) → Grown disk stance opening new (h ++ Took e ∷ []) ps
     grown_more e a on whole =
         let p = a.puts.payload in
         let all = g.added ++ p ∷ [] in
         let r = record_of e (image_in stance new.build) in
-        let here : Keeps reads may_leave stance new (ps ++ all) = subst (Keeps reads may_leave stance new) (append_assoc ps g.added (p ∷ [])) a.keeps in
+        let here : Keeps disk stance new (ps ++ all) = subst (Keeps disk stance new) (append_assoc ps g.added (p ∷ [])) a.keeps in
         record {
           records = g.records ++ r ∷ [];
           events = events-more g.records r ∙ ap (λ (es : List Event). es ++ e ∷ []) g.events ∙ sym (tooks-append h (Took e ∷ []));
@@ -174,13 +175,13 @@ module _ {D T : Type 0} (reads : D → Option (List ℕ)) (may_leave : D → Lis
           weighs = here.weighs;
           full = none_full stance (weights_of (ps ++ all)) (last_image (ps ++ all)) new (h ++ Took e ∷ []) (kept_fault-append h (Took e ∷ []) none);
           keeps = λ _. here;
-          moments = subst (λ (xs : List (List ℕ)). AtEachMoment clock since opening.journal.disk new.journal.disk (HasFront ps xs)) (sym (append-nil all)) (moments_more p a.puts.moments);
-          images = λ image left. inl (stores_has reads may_leave new.journal.disk new.journal.len (ps ++ all) image here.holds left);
+          moments = subst (λ (xs : List (List ℕ)). AtEachMoment disk opening.journal.disk new.journal.disk (HasFront ps xs)) (sym (append-nil all)) (moments_more p a.puts.moments);
+          images = λ image left. inl (stores_has disk new.journal.disk new.journal.len (ps ++ all) image here.holds left);
         }
 
     -- a take that failed, and left the disk
     pub grown_still : (f : TakeFault) (event : Option Event) → at_risk f event ≡ [] → new.journal ≡ old.journal → new.weights ≡ old.weights → IsFull stance (weights_of (ps ++ g.added)) (last_image (ps ++ g.added)) new f event
-        → Grown reads may_leave clock since stance opening new (h ++ Failed f event ∷ []) ps
+        → Grown disk stance opening new (h ++ Failed f event ∷ []) ps
     grown_still f event safe same weighs full = record {
       records = g.records;
       events = g.events ∙ sym (append-nil (tooks h)) ∙ sym (tooks-append h (Failed f event ∷ []));
@@ -196,14 +197,14 @@ module _ {D T : Type 0} (reads : D → Option (List ℕ)) (may_leave : D → Lis
       weighs = weighs ∙ g.weighs;
       full = full-append stance (weights_of (ps ++ g.added)) (last_image (ps ++ g.added)) new h f event none full;
       keeps = λ is. absurd (fault_not_none h f event none is);
-      moments = subst (λ j. AtEachMoment clock since opening.journal.disk j.disk (HasFront ps (g.added ++ g.last))) (sym same) g.moments;
-      images = subst (λ j. (image : List ℕ) → may_leave j.disk image → Has (ps ++ g.added) image ⊎ Has (ps ++ g.added ++ g.last) image) (sym same) g.images;
+      moments = subst (λ j. AtEachMoment disk opening.journal.disk j.disk (HasFront ps (g.added ++ g.last))) (sym same) g.moments;
+      images = subst (λ j. (image : List ℕ) → disk.may_leave j.disk image → Has (ps ++ g.added) image ⊎ Has (ps ++ g.added ++ g.last) image) (sym same) g.images;
     }
 
     -- a take that the disk failed
-    pub grown_torn : ((d : D) (t : ℕ) (image : List ℕ) → t ≤ clock d → may_leave d image → since d t image) → (e : Event) → new.journal.len ≡ old.journal.len → new.weights ≡ old.weights → Risks clock since stance old new e (ps ++ g.added)
+    pub grown_torn : ((d : D) (t : ℕ) (image : List ℕ) → t ≤ disk.clock d → disk.may_leave d image → disk.may_have_left_since d t image) → (e : Event) → new.journal.len ≡ old.journal.len → new.weights ≡ old.weights → Risks disk stance old new e (ps ++ g.added)
         → GoOn stance opening.build (g.records ++ record_of e (image_in stance new.build) ∷ []) → IsWhole (setting_in opening.build) (image_in stance new.build)
-        → Grown reads may_leave clock since stance opening new (h ++ Failed Disk (Some e) ∷ []) ps
+        → Grown disk stance opening new (h ++ Failed Disk (Some e) ∷ []) ps
     grown_torn counts_now e len weighs a on whole =
         let p = a.puts.payload in
         record {
@@ -222,11 +223,11 @@ module _ {D T : Type 0} (reads : D → Option (List ℕ)) (may_leave : D → Lis
           full = full-append stance (weights_of (ps ++ g.added)) (last_image (ps ++ g.added)) new h Disk (Some e) none tt;
           keeps = λ is. absurd (fault_not_none h Disk (Some e) none is);
           moments = moments_more p a.puts.moments;
-          images = λ image left. a.puts.moments.each image (counts_now new.journal.disk (clock old.journal.disk) image a.puts.moments.later left);
+          images = λ image left. a.puts.moments.each image (counts_now new.journal.disk (disk.clock old.journal.disk) image a.puts.moments.later left);
         }
 
   -- entries that tell of no event and no fault
-  pub grown_quiet : (es : List Entry) → Quiet es → Grown reads may_leave clock since stance opening old (h ++ es) ps
+  pub grown_quiet : (es : List Entry) → Quiet es → Grown disk stance opening old (h ++ es) ps
   grown_quiet es quiet = record {
     records = g.records;
     events = g.events ∙ sym (append-nil (tooks h)) ∙ sym (ap (λ (xs : List Event). tooks h ++ xs) quiet.0) ∙ sym (tooks-append h es);
@@ -261,12 +262,12 @@ true_false e = cc
 none_disk : None ≡ Some Disk → ⊥
 none_disk e = cc
 
-module _ {D T : Type 0} (reads : D → Option (List ℕ)) (may_leave : D → List ℕ → Type 0) (clock : D → ℕ) (since : D → ℕ → List ℕ → Type 0) (faults : D → ℕ) (stance : T → Stance) where
+module _ {D T : Type 0} (disk : DiskView D) (stance : T → Stance) where
   abbrev Known : Kept D T → Kept D T → List Entry → Type 0
-  Known opening now h = Facts reads may_leave clock since faults stance opening now h
+  Known opening now h = Facts disk stance opening now h
 
   -- at the opening
-  pub facts_start : ((d : D) (image : List ℕ) → since d (clock d) image → may_leave d image) → (k : Kept D T) → k.stopped ≡ false → has_begun k.build.phase ≡ true → Known k k []
+  pub facts_start : ((d : D) (image : List ℕ) → disk.may_have_left_since d (disk.clock d) image → disk.may_leave d image) → (k : Kept D T) → k.stopped ≡ false → has_begun k.build.phase ≡ true → Known k k []
   facts_start only_now k running begun = record {
     count = omega arith;
     rose = λ bad. absurd (none_disk bad);
@@ -278,7 +279,7 @@ module _ {D T : Type 0} (reads : D → Option (List ℕ)) (may_leave : D → Lis
     running = λ _. running;
     shown = λ _. record { begun = begun; setting = refl; unchanged = λ _. refl; stands = λ w at. at };
     grown = λ ps held.
-        let has : (image : List ℕ) → may_leave k.journal.disk image → Has (ps ++ []) image = λ image left. subst (λ (xs : List (List ℕ)). Has xs image) (sym (append-nil ps)) (stores_has reads may_leave k.journal.disk k.journal.len ps image held.holds left) in
+        let has : (image : List ℕ) → disk.may_leave k.journal.disk image → Has (ps ++ []) image = λ image left. subst (λ (xs : List (List ℕ)). Has xs image) (sym (append-nil ps)) (stores_has disk k.journal.disk k.journal.len ps image held.holds left) in
         record {
           records = [];
           events = refl;
@@ -293,8 +294,8 @@ module _ {D T : Type 0} (reads : D → Option (List ℕ)) (may_leave : D → Lis
           ends = subst (λ (xs : List (List ℕ)). k.journal.len ≡ length (framed xs) + 1) (sym (append-nil ps)) held.holds.ends;
           weighs = subst (λ (xs : List (List ℕ)). k.weights ≡ weights_of xs) (sym (append-nil ps)) held.weighs;
           full = tt;
-          keeps = λ _. subst (Keeps reads may_leave stance k) (sym (append-nil ps)) held;
-          moments = starts clock since k.journal.disk (HasFront ps []) (λ image left. (0, has image (only_now k.journal.disk image left)));
+          keeps = λ _. subst (Keeps disk stance k) (sym (append-nil ps)) held;
+          moments = starts disk k.journal.disk (HasFront ps []) (λ image left. (0, has image (only_now k.journal.disk image left)));
           images = λ image left. inl (has image left);
         };
   }
@@ -312,22 +313,22 @@ module _ {D T : Type 0} (reads : D → Option (List ℕ)) (may_leave : D → Lis
       size = λ w at. none_sized old.weights (setting_in opening.build) w (h ++ es) (kept_fault-append h es none ∙ quiet.1);
       running = λ _. k.running none;
       shown = λ _. subst (λ (xs : List Event). IsShown stance opening.build xs old.build) (sym (append-nil (tooks h)) ∙ sym (ap (λ (xs : List Event). tooks h ++ xs) quiet.0) ∙ sym (tooks-append h es)) (k.shown none);
-      grown = λ ps held. grown_quiet reads may_leave clock since stance opening old h none ps (k.grown ps held) es quiet;
+      grown = λ ps held. grown_quiet disk stance opening old h none ps (k.grown ps held) es quiet;
     }
 
-    module _ (new : Kept D T) (count : faults old.journal.disk ≤ faults new.journal.disk) where
+    module _ (new : Kept D T) (count : disk.faults old.journal.disk ≤ disk.faults new.journal.disk) where
       -- the count of faults stands, where this take did not fail by the disk
-      still : faults new.journal.disk ≡ faults old.journal.disk → faults new.journal.disk ≡ faults opening.journal.disk
+      still : disk.faults new.journal.disk ≡ disk.faults old.journal.disk → disk.faults new.journal.disk ≡ disk.faults opening.journal.disk
       still same = same ∙ k.calm (λ bad. none_disk (sym none ∙ bad))
 
       -- the setting is that of the opening
       whole_here : IsWhole (setting_in old.build) (image_in stance new.build) → IsWhole (setting_in opening.build) (image_in stance new.build)
       whole_here whole = subst (λ (s : Setting). IsWhole s (image_in stance new.build)) (k.shown none).setting whole
 
-      facts_fault : (f : TakeFault) (event : Option Event) → (f ≡ Disk → Rose (faults old.journal.disk) (faults new.journal.disk)) → ((f ≡ Disk → ⊥) → faults new.journal.disk ≡ faults old.journal.disk)
+      facts_fault : (f : TakeFault) (event : Option Event) → (f ≡ Disk → Rose (disk.faults old.journal.disk) (disk.faults new.journal.disk)) → ((f ≡ Disk → ⊥) → disk.faults new.journal.disk ≡ disk.faults old.journal.disk)
           → old.journal.len ≤ new.journal.len → new.records ≡ old.records → (before : Option Image) × IsFull stance new.weights before new f event
           → ((w : W.Build) → StandsFor stance old.build w → IsSized new.weights (setting_in old.build) w f event)
-          → ((ps : List (List ℕ)) → Keeps reads may_leave stance opening ps → Grown reads may_leave clock since stance opening new (h ++ Failed f event ∷ []) ps)
+          → ((ps : List (List ℕ)) → Keeps disk stance opening ps → Grown disk stance opening new (h ++ Failed f event ∷ []) ps)
           → Known opening new (h ++ Failed f event ∷ [])
       facts_fault f event rose calm longer counted full size grown = record {
         count = omega (arith, k.count, count);
@@ -338,15 +339,15 @@ module _ {D T : Type 0} (reads : D → Option (List ℕ)) (may_leave : D → Lis
             let shown = k.shown none in
             let here : W.Build = fold (W.after_one (setting_in opening.build)) w (tooks h) in
             sized-append new.weights (setting_in opening.build) w h f event none (subst (λ (s : Setting). IsSized new.weights s here f event) shown.setting (size here (shown.stands w at)));
-        rose = λ is. rose_later (faults opening.journal.disk) (faults old.journal.disk) (faults new.journal.disk) k.count (rose (same_fault f Disk (sym (kept_fault-append h (Failed f event ∷ []) none) ∙ is)));
+        rose = λ is. rose_later (disk.faults opening.journal.disk) (disk.faults old.journal.disk) (disk.faults new.journal.disk) k.count (rose (same_fault f Disk (sym (kept_fault-append h (Failed f event ∷ []) none) ∙ is)));
         full = (full.0, full-append stance new.weights full.0 new h f event none full.1);
         running = λ is. absurd (fault_not_none h f event none is);
         shown = λ is. absurd (fault_not_none h f event none is);
         grown = grown;
       }
 
-      facts_more : (e : Event) → faults new.journal.disk ≡ faults old.journal.disk → old.journal.len ≤ new.journal.len → new.records ≡ old.records + 1 → new.stopped ≡ false → has_begun new.build.phase ≡ true → IsInOrder old.build e → IsNext stance old.build e new.build
-          → ((payloads : List (List ℕ)) → Keeps reads may_leave stance old payloads → Adds reads may_leave clock since stance old new e payloads)
+      facts_more : (e : Event) → disk.faults new.journal.disk ≡ disk.faults old.journal.disk → old.journal.len ≤ new.journal.len → new.records ≡ old.records + 1 → new.stopped ≡ false → has_begun new.build.phase ≡ true → IsInOrder old.build e → IsNext stance old.build e new.build
+          → ((payloads : List (List ℕ)) → Keeps disk stance old payloads → Adds disk stance old new e payloads)
           → IsWhole (setting_in old.build) (image_in stance new.build) → Known opening new (h ++ Took e ∷ [])
       facts_more e calm longer one running begun order next adds whole = record {
         count = omega (arith, k.count, count);
@@ -364,38 +365,38 @@ module _ {D T : Type 0} (reads : D → Option (List ℕ)) (may_leave : D → Lis
         grown = λ ps held.
             let g = k.grown ps held in
             let a = adds (ps ++ g.added) (g.keeps none) in
-            grown_more reads may_leave clock since stance opening old h none ps g new e a
-            (go_on_more stance opening.build old.build g.records (tooks h) (record_of e (image_in stance new.build)) (on_so_far reads may_leave clock since stance opening old h none ps g) g.events (k.shown none) next.accepted order a.image)
+            grown_more disk stance opening old h none ps g new e a
+            (go_on_more stance opening.build old.build g.records (tooks h) (record_of e (image_in stance new.build)) (on_so_far disk stance opening old h none ps g) g.events (k.shown none) next.accepted order a.image)
             (whole_here whole);
       }
 
-      facts_torn : ((d : D) (t : ℕ) (image : List ℕ) → t ≤ clock d → may_leave d image → since d t image) → (e : Event) → new.journal.len ≡ old.journal.len → (new.weights ≡ old.weights) × (new.records ≡ old.records) → Rose (faults old.journal.disk) (faults new.journal.disk) → IsInOrder old.build e → answer_of old.build e ≡ Accepted
-          → ((payloads : List (List ℕ)) → Keeps reads may_leave stance old payloads → Risks clock since stance old new e payloads) → IsWhole (setting_in old.build) (image_in stance new.build)
+      facts_torn : ((d : D) (t : ℕ) (image : List ℕ) → t ≤ disk.clock d → disk.may_leave d image → disk.may_have_left_since d t image) → (e : Event) → new.journal.len ≡ old.journal.len → (new.weights ≡ old.weights) × (new.records ≡ old.records) → Rose (disk.faults old.journal.disk) (disk.faults new.journal.disk) → IsInOrder old.build e → answer_of old.build e ≡ Accepted
+          → ((payloads : List (List ℕ)) → Keeps disk stance old payloads → Risks disk stance old new e payloads) → IsWhole (setting_in old.build) (image_in stance new.build)
           → Known opening new (h ++ Failed Disk (Some e) ∷ [])
       facts_torn counts_now e len same rose order accepted risks whole =
           facts_fault Disk (Some e) (λ _. rose) (λ other. absurd (other refl)) (omega (arith, len)) same.1 (None, tt) (λ w at. tt)
           (λ ps held.
           let g = k.grown ps held in
           let a = risks (ps ++ g.added) (g.keeps none) in
-          grown_torn reads may_leave clock since stance opening old h none ps g new counts_now e len same.0 a
-          (go_on_more stance opening.build old.build g.records (tooks h) (record_of e (image_in stance new.build)) (on_so_far reads may_leave clock since stance opening old h none ps g) g.events (k.shown none) accepted order a.image) (whole_here whole))
+          grown_torn disk stance opening old h none ps g new counts_now e len same.0 a
+          (go_on_more stance opening.build old.build g.records (tooks h) (record_of e (image_in stance new.build)) (on_so_far disk stance opening old h none ps g) g.events (k.shown none) accepted order a.image) (whole_here whole))
 
       facts_still : (f : TakeFault) (event : Option Event) → at_risk f event ≡ [] → (f ≡ Disk → ⊥) → (before : Option Image) × IsFull stance new.weights before new f event
           → ((w : W.Build) → StandsFor stance old.build w → IsSized new.weights (setting_in old.build) w f event)
-          → ((ps : List (List ℕ)) → Keeps reads may_leave stance old ps → IsFull stance (weights_of ps) (last_image ps) new f event)
+          → ((ps : List (List ℕ)) → Keeps disk stance old ps → IsFull stance (weights_of ps) (last_image ps) new f event)
           → new.journal ≡ old.journal → (new.weights ≡ old.weights) × (new.records ≡ old.records) → Known opening new (h ++ Failed f event ∷ [])
       facts_still f event safe calm full size behind same counts =
-          facts_fault f event (λ bad. absurd (calm bad)) (λ _. ap (λ j. faults j.disk) same) (omega (arith, ap (λ j. j.len) same)) counts.1 full size
-          (λ ps held. let g = k.grown ps held in grown_still reads may_leave clock since stance opening old h none ps g new f event safe same counts.0 (behind (ps ++ g.added) (g.keeps none)))
+          facts_fault f event (λ bad. absurd (calm bad)) (λ _. ap (λ j. disk.faults j.disk) same) (omega (arith, ap (λ j. j.len) same)) counts.1 full size
+          (λ ps held. let g = k.grown ps held in grown_still disk stance opening old h none ps g new f event safe same counts.0 (behind (ps ++ g.added) (g.keeps none)))
 
       facts_same : new ≡ old → Known opening new (h ++ [])
       facts_same same = subst (λ (es : List Entry). Known opening new es) (sym (append-nil h)) (subst (λ (n : Kept D T). Known opening n h) (sym same) k)
 
-      pub facts_one : ((d : D) (t : ℕ) (image : List ℕ) → t ≤ clock d → may_leave d image → since d t image) → (e : Event) (r : Result Taken TakeFault) → old.stopped ≡ false → IsInOrder old.build e
+      pub facts_one : ((d : D) (t : ℕ) (image : List ℕ) → t ≤ disk.clock d → disk.may_leave d image → disk.may_have_left_since d t image) → (e : Event) (r : Result Taken TakeFault) → old.stopped ≡ false → IsInOrder old.build e
           → TakeAnswers stance old new e r → TakeLeaves stance old new e r → TellsSize stance old new e r → LeavesWhole stance (setting_in old.build) new.build r → OnOk r (setting_in new.build ≡ setting_in old.build)
           → OnOk r ((w : W.Build) → StandsFor stance old.build w → StandsFor stance new.build (W.after_one (setting_in old.build) w e))
-          → ((payloads : List (List ℕ)) → Keeps reads may_leave stance old payloads → TakeKeeps reads may_leave clock since stance old new e payloads r)
-          → (IsErrOf r Disk → Rose (faults old.journal.disk) (faults new.journal.disk)) → (¬ (IsErrOf r Disk) → faults new.journal.disk ≡ faults old.journal.disk)
+          → ((payloads : List (List ℕ)) → Keeps disk stance old payloads → TakeKeeps disk stance old new e payloads r)
+          → (IsErrOf r Disk → Rose (disk.faults old.journal.disk) (disk.faults new.journal.disk)) → (¬ (IsErrOf r Disk) → disk.faults new.journal.disk ≡ disk.faults old.journal.disk)
           → Known opening new (h ++ noted e r)
       facts_one counts_now e (Ok Accepted) run order answers leaves size whole setting stands keeps cause calm =
           facts_more e (calm (λ is. cc)) (omega (arith, leaves.2.len)) leaves.2.records leaves.0 leaves.1 order (record { accepted = sym answers.1; setting = setting; stands = stands }) keeps whole

@@ -15,6 +15,7 @@ use Rattle.site_state.specs.Showing.{IsSettled, IsShown}
 use Rattle.site_state.specs.Facts.{Facts, IsSite}
 use Rattle.site_state.specs.Says.{Answers, SaysAt, Says, stopped_reply}
 use Rattle.site_state.proofs.FactLaws.{facts_start}
+use Rattle.jp_disk.specs.View.{DiskView}
 
 bool_prop : (a b : Bool) → IsProp (a ≡ b)
 bool_prop a b = hlevel props
@@ -44,10 +45,10 @@ pub some_is : (f : Option TakeFault) → is_some f ≡ true → (kept : TakeFaul
 some_is None is = absurd (cc)
 some_is (Some f) is = (f, refl)
 
-module _ {D T : Type 0} (reads : D → Option (List ℕ)) (may_leave : D → List ℕ → Type 0) (clock : D → ℕ) (since : D → ℕ → List ℕ → Type 0) (faults : D → ℕ) (stance : T → Stance) (opening now : Kept D T) (history : List Entry) (capacity : ℕ)
-    (stands : ∥ IsSite reads may_leave clock since faults stance opening now history capacity ∥₁) where
-  pub site_after : (new : Kept D T) (later : List Entry) (room : ℕ) → (Facts reads may_leave clock since faults stance opening now history → Facts reads may_leave clock since faults stance opening new later)
-      → (kept_fault later ≡ None → length later < room) → (kept_fault later ≡ None → IsSettled new.build) → ∥ IsSite reads may_leave clock since faults stance opening new later room ∥₁
+module _ {D T : Type 0} (disk : DiskView D) (stance : T → Stance) (opening now : Kept D T) (history : List Entry) (capacity : ℕ)
+    (stands : ∥ IsSite disk stance opening now history capacity ∥₁) where
+  pub site_after : (new : Kept D T) (later : List Entry) (room : ℕ) → (Facts disk stance opening now history → Facts disk stance opening new later)
+      → (kept_fault later ≡ None → length later < room) → (kept_fault later ≡ None → IsSettled new.build) → ∥ IsSite disk stance opening new later room ∥₁
   site_after new later room more has_room settled = ∥∥₁_map stands (λ s. record { facts = more s.facts; room = has_room; settled = settled })
 
   module _ (none : kept_fault history ≡ None) where
@@ -77,13 +78,13 @@ module _ {T : Type 0} (stance : T → Stance) (opening : Parts T) (h : List Entr
 pub only_new : (made es after : List Entry) → made ≡ [] → after ≡ made ++ es → after ≡ es
 only_new made es after none is = subst (λ (xs : List Entry). after ≡ xs ++ es) none is
 
-pub site_begins : {D T : Type 0} (reads : D → Option (List ℕ)) (may_leave : D → List ℕ → Type 0) (clock : D → ℕ) (since : D → ℕ → List ℕ → Type 0) (faults : D → ℕ) (stance : T → Stance)
-    → ((d : D) (image : List ℕ) → since d (clock d) image → may_leave d image) → (before k opening : Kept D T) (es h : List Entry) (capacity : ℕ) → Facts reads may_leave clock since faults stance before k es → kept_fault es ≡ None
-    → IsSettled k.build → opening ≡ k → h ≡ [] → length h < capacity → ∥ IsSite reads may_leave clock since faults stance opening k h capacity ∥₁
-site_begins reads may_leave clock since faults stance only_now before k opening es h capacity facts none settled same empty room =
-    subst (λ (o : Kept _ _). ∥ IsSite reads may_leave clock since faults stance o k h capacity ∥₁) (sym same)
+pub site_begins : {D T : Type 0} (disk : DiskView D) (stance : T → Stance)
+    → ((d : D) (image : List ℕ) → disk.may_have_left_since d (disk.clock d) image → disk.may_leave d image) → (before k opening : Kept D T) (es h : List Entry) (capacity : ℕ) → Facts disk stance before k es → kept_fault es ≡ None
+    → IsSettled k.build → opening ≡ k → h ≡ [] → length h < capacity → ∥ IsSite disk stance opening k h capacity ∥₁
+site_begins disk stance only_now before k opening es h capacity facts none settled same empty room =
+    subst (λ (o : Kept _ _). ∥ IsSite disk stance o k h capacity ∥₁) (sym same)
     (∣ record {
-      facts = subst (λ (xs : List Entry). Facts reads may_leave clock since faults stance k k xs) (sym empty) (facts_start reads may_leave clock since faults stance only_now k (facts.running none) (facts.shown none).begun);
+      facts = subst (λ (xs : List Entry). Facts disk stance k k xs) (sym empty) (facts_start disk stance only_now k (facts.running none) (facts.shown none).begun);
       room = λ _. room;
       settled = λ _. settled;
     } ∣₁)

@@ -2,7 +2,7 @@
 use Rattle.std.specs.Prelude.{◌≡◌, ◌≤◌, ◌<◌, ◌+◌, ◌^◌, ◌⊎◌, ℕ, true, false, List, [], ◌∷◌, ◌++◌, length, take, Option, Some, None}
 use Rattle.std.specs.List.{AllByRecursion as AllAre}
 use Rattle.device_faults.specs.Faults.{Rose}
-use Rattle.jp_disk.specs.Moments.{AtEachMoment}
+use Rattle.jp_disk.specs.Runs.{AtEachMoment}
 use Rattle.journal_core.specs.Records.{Has, framed}
 use Rattle.durable_build.specs.Lower.record_form.declared.record.EventRecord.{EventRecord}
 use Rattle.model_run.specs.declared.event.Event.{Event}
@@ -23,6 +23,7 @@ use Rattle.site_state.specs.declared.ask.Entry.{Entry}
 use Rattle.site_state.specs.declared.ask.Entry.TheVariants.{Took, Claimed, Line, Failed}
 use Rattle.site_state.specs.Histories.{tooks, kept_fault, pending}
 use Rattle.site_state.specs.Showing.{IsSettled, IsShown}
+use Rattle.jp_disk.specs.View.{DiskView}
 
 -- the setting is that of some script and some agents file
 abbrev pub IsMeant : Setting → Type 0
@@ -58,7 +59,7 @@ IsFullAt stance w before now (Failed fault event ∷ es) = IsFull stance w befor
 
 -- The store, where the opening kept these records: it has one more for each event that was taken, and behind them at most that of the
 -- event that the disk failed.
-pub record Grown {D T : Type 0} (reads : D → Option (List ℕ)) (may_leave : D → List ℕ → Type 0) (clock : D → ℕ) (since : D → ℕ → List ℕ → Type 0) (stance : T → Stance) (opening now : Kept D T) (history : List Entry) (payloads : List (List ℕ)) : Type 0 where
+pub record Grown {D T : Type 0} (disk : DiskView D) (stance : T → Stance) (opening now : Kept D T) (history : List Entry) (payloads : List (List ℕ)) : Type 0 where
   -- of the events that were taken
   pub records : List EventRecord
   pub events : events_of records ≡ tooks history
@@ -78,10 +79,10 @@ pub record Grown {D T : Type 0} (reads : D → Option (List ℕ)) (may_leave : D
   pub weighs : now.weights ≡ weights_of (payloads ++ added)
   pub full : IsFullAt stance (weights_of (payloads ++ added)) (last_image (payloads ++ added)) now history
   -- where no fault is kept the build stands by all of them
-  pub keeps : kept_fault history ≡ None → Keeps reads may_leave stance now (payloads ++ added)
+  pub keeps : kept_fault history ≡ None → Keeps disk stance now (payloads ++ added)
   -- each image that a crash may have left since the opening has a front of them, and each that it may leave now all that were taken
-  pub moments : AtEachMoment clock since opening.journal.disk now.journal.disk (HasFront payloads (added ++ last))
-  pub images : (image : List ℕ) → may_leave now.journal.disk image → Has (payloads ++ added) image ⊎ Has (payloads ++ added ++ last) image
+  pub moments : AtEachMoment disk opening.journal.disk now.journal.disk (HasFront payloads (added ++ last))
+  pub images : (image : List ℕ) → disk.may_leave now.journal.disk image → Has (payloads ++ added) image ⊎ Has (payloads ++ added ++ last) image
 
 -- of a kept `Full`, in a history of which this build of the definitions stood before: what it says the record that is due for its event
 -- adds, by these weights, is so by the images of the builds before it and after it
@@ -100,11 +101,11 @@ IsSizedAt x s w (Line line ∷ es) = IsSizedAt x s w es
 IsSizedAt x s w (Failed fault event ∷ es) = IsSized x s w fault event
 
 -- What is known by the opening and the history.
-pub record Facts {D T : Type 0} (reads : D → Option (List ℕ)) (may_leave : D → List ℕ → Type 0) (clock : D → ℕ) (since : D → ℕ → List ℕ → Type 0) (faults : D → ℕ) (stance : T → Stance) (opening now : Kept D T) (history : List Entry) : Type 0 where
+pub record Facts {D T : Type 0} (disk : DiskView D) (stance : T → Stance) (opening now : Kept D T) (history : List Entry) : Type 0 where
   -- the disk's count of faults: it rose where the disk failed, and only there
-  pub count : faults opening.journal.disk ≤ faults now.journal.disk
-  pub rose : kept_fault history ≡ Some Disk → Rose (faults opening.journal.disk) (faults now.journal.disk)
-  pub calm : ¬ (kept_fault history ≡ Some Disk) → faults now.journal.disk ≡ faults opening.journal.disk
+  pub count : disk.faults opening.journal.disk ≤ disk.faults now.journal.disk
+  pub rose : kept_fault history ≡ Some Disk → Rose (disk.faults opening.journal.disk) (disk.faults now.journal.disk)
+  pub calm : ¬ (kept_fault history ≡ Some Disk) → disk.faults now.journal.disk ≡ disk.faults opening.journal.disk
   -- the journal is never shorter
   pub longer : opening.journal.len ≤ now.journal.len
   -- there is one record more for each event that was taken
@@ -116,10 +117,10 @@ pub record Facts {D T : Type 0} (reads : D → Option (List ℕ)) (may_leave : D
   pub running : kept_fault history ≡ None → now.stopped ≡ false
   -- the build is that of the opening after the events that were taken
   pub shown : kept_fault history ≡ None → IsShown stance opening.build (tooks history) now.build
-  pub grown : (payloads : List (List ℕ)) → Keeps reads may_leave stance opening payloads → Grown reads may_leave clock since stance opening now history payloads
+  pub grown : (payloads : List (List ℕ)) → Keeps disk stance opening payloads → Grown disk stance opening now history payloads
 
 -- What holds of a site state between two asks; its history has room for one entry more, so that a fault is noted without memory.
-pub record IsSite {D T : Type 0} (reads : D → Option (List ℕ)) (may_leave : D → List ℕ → Type 0) (clock : D → ℕ) (since : D → ℕ → List ℕ → Type 0) (faults : D → ℕ) (stance : T → Stance) (opening now : Kept D T) (history : List Entry) (capacity : ℕ) : Type 0 where
-  pub facts : Facts reads may_leave clock since faults stance opening now history
+pub record IsSite {D T : Type 0} (disk : DiskView D) (stance : T → Stance) (opening now : Kept D T) (history : List Entry) (capacity : ℕ) : Type 0 where
+  pub facts : Facts disk stance opening now history
   pub room : kept_fault history ≡ None → length history < capacity
   pub settled : kept_fault history ≡ None → IsSettled now.build

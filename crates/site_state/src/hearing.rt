@@ -83,8 +83,8 @@ fn decide_one<D: Disk, R: SavedThread + Drop>(
     ensures room { OnOk result (length history.new.items < history.new.capacity) }
     ensures noted { history.new.items ≡ history.old.items ++ noted_line line event result }
     ensures says { OneSays R.stance durable.old durable.new event result }
-    ensures facts { (opening : Kept D R) → Facts D.reads D.may_leave D.clock D.may_have_left_since D.faults R.stance opening durable.old history.old.items
-        → Facts D.reads D.may_leave D.clock D.may_have_left_since D.faults R.stance opening durable.new history.new.items }
+    ensures facts { (opening : Kept D R) → Facts D.Disk R.stance opening durable.old history.old.items
+        → Facts D.Disk R.stance opening durable.new history.new.items }
 {
     if history.reserve(3).is_err() {
         note(history, event, Err(TakeFault::Memory));
@@ -113,8 +113,8 @@ fn decide<D: Disk, R: SavedThread + Drop>(
     ensures says { (es : List Entry) × (history.new.items ≡ history.old.items ++ es) × AnswerSays R.stance durable.old.build line result es }
     ensures room { kept_fault history.new.items ≡ None → length history.new.items < history.new.capacity }
     ensures settled { kept_fault history.new.items ≡ None → IsSettled durable.new.build }
-    ensures facts { (opening : Kept D R) → Facts D.reads D.may_leave D.clock D.may_have_left_since D.faults R.stance opening durable.old history.old.items
-        → Facts D.reads D.may_leave D.clock D.may_have_left_since D.faults R.stance opening durable.new history.new.items }
+    ensures facts { (opening : Kept D R) → Facts D.Disk R.stance opening durable.old history.old.items
+        → Facts D.Disk R.stance opening durable.new history.new.items }
 {
     match decide_one(alloc, durable, history, line, event) {
         Ok(Taken::Accepted) => {
@@ -157,8 +157,8 @@ pub fn hear<D: Disk, R: SavedThread + Drop>(
     ensures says { (es : List Entry) × (history.new.items ≡ history.old.items ++ es) × AnswerSays R.stance durable.old.build line result es }
     ensures room { kept_fault history.new.items ≡ None → length history.new.items < history.new.capacity }
     ensures settled { kept_fault history.new.items ≡ None → IsSettled durable.new.build }
-    ensures facts { (opening : Kept D R) → Facts D.reads D.may_leave D.clock D.may_have_left_since D.faults R.stance opening durable.old history.old.items
-        → Facts D.reads D.may_leave D.clock D.may_have_left_since D.faults R.stance opening durable.new history.new.items }
+    ensures facts { (opening : Kept D R) → Facts D.Disk R.stance opening durable.old history.old.items
+        → Facts D.Disk R.stance opening durable.new history.new.items }
 {
     match decision_in(alloc, durable.build(), line.as_slice()) {
         Ok(Some((request, event))) => decide(alloc, durable, history, line, request, event),

@@ -32,7 +32,7 @@ pub struct SiteState<D: Disk, R: SavedThread + Drop> {
     durable: DurableBuild<D, R>,
     base: Snapshot<DurableBuild<D, R>>,
     history: IndexedHistory,
-    ghost stands: { ∥ IsSite D.reads D.may_leave D.clock D.may_have_left_since D.faults R.stance base.value durable history.items history.capacity ∥₁ },
+    ghost stands: { ∥ IsSite D.Disk R.stance base.value durable history.items history.capacity ∥₁ },
 }
 
 impl<D: Disk, R: SavedThread + Drop> SiteState<D, R> {
@@ -53,9 +53,9 @@ impl<D: Disk, R: SavedThread + Drop> SiteState<D, R> {
         requires begun { has_begun durable.build.phase ≡ true }
         ensures fresh { IfOk result (λ s. (s.history.items ≡ []) × (s.base.value ≡ s.durable)) }
         ensures grants { IfOk result (λ s. (made : List Entry) × Grants R.stance durable.build made × (kept_fault made ≡ None)
-            × Facts D.reads D.may_leave D.clock D.may_have_left_since D.faults R.stance durable s.durable made) }
+            × Facts D.Disk R.stance durable s.durable made) }
         ensures refused { IfErr result (λ e. (made : List Entry) × (now : Kept D R) × OpenRefuses R.stance durable now made e.0
-            × Facts D.reads D.may_leave D.clock D.may_have_left_since D.faults R.stance durable now made × (e.1 ≡ now.journal.disk)) }
+            × Facts D.Disk R.stance durable now made × (e.1 ≡ now.journal.disk)) }
     {
         let mut durable = durable;
         let mut made = IndexedHistory::new(alloc);
@@ -85,7 +85,7 @@ impl<D: Disk, R: SavedThread + Drop> SiteState<D, R> {
         ensures build { result.now ≡ self.now.durable.build }
         ensures whole { self.now.durable.stopped ≡ false → has_begun self.now.durable.build.phase ≡ true
             → IsWhole (setting_in self.now.durable.build) (image_in R.stance self.now.durable.build) }
-        ensures known { ∥ IsSite D.reads D.may_leave D.clock D.may_have_left_since D.faults R.stance self.now.base.value self.now.durable self.now.history.items self.now.history.capacity ∥₁ }
+        ensures known { ∥ IsSite D.Disk R.stance self.now.base.value self.now.durable self.now.history.items self.now.history.capacity ∥₁ }
     {
         self.durable.build()
     }
@@ -116,7 +116,7 @@ impl<D: Disk, R: SavedThread + Drop> SiteState<D, R> {
     pub fn close(self) -> (D, History)
         ensures disk { result.0 ≡ self.durable.journal.disk }
         ensures history { result.1.items ≡ self.history.items }
-        ensures known { ∥ IsSite D.reads D.may_leave D.clock D.may_have_left_since D.faults R.stance self.base.value self.durable self.history.items self.history.capacity ∥₁ }
+        ensures known { ∥ IsSite D.Disk R.stance self.base.value self.durable self.history.items self.history.capacity ∥₁ }
     {
         let SiteState {
             alloc: _,

@@ -53,8 +53,8 @@ pub fn take_one<D: Disk, R: SavedThread + Drop>(
     ensures room { OnOk result (length history.new.items < history.new.capacity) }
     ensures noted { history.new.items ≡ history.old.items ++ noted event result }
     ensures says { OneSays R.stance durable.old durable.new event result }
-    ensures facts { (opening : Kept D R) → Facts D.reads D.may_leave D.clock D.may_have_left_since D.faults R.stance opening durable.old history.old.items
-        → Facts D.reads D.may_leave D.clock D.may_have_left_since D.faults R.stance opening durable.new history.new.items }
+    ensures facts { (opening : Kept D R) → Facts D.Disk R.stance opening durable.old history.old.items
+        → Facts D.Disk R.stance opening durable.new history.new.items }
 {
     if history.reserve(2).is_err() {
         note(history, event, Err(TakeFault::Memory));
@@ -80,8 +80,8 @@ fn grant<D: Disk, R: SavedThread + Drop>(
     requires room { length history.old.items < history.old.capacity }
     ensures says { GrantSays R.stance durable.old durable.new history.old.items history.new.items result }
     ensures room { OnOk result (length history.new.items < history.new.capacity) }
-    ensures facts { (opening : Kept D R) → Facts D.reads D.may_leave D.clock D.may_have_left_since D.faults R.stance opening durable.old history.old.items
-        → Facts D.reads D.may_leave D.clock D.may_have_left_since D.faults R.stance opening durable.new history.new.items }
+    ensures facts { (opening : Kept D R) → Facts D.Disk R.stance opening durable.old history.old.items
+        → Facts D.Disk R.stance opening durable.new history.new.items }
 {
     match take_one(
         alloc,
@@ -106,8 +106,8 @@ fn grant_one<D: Disk, R: SavedThread + Drop>(
     requires room { length history.old.items < history.old.capacity }
     ensures says { GrantSays R.stance durable.old durable.new history.old.items history.new.items result }
     ensures room { OnOk result (length history.new.items < history.new.capacity) }
-    ensures facts { (opening : Kept D R) → Facts D.reads D.may_leave D.clock D.may_have_left_since D.faults R.stance opening durable.old history.old.items
-        → Facts D.reads D.may_leave D.clock D.may_have_left_since D.faults R.stance opening durable.new history.new.items }
+    ensures facts { (opening : Kept D R) → Facts D.Disk R.stance opening durable.old history.old.items
+        → Facts D.Disk R.stance opening durable.new history.new.items }
 {
     match durable.build().next_grant() {
         Ok(Some((request, executor))) => grant(alloc, durable, history, request, executor),
@@ -143,8 +143,8 @@ pub fn grant_all<D: Disk, R: SavedThread + Drop>(
     ensures grants { (es : List Entry) × (history.new.items ≡ history.old.items ++ es) × Grants R.stance durable.old.build es }
     ensures room { kept_fault history.new.items ≡ None → length history.new.items < history.new.capacity }
     ensures settled { kept_fault history.new.items ≡ None → IsSettled durable.new.build }
-    ensures facts { (opening : Kept D R) → Facts D.reads D.may_leave D.clock D.may_have_left_since D.faults R.stance opening durable.old history.old.items
-        → Facts D.reads D.may_leave D.clock D.may_have_left_since D.faults R.stance opening durable.new history.new.items }
+    ensures facts { (opening : Kept D R) → Facts D.Disk R.stance opening durable.old history.old.items
+        → Facts D.Disk R.stance opening durable.new history.new.items }
 {
     while let Ok(true) = grant_one(alloc, durable, history) {}
 }
@@ -164,8 +164,8 @@ pub fn take_all<D: Disk, R: SavedThread + Drop>(
     ensures says { (es : List Entry) × (history.new.items ≡ history.old.items ++ es) × TakeSays R.stance durable.old.build event result es }
     ensures room { kept_fault history.new.items ≡ None → length history.new.items < history.new.capacity }
     ensures settled { kept_fault history.new.items ≡ None → IsSettled durable.new.build }
-    ensures facts { (opening : Kept D R) → Facts D.reads D.may_leave D.clock D.may_have_left_since D.faults R.stance opening durable.old history.old.items
-        → Facts D.reads D.may_leave D.clock D.may_have_left_since D.faults R.stance opening durable.new history.new.items }
+    ensures facts { (opening : Kept D R) → Facts D.Disk R.stance opening durable.old history.old.items
+        → Facts D.Disk R.stance opening durable.new history.new.items }
 {
     match take_one(alloc, durable, history, event) {
         Ok(Taken::Accepted) => {

@@ -20,20 +20,21 @@ use Rattle.site_life.proofs.Lower.site_gate.TurnsLemmas.{executed}
 use Rattle.site_life.specs.Turns.{Turn, Work, DidTurn}
 use Rattle.site_life.proofs.RoundLemmas.{launched_in}
 use Rattle.site_threads.specs.Serving.{Served, Serves}
+use Rattle.task_host.specs.View.{HostView}
+use Rattle.jp_io.specs.View.{SourceView}
 
-module _ {H A : Type 0} (honest : H → Type 0) (faults : H → ℕ) (calls : H → Option (List Call)) (launches dirs : H → List ℕ) (output : H → ℕ → Stream → List ℕ) (exited : H → ℕ → Option ℤ)
-    (left : A → Option (List ℕ)) (source_faults : A → ℕ) (looks : ℕ) where
+module _ {H A : Type 0} (host : HostView H) (source : SourceView A) (looks : ℕ) where
   abbrev Works : Member H A → Member H A → Worked → GateTells → GateTells → Type 0
-  Works m n worked from to = Work honest faults calls launches dirs output exited left source_faults looks m n worked from to
+  Works m n worked from to = Work host source looks m n worked from to
 
   pub served : {B : Type 0} (answers : Answers B Entry Ask Reply) (v w : Known Entry B) (m n : Member H A) (worked : Worked) → entries_of v.numbers v.seen ≡ [] → WorksThrough answers (Works m n worked) v w
-      → Served (DidTurn honest faults calls launches dirs output exited left source_faults looks) answers m n v w
+      → Served (DidTurn host source looks) answers m n v w
   served answers v w m n worked none t =
       let own : List Entry = entries_of w.numbers w.seen in
       let works : Works m n worked (tells_of [] [] Nothing false) (tells_of own t.calls t.said t.is_open) =
       subst (λ (es : List Entry). Works m n worked (tells_of es [] Nothing false) (tells_of own t.calls t.said t.is_open)) none t.worked in
-      let done = executed honest faults calls launches dirs output exited left source_faults looks m n own t.calls t.said t.is_open worked works in
-      let added = launched_in honest faults calls launches dirs output exited left source_faults looks m n worked own t.calls done in
+      let done = executed host source looks m n own t.calls t.said t.is_open worked works in
+      let added = launched_in host source looks m n worked own t.calls done in
       record {
         turn = record { old = m; now = n; worked = worked; own = own; calls = t.calls; said = t.said; is_open = t.is_open; launches = added.0 };
         old_is = refl;

@@ -50,7 +50,7 @@ fn take_rounds<
     ensures belongs { IsPassOf program.now pass.new }
     ensures whole { (known pass.new).parts ≡ all_parts }
     ensures len { length seats.new ≡ length seats.old }
-    ensures rounds { TakesRounds (DidTurn H.honest H.faults H.calls H.launches H.dirs H.output H.exited A.left A.faults looks)
+    ensures rounds { TakesRounds (DidTurn H.Host A.Source looks)
         (λ base history ask reply new. Says R.stance base.value.build history ask reply new)
         (map (λ seat. seat.member) seats.old) (map (λ seat. seat.member) seats.new) (known pass.old) (known pass.new) result }
 {
@@ -90,7 +90,7 @@ fn live_over<
     requires whole { (known pass.old).parts ≡ all_parts }
     ensures belongs { IsPassOf program.now pass.new }
     ensures whole { (known pass.new).parts ≡ all_parts }
-    ensures rounds { TakesRounds (DidTurn H.honest H.faults H.calls H.launches H.dirs H.output H.exited A.left A.faults looks)
+    ensures rounds { TakesRounds (DidTurn H.Host A.Source looks)
         (λ base history ask reply new. Says R.stance base.value.build history ask reply new)
         members.old.items members.new.items (known pass.old) (known pass.new) result }
 {
@@ -125,7 +125,7 @@ fn live_in<
     requires few { length members.old.items ≤ 127 }
     requires whole { (known pass).parts ≡ all_parts }
     requires first { (known pass).seen ≡ [] }
-    ensures lives { (start : _) → (known pass).base ≡ Some start → Life H.honest H.faults H.calls H.launches H.dirs H.output H.exited A.left A.faults looks
+    ensures lives { (start : _) → (known pass).base ≡ Some start → Life H.Host A.Source looks
         (λ base history ask reply new. Says R.stance base.value.build history ask reply new)
         start result.0.base members.old.items members.new.items result.0.history.items result.1 }
 {
@@ -165,7 +165,7 @@ pub fn live_in_threads<
 ) -> Result<(SiteState<D, R>, Result<Progress, Memory>), (Memory, SiteState<D, R>)>
     requires looks { 0 < looks }
     requires fresh { state.history.items ≡ [] }
-    ensures lives { IfOk result (λ r. Life H.honest H.faults H.calls H.launches H.dirs H.output H.exited A.left A.faults looks
+    ensures lives { IfOk result (λ r. Life H.Host A.Source looks
         (λ base history ask reply new. Says R.stance base.value.build history ask reply new)
         state.base r.0.base members.old.items members.new.items r.0.history.items r.1) }
     ensures back { IfErr result (λ e. (e.1 ≡ state) × (members.new.items ≡ members.old.items)) }

@@ -110,7 +110,7 @@ fn work_all<
     A: Source + Send,
 >(rt: &T, threads: usize, seats: &mut [Seat<'a, T, D, R, H, A>])
     ensures work { AllZip (λ a b. (b.program ≡ a.program) × (b.looks ≡ a.looks)
-        × Serves (DidTurn H.honest H.faults H.calls H.launches H.dirs H.output H.exited A.left A.faults a.looks) (λ base history ask reply new. Says R.stance base.value.build history ask reply new) a.pass b.pass a.member b.member) seats.old seats.new }
+        × Serves (DidTurn H.Host A.Source a.looks) (λ base history ask reply new. Says R.stance base.value.build history ask reply new) a.pass b.pass a.member b.member) seats.old seats.new }
 {
     work_in_threads(rt, threads.max(1), seats);
 }
@@ -146,7 +146,7 @@ pub fn take_round_in_threads<
     ensures whole { (known pass.new).parts ≡ all_parts }
     ensures ready { AreReady pass.new.seat.table_id looks seats.new }
     ensures len { length seats.new ≡ length seats.old }
-    ensures round { TakesRound (DidTurn H.honest H.faults H.calls H.launches H.dirs H.output H.exited A.left A.faults looks)
+    ensures round { TakesRound (DidTurn H.Host A.Source looks)
         (λ base history ask reply new. Says R.stance base.value.build history ask reply new)
         (map (λ seat. seat.member) seats.old) (map (λ seat. seat.member) seats.new) (known pass.old) (known pass.new) result }
 {

@@ -38,7 +38,7 @@ impl<'a, W: Wait + Clock + AllocGlobal, D: Disk, R: SavedThread + Drop, H: Host,
 
     // Its member works through its pass, where it has one; what else it has stays.
     ghost done = { λ a b. (b.program ≡ a.program) × (b.looks ≡ a.looks)
-        × Serves (DidTurn H.honest H.faults H.calls H.launches H.dirs H.output H.exited A.left A.faults a.looks) (λ base history ask reply new. Says R.stance base.value.build history ask reply new) a.pass b.pass a.member b.member };
+        × Serves (DidTurn H.Host A.Source a.looks) (λ base history ask reply new. Says R.stance base.value.build history ask reply new) a.pass b.pass a.member b.member };
 
     fn work(&mut self) {
         let Some(pass) = self.pass.take() else {

@@ -2,3 +2,4 @@ pub mod Host
 pub mod Tasks
 pub mod MemoryHost
 pub mod MemoryHostLaws
+pub mod View

@@ -32,7 +32,7 @@ loop-preserved g c = record {
   reads = λ looks old past has at all turning next stands.
       let so = c.loop.invariant.reads looks old past has at all turning next stands in
       let one = c.in-Ok.ensures.reads looks old so.next has so.at so.all (takes-in-turn c.args.order.now c.args.stream past so.next so.takes turning) (takes-next c.args.order.now c.args.stream past so.next so.takes next) so.stands in
-      so-far-more _ _ _ _ _ _ _ _ _ _ _ _ so (subst (λ (p : Piece). ReadsPiece (g.H.Host.honest c.read_piece.new.host) c.args.order.now looks c.args.stream old (seen g.H.Host.calls g.H.Host.output g.H.Host.exited g.G.Gate.tells c.read_piece.new.host c.read_piece.new.gate) c.loop.place c.read_piece.new.place so.next (Ok p)) c.in-Bytes.is one);
+      so-far-more _ _ _ _ _ _ _ _ _ _ _ _ so (subst (λ (p : Piece). ReadsPiece (g.H.Host.honest c.read_piece.new.host) c.args.order.now looks c.args.stream old (seen g.H.Host g.G.Gate.tells c.read_piece.new.host c.read_piece.new.gate) c.loop.place c.read_piece.new.place so.next (Ok p)) c.in-Bytes.is one);
   gate = keeps-gate-on _ _ _ c.loop.invariant.gate c.read_piece.ensures.gate;
   launches = c.read_piece.ensures.launches ∙ c.loop.invariant.launches;
   folders = λ is. c.read_piece.ensures.folders (c.loop.invariant.honest.1 is) ∙ c.loop.invariant.folders is;
@@ -44,13 +44,13 @@ pub returns-in-Nothing-clause-reads : goal.returns-in-Nothing-clause-reads
 returns-in-Nothing-clause-reads g c looks old past has at all turning next stands =
     let so = c.loop.invariant.reads looks old past has at all turning next stands in
     let one = c.in-Ok.ensures.reads looks old so.next has so.at so.all (takes-in-turn c.args.order.now c.args.stream past so.next so.takes turning) (takes-next c.args.order.now c.args.stream past so.next so.takes next) so.stands in
-    so-far-ends _ _ _ _ _ _ _ _ _ _ _ _ so (subst (λ (p : Piece). ReadsPiece (g.H.Host.honest c.read_piece.new.host) c.args.order.now looks c.args.stream old (seen g.H.Host.calls g.H.Host.output g.H.Host.exited g.G.Gate.tells c.read_piece.new.host c.read_piece.new.gate) c.loop.place c.read_piece.new.place so.next (Ok p)) c.in-Nothing.is one)
+    so-far-ends _ _ _ _ _ _ _ _ _ _ _ _ so (subst (λ (p : Piece). ReadsPiece (g.H.Host.honest c.read_piece.new.host) c.args.order.now looks c.args.stream old (seen g.H.Host g.G.Gate.tells c.read_piece.new.host c.read_piece.new.gate) c.loop.place c.read_piece.new.place so.next (Ok p)) c.in-Nothing.is one)
 
 pub returns-in-Failed-clause-reads : goal.returns-in-Failed-clause-reads
 returns-in-Failed-clause-reads g c looks old past has at all turning next stands =
     let so = c.loop.invariant.reads looks old past has at all turning next stands in
     let one = c.in-Ok.ensures.reads looks old so.next has so.at so.all (takes-in-turn c.args.order.now c.args.stream past so.next so.takes turning) (takes-next c.args.order.now c.args.stream past so.next so.takes next) so.stands in
-    so-far-fails _ _ _ _ _ _ _ _ _ _ _ _ so (subst (λ (p : Piece). ReadsPiece (g.H.Host.honest c.read_piece.new.host) c.args.order.now looks c.args.stream old (seen g.H.Host.calls g.H.Host.output g.H.Host.exited g.G.Gate.tells c.read_piece.new.host c.read_piece.new.gate) c.loop.place c.read_piece.new.place so.next (Ok p)) c.in-Failed.is one)
+    so-far-fails _ _ _ _ _ _ _ _ _ _ _ _ so (subst (λ (p : Piece). ReadsPiece (g.H.Host.honest c.read_piece.new.host) c.args.order.now looks c.args.stream old (seen g.H.Host g.G.Gate.tells c.read_piece.new.host c.read_piece.new.gate) c.loop.place c.read_piece.new.place so.next (Ok p)) c.in-Failed.is one)
 
 pub returns-in-Err-clause-faults : goal.returns-in-Err-clause-faults
 returns-in-Err-clause-faults g c = omega (arith, c.loop.invariant.faults, c.read_piece.ensures.faults)

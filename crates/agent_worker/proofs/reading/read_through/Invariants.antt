@@ -12,8 +12,8 @@ invariant-loop g l = record {
   next : (goal.iterator-loop g).can_next l.iterator';
   finite : (goal.iterator-loop g).is_finite l.iterator';
   reads : (looks : ℕ) (old : Seen) (past : List Act) → HasStream l.order l.stream → l.fn.place ≡ kept l.order l.stream past → unreported past ≡ [] → IsInTurn past → IsReadNext l.order l.stream past
-      → Stands (g.H.Host.honest l.fn.host) l.order looks old (seen g.H.Host.calls g.H.Host.output g.H.Host.exited g.G.Gate.tells l.fn.host l.fn.gate) past
-      → ReadSoFar (g.H.Host.honest l.host) l.order looks l.stream old (seen g.H.Host.calls g.H.Host.output g.H.Host.exited g.G.Gate.tells l.host l.gate) l.place past l.bytes;
+      → Stands (g.H.Host.honest l.fn.host) l.order looks old (seen g.H.Host g.G.Gate.tells l.fn.host l.fn.gate) past
+      → ReadSoFar (g.H.Host.honest l.host) l.order looks l.stream old (seen g.H.Host g.G.Gate.tells l.host l.gate) l.place past l.bytes;
   gate : KeepsGate (g.G.Gate.tells l.fn.gate) (g.G.Gate.tells l.gate);
   launches : g.H.Host.launches l.host ≡ g.H.Host.launches l.fn.host;
   folders : g.H.Host.honest l.fn.host → g.H.Host.dirs l.host ≡ g.H.Host.dirs l.fn.host;

@@ -9,7 +9,7 @@ pub returns-in-Done-clause-serves : goal.returns-in-Done-clause-serves
 returns-in-Done-clause-serves g c looks old past exits all turning stands =
     let code_is : to_z w32 (of_z w32 c.args.code) ≡ c.args.code = search rules in
     let event = c.exit_of.ensures.event ∙ ap (λ (z : ℤ). exited c.args.order.now z) code_is in
-    serves-removed _ _ c.args.order.now looks old (seen g.H.Host.calls g.H.Host.output g.H.Host.exited g.G.Gate.tells c.args.host.now c.args.gate.now) past c.args.code _ _ _ c.tell.result c.remove.result _ (g.H.Host.output c.remove.new.self) (g.H.Host.exited c.remove.new.self) _ _
+    serves-removed _ _ c.args.order.now looks old (seen g.H.Host g.G.Gate.tells c.args.host.now c.args.gate.now) past c.args.code _ _ _ c.tell.result c.remove.result _ (g.H.Host.output c.remove.new.self) (g.H.Host.exited c.remove.new.self) _ _
     stands c.exit_of.result event c.tell.ensures.tells c.in-Done.is exits all turning c.remove.ensures.honest.0 c.remove.ensures.calls
     (λ is. goes-stays c.args.order.now.task _ _ _ _ (c.remove.ensures.output is)) c.remove.ensures.folder
 

@@ -9,7 +9,7 @@ returns-in_default-clause-serves g c = serves-none _ c.args.order c.args.looks _
 pub returns-then-not-opened-clause-serves : goal.returns-then-not-opened-clause-serves
 returns-then-not-opened-clause-serves g c =
     let opens = c.opened.ensures.opens in
-    let old = seen g.H.Host.calls g.H.Host.output g.H.Host.exited g.G.Gate.tells c.args.host.now c.args.gate.now in
+    let old = seen g.H.Host g.G.Gate.tells c.args.host.now c.args.gate.now in
     let on = serves-failed (g.H.Host.honest c.opened.new.host) c.args.order c.args.looks old (g.H.Host.calls c.opened.new.host) (g.H.Host.output c.opened.new.host) (g.H.Host.exited c.opened.new.host) (g.G.Gate.tells c.lose.new.gate).told (g.G.Gate.tells c.lose.new.gate).calls (g.G.Gate.tells c.lose.new.gate).said
     _ _ _ c.opened.result c.lose.result c.if-not-opened.true opens (λ is. c.opened.ensures.goes_on (c.opened.ensures.honest.0 is)) c.lose.ensures.tells in
     serves-order _ _ c.args.order c.args.looks old _ _ _ _ _ c.opened.result c.lose.result opens on (c.opened.ensures.honest.1) refl
@@ -17,7 +17,7 @@ returns-then-not-opened-clause-serves g c =
 pub returns-clause-serves : goal.returns-clause-serves
 returns-clause-serves g c =
     let opens = c.opened.ensures.opens in
-    let old = seen g.H.Host.calls g.H.Host.output g.H.Host.exited g.G.Gate.tells c.args.host.now c.args.gate.now in
+    let old = seen g.H.Host g.G.Gate.tells c.args.host.now c.args.gate.now in
     let opened = begun-opened _ c.args.order _ _ _ _ c.opened.result c.if-not-opened.false opens in
     let begun = opened-stands (g.H.Host.honest c.opened.new.host) c.args.order c.args.looks old (g.H.Host.calls c.opened.new.host) (g.H.Host.output c.opened.new.host) (g.H.Host.exited c.opened.new.host) opens.past
     opened opens.called (λ is. c.opened.ensures.goes_on (c.opened.ensures.honest.0 is)) in

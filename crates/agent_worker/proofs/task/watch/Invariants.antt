@@ -12,8 +12,8 @@ invariant-loop g l = record {
   finite : (goal.iterator-loop g).is_finite l.iterator';
   few : l.vain < l.looks;
   awaits : (old : Seen) (past : List Act) → Opened l.order past
-      → Stands (g.H.Host.honest l.fn.host) l.order l.looks old (seen g.H.Host.calls g.H.Host.output g.H.Host.exited g.G.Gate.tells l.fn.host l.fn.gate) past
-      → Awaits (g.H.Host.honest l.host) l.order l.looks old (seen g.H.Host.calls g.H.Host.output g.H.Host.exited g.G.Gate.tells l.host l.gate) l.log l.out l.vain past;
+      → Stands (g.H.Host.honest l.fn.host) l.order l.looks old (seen g.H.Host g.G.Gate.tells l.fn.host l.fn.gate) past
+      → Awaits (g.H.Host.honest l.host) l.order l.looks old (seen g.H.Host g.G.Gate.tells l.host l.gate) l.log l.out l.vain past;
   gate : KeepsGate (g.G.Gate.tells l.fn.gate) (g.G.Gate.tells l.gate);
   launches : g.H.Host.launches l.host ≡ g.H.Host.launches l.fn.host;
   folders : g.H.Host.honest l.fn.host → g.H.Host.dirs l.host ≡ g.H.Host.dirs l.fn.host;

@@ -10,6 +10,6 @@ returns-in-Ok-clause-checks g c = sound c.in-Ok.ensures.plans c.tell_text.ensure
 
 pub returns-clause-checks : goal.returns-clause-checks
 returns-clause-checks g c =
-    let script = taken_from g.S.Source.left g.S.Source.faults c.args.script.now c.read_plan.new.script in
-    let agents = taken_from g.S.Source.left g.S.Source.faults c.args.agents.now c.read_plan.new.agents in
+    let script = taken_from g.S.Source c.args.script.now c.read_plan.new.script in
+    let agents = taken_from g.S.Source c.args.agents.now c.read_plan.new.agents in
     refused (subst (λ (n : ℕ). RefusesFiles script agents n (refusal_text c.in-Err.refusal)) (sym c.tell.ensures.status) c.in-Err.ensures.plans) c.tell.ensures.text

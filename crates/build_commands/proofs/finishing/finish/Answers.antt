@@ -23,13 +23,12 @@ pub returns-in-Err-clause-stay : goal.returns-in-Err-clause-stay
 returns-in-Err-clause-stay g c =
     let A = g.A.Source in
     let H = g.H.Host in
-    subst (λ (hs : List g.row.H.Denot). HostsStay H.honest H.faults H.calls c.args.hosts.items hs) (sym c.in-Err.ensures.back.0) (stay_same H.honest H.faults H.calls A.left A.faults c.args.hosts.items)
+    subst (λ (hs : List g.row.H.Denot). HostsStay H c.args.hosts.items hs) (sym c.in-Err.ensures.back.0) (stay_same H A c.args.hosts.items)
 
 pub returns-in-Err-clause-reports : goal.returns-in-Err-clause-reports
 returns-in-Err-clause-reports g c =
-    let faults = g.D.Disk.faults in
-    subst (λ (n : ℕ). Reports (faults c.args.durable.journal.disk) (faults c.close.result) (g.A.Source.faults c.args.answers) (g.A.Source.faults c.in-Err.answers) (g.K.Sink.written c.args.out.now) (g.K.Sink.written c.tell-status.new.out) (g.K.Sink.faults c.args.out.now) (g.K.Sink.faults c.tell-status.new.out) n)
-    (sym c.tell-status.ensures.status) (report.no_memory (ap faults c.close.ensures) c.tell-status.ensures.text)
+    subst (λ (n : ℕ). Reports (g.D.Disk.faults c.args.durable.journal.disk) (g.D.Disk.faults c.close.result) (g.A.Source.faults c.args.answers) (g.A.Source.faults c.in-Err.answers) (g.K.Sink.written c.args.out.now) (g.K.Sink.written c.tell-status.new.out) (g.K.Sink.faults c.args.out.now) (g.K.Sink.faults c.tell-status.new.out) n)
+    (sym c.tell-status.ensures.status) (report.no_memory (ap g.D.Disk.faults c.close.ensures) c.tell-status.ensures.text)
 
 pub returns-in-Err-clause-finishes : goal.returns-in-Err-clause-finishes
 returns-in-Err-clause-finishes g c = λ setting entry origin before lasts counts.
@@ -42,24 +41,24 @@ returns-in-Err-clause-finishes g c = λ setting entry origin before lasts counts
     let looks = max setting.site.looks 1 in
     let hosts_are = back.0 ∙ sym (hosts_all setting.site.executors c.args.hosts.items c.args.answers) in
     let are = one_answer setting.site.executors c.args.hosts.items c.args.answers ∙ ap (λ (a : g.row.A.Denot). a ∷ []) (sym back.1) in
-    ∣ finished_wanting D.reads D.may_leave D.clock D.may_have_left_since g.R.ScriptThread.stance D.faults H.honest H.faults H.calls H.launches H.dirs H.output H.exited A.left A.faults looks
+    ∣ finished_wanting D g.R.ScriptThread.stance H A looks
     c.args.kind setting entry origin before c.args.hosts.items c.in-Err.hosts.items c.args.answers c.in-Err.answers (K.written c.args.out.now) (K.written c.tell-status.new.out) (K.faults c.args.out.now) (K.faults c.tell-status.new.out) c.tell-status.result (D.faults c.args.durable.journal.disk)
-    c.new.result.items c.args.durable c.close.result c.close.ensures c.new.ensures.items (no_turns H.honest H.faults H.calls H.launches H.dirs H.output H.exited A.left A.faults looks any_reply tt begun)
-    (still_served H.honest H.faults H.calls H.launches H.dirs H.output H.exited A.left A.faults looks begun) hosts_are are
-    (no_events H.honest H.faults H.calls H.launches H.dirs H.output H.exited A.left A.faults looks g.R.ScriptThread.stance setting lasts.goes.proper before lasts.goes.begun begun) lasts c.tell-status.ensures.status c.tell-status.ensures.text ∣₁
+    c.new.result.items c.args.durable c.close.result c.close.ensures c.new.ensures.items (no_turns H A looks any_reply tt begun)
+    (still_served H A looks begun) hosts_are are
+    (no_events H A looks g.R.ScriptThread.stance setting lasts.goes.proper before lasts.goes.begun begun) lasts c.tell-status.ensures.status c.tell-status.ensures.text ∣₁
 
 pub returns-in-Err-clause-last : goal.returns-in-Err-clause-last
 returns-in-Err-clause-last g c = λ log payloads keeps.
     let D = g.D.Disk in
     let K = g.K.Sink in
-    ∣ subst (λ (d : g.row.D.Denot). KeepsRecords D.may_leave D.clock D.may_have_left_since (setting_in c.args.durable.build) c.args.durable.journal.disk payloads c.new.result.items d (K.written c.args.out.now) (K.written c.tell-status.new.out) (K.faults c.args.out.now) (K.faults c.tell-status.new.out) c.tell-status.result) (sym c.close.ensures)
-    (nothing_kept D.reads D.may_leave D.clock D.may_have_left_since (g.met.D.Disk g.world.𝓛 g.world.𝓜 g.world.𝓡 ((λ s x. x), (λ x. x), (λ x. x), λ x. x)).only_now g.R.ScriptThread.stance c.args.durable payloads c.new.result.items
+    ∣ subst (λ (d : g.row.D.Denot). KeepsRecords D (setting_in c.args.durable.build) c.args.durable.journal.disk payloads c.new.result.items d (K.written c.args.out.now) (K.written c.tell-status.new.out) (K.faults c.args.out.now) (K.faults c.tell-status.new.out) c.tell-status.result) (sym c.close.ensures)
+    (nothing_kept D (g.met.D.Disk g.world.𝓛 g.world.𝓜 g.world.𝓡 ((λ s x. x), (λ x. x), (λ x. x), λ x. x)).only_now g.R.ScriptThread.stance c.args.durable payloads c.new.result.items
     (K.written c.args.out.now) (K.written c.tell-status.new.out) (K.faults c.args.out.now) (K.faults c.tell-status.new.out) c.tell-status.result c.requires.begun (c.build.ensures.whole c.requires.running c.requires.begun) keeps c.new.ensures.items c.tell-status.ensures.status) ∣₁
 
 pub returns-in-Err-clause-launched : goal.returns-in-Err-clause-launched
 returns-in-Err-clause-launched g c =
     let H = g.H.Host in
-    subst (λ (hs : List g.row.H.Denot). LaunchedOnce H.launches c.args.hosts.items hs) (sym c.in-Err.ensures.back.0) (none_launched H.launches c.args.hosts.items)
+    subst (λ (hs : List g.row.H.Denot). LaunchedOnce H.launches c.args.hosts.items hs) (sym c.in-Err.ensures.back.0) (none_launched H c.args.hosts.items)
 
 pub returns-in-Err-clause-led : goal.returns-in-Err-clause-led
 returns-in-Err-clause-led g c =
@@ -74,9 +73,9 @@ returns-in-Err-clause-led g c =
       lived = record {
         new = begun;
         turns = [];
-        life = subst (λ (es : List Entry). LifeOf H.honest H.faults H.calls H.launches H.dirs H.output H.exited A.left A.faults (max setting.site.looks 1) any_reply tt begun begun [] es) (sym c.new.ensures.items)
-            (no_turns H.honest H.faults H.calls H.launches H.dirs H.output H.exited A.left A.faults (max setting.site.looks 1) any_reply tt begun);
-        served = still_served H.honest H.faults H.calls H.launches H.dirs H.output H.exited A.left A.faults (max setting.site.looks 1) begun;
+        life = subst (λ (es : List Entry). LifeOf H A (max setting.site.looks 1) any_reply tt begun begun [] es) (sym c.new.ensures.items)
+            (no_turns H A (max setting.site.looks 1) any_reply tt begun);
+        served = still_served H A (max setting.site.looks 1) begun;
         hosts_are = hosts_are;
         answers_are = are;
       };
@@ -115,7 +114,7 @@ returns-in-Ok-clause-led g c =
     let other = c.site-2.ensures ∙ ap (λ (b : Parts g.row.R.Denot). (setting_in b).site) c.build-2.ensures.is in
     let crew = gathered setting c.site.result.now c.site-2.result.now c.as_slice-executors.result.now c.in-Ok.crew.members.items c.in-Ok.crew.others.items c.args.hosts.items c.args.answers c.max-looks.result
     site other c.as_slice-executors.ensures c.max-looks.ensures c.in-Ok.ensures.members c.in-Ok.ensures.others in
-    subst (λ (n : ℕ). IsLed H.honest H.faults H.calls H.launches H.dirs H.output H.exited A.left A.faults n setting c.args.hosts.items c.live.result.hosts.items c.args.answers c.live.result.answers c.live.result.history.items
+    subst (λ (n : ℕ). IsLed H A n setting c.args.hosts.items c.live.result.hosts.items c.args.answers c.live.result.answers c.live.result.history.items
     (K.written c.args.out.now) (K.written c.live.new.out) (K.faults c.args.out.now) (K.faults c.live.new.out) c.live.result.status) crew.at_least
     (c.live.ensures.led setting c.args.hosts.items c.args.answers crew.made crew.rest)
 
@@ -131,7 +130,7 @@ returns-in-Ok-clause-finishes g c = λ setting entry origin before lasts counts.
     let crew = again here setting c.in-Ok.crew.members.items c.in-Ok.crew.others.items c.args.hosts.items c.args.answers c.max-looks.result lasts.goes.same
     (gathered here c.site.result.now c.site-2.result.now c.as_slice-executors.result.now c.in-Ok.crew.members.items c.in-Ok.crew.others.items c.args.hosts.items c.args.answers c.max-looks.result
     site other c.as_slice-executors.ensures c.max-looks.ensures c.in-Ok.ensures.members c.in-Ok.ensures.others) in
-    subst (λ (n : ℕ). ∥ Finished D.reads D.may_leave D.clock D.may_have_left_since H.honest H.faults H.calls H.launches H.dirs H.output H.exited A.left A.faults n
+    subst (λ (n : ℕ). ∥ Finished D H A n
     c.args.kind setting entry origin before c.args.hosts.items c.live.result.hosts.items c.args.answers c.live.result.answers c.live.result.history.items c.live.result.disk (D.faults c.args.durable.journal.disk) (D.faults c.live.result.disk)
     (K.written c.args.out.now) (K.written c.live.new.out) (K.faults c.args.out.now) (K.faults c.live.new.out) c.live.result.status ∥₁) crew.at_least
     (c.live.ensures.finishes c.args.hosts.items c.args.answers setting entry origin before crew.made crew.rest lasts counts)

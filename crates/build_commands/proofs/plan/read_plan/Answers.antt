@@ -6,8 +6,8 @@ use Rattle.build_commands.proofs.plan.read_plan.Goals as goal
 
 pub returns-in-Ok-clause-plans : goal.returns-in-Ok-clause-plans
 returns-in-Ok-clause-plans g c =
-    let script = taken_from g.S.Source.left g.S.Source.faults c.args.script.now c.read_files.new.script in
-    let agents = taken_from g.S.Source.left g.S.Source.faults c.args.agents.now c.read_files.new.agents in
+    let script = taken_from g.S.Source c.args.script.now c.read_files.new.script in
+    let agents = taken_from g.S.Source c.args.agents.now c.read_files.new.agents in
     plans script agents c.in-Ok.files.script.items c.in-Ok.files.agents.items c.in-Ok.ensures.script c.in-Ok.ensures.agents c.judge.result c.judge.ensures
 
 pub returns-in-Err-Failed-clause-plans : goal.returns-in-Err-Failed-clause-plans

@@ -1,6 +1,6 @@
 use Rattle.std.proofs.Common.{◌∙◌, ℕ, List, refl, sym, ap, subst}
 use Rattle.site_run.specs.Lower.build_core.Builds.{setting_in}
-use Rattle.jp_disk.specs.Moments.{AtEachMoment}
+use Rattle.jp_disk.specs.Runs.{AtEachMoment}
 use Rattle.site_run.specs.Lower.durable_build.Opening.{OpenFails}
 use Rattle.site_run.specs.Lower.durable_build.Standing.{Keeps, Kept}
 use Rattle.site_run.specs.Lower.saved_run.Lives.{Stands}
@@ -23,16 +23,16 @@ returns-in-Ok-clause-reopens g c =
     let stance = g.R.ScriptThread.stance in
     let kept = c.into_durable.result in
     goes_on (setting_in kept.build) c.finish.ensures.led c.finish.ensures.stay c.finish.ensures.launched
-    (if_told (D.reads c.args.disk) HasBuild (λ file at. has_build D.reads D.may_leave stance file life.durable (c.in-Ok.ensures.opened file at) c.in-Ok.ensures.whole))
+    (if_told (D.reads c.args.disk) HasBuild (λ file at. has_build D stance file life.durable (c.in-Ok.ensures.opened file at) c.in-Ok.ensures.whole))
     (λ file at.
     let o = c.in-Ok.ensures.opened file at in
-    let keeps = subst (λ (k : Kept g.row.D.Denot g.row.R.Denot). Keeps D.reads D.may_leave stance k o.payloads) (sym c.into_durable.ensures) o.keeps in
+    let keeps = subst (λ (k : Kept g.row.D.Denot g.row.R.Denot). Keeps D stance k o.payloads) (sym c.into_durable.ensures) o.keeps in
     record {
       payloads = o.payloads;
       has = o.has;
       begun = starts_by stance kept.build kept.script kept.agents o.payloads o.some keeps.stands;
       opened = kept.journal.disk;
-      up_to = subst (λ (k : Kept g.row.D.Denot g.row.R.Denot). AtEachMoment D.clock D.may_have_left_since c.args.disk k.journal.disk (D.may_leave c.args.disk)) (sym c.into_durable.ensures) c.in-Ok.ensures.any_moment;
+      up_to = subst (λ (k : Kept g.row.D.Denot g.row.R.Denot). AtEachMoment D c.args.disk k.journal.disk (D.may_leave c.args.disk)) (sym c.into_durable.ensures) c.in-Ok.ensures.any_moment;
       keeps = c.finish.ensures.last refl o.payloads keeps;
     })
     (subst (λ (n : ℕ). Reports n (D.faults c.finish.result.disk) (A.faults c.args.answers) (A.faults c.finish.result.answers) (K.written c.args.out.now) (K.written c.finish.new.out) (K.faults c.args.out.now) (K.faults c.finish.new.out) c.finish.result.status)
@@ -47,12 +47,12 @@ returns-in-Ok-clause-resumes g c = λ file told setting events stores.
     let life = c.in-Ok.life in
     let kept = c.into_durable.result in
     let opened = kept.journal.disk in
-    let stands = subst (λ (k : Kept g.row.D.Denot g.row.R.Denot). Stands D.reads D.may_leave D.clock D.may_have_left_since stance setting events k) (sym c.into_durable.ensures) ((c.in-Ok.ensures.stands file told).1 setting events stores) in
-    went_on opened (subst (λ (k : Kept g.row.D.Denot g.row.R.Denot). AtEachMoment D.clock D.may_have_left_since c.args.disk k.journal.disk (D.may_leave c.args.disk)) (sym c.into_durable.ensures) c.in-Ok.ensures.any_moment)
+    let stands = subst (λ (k : Kept g.row.D.Denot g.row.R.Denot). Stands D stance setting events k) (sym c.into_durable.ensures) ((c.in-Ok.ensures.stands file told).1 setting events stores) in
+    went_on opened (subst (λ (k : Kept g.row.D.Denot g.row.R.Denot). AtEachMoment D c.args.disk k.journal.disk (D.may_leave c.args.disk)) (sym c.into_durable.ensures) c.in-Ok.ensures.any_moment)
     (ap (λ (k : Kept g.row.D.Denot g.row.R.Denot). D.faults k.journal.disk) c.into_durable.ensures ∙ c.in-Ok.ensures.cause.calm (λ e. e))
     (subst (λ (n : ℕ). Reports n (D.faults c.finish.result.disk) (A.faults c.args.answers) (A.faults c.finish.result.answers) (K.written c.args.out.now) (K.written c.finish.new.out) (K.faults c.args.out.now) (K.faults c.finish.new.out) c.finish.result.status)
     (ap (λ (k : Kept g.row.D.Denot g.row.R.Denot). D.faults k.journal.disk) c.into_durable.ensures ∙ c.in-Ok.ensures.cause.calm (λ e. e)) c.finish.ensures.reports)
-    (c.finish.ensures.finishes setting (D.reads c.args.disk) opened events (lasts_here D.reads D.may_leave D.clock D.may_have_left_since stance (g.met.D.Disk g.world.𝓛 g.world.𝓜 g.world.𝓡 ((λ s x. x), (λ x. x), (λ x. x), λ x. x)).only_now setting (D.reads c.args.disk) events kept stands.goes (λ known. stands.saves)) tt)
+    (c.finish.ensures.finishes setting (D.reads c.args.disk) opened events (lasts_here D stance (g.met.D.Disk g.world.𝓛 g.world.𝓜 g.world.𝓡 ((λ s x. x), (λ x. x), (λ x. x), λ x. x)).only_now setting (D.reads c.args.disk) events kept stands.goes (λ known. stands.saves)) tt)
 
 pub returns-in-Err-clause-reopens : goal.returns-in-Err-clause-reopens
 returns-in-Err-clause-reopens g c =
@@ -60,7 +60,7 @@ returns-in-Err-clause-reopens g c =
     let A = g.A.Source in
     let H = g.H.Host in
     let K = g.K.Sink in
-    subst (λ (n : ℕ). Reopens D.reads D.may_leave D.clock D.may_have_left_since D.faults H.honest H.faults H.calls H.launches H.dirs H.output H.exited A.left A.faults c.args.hosts.items c.args.hosts.items c.args.answers c.args.answers c.new.result.items
+    subst (λ (n : ℕ). Reopens D H A c.args.hosts.items c.args.hosts.items c.args.answers c.args.answers c.new.result.items
     c.args.disk c.in-Err.disk (K.written c.args.out.now) (K.written c.tell-status.new.out) (K.faults c.args.out.now) (K.faults c.tell-status.new.out) n) (sym c.tell-status.ensures.status)
     (unopened (refl, refl, c.new.ensures.items) (record { same = λ file at. (c.in-Err.ensures.stands file at).1; moments = c.in-Err.ensures.any_moment })
     (show.not_opened (D.reads c.args.disk) (D.faults c.args.disk) (D.faults c.in-Err.disk) c.in-Err.fault c.of_store.result c.of_store.ensures
@@ -74,7 +74,7 @@ returns-in-Err-clause-resumes g c = λ file told setting events stores.
     let H = g.H.Host in
     let K = g.K.Sink in
     let fails = (c.in-Err.ensures.stands file told).0 in
-    subst (λ (n : ℕ). Resumes D.reads D.may_leave D.clock D.may_have_left_since D.faults H.honest H.faults H.calls H.launches H.dirs H.output H.exited A.left A.faults c.args.hosts.items c.args.hosts.items c.args.answers c.args.answers c.new.result.items
+    subst (λ (n : ℕ). Resumes D H A c.args.hosts.items c.args.hosts.items c.args.answers c.args.answers c.new.result.items
     setting events c.args.disk c.in-Err.disk (K.written c.args.out.now) (K.written c.tell-status.new.out) (K.faults c.args.out.now) (K.faults c.tell-status.new.out) n) (sym c.tell-status.ensures.status)
     (refused (refl, refl, c.new.ensures.items) (record { same = λ other at. (c.in-Err.ensures.stands other at).1; moments = c.in-Err.ensures.any_moment })
     (not_opened setting events file (D.faults c.args.disk) (D.faults c.in-Err.disk) c.in-Err.fault c.of_store.result c.of_store.ensures fails stores (c.in-Err.ensures.undamaged file told (is_consistent setting events file stores)) c.in-Err.ensures.cause.failed)

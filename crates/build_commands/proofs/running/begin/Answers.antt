@@ -30,14 +30,14 @@ returns-in-Ok g c =
     let started = kept.journal.disk in
     let calm = ap (λ (k : Kept g.row.D.Denot g.row.R.Denot). D.faults k.journal.disk) c.into_durable.ensures ∙ c.in-Ok.ensures.cause.calm (λ e. e) in
     let entry = D.reads c.args.disk in
-    let saves : IsSome entry → Saves D.reads D.may_leave stance kept first =
-    λ known. let file = known_file entry known in subst (λ (k : Kept g.row.D.Denot g.row.R.Denot). Saves D.reads D.may_leave stance k first) back (c.in-Ok.ensures.begun file.0 file.1).stands.saves in
+    let saves : IsSome entry → Saves D stance kept first =
+    λ known. let file = known_file entry known in subst (λ (k : Kept g.row.D.Denot g.row.R.Denot). Saves D stance k first) back (c.in-Ok.ensures.begun file.0 file.1).stands.saves in
     let goes = subst (λ (k : Kept g.row.D.Denot g.row.R.Denot). Goes stance setting first k) back c.in-Ok.ensures.made.goes in
     begun started calm c.finish.ensures.stay c.finish.ensures.launched
     (subst (λ (n : ℕ). Reports n (D.faults c.finish.result.disk) (A.faults c.args.answers) (A.faults c.finish.result.answers) (K.written c.args.out.now) (K.written c.finish.new.out) (K.faults c.args.out.now) (K.faults c.finish.new.out) c.finish.result.status) calm c.finish.ensures.reports)
-    (c.finish.ensures.finishes setting entry started first (lasts_here D.reads D.may_leave D.clock D.may_have_left_since stance (g.met.D.Disk g.world.𝓛 g.world.𝓜 g.world.𝓡 ((λ s x. x), (λ x. x), (λ x. x), λ x. x)).only_now setting entry first kept goes saves)
+    (c.finish.ensures.finishes setting entry started first (lasts_here D stance (g.met.D.Disk g.world.𝓛 g.world.𝓜 g.world.𝓡 ((λ s x. x), (λ x. x), (λ x. x), λ x. x)).only_now setting entry first kept goes saves)
     (counts_first c.args.kind kept.records (StartEvent plan.script plan.agents) (ap (λ (k : Kept g.row.D.Denot g.row.R.Denot). k.records) c.into_durable.ensures ∙ c.in-Ok.ensures.made.counted)))
-    (λ file told. subst (λ (k : Kept g.row.D.Denot g.row.R.Denot). BeginsOver D.reads D.may_leave D.clock D.may_have_left_since stance D.faults H.honest H.faults H.calls H.launches H.dirs H.output H.exited A.left A.faults c.args.disk c.finish.result.disk
+    (λ file told. subst (λ (k : Kept g.row.D.Denot g.row.R.Denot). BeginsOver D stance H A c.args.disk c.finish.result.disk
     c.args.hosts.items c.finish.result.hosts.items c.args.answers c.finish.result.answers c.finish.result.history.items c.args.kind (K.written c.args.out.now) (K.written c.finish.new.out) (K.faults c.args.out.now) (K.faults c.finish.new.out) plan.script plan.agents plan.tree plan.site file k.journal.disk) back
     (let made = c.in-Ok.ensures.begun file told in record { fresh = made.fresh; moments = made.moments }))
 
@@ -48,6 +48,6 @@ returns-in-Err g c =
     let H = g.H.Host in
     let K = g.K.Sink in
     let plan = c.args.plan in
-    subst (λ (n : ℕ). Begins D.reads D.may_leave D.clock D.may_have_left_since g.R.ScriptThread.stance D.faults H.honest H.faults H.calls H.launches H.dirs H.output H.exited A.left A.faults c.args.disk c.in-Err.disk
+    subst (λ (n : ℕ). Begins D g.R.ScriptThread.stance H A c.args.disk c.in-Err.disk
     c.args.hosts.items c.args.hosts.items c.args.answers c.args.answers c.new.result.items c.args.kind (K.written c.args.out.now) (K.written c.tell-status.new.out) (K.faults c.args.out.now) (K.faults c.tell-status.new.out) plan.script plan.agents plan.tree plan.site n) (sym c.tell-status.ensures.status)
     (unbegun (refl, refl, c.new.ensures.items) (begin_says c.in-Err.fault c.of_begin.result c.of_begin.ensures) c.in-Err.ensures.cause c.in-Err.ensures.faults c.in-Err.ensures.begun c.tell-status.ensures.text)

@@ -14,6 +14,6 @@ returns-in-Err g c = λ script agents plans.
     let A = g.A.Source in
     let H = g.H.Host in
     let K = g.K.Sink in
-    subst (λ (n : ℕ). Runs D.reads D.may_leave D.clock D.may_have_left_since g.R.ScriptThread.stance D.faults H.honest H.faults H.calls H.launches H.dirs H.output H.exited A.left A.faults c.args.disk c.args.disk
+    subst (λ (n : ℕ). Runs D g.R.ScriptThread.stance H A c.args.disk c.args.disk
     c.args.hosts.items c.args.hosts.items c.args.answers c.args.answers c.new.result.items c.args.kind (K.written c.args.out.now) (K.written c.tell-status.new.out) (K.faults c.args.out.now) (K.faults c.tell-status.new.out) script agents n) (sym c.tell-status.ensures.status)
     (refused (subst (λ (r : Result Plan Refusal). Plans script agents r) c.in-Err.is plans) refl (refl, refl, c.new.ensures.items) c.tell-status.ensures.text)

@@ -8,4 +8,4 @@ build_planned-requires-clause-builds g c κs within = plan_builds _ _ c.read_pla
 pub returns-clause-runs : goal.returns-clause-runs
 returns-clause-runs g c =
     let S = g.S.Source in
-    c.build_planned.ensures (taken_from S.left S.faults c.args.script.now c.read_plan-plan.new.script) (taken_from S.left S.faults c.args.agents.now c.read_plan-plan.new.agents) c.read_plan-plan.ensures.plans
+    c.build_planned.ensures (taken_from S c.args.script.now c.read_plan-plan.new.script) (taken_from S c.args.agents.now c.read_plan-plan.new.agents) c.read_plan-plan.ensures.plans

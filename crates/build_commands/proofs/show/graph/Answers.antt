@@ -19,7 +19,7 @@ returns-in-Ok-clause-shows g c =
     let stance = g.R.ScriptThread.stance in
     shows_told (λ (w : Build). graph_text w.shared.nodes) (D.reads c.args.disk) (D.faults c.args.disk) (D.faults c.close.result) (K.written c.args.out.now) (K.written c.tell_graph-status.new.out) (K.faults c.args.out.now) (K.faults c.tell_graph-status.new.out)
     (StandsFor stance c.build.result.now) c.tell_graph-status.result (ap D.faults c.close.ensures ∙ c.in-Ok.ensures.cause.calm (λ e. e))
-    (λ text of. if_told (D.reads c.args.disk) (λ (file : List ℕ). ShowsBuild (λ (w : Build). graph_text w.shared.nodes) file text) (λ file at. shows_build D.reads D.may_leave stance file c.in-Ok.durable (c.in-Ok.ensures.opened file at).0 (λ (w : Build). graph_text w.shared.nodes) text c.in-Ok.ensures.whole
+    (λ text of. if_told (D.reads c.args.disk) (λ (file : List ℕ). ShowsBuild (λ (w : Build). graph_text w.shared.nodes) file text) (λ file at. shows_build D stance file c.in-Ok.durable (c.in-Ok.ensures.opened file at).0 (λ (w : Build). graph_text w.shared.nodes) text c.in-Ok.ensures.whole
     (λ w s. of w (subst (λ (b : Parts g.row.R.Denot). StandsFor stance b w) (sym c.build.ensures.is) s)))) c.tell_graph-status.ensures.told
 
 pub returns-in-Ok-clause-causes : goal.returns-in-Ok-clause-causes
@@ -45,7 +45,7 @@ returns-in-Ok-clause-last g c = λ file at p ps image has closing so.
     let D = g.D.Disk in
     let K = g.K.Sink in
     let b = c.in-Ok.durable.build in
-    let is = last_is D.reads D.may_leave g.R.ScriptThread.stance file c.in-Ok.durable (c.in-Ok.ensures.opened file at).0 p ps image has closing in
+    let is = last_is D g.R.ScriptThread.stance file c.in-Ok.durable (c.in-Ok.ensures.opened file at).0 p ps image has closing in
     let nodes = ap (λ (x : Parts g.row.R.Denot). graph_text (nodes_of x)) c.build.ensures.is ∙ ap graph_text (shown_nodes b.phase (common_of b.shared) c.in-Ok.ensures.begun) ∙ ap (λ (i : Image). graph_text i.nodes) is in
     let wrote = shown_so c.tell_graph-status.result _ so c.tell_graph-status.ensures.here in
     subst (λ (text : List ℕ). Writes (K.written c.args.out.now) (K.written c.tell_graph-status.new.out) (K.faults c.args.out.now) (K.faults c.tell_graph-status.new.out) text 0 c.tell_graph-status.result) nodes wrote

@@ -16,7 +16,7 @@ returns-in-Ok-clause-shows g c =
     let stance = g.R.ScriptThread.stance in
     shows_text (λ (w : Build). w.shared.log) (D.reads c.args.disk) (D.faults c.args.disk) (D.faults c.close.result) (K.written c.args.out.now) (K.written c.tell_text-status.new.out) (K.faults c.args.out.now) (K.faults c.tell_text-status.new.out)
     c.log.result.now c.tell_text-status.result (ap D.faults c.close.ensures ∙ c.in-Ok.ensures.cause.calm (λ e. e))
-    (if_told (D.reads c.args.disk) (λ (file : List ℕ). ShowsBuild (λ (w : Build). w.shared.log) file c.log.result.now) (λ file at. shows_build D.reads D.may_leave stance file c.in-Ok.durable (c.in-Ok.ensures.opened file at).0 (λ (w : Build). w.shared.log) c.log.result.now c.in-Ok.ensures.whole
+    (if_told (D.reads c.args.disk) (λ (file : List ℕ). ShowsBuild (λ (w : Build). w.shared.log) file c.log.result.now) (λ file at. shows_build D stance file c.in-Ok.durable (c.in-Ok.ensures.opened file at).0 (λ (w : Build). w.shared.log) c.log.result.now c.in-Ok.ensures.whole
     (λ w s. c.log.ensures.world w (subst (λ (b : Parts g.row.R.Denot). StandsFor stance b w) (sym c.build.ensures.is) s)))) c.tell_text-status.ensures
 
 pub returns-in-Ok-clause-causes : goal.returns-in-Ok-clause-causes
@@ -41,7 +41,7 @@ pub returns-in-Ok-clause-last : goal.returns-in-Ok-clause-last
 returns-in-Ok-clause-last g c = λ file at p ps image has closing so.
     let D = g.D.Disk in
     let K = g.K.Sink in
-    let is = last_is D.reads D.may_leave g.R.ScriptThread.stance file c.in-Ok.durable (c.in-Ok.ensures.opened file at).0 p ps image has closing in
+    let is = last_is D g.R.ScriptThread.stance file c.in-Ok.durable (c.in-Ok.ensures.opened file at).0 p ps image has closing in
     subst (λ (text : List ℕ). Writes (K.written c.args.out.now) (K.written c.tell_text-status.new.out) (K.faults c.args.out.now) (K.faults c.tell_text-status.new.out) text 0 c.tell_text-status.result)
     (c.log.ensures.here ∙ ap (λ (b : Parts g.row.R.Denot). b.shared.log) c.build.ensures.is ∙ ap (λ (i : Image). i.log) is) c.tell_text-status.ensures
 

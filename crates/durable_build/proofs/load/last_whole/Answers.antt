@@ -10,7 +10,7 @@ loop-k-init g c =
     let D = g.D.Disk in
     record {
       within = omega (arith, c.requires.some);
-      quiet = only_reads_start D.reads D.may_leave D.clock D.may_have_left_since D.end (λ d image left. g.met.D.Disk.only_now d image left) c.args.journal.now.disk;
+      quiet = only_reads_start D (λ d image left. g.met.D.Disk.only_now d image left) c.args.journal.now.disk;
       len = refl;
       stopped = refl;
       faults = refl;
@@ -26,7 +26,7 @@ pub returns-then-branch-clause-found : goal.returns-then-branch-clause-found
 returns-then-branch-clause-found g c = λ ps holds are.
     let D = g.D.Disk in
     let inv = c.loop-k.invariant in
-    let later = still_holds D.reads D.may_leave D.clock D.may_have_left_since D.end c.args.journal.now c.loop-k.journal ps inv.quiet inv.len holds in
+    let later = still_holds D c.args.journal.now c.loop-k.journal ps inv.quiet inv.len holds in
     is_last ps c.args.entries.now c.loop-k.k c.entry_at-entry.result c.in_ok-is_whole_at.field-0 are c.entry_at-entry.ensures c.if-branch.true (λ p at is. c.in_ok-is_whole_at.ensures.found ps c.loop-k.k p later at is) (inv.changes ps holds are)
 
 pub loop-k-preserved : goal.loop-k-preserved
@@ -36,12 +36,12 @@ loop-k-preserved g c =
     let disk = c.args.journal.now.disk in
     record {
       within = omega (arith, inv.within);
-      quiet = only_reads_then D.reads D.may_leave D.clock D.may_have_left_since D.end disk c.loop-k.journal.disk c.is_whole_at.new.journal.disk inv.quiet c.is_whole_at.ensures.quiet;
+      quiet = only_reads_then D disk c.loop-k.journal.disk c.is_whole_at.new.journal.disk inv.quiet c.is_whole_at.ensures.quiet;
       len = c.is_whole_at.ensures.same.0 ∙ inv.len;
       stopped = c.is_whole_at.ensures.same.1 ∙ inv.stopped;
       faults = c.in_ok-is_whole_at.ensures.cause.calm (λ is. cc) ∙ inv.faults;
       changes = λ ps holds are.
-          let later = still_holds D.reads D.may_leave D.clock D.may_have_left_since D.end c.args.journal.now c.loop-k.journal ps inv.quiet inv.len holds in
+          let later = still_holds D c.args.journal.now c.loop-k.journal ps inv.quiet inv.len holds in
           none_more ps c.args.entries.now c.loop-k.k c.entry_at-entry.result c.in_ok-is_whole_at.field-0 are c.entry_at-entry.ensures c.if-branch.false (λ p at is. c.in_ok-is_whole_at.ensures.found ps c.loop-k.k p later at is)
           (inv.changes ps holds are) (omega arith);
     }

@@ -9,11 +9,11 @@ use Rattle.durable_build.proofs.load.last_whole.Given as goal
 abbrev pub invariant-loop-k : goal.invariant-loop-k
 invariant-loop-k g l = record {
   within : l.k < length l.entries;
-  quiet : OnlyReads g.D.Disk.reads g.D.Disk.may_leave g.D.Disk.clock g.D.Disk.may_have_left_since g.D.Disk.end l.fn.journal.disk l.journal.disk;
+  quiet : OnlyReads g.D.Disk l.fn.journal.disk l.journal.disk;
   len : l.journal.len ≡ l.fn.journal.len;
   stopped : l.journal.stopped ≡ l.fn.journal.stopped;
   faults : g.D.Disk.faults l.journal.disk ≡ g.D.Disk.faults l.fn.journal.disk;
-  changes : (payloads : List (List ℕ)) → Holds g.D.Disk.reads g.D.Disk.may_leave l.fn.journal payloads → l.entries ≡ entries_of 0 payloads → AllAre (λ (p : List ℕ). is_whole p ≡ false) (drop (suc l.k) payloads);
+  changes : (payloads : List (List ℕ)) → Holds g.D.Disk l.fn.journal payloads → l.entries ≡ entries_of 0 payloads → AllAre (λ (p : List ℕ). is_whole p ≡ false) (drop (suc l.k) payloads);
 }
 
 abbrev pub decreases-loop-k : goal.decreases-loop-k

@@ -24,22 +24,22 @@ returns-in_err-image-clause-found g c = λ ps holds are.
     let D = g.D.Disk in
     let stance = g.R.ScriptThread.stance in
     let f = c.in_err-image.field-0.0 in
-    let later = still_holds D.reads D.may_leave D.clock D.may_have_left_since D.end c.args.journal.now c.read_opening.new.journal ps c.read_opening.ensures.quiet c.read_opening.ensures.same.0 holds in
+    let later = still_holds D c.args.journal.now c.read_opening.new.journal ps c.read_opening.ensures.quiet c.read_opening.ensures.same.0 holds in
     passes_on c.from_residual-in_err-image.result f (LoadFinds stance ps) c.from_residual-in_err-image.ensures.1
     (load_refused_read stance c.args.entries.now c.entry_at-first.result c.entry_at-last.result c.in_ok-script.field-0 c.requires.some c.entry_at-first.ensures c.entry_at-last.ensures ps f are
     (λ k p. c.in_ok-script.ensures.found ps k p holds)
-    (λ p qs same whole. c.in_err-image.ensures.found p qs whole (subst (Holds D.reads D.may_leave c.read_opening.new.journal) same later) (are ∙ ap (entries_of 0) same)))
+    (λ p qs same whole. c.in_err-image.ensures.found p qs whole (subst (Holds D c.read_opening.new.journal) same later) (are ∙ ap (entries_of 0) same)))
 
 pub returns-in_err-build-clause-found : goal.returns-in_err-build-clause-found
 returns-in_err-build-clause-found g c = λ ps holds are.
     let D = g.D.Disk in
     let stance = g.R.ScriptThread.stance in
     let f = c.in_err-build.field-0.0 in
-    let later = still_holds D.reads D.may_leave D.clock D.may_have_left_since D.end c.args.journal.now c.read_opening.new.journal ps c.read_opening.ensures.quiet c.read_opening.ensures.same.0 holds in
+    let later = still_holds D c.args.journal.now c.read_opening.new.journal ps c.read_opening.ensures.quiet c.read_opening.ensures.same.0 holds in
     passes_on c.from_residual-in_err-build.result f (LoadFinds stance ps) c.from_residual-in_err-build.ensures.1
     (load_refused_last stance c.args.entries.now c.entry_at-first.result c.entry_at-last.result c.in_ok-script.field-0 c.requires.some c.entry_at-first.ensures c.entry_at-last.ensures c.in_ok-image.field-0 ps f are
     (λ k p. c.in_ok-script.ensures.found ps k p holds)
-    (λ p qs same whole. c.in_ok-image.ensures.found p qs whole (subst (Holds D.reads D.may_leave c.read_opening.new.journal) same later) (are ∙ ap (entries_of 0) same))
+    (λ p qs same whole. c.in_ok-image.ensures.found p qs whole (subst (Holds D c.read_opening.new.journal) same later) (are ∙ ap (entries_of 0) same))
     c.in_err-build.ensures.goes_on)
 
 pub returns-in_err-last-clause-found : goal.returns-in_err-last-clause-found
@@ -53,18 +53,18 @@ pub returns-clause-found : goal.returns-clause-found
 returns-clause-found g c = λ ps holds are.
     let D = g.D.Disk in
     let stance = g.R.ScriptThread.stance in
-    let later = still_holds D.reads D.may_leave D.clock D.may_have_left_since D.end c.args.journal.now c.read_opening.new.journal ps c.read_opening.ensures.quiet c.read_opening.ensures.same.0 holds in
+    let later = still_holds D c.args.journal.now c.read_opening.new.journal ps c.read_opening.ensures.quiet c.read_opening.ensures.same.0 holds in
     load_done stance c.args.entries.now c.entry_at-first.result c.entry_at-last.result c.in_ok-script.field-0 c.requires.some c.entry_at-first.ensures c.entry_at-last.ensures c.in_ok-image.field-0 ps c.in_ok-build.build c.entry_at-last.result.at c.in_ok-last.last.weights are
     (λ k p. c.in_ok-script.ensures.found ps k p holds)
-    (λ p qs same whole. c.in_ok-image.ensures.found p qs whole (subst (Holds D.reads D.may_leave c.read_opening.new.journal) same later) (are ∙ ap (entries_of 0) same))
+    (λ p qs same whole. c.in_ok-image.ensures.found p qs whole (subst (Holds D c.read_opening.new.journal) same later) (are ∙ ap (entries_of 0) same))
     c.in_ok-build.ensures.goes_on c.in_ok-last.ensures.kept.1
 
 pub returns-in_err-last-clause-quiet : goal.returns-in_err-last-clause-quiet
 returns-in_err-last-clause-quiet g c =
     let D = g.D.Disk in
-    only_reads_then D.reads D.may_leave D.clock D.may_have_left_since D.end c.args.journal.now.disk c.read_opening.new.journal.disk c.read_last.new.journal.disk c.read_opening.ensures.quiet c.read_last.ensures.quiet
+    only_reads_then D c.args.journal.now.disk c.read_opening.new.journal.disk c.read_last.new.journal.disk c.read_opening.ensures.quiet c.read_last.ensures.quiet
 
 pub returns-clause-quiet : goal.returns-clause-quiet
 returns-clause-quiet g c =
     let D = g.D.Disk in
-    only_reads_then D.reads D.may_leave D.clock D.may_have_left_since D.end c.args.journal.now.disk c.read_opening.new.journal.disk c.read_last.new.journal.disk c.read_opening.ensures.quiet c.read_last.ensures.quiet
+    only_reads_then D c.args.journal.now.disk c.read_opening.new.journal.disk c.read_last.new.journal.disk c.read_opening.ensures.quiet c.read_last.ensures.quiet

@@ -28,7 +28,7 @@ returns-in_err-read-2-clause-found g c = λ front payloads holds are.
     let D = g.D.Disk in
     let inv = c.loop-entry.invariant in
     let f = c.in_err-read-2.field-0.0 in
-    let later = still_holds D.reads D.may_leave D.clock D.may_have_left_since D.end c.args.journal.now c.loop-entry.journal (front ++ payloads) inv.quiet inv.len holds in
+    let later = still_holds D c.args.journal.now c.loop-entry.journal (front ++ payloads) inv.quiet inv.len holds in
     passes_on c.from_residual-in_err-read-2.result f (FoundFrom front payloads) c.from_residual-in_err-read-2.ensures.1
     (next_refused front payloads (c.args.whole ∷ c.args.behind.now) are c.loop-entry.entry-index _ (slice_get-get_or c.args.behind.now c.loop-entry.entry-index _ (omega arith)) c.loop-entry.read (inv.up front payloads holds are) f
     (λ k p. c.in_err-read-2.ensures.found (front ++ payloads) k p later))
@@ -36,7 +36,7 @@ returns-in_err-read-2-clause-found g c = λ front payloads holds are.
 pub returns-in_err-read-2-clause-quiet : goal.returns-in_err-read-2-clause-quiet
 returns-in_err-read-2-clause-quiet g c =
     let D = g.D.Disk in
-    only_reads_then D.reads D.may_leave D.clock D.may_have_left_since D.end c.args.journal.now.disk c.loop-entry.journal.disk c.read_next-in-loop-entry.new.journal.disk c.loop-entry.invariant.quiet c.read_next-in-loop-entry.ensures.quiet
+    only_reads_then D c.args.journal.now.disk c.loop-entry.journal.disk c.read_next-in-loop-entry.new.journal.disk c.loop-entry.invariant.quiet c.read_next-in-loop-entry.ensures.quiet
 
 pub loop-entry-preserved : goal.loop-entry-preserved
 loop-entry-preserved g c =
@@ -44,12 +44,12 @@ loop-entry-preserved g c =
     let inv = c.loop-entry.invariant in
     let i = c.loop-entry.entry-index in
     record {
-      quiet = only_reads_then D.reads D.may_leave D.clock D.may_have_left_since D.end c.args.journal.now.disk c.loop-entry.journal.disk c.read_next-in-loop-entry.new.journal.disk inv.quiet c.read_next-in-loop-entry.ensures.quiet;
+      quiet = only_reads_then D c.args.journal.now.disk c.loop-entry.journal.disk c.read_next-in-loop-entry.new.journal.disk inv.quiet c.read_next-in-loop-entry.ensures.quiet;
       len = c.read_next-in-loop-entry.ensures.same.0 ∙ inv.len;
       stopped = c.read_next-in-loop-entry.ensures.same.1 ∙ inv.stopped;
       faults = c.in_ok-read-2.ensures.cause.calm (λ is. cc) ∙ inv.faults;
       up = λ front payloads holds are.
-          let later = still_holds D.reads D.may_leave D.clock D.may_have_left_since D.end c.args.journal.now c.loop-entry.journal (front ++ payloads) inv.quiet inv.len holds in
+          let later = still_holds D c.args.journal.now c.loop-entry.journal (front ++ payloads) inv.quiet inv.len holds in
           let more : suc i ≡ i + 1 = omega arith in
           subst (λ (n : ℕ). ReadUp payloads n c.in_ok-read-2.read) more
           (next_read front payloads (c.args.whole ∷ c.args.behind.now) are i _ (slice_get-get_or c.args.behind.now i _ (omega arith)) c.loop-entry.read (inv.up front payloads holds are) c.in_ok-read-2.read

@@ -8,9 +8,9 @@ use Rattle.durable_build.proofs.load.read_from.Given as goal
 
 abbrev pub invariant-loop-entry : goal.invariant-loop-entry
 invariant-loop-entry g l = record {
-  quiet : OnlyReads g.D.Disk.reads g.D.Disk.may_leave g.D.Disk.clock g.D.Disk.may_have_left_since g.D.Disk.end l.fn.journal.disk l.journal.disk;
+  quiet : OnlyReads g.D.Disk l.fn.journal.disk l.journal.disk;
   len : l.journal.len ≡ l.fn.journal.len;
   stopped : l.journal.stopped ≡ l.fn.journal.stopped;
   faults : g.D.Disk.faults l.journal.disk ≡ g.D.Disk.faults l.fn.journal.disk;
-  up : (front payloads : List (List ℕ)) → Holds g.D.Disk.reads g.D.Disk.may_leave l.fn.journal (front ++ payloads) → l.fn.whole ∷ l.behind ≡ entries_of (length (framed front)) payloads → ReadUp payloads l.entry-index l.read;
+  up : (front payloads : List (List ℕ)) → Holds g.D.Disk l.fn.journal (front ++ payloads) → l.fn.whole ∷ l.behind ≡ entries_of (length (framed front)) payloads → ReadUp payloads l.entry-index l.read;
 }

@@ -21,12 +21,12 @@ read_from-requires-clause-whole g c =
 pub returns-clause-found : goal.returns-clause-found
 returns-clause-found g c = λ p ps whole holds are.
     let D = g.D.Disk in
-    let later = still_holds D.reads D.may_leave D.clock D.may_have_left_since D.end c.args.journal.now c.last_whole.new.journal (p ∷ ps) c.last_whole.ensures.quiet c.last_whole.ensures.same.0 holds in
+    let later = still_holds D c.args.journal.now c.last_whole.new.journal (p ∷ ps) c.last_whole.ensures.quiet c.last_whole.ensures.same.0 holds in
     last_of_all p ps c.args.entries.now c.in_ok-k.k c.entry_at-whole.result c.read_from.result whole are c.entry_at-whole.ensures (c.in_ok-k.ensures.found (p ∷ ps) holds are)
-    (λ front payloads split entries. c.read_from.ensures.found front payloads (subst (Holds D.reads D.may_leave c.last_whole.new.journal) split later)
+    (λ front payloads split entries. c.read_from.ensures.found front payloads (subst (Holds D c.last_whole.new.journal) split later)
     (ap (λ (es : List Record). c.entry_at-whole.result ∷ es) (behind_whole c.args.entries.now c.in_ok-k.k) ∙ entries))
 
 pub returns-clause-quiet : goal.returns-clause-quiet
 returns-clause-quiet g c =
     let D = g.D.Disk in
-    only_reads_then D.reads D.may_leave D.clock D.may_have_left_since D.end c.args.journal.now.disk c.last_whole.new.journal.disk c.read_from.new.journal.disk c.last_whole.ensures.quiet c.read_from.ensures.quiet
+    only_reads_then D c.args.journal.now.disk c.last_whole.new.journal.disk c.read_from.new.journal.disk c.last_whole.ensures.quiet c.read_from.ensures.quiet

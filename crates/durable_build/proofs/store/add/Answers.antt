@@ -17,7 +17,7 @@ returns-clause-adds g c =
     let D = g.D.Disk in
     let stance = g.R.ScriptThread.stance in
     let image = (same_marked stance g.R.Runner.marked g.met.R.ScriptThread.marked_is c.args.build.now c.mark.new.self c.mark.ensures).image in
-    subst (λ i. AddDone D.reads D.may_leave D.clock D.may_have_left_since c.args.last.now.weights c.args.last.now.image c.args.event.now i c.args.journal.now c.add_record.new.journal c.add_record.new.last.weights (Ok tt)) (sym image) c.in_ok-add_record.ensures.adds
+    subst (λ i. AddDone D c.args.last.now.weights c.args.last.now.image c.args.event.now i c.args.journal.now c.add_record.new.journal c.add_record.new.last.weights (Ok tt)) (sym image) c.in_ok-add_record.ensures.adds
 
 pub returns-clause-last : goal.returns-clause-last
 returns-clause-last g c =

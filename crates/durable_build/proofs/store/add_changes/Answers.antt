@@ -19,7 +19,7 @@ returns-in-Err-clause-adds g c = λ image due.
     let j = c.args.journal.now in
     let q = payload.Changed c.args.event.now c.args.changes in
     let f = c.in-Err.fault in
-    not_spelled D.reads D.may_leave D.clock D.may_have_left_since c.args.last.now.weights c.args.last.now.image c.args.event.now image j j q
+    not_spelled D c.args.last.now.weights c.args.last.now.image c.args.event.now image j j q
     (due_is c.args.last.now.weights c.args.last.now.image c.args.event.now image (Some c.args.changes) due) f refl
     (room_refused j.len c.changes_size.result q f c.changes_size.ensures (subst (λ (n : ℕ). HasRoom n c.changes_size.result (Err f)) c.len.ensures c.in-Err.ensures))
 
@@ -43,8 +43,8 @@ returns-in_err-append-clause-adds g c = λ image due.
     let p = c.as_slice.result.now in
     let spells : Spells payload_form q p = subst (λ (b : List ℕ). Spells payload_form q b) (sym c.as_slice.ensures) (subst (λ (x : Event). Spells payload_form (payload.Changed x c.args.changes) c.in-Ok-write_payload.bytes) c.in-Ok.ensures c.in-Ok-write_payload.ensures) in
     let spelled = spelled_there j.len c.changes_size.result q p c.changes_size.ensures (subst (λ (n : ℕ). n + (5 + c.changes_size.result) ≤ 2 ^ 30) c.len.ensures c.in_default.ensures) spells in
-    passes_on c.from_residual.result f (AddDone D.reads D.may_leave D.clock D.may_have_left_since w before e image j c.append.new.journal w) c.from_residual.ensures.1
-    (not_added D.reads D.may_leave D.clock D.may_have_left_since w before e image j c.append.new.journal q (due_is w before e image (Some c.args.changes) due) p spelled.0 spelled.1
+    passes_on c.from_residual.result f (AddDone D w before e image j c.append.new.journal w) c.from_residual.ensures.1
+    (not_added D w before e image j c.append.new.journal q (due_is w before e image (Some c.args.changes) due) p spelled.0 spelled.1
     (λ payloads holds. c.append.ensures.any_moment payloads holds) f c.in_err-append.ensures.faults c.in_err-append.ensures.leaves)
 
 pub returns-clause-adds : goal.returns-clause-adds
@@ -58,8 +58,8 @@ returns-clause-adds g c = λ image due.
     let p = c.as_slice.result.now in
     let spells : Spells payload_form q p = subst (λ (b : List ℕ). Spells payload_form q b) (sym c.as_slice.ensures) (subst (λ (x : Event). Spells payload_form (payload.Changed x c.args.changes) c.in-Ok-write_payload.bytes) c.in-Ok.ensures c.in-Ok-write_payload.ensures) in
     let spelled = spelled_there j.len c.changes_size.result q p c.changes_size.ensures (subst (λ (n : ℕ). n + (5 + c.changes_size.result) ≤ 2 ^ 30) c.len.ensures c.in_default.ensures) spells in
-    subst (λ (v : Weights). AddDone D.reads D.may_leave D.clock D.may_have_left_since w before e image j c.append.new.journal v (Ok tt)) (sym (c.weights_with-last.ensures ∙ ap (weights_with w) (c.as_slice-2.ensures ∙ sym c.as_slice.ensures)))
-    (was_added D.reads D.may_leave D.clock D.may_have_left_since w before e image j c.append.new.journal q (due_is w before e image (Some c.args.changes) due) p spelled.0 spelled.1
+    subst (λ (v : Weights). AddDone D w before e image j c.append.new.journal v (Ok tt)) (sym (c.weights_with-last.ensures ∙ ap (weights_with w) (c.as_slice-2.ensures ∙ sym c.as_slice.ensures)))
+    (was_added D w before e image j c.append.new.journal q (due_is w before e image (Some c.args.changes) due) p spelled.0 spelled.1
     (λ payloads holds. c.append.ensures.any_moment payloads holds) tt c.in_ok-append.ensures.leaves (λ payloads holds. c.in_ok-append.ensures.acknowledged payloads holds))
 
 pub returns-clause-last : goal.returns-clause-last

@@ -26,7 +26,7 @@ loop-done-preserved g c =
       within = omega (arith, whole, room, inv.within);
       size = whole ∙ inv.size;
       quiet =
-          only_reads_on g.D.Disk.reads g.D.Disk.may_leave g.D.Disk.clock g.D.Disk.may_have_left_since g.D.Disk.end c.args.disk.now c.loop-done.disk c.read_at.new.self inv.quiet c.read_at.ensures.end c.read_at.ensures.still c.read_at.ensures.time;
+          only_reads_on g.D.Disk c.args.disk.now c.loop-done.disk c.read_at.new.self inv.quiet c.read_at.ensures.end c.read_at.ensures.still c.read_at.ensures.time;
       faults = c.in_ok-n.ensures.cause.calm refl ∙ inv.faults;
       filled = λ file told.
           let read = if_told (λ file. HasRead file (c.args.at + done) n (take (length buf - done) (drop done buf)) part) (inv.quiet.told ∙ told) c.in_ok-n.ensures.bytes in

@@ -6,7 +6,7 @@ abbrev pub invariant-loop-done : goal.invariant-loop-done
 invariant-loop-done g l = record {
   within : l.done ≤ length l.buf;
   size : length l.buf ≡ length l.fn.buf;
-  quiet : OnlyReads g.D.Disk.reads g.D.Disk.may_leave g.D.Disk.clock g.D.Disk.may_have_left_since g.D.Disk.end l.fn.disk l.disk;
+  quiet : OnlyReads g.D.Disk l.fn.disk l.disk;
   faults : g.D.Disk.faults l.disk ≡ g.D.Disk.faults l.fn.disk;
   filled : (file : List ℕ) → g.D.Disk.reads l.fn.disk ≡ Some file → take l.done l.buf ≡ take l.done (drop l.at file);
 }

@@ -20,10 +20,8 @@ same_records file image = records image ≡ records file
 
 pub returns-then-gate-ne1-clause-left : goal.returns-then-gate-ne1-clause-left
 returns-then-gate-ne1-clause-left g c file told =
-    let R = g.D.Disk.reads in
-    let M = g.D.Disk.may_leave in
     let e = c.settle.new.disk in
-    let told_e : R e ≡ Some file = c.settle.ensures.told ∙ told in
+    let told_e : g.D.Disk.reads e ≡ Some file = c.settle.ensures.told ∙ told in
     let size : g.D.Disk.end e ≡ length file = if_told (λ (f : List ℕ). g.D.Disk.end e ≡ length f) told_e (g.met.D.Disk.told_end e) in
     let some : 0 < length file = omega (arith, c.if-end-eq0.false, c.in-Ok.ensures.length, size) in
     let gate = first_byte file c.read_exact.new.buf (c.in-Ok-read_exact.ensures.bytes file told_e) in
@@ -31,52 +29,43 @@ returns-then-gate-ne1-clause-left g c file told =
     let only = c.in-Ok.ensures.durable file told in (
       λ started. c.if-gate-ne1.true (gate ∙ started.0),
       splits_has file 0 [] s,
-      stores_at R M c.read_exact.new.disk file 0 1 [] (omega arith) (c.read_exact.ensures.quiet.told ∙ told_e) (λ image left. only image (c.read_exact.ensures.quiet.images image left)) s,
+      stores_at g.D.Disk c.read_exact.new.disk file 0 1 [] (omega arith) (c.read_exact.ensures.quiet.told ∙ told_e) (λ image left. only image (c.read_exact.ensures.quiet.images image left)) s,
     )
 
 pub returns-then-gate-ne1-clause-any_moment : goal.returns-then-gate-ne1-clause-any_moment
 returns-then-gate-ne1-clause-any_moment g c file told =
-    let M = g.D.Disk.may_leave in
-    let C = g.D.Disk.clock in
-    let S = g.D.Disk.may_have_left_since in
     let d = c.args.disk.now in
     let e = c.settle.new.disk in
     let f = c.read_exact.new.disk in
     let only = c.in-Ok.ensures.durable file told in
-    let read = at_each_weaker C S e f (M e) (same_records file) (λ image left. ap records (only image left)) c.read_exact.ensures.quiet.moments in
+    let read = at_each_weaker g.D.Disk e f (g.D.Disk.may_leave e) (same_records file) (λ image left. ap records (only image left)) c.read_exact.ensures.quiet.moments in
     let synced = not_err (c.in-Ok.ensures.since_sync file told) in
-    inl (since_sync_on C S M file d e f (same_records file) synced (λ image same. ap records same) read)
+    inl (since_sync_on g.D.Disk file d e f (same_records file) synced (λ image same. ap records same) read)
 
 pub returns-then-end-ge6-clause-any_moment : goal.returns-then-end-ge6-clause-any_moment
 returns-then-end-ge6-clause-any_moment g c file told =
-    let M = g.D.Disk.may_leave in
-    let C = g.D.Disk.clock in
-    let S = g.D.Disk.may_have_left_since in
     let d = c.args.disk.now in
     let e = c.settle.new.disk in
     let f = c.read_exact.new.disk in
     let only = c.in-Ok.ensures.durable file told in
-    let read = at_each_weaker C S e f (M e) (same_records file) (λ image left. ap records (only image left)) c.read_exact.ensures.quiet.moments in
+    let read = at_each_weaker g.D.Disk e f (g.D.Disk.may_leave e) (same_records file) (λ image left. ap records (only image left)) c.read_exact.ensures.quiet.moments in
     let synced = not_err (c.in-Ok.ensures.since_sync file told) in
-    inl (since_sync_on C S M file d e f (same_records file) synced (λ image same. ap records same) read)
+    inl (since_sync_on g.D.Disk file d e f (same_records file) synced (λ image same. ap records same) read)
 
 pub returns-clause-any_moment : goal.returns-clause-any_moment
 returns-clause-any_moment g c file told =
-    let M = g.D.Disk.may_leave in
-    let C = g.D.Disk.clock in
-    let S = g.D.Disk.may_have_left_since in
     let d = c.args.disk.now in
     let e = c.settle.new.disk in
     let f = c.read_exact.new.disk in
     let only = c.in-Ok.ensures.durable file told in
-    let read = at_each_weaker C S e f (M e) (same_records file) (λ image left. ap records (only image left)) c.read_exact.ensures.quiet.moments in
+    let read = at_each_weaker g.D.Disk e f (g.D.Disk.may_leave e) (same_records file) (λ image left. ap records (only image left)) c.read_exact.ensures.quiet.moments in
     let synced = not_err (c.in-Ok.ensures.since_sync file told) in
     let h = c.close_first-2.new.disk in
     let told_e : g.D.Disk.reads e ≡ Some file = c.settle.ensures.told ∙ told in
     let size : g.D.Disk.end e ≡ length file = if_told (λ (x : List ℕ). g.D.Disk.end e ≡ length x) told_e (g.met.D.Disk.told_end e) in
     let short : length file < 6 = omega (arith, c.if-end-ge6.false, c.in-Ok.ensures.length, size) in
-    let closed = at_each_weaker C S f h (λ image. Has [] image) (same_records file) (λ image has. has ∙ sym (short_has file short)) (c.close_first-2.ensures.any_moment file (λ image left. only image (c.read_exact.ensures.quiet.images image left)) short) in
-    inl (since_sync_on C S M file d e h (same_records file) synced (λ image same. ap records same) (runs_on C S e f h (same_records file) read closed))
+    let closed = at_each_weaker g.D.Disk f h (λ image. Has [] image) (same_records file) (λ image has. has ∙ sym (short_has file short)) (c.close_first-2.ensures.any_moment file (λ image left. only image (c.read_exact.ensures.quiet.images image left)) short) in
+    inl (since_sync_on g.D.Disk file d e h (same_records file) synced (λ image same. ap records same) (runs_on g.D.Disk e f h (same_records file) read closed))
 
 -- a file that begins with an open gate, or with none, is not left as it was
 pub returns-then-gate-ne1-clause-closed : goal.returns-then-gate-ne1-clause-closed

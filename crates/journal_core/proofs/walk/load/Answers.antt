@@ -24,6 +24,6 @@ returns-clause-found g c file told =
       some = omega (arith, some, ap length found.2, length-entries 0 found.0);
       has = splits_has file c.in_ok-place.place found.0 found.1;
       entries_are = found.2;
-      holds = stores_at g.D.Disk.reads g.D.Disk.may_leave c.walk_gates.new.disk file c.in_ok-place.place (c.in_ok-place.place + 1) found.0 refl (c.walk_gates.ensures.quiet.told ∙ told_e)
+      holds = stores_at g.D.Disk c.walk_gates.new.disk file c.in_ok-place.place (c.in_ok-place.place + 1) found.0 refl (c.walk_gates.ensures.quiet.told ∙ told_e)
           (λ image left. only image (c.walk_gates.ensures.quiet.images image left)) found.1;
     }

@@ -41,7 +41,7 @@ loop-head-preserved g c =
     let room : at + 5 + len < c.args.end = subst (λ (h : Head). HeadEnds at c.args.end h) c.in-Open.is c.in-Ok.ensures.within in
     record {
       within = omega (arith, room);
-      quiet = only_reads_then g.D.Disk.reads g.D.Disk.may_leave g.D.Disk.clock g.D.Disk.may_have_left_since g.D.Disk.end c.args.disk.now c.loop-head.disk c.read_head.new.disk inv.quiet c.read_head.ensures.quiet;
+      quiet = only_reads_then g.D.Disk c.args.disk.now c.loop-head.disk c.read_head.new.disk inv.quiet c.read_head.ensures.quiet;
       each = subst (λ (l : List Record). All (λ (entry : Record). entry.at + 5 + entry.len ≤ at + (5 + len)) l) (sym c.in-Ok-push.ensures.items)
           (All-push (λ (entry : Record). entry.at + 5 + entry.len ≤ at + (5 + len)) c.loop-head.entries.items (record { at = at; len = len })
           (All-weaker (λ (entry : Record). entry.at + 5 + entry.len ≤ at) (λ (entry : Record). entry.at + 5 + entry.len ≤ at + (5 + len)) (λ entry le. omega (arith, le)) c.loop-head.entries.items inv.each)

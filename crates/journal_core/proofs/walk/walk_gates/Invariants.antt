@@ -9,7 +9,7 @@ use Rattle.journal_core.proofs.walk.walk_gates.Given as goal
 abbrev pub invariant-loop-head : goal.invariant-loop-head
 invariant-loop-head g l = record {
   within : l.at < l.end;
-  quiet : OnlyReads g.D.Disk.reads g.D.Disk.may_leave g.D.Disk.clock g.D.Disk.may_have_left_since g.D.Disk.end l.fn.disk l.disk;
+  quiet : OnlyReads g.D.Disk l.fn.disk l.disk;
   each : All (λ (entry : Record). entry.at + 5 + entry.len ≤ l.at) l.entries.items;
   in_turn : StandInTurn 0 l.entries.items (l.at + 1);
   faults : g.D.Disk.faults l.disk ≡ g.D.Disk.faults l.fn.disk;

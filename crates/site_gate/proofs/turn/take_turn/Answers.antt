@@ -7,7 +7,7 @@ pub returns-clause-turn : goal.returns-clause-turn
 returns-clause-turn g c =
     let H = g.H.Host in
     let A = g.A.Source in
-    did_turn H.honest H.faults H.calls H.launches H.dirs H.output H.exited A.left A.faults c.args.looks (site_says g.R.ScriptThread.stance (λ b. b.value.build))
+    did_turn H A c.args.looks (site_says g.R.ScriptThread.stance (λ b. b.value.build))
     (known c.args.pass.now) (known c.split.new.pass) (known c.in-Ok.own) (known c.work_through-worked.result.1) (known c.join.new.pass)
     c.args.member.now c.work_through-worked.new.member c.work_through-worked.result.0 c.in-Ok.ensures.split.1 c.work_through-worked.ensures.worked c.join.ensures.join
 

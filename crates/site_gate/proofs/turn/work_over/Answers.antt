@@ -13,11 +13,11 @@ returns-clause-worked g c =
     let old = c.new-gate.result in
     let now = c.work-worked.new.gate in
     let e = c.new-gate.ensures in
-    works_through H.honest H.faults H.calls H.launches H.dirs H.output H.exited A.left A.faults c.args.looks (site_says g.R.ScriptThread.stance (λ b. b.value.build))
+    works_through H A c.args.looks (site_says g.R.ScriptThread.stance (λ b. b.value.build))
     (known c.args.pass) (known c.into_pass.result) (known now.pass) c.args.member.now c.work-worked.new.member (calls_of now.calls.called.value) now.said now.is_open c.work-worked.result
     (tells_of (own_entries old.pass) (calls_of old.calls.called.value) old.said old.is_open) (tells_of (own_entries now.pass) (calls_of now.calls.called.value) now.said now.is_open)
     g.B.Place.numbers g.B.Place.number g.B.Place.parts g.B.Place.since c.requires.numbers c.requires.number c.requires.shared c.requires.since now.numbers now.shared (ap known c.into_pass.ensures.pass)
     (λ i. tells_of (own_entries (e.pass i)) (e.calls i) (e.said i) (e.closed i)) refl
-    (works_by H.honest H.faults H.calls H.launches H.dirs H.output H.exited A.left A.faults c.args.looks (λ gate. tells_of (own_entries gate.pass) (calls_of gate.calls.called.value) gate.said gate.is_open)
+    (works_by H A c.args.looks (λ gate. tells_of (own_entries gate.pass) (calls_of gate.calls.called.value) gate.said gate.is_open)
     c.args.member.now c.work-worked.new.member old now c.work-worked.result c.work-worked.ensures.works)
     now.answered

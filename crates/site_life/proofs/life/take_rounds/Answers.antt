@@ -15,7 +15,7 @@ loop-init g c =
     record {
       belongs = c.requires.belongs;
       whole = c.requires.whole;
-      so_far = no_round (DidTurn H.honest H.faults H.calls H.launches H.dirs H.output H.exited A.left A.faults c.args.looks) g.R.ScriptThread.stance (λ b. b.value.build) c.args.members.now (known c.args.pass.now);
+      so_far = no_round (DidTurn H A c.args.looks) g.R.ScriptThread.stance (λ b. b.value.build) c.args.members.now (known c.args.pass.now);
     }
 
 pub loop-preserved : goal.loop-preserved
@@ -31,7 +31,7 @@ loop-preserved g c =
     record {
       belongs = c.look-come.ensures.belongs;
       whole = saw.parts ∙ r.ensures.whole;
-      so_far = one_round (DidTurn H.honest H.faults H.calls H.launches H.dirs H.output H.exited A.left A.faults c.args.looks) stance (λ b. b.value.build) c.args.members.now (known c.args.pass.now)
+      so_far = one_round (DidTurn H A c.args.looks) stance (λ b. b.value.build) c.args.members.now (known c.args.pass.now)
           l.members c.take_round.new.members (known l.pass) u x c.look-come.result r.ensures.round saw (search rules) l.invariant.so_far;
     }
 
@@ -45,7 +45,7 @@ returns-then-not-goes_on-clause-rounds g c =
     let u = known c.take_round.new.pass in
     let x = known c.look-come.new.pass in
     let saw = saw_progress stance (λ b. b.value.build) u x c.look-come.result c.look-come.ensures.said in
-    last_round (DidTurn H.honest H.faults H.calls H.launches H.dirs H.output H.exited A.left A.faults c.args.looks) stance (λ b. b.value.build) c.args.members.now (known c.args.pass.now)
+    last_round (DidTurn H A c.args.looks) stance (λ b. b.value.build) c.args.members.now (known c.args.pass.now)
     l.members c.take_round.new.members (known l.pass) u x c.look-come.result r.ensures.round saw (search rules) l.invariant.so_far
 
 pub returns-in_err-take_round-clause-rounds : goal.returns-in_err-take_round-clause-rounds
@@ -55,7 +55,7 @@ returns-in_err-take_round-clause-rounds g c =
     let l = c.loop in
     let r = c.in_err-take_round in
     let stance = g.R.ScriptThread.stance in
-    let Did = DidTurn H.honest H.faults H.calls H.launches H.dirs H.output H.exited A.left A.faults c.args.looks in
+    let Did = DidTurn H A c.args.looks in
     on_refusal (λ how. TakesRounds Did (λ base history ask reply new. Says stance base.value.build history ask reply new) c.args.members.now c.take_round.new.members (known c.args.pass.now) (known c.take_round.new.pass) how)
     c.from_residual.result c.from_residual.ensures.0
     (λ memory. cut_round Did stance (λ b. b.value.build) c.args.members.now (known c.args.pass.now) l.members c.take_round.new.members (known l.pass) (known c.take_round.new.pass) memory r.ensures.round l.invariant.so_far)

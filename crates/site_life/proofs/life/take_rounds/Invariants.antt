@@ -12,5 +12,5 @@ invariant-loop g l =
     record {
       belongs : IsPassOf l.program l.pass;
       whole : (known l.pass).parts ≡ all_parts;
-      so_far : RoundsSoFar (DidTurn H.honest H.faults H.calls H.launches H.dirs H.output H.exited A.left A.faults l.looks) g.R.ScriptThread.stance (λ b. b.value.build) l.fn.members (known l.fn.pass) l.members (known l.pass);
+      so_far : RoundsSoFar (DidTurn H A l.looks) g.R.ScriptThread.stance (λ b. b.value.build) l.fn.members (known l.fn.pass) l.members (known l.pass);
     }

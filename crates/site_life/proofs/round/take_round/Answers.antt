@@ -14,7 +14,7 @@ loop-member-init g c =
     record {
       belongs = c.requires.belongs;
       whole = c.requires.whole;
-      so_far = no_turn (DidTurn H.honest H.faults H.calls H.launches H.dirs H.output H.exited A.left A.faults c.args.looks) (site_says g.R.ScriptThread.stance (λ b. b.value.build)) c.args.members.now (known c.args.pass.now);
+      so_far = no_turn (DidTurn H A c.args.looks) (site_says g.R.ScriptThread.stance (λ b. b.value.build)) c.args.members.now (known c.args.pass.now);
     }
 
 pub loop-member-preserved : goal.loop-member-preserved
@@ -27,7 +27,7 @@ loop-member-preserved g c =
     record {
       belongs = t.ensures.belongs;
       whole = t.ensures.whole l.invariant.whole;
-      so_far = turn_taken H.honest H.faults H.calls H.launches H.dirs H.output H.exited A.left A.faults c.args.looks g.R.ScriptThread.stance (λ b. b.value.build) c.args.members.now l.members l.member-index (known c.args.pass.now) (known l.pass) (known c.take_turn.new.pass)
+      so_far = turn_taken H A c.args.looks g.R.ScriptThread.stance (λ b. b.value.build) c.args.members.now l.members l.member-index (known c.args.pass.now) (known l.pass) (known c.take_turn.new.pass)
           (slice_index_or l.members l.member-index c.member-item.result) n c.member-item.result t.field-0 (search rules) refl t.ensures.turn l.invariant.so_far;
     }
 
@@ -38,7 +38,7 @@ returns-in_err-take_turn-clause-round g c =
     let l = c.loop-member in
     let t = c.in_err-take_turn in
     let n = c.take_turn.new.member in
-    let Did = DidTurn H.honest H.faults H.calls H.launches H.dirs H.output H.exited A.left A.faults c.args.looks in
+    let Did = DidTurn H A c.args.looks in
     on_refusal (λ how. TakesRound Did (site_says g.R.ScriptThread.stance (λ b. b.value.build)) c.args.members.now (slice_set l.members l.member-index n) (known c.args.pass.now) (known c.take_turn.new.pass) how) c.from_residual.result c.from_residual.ensures.0
     (λ memory. refused_turn Did (site_says g.R.ScriptThread.stance (λ b. b.value.build)) c.args.members.now l.members l.member-index (known c.args.pass.now) (known l.pass)
     (slice_index_or l.members l.member-index c.member-item.result) n c.member-item.result (known c.take_turn.new.pass) memory refl t.ensures.refused l.invariant.so_far)
@@ -48,4 +48,4 @@ returns-clause-round g c =
     let H = g.H.Host in
     let A = g.A.Source in
     let l = c.loop-member in
-    whole_round (DidTurn H.honest H.faults H.calls H.launches H.dirs H.output H.exited A.left A.faults c.args.looks) (site_says g.R.ScriptThread.stance (λ b. b.value.build)) c.args.members.now l.members l.member-index (known c.args.pass.now) (known l.pass) (search rules) l.invariant.so_far
+    whole_round (DidTurn H A c.args.looks) (site_says g.R.ScriptThread.stance (λ b. b.value.build)) c.args.members.now l.members l.member-index (known c.args.pass.now) (known l.pass) (search rules) l.invariant.so_far

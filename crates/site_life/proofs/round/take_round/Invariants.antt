@@ -13,5 +13,5 @@ invariant-loop-member g l =
     record {
       belongs : IsPassOf l.program l.pass;
       whole : (known l.pass).parts ≡ all_parts;
-      so_far : TurnsSoFar (DidTurn H.honest H.faults H.calls H.launches H.dirs H.output H.exited A.left A.faults l.looks) (site_says g.R.ScriptThread.stance (λ b. b.value.build)) l.fn.members l.members l.member-index (known l.fn.pass) (known l.pass);
+      so_far : TurnsSoFar (DidTurn H A l.looks) (site_says g.R.ScriptThread.stance (λ b. b.value.build)) l.fn.members l.members l.member-index (known l.fn.pass) (known l.pass);
     }

@@ -21,20 +21,20 @@ returns-in-Ok-clause-lives g c =
     let l = c.live_on.result in
     let site = c.in-Ok.site in
     let made = c.in-Ok.ensures.grants in
-    let life = same_start H.honest H.faults H.calls H.launches H.dirs H.output H.exited A.left A.faults c.args.looks _ site.base l.site.base c.args.members.now.items c.live_on.new.members.items l.site.history.items e.0 e.1 in
+    let life = same_start H A c.args.looks _ site.base l.site.base c.args.members.now.items c.live_on.new.members.items l.site.history.items e.0 e.1 in
     record {
-      opened = (made.0, made.1, made.2, subst (λ k. Facts D.reads D.may_leave D.clock D.may_have_left_since D.faults stance c.args.durable k made.0) (sym (ap (λ b. b.value) e.1.base_stays ∙ c.in-Ok.ensures.fresh.1)) made.3);
+      opened = (made.0, made.1, made.2, subst (λ k. Facts D stance c.args.durable k made.0) (sym (ap (λ b. b.value) e.1.base_stays ∙ c.in-Ok.ensures.fresh.1)) made.3);
       how = e.0;
       life = life;
       told = e.2;
-      heard = life_heard H.honest H.faults H.calls H.launches H.dirs H.output H.exited A.left A.faults c.args.looks stance (λ b. b.value.build) l.site.base l.site.base c.args.members.now.items c.live_on.new.members.items l.site.history.items e.0 life l.ended e.2;
-      whole = facts_all D.reads D.may_leave D.clock D.may_have_left_since D.faults stance c.args.durable site.durable l.site.durable made.0 l.site.history.items _ made.2 made.3
-          (known_from D.reads D.may_leave D.clock D.may_have_left_since D.faults stance (λ b. b.value) site.base l.site.base site.durable l.site.durable l.site.history.items _ e.1.base_stays c.in-Ok.ensures.fresh.1 l.site.stands);
+      heard = life_heard H A c.args.looks stance (λ b. b.value.build) l.site.base l.site.base c.args.members.now.items c.live_on.new.members.items l.site.history.items e.0 life l.ended e.2;
+      whole = facts_all D stance c.args.durable site.durable l.site.durable made.0 l.site.history.items _ made.2 made.3
+          (known_from D stance (λ b. b.value) site.base l.site.base site.durable l.site.durable l.site.history.items _ e.1.base_stays c.in-Ok.ensures.fresh.1 l.site.stands);
       comes = λ setting entry origin before events lasts.
-          life_ends D.reads D.may_leave D.clock D.may_have_left_since D.faults stance (g.met.D.Disk g.world.𝓛 g.world.𝓜 g.world.𝓡 ((λ s x. x), (λ x. x), (λ x. x), λ x. x)).told_image setting entry origin before events c.args.durable lasts made.0 made.1 site.durable made.3 made.2
-          H.honest H.faults H.calls H.launches H.dirs H.output H.exited A.left A.faults c.args.looks (λ b. b.value.build) l.site.base l.site.base c.args.members.now.items c.live_on.new.members.items l.site.history.items e.0 life
+          life_ends D stance (g.met.D.Disk g.world.𝓛 g.world.𝓜 g.world.𝓡 ((λ s x. x), (λ x. x), (λ x. x), λ x. x)).told_image setting entry origin before events c.args.durable lasts made.0 made.1 site.durable made.3 made.2
+          H A c.args.looks (λ b. b.value.build) l.site.base l.site.base c.args.members.now.items c.live_on.new.members.items l.site.history.items e.0 life
           (ap (λ b. b.value.build) e.1.base_stays ∙ ap (λ k. k.build) c.in-Ok.ensures.fresh.1) l.site.durable _
-          (known_from D.reads D.may_leave D.clock D.may_have_left_since D.faults stance (λ b. b.value) site.base l.site.base site.durable l.site.durable l.site.history.items _ e.1.base_stays c.in-Ok.ensures.fresh.1 l.site.stands)
+          (known_from D stance (λ b. b.value) site.base l.site.base site.durable l.site.durable l.site.history.items _ e.1.base_stays c.in-Ok.ensures.fresh.1 l.site.stands)
           l.ended e.2;
     }
 
@@ -47,7 +47,7 @@ returns-in-Ok-clause-served g c =
     let A = g.A.Source in
     let e = c.live_on.ensures.lives in
     let l = c.live_on.result in
-    life_serves H.honest H.faults H.calls H.launches H.dirs H.output H.exited A.left A.faults c.args.looks g.R.ScriptThread.stance (λ b. b.value.build) c.in-Ok.site.base l.site.base c.args.members.now.items c.live_on.new.members.items l.site.history.items e.0 e.1
+    life_serves H A c.args.looks g.R.ScriptThread.stance (λ b. b.value.build) c.in-Ok.site.base l.site.base c.args.members.now.items c.live_on.new.members.items l.site.history.items e.0 e.1
 
 pub returns-in-Ok-clause-keeps : goal.returns-in-Ok-clause-keeps
 returns-in-Ok-clause-keeps g c =
@@ -57,8 +57,8 @@ returns-in-Ok-clause-keeps g c =
     let l = c.live_on.result in
     let site = c.in-Ok.site in
     let made = c.in-Ok.ensures.grants in
-    rests_keep D.reads D.may_leave D.clock D.may_have_left_since D.faults stance c.args.durable site.durable l.site.durable made.0 l.site.history.items _ made.2 made.3
-    (known_from D.reads D.may_leave D.clock D.may_have_left_since D.faults stance (λ b. b.value) site.base l.site.base site.durable l.site.durable l.site.history.items _ e.1.base_stays c.in-Ok.ensures.fresh.1 l.site.stands)
+    rests_keep D stance c.args.durable site.durable l.site.durable made.0 l.site.history.items _ made.2 made.3
+    (known_from D stance (λ b. b.value) site.base l.site.base site.durable l.site.durable l.site.history.items _ e.1.base_stays c.in-Ok.ensures.fresh.1 l.site.stands)
     c.live_on.new.members.items e.0 l.ended e.2
 
 pub returns-in-Ok-clause-faults : goal.returns-in-Ok-clause-faults
@@ -67,7 +67,7 @@ returns-in-Ok-clause-faults g c =
     let stance = g.R.ScriptThread.stance in
     let e = c.live_on.ensures.lives in
     let l = c.live_on.result in
-    err_tells D.reads D.may_leave D.clock D.may_have_left_since D.faults stance l.site.base.value l.site.durable l.site.history.items _ c.live_on.new.members.items e.0 l.ended l.site.stands e.2
+    err_tells D stance l.site.base.value l.site.durable l.site.history.items _ c.live_on.new.members.items e.0 l.ended l.site.stands e.2
 
 pub returns-in-Ok-clause-failed : goal.returns-in-Ok-clause-failed
 returns-in-Ok-clause-failed g c = λ is.
@@ -82,23 +82,23 @@ returns-in-Ok-clause-disk g c =
     let l = c.live_on.result in
     let site = c.in-Ok.site in
     let made = c.in-Ok.ensures.grants in
-    disk_counts D.reads D.may_leave D.clock D.may_have_left_since D.faults stance c.args.durable site.durable l.site.durable made.0 l.site.history.items _ c.live_on.new.members.items e.0 l.ended made.3 made.2
-    (known_from D.reads D.may_leave D.clock D.may_have_left_since D.faults stance (λ b. b.value) site.base l.site.base site.durable l.site.durable l.site.history.items _ e.1.base_stays c.in-Ok.ensures.fresh.1 l.site.stands) e.2
+    disk_counts D stance c.args.durable site.durable l.site.durable made.0 l.site.history.items _ c.live_on.new.members.items e.0 l.ended made.3 made.2
+    (known_from D stance (λ b. b.value) site.base l.site.base site.durable l.site.durable l.site.history.items _ e.1.base_stays c.in-Ok.ensures.fresh.1 l.site.stands) e.2
 
 pub returns-in-Err-clause-refused : goal.returns-in-Err-clause-refused
 returns-in-Err-clause-refused g c =
     let D = g.D.Disk in
     let e = c.in-Err.ensures.refused in
-    (e.0, e.1, e.2, e.3, e.4, opening_tells D.reads D.may_leave D.clock D.may_have_left_since D.faults g.R.ScriptThread.stance c.args.durable e.1 e.0 _ e.2 e.3)
+    (e.0, e.1, e.2, e.3, e.4, opening_tells D g.R.ScriptThread.stance c.args.durable e.1 e.0 _ e.2 e.3)
 
 pub returns-in-Err-clause-breaks : goal.returns-in-Err-clause-breaks
 returns-in-Err-clause-breaks g c = λ setting entry origin before events lasts.
     let D = g.D.Disk in
     let e = c.in-Err.ensures.refused in
-    opening_refused D.reads D.may_leave D.clock D.may_have_left_since D.faults g.R.ScriptThread.stance (g.met.D.Disk g.world.𝓛 g.world.𝓜 g.world.𝓡 ((λ s x. x), (λ x. x), (λ x. x), λ x. x)).told_image setting entry origin before events c.args.durable lasts e.0 e.1 _ _ e.2 e.3 e.4
+    opening_refused D g.R.ScriptThread.stance (g.met.D.Disk g.world.𝓛 g.world.𝓜 g.world.𝓡 ((λ s x. x), (λ x. x), (λ x. x), λ x. x)).told_image setting entry origin before events c.args.durable lasts e.0 e.1 _ _ e.2 e.3 e.4
 
 pub returns-in-Err-clause-disk : goal.returns-in-Err-clause-disk
 returns-in-Err-clause-disk g c =
     let D = g.D.Disk in
     let e = c.in-Err.ensures.refused in
-    subst (λ d. CountsFault (D.faults c.args.durable.journal.disk) (D.faults d) (c.in-Err.refused.0 ≡ Disk)) (sym e.4) (opening_counts D.reads D.may_leave D.clock D.may_have_left_since D.faults g.R.ScriptThread.stance c.args.durable e.1 e.0 _ e.2 e.3)
+    subst (λ d. CountsFault (D.faults c.args.durable.journal.disk) (D.faults d) (c.in-Err.refused.0 ≡ Disk)) (sym e.4) (opening_counts D g.R.ScriptThread.stance c.args.durable e.1 e.0 _ e.2 e.3)

@@ -16,7 +16,7 @@ returns-in-Err g c =
     record {
       lives = (
         Err c.in-Err.field-0-0,
-        nothing_done H.honest H.faults H.calls H.launches H.dirs H.output H.exited A.left A.faults c.args.looks _ c.in-Err.field-0-0 _ _ c.args.members.now.items c.live_in_threads.new.members.items _ (ap (λ s. s.base) back.0) back.1 none,
+        nothing_done H A c.args.looks _ c.in-Err.field-0-0 _ _ c.args.members.now.items c.live_in_threads.new.members.items _ (ap (λ s. s.base) back.0) back.1 none,
         sym (ap (λ h. ended_as (kept_fault h) (Err c.in-Err.field-0-0) c.live_in_threads.new.members.items) none),
       );
     }

@@ -23,7 +23,7 @@ returns-in-Ok-None-clause-room g c kept = skip_kept c.args.line c.skip.result c.
 pub returns-in-Ok-None-clause-facts : goal.returns-in-Ok-None-clause-facts
 returns-in-Ok-None-clause-facts g c opening k =
     let D = g.D.Disk in
-    skipped_facts D.reads D.may_leave D.clock D.may_have_left_since D.faults g.R.ScriptThread.stance opening c.args.durable.now c.args.history.now.items c.requires.none k c.args.line c.skip.result c.skip.new.history.items c.skip.ensures.says
+    skipped_facts D g.R.ScriptThread.stance opening c.args.durable.now c.args.history.now.items c.requires.none k c.args.line c.skip.result c.skip.new.history.items c.skip.ensures.says
 
 pub returns-in-Err-clause-room : goal.returns-in-Err-clause-room
 returns-in-Err-clause-room g c kept = absurd (kept_behind c.args.history.now.items c.note_want.new.history.items (Failed Memory None ∷ []) Memory c.requires.none c.note_want.ensures refl kept)
@@ -31,5 +31,5 @@ returns-in-Err-clause-room g c kept = absurd (kept_behind c.args.history.now.ite
 pub returns-in-Err-clause-facts : goal.returns-in-Err-clause-facts
 returns-in-Err-clause-facts g c opening k =
     let D = g.D.Disk in
-    let e = facts_wanting D.reads D.may_leave D.clock D.may_have_left_since D.faults g.R.ScriptThread.stance opening c.args.durable.now c.args.history.now.items c.requires.none k in
+    let e = facts_wanting D g.R.ScriptThread.stance opening c.args.durable.now c.args.history.now.items c.requires.none k in
     rw (c.note_want.ensures) e

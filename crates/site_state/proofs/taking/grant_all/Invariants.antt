@@ -15,8 +15,8 @@ invariant-loop g l = record {
   room : length l.history.items < l.history.capacity;
   onward : (es : List Entry) × (l.history.items ≡ l.fn.history.items ++ es)
       × ((more : List Entry) → Grants g.R.ScriptThread.stance l.durable.build more → Grants g.R.ScriptThread.stance l.fn.durable.build (es ++ more));
-  facts : (opening : Kept g.row.D.Denot g.row.R.Denot) → Facts g.D.Disk.reads g.D.Disk.may_leave g.D.Disk.clock g.D.Disk.may_have_left_since g.D.Disk.faults g.R.ScriptThread.stance opening l.fn.durable l.fn.history.items
-      → Facts g.D.Disk.reads g.D.Disk.may_leave g.D.Disk.clock g.D.Disk.may_have_left_since g.D.Disk.faults g.R.ScriptThread.stance opening l.durable l.history.items;
+  facts : (opening : Kept g.row.D.Denot g.row.R.Denot) → Facts g.D.Disk g.R.ScriptThread.stance opening l.fn.durable l.fn.history.items
+      → Facts g.D.Disk g.R.ScriptThread.stance opening l.durable l.history.items;
 }
 
 abbrev pub decreases-loop : goal.decreases-loop

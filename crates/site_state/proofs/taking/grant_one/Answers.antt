@@ -12,5 +12,5 @@ returns-in-Err-clause-says g c = (Failed Memory None ∷ [], not_found, c.note_w
 pub returns-in-Err-clause-facts : goal.returns-in-Err-clause-facts
 returns-in-Err-clause-facts g c opening k =
     let D = g.D.Disk in
-    let e = facts_wanting D.reads D.may_leave D.clock D.may_have_left_since D.faults g.R.ScriptThread.stance opening c.args.durable.now c.args.history.now.items c.requires.none k in
+    let e = facts_wanting D g.R.ScriptThread.stance opening c.args.durable.now c.args.history.now.items c.requires.none k in
     rw (c.note_want.ensures) e

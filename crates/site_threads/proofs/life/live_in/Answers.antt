@@ -7,6 +7,6 @@ returns g c =
     let H = g.H.Host in
     let A = g.A.Source in
     record {
-      lives = λ start is. lives H.honest H.faults H.calls H.launches H.dirs H.output H.exited A.left A.faults c.args.looks g.R.ScriptThread.stance (λ b. b.value.build) _ _
+      lives = λ start is. lives H A c.args.looks g.R.ScriptThread.stance (λ b. b.value.build) _ _
           c.args.members.now.items c.live_over-how.new.members.items (known c.args.pass) (known c.live_over-how.new.pass) c.in-Ok.state start c.live_over-how.result is c.requires.first c.live_over-how.ensures.rounds c.in-Ok.ensures.ok;
     }

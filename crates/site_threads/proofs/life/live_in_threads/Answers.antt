@@ -12,7 +12,7 @@ returns-then-len-gt-MOST-clause-lives g c =
     let given = c.as_mut_slice.result.now in
     let new = c.live.new.members in
     ok_written c.args.members.now.len c.args.members.now.items given new (sym c.as_mut_slice.ensures.len) c.as_mut_slice.ensures.value
-    (λ old now r. Life H.honest H.faults H.calls H.launches H.dirs H.output H.exited A.left A.faults c.args.looks (λ base history ask reply new. Says g.R.ScriptThread.stance base.value.build history ask reply new) c.args.state.base r.0.base old now r.0.history.items r.1)
+    (λ old now r. Life H A c.args.looks (λ base history ask reply new. Says g.R.ScriptThread.stance base.value.build history ask reply new) c.args.state.base r.0.base old now r.0.history.items r.1)
     (λ r life. zip_length _ given new life.ways) c.live.result c.live.ensures.lives
 
 pub returns-then-len-gt-MOST-clause-back : goal.returns-then-len-gt-MOST-clause-back

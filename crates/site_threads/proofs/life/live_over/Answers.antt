@@ -11,7 +11,7 @@ returns-in-Ok-clause-rounds g c =
     let old = c.as_mut_slice.result.now in
     let new = c.take_rounds-how.new.seats in
     let whole = whole_slice c.in-Ok.seats.len c.in-Ok.seats.items new (sym (c.take_rounds-how.ensures.len ∙ c.as_mut_slice.ensures.len)) in
-    taken_of (DidTurn H.honest H.faults H.calls H.launches H.dirs H.output H.exited A.left A.faults c.args.looks) g.R.ScriptThread.stance (λ b. b.value.build)
+    taken_of (DidTurn H A c.args.looks) g.R.ScriptThread.stance (λ b. b.value.build)
     (map (λ seat. seat.member) old) c.args.members.now.items (map (λ seat. seat.member) new) c.unseat.new.members.items (known c.args.pass.now) (known c.take_rounds-how.new.pass) c.take_rounds-how.result
     (ap (map (λ seat. seat.member)) c.as_mut_slice.ensures.value ∙ c.in-Ok.ensures.members.0) (sym (c.unseat.ensures.members ∙ ap (map (λ seat. seat.member)) whole)) c.take_rounds-how.ensures.rounds
 
@@ -19,5 +19,5 @@ pub returns-in-Err-clause-rounds : goal.returns-in-Err-clause-rounds
 returns-in-Err-clause-rounds g c =
     let H = g.H.Host in
     let A = g.A.Source in
-    nothing_taken (DidTurn H.honest H.faults H.calls H.launches H.dirs H.output H.exited A.left A.faults c.args.looks) g.R.ScriptThread.stance (λ b. b.value.build)
+    nothing_taken (DidTurn H A c.args.looks) g.R.ScriptThread.stance (λ b. b.value.build)
     c.args.members.now.items c.seated.new.members.items (known c.args.pass.now) c.in-Err.memory c.in-Err.ensures.refused

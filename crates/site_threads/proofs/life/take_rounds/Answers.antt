@@ -18,7 +18,7 @@ loop-init g c =
       ready = c.requires.ready;
       len = refl;
       whole = c.requires.whole;
-      so_far = no_round (DidTurn H.honest H.faults H.calls H.launches H.dirs H.output H.exited A.left A.faults c.args.looks) g.R.ScriptThread.stance (λ b. b.value.build) (map (λ seat. seat.member) c.args.seats.now) (known c.args.pass.now);
+      so_far = no_round (DidTurn H A c.args.looks) g.R.ScriptThread.stance (λ b. b.value.build) (map (λ seat. seat.member) c.args.seats.now) (known c.args.pass.now);
     }
 
 pub take_round_in_threads-requires-clause-few : goal.take_round_in_threads-requires-clause-few
@@ -39,7 +39,7 @@ loop-preserved g c =
       ready = subst (λ table. AreReady table c.args.looks c.take_round_in_threads.new.seats) (r.ensures.same ∙ l.invariant.belongs ∙ sym c.look-come.ensures.belongs) r.ensures.ready;
       len = r.ensures.len ∙ l.invariant.len;
       whole = saw.parts ∙ r.ensures.whole;
-      so_far = one_round (DidTurn H.honest H.faults H.calls H.launches H.dirs H.output H.exited A.left A.faults c.args.looks) stance (λ b. b.value.build) (map (λ seat. seat.member) c.args.seats.now) (known c.args.pass.now)
+      so_far = one_round (DidTurn H A c.args.looks) stance (λ b. b.value.build) (map (λ seat. seat.member) c.args.seats.now) (known c.args.pass.now)
           (map (λ seat. seat.member) l.seats) (map (λ seat. seat.member) c.take_round_in_threads.new.seats) (known l.pass) u x c.look-come.result r.ensures.round saw (search rules) l.invariant.so_far;
     }
 
@@ -53,7 +53,7 @@ returns-then-not-goes_on-clause-rounds g c =
     let u = known c.take_round_in_threads.new.pass in
     let x = known c.look-come.new.pass in
     let saw = saw_progress stance (λ b. b.value.build) u x c.look-come.result c.look-come.ensures.said in
-    last_round (DidTurn H.honest H.faults H.calls H.launches H.dirs H.output H.exited A.left A.faults c.args.looks) stance (λ b. b.value.build) (map (λ seat. seat.member) c.args.seats.now) (known c.args.pass.now)
+    last_round (DidTurn H A c.args.looks) stance (λ b. b.value.build) (map (λ seat. seat.member) c.args.seats.now) (known c.args.pass.now)
     (map (λ seat. seat.member) l.seats) (map (λ seat. seat.member) c.take_round_in_threads.new.seats) (known l.pass) u x c.look-come.result r.ensures.round saw (search rules) l.invariant.so_far
 
 pub returns-in_err-take_round_in_threads-clause-rounds : goal.returns-in_err-take_round_in_threads-clause-rounds
@@ -63,7 +63,7 @@ returns-in_err-take_round_in_threads-clause-rounds g c =
     let l = c.loop in
     let r = c.in_err-take_round_in_threads in
     let stance = g.R.ScriptThread.stance in
-    let Did = DidTurn H.honest H.faults H.calls H.launches H.dirs H.output H.exited A.left A.faults c.args.looks in
+    let Did = DidTurn H A c.args.looks in
     on_refusal (λ how. TakesRounds Did (λ base history ask reply new. Says stance base.value.build history ask reply new) (map (λ seat. seat.member) c.args.seats.now) (map (λ seat. seat.member) c.take_round_in_threads.new.seats)
     (known c.args.pass.now) (known c.take_round_in_threads.new.pass) how)
     c.from_residual.result c.from_residual.ensures.0

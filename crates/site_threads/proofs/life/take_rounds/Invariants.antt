@@ -15,6 +15,6 @@ invariant-loop g l =
       ready : AreReady l.pass.seat.table_id l.looks l.seats;
       len : length l.seats ≡ length l.fn.seats;
       whole : (known l.pass).parts ≡ all_parts;
-      so_far : RoundsSoFar (DidTurn H.honest H.faults H.calls H.launches H.dirs H.output H.exited A.left A.faults l.looks) g.R.ScriptThread.stance (λ b. b.value.build) (map (λ seat. seat.member) l.fn.seats) (known l.fn.pass)
+      so_far : RoundsSoFar (DidTurn H A l.looks) g.R.ScriptThread.stance (λ b. b.value.build) (map (λ seat. seat.member) l.fn.seats) (known l.fn.pass)
           (map (λ seat. seat.member) l.seats) (known l.pass);
     }

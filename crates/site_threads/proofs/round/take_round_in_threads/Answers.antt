@@ -53,7 +53,7 @@ pub returns-in-Ok-clause-whole : goal.returns-in-Ok-clause-whole
 returns-in-Ok-clause-whole g c =
     let H = g.H.Host in
     let A = g.A.Source in
-    whole_again (λ k. DidTurn H.honest H.faults H.calls H.launches H.dirs H.output H.exited A.left A.faults k) g.R.ScriptThread.stance (λ b. b.value.build) (λ seat. seat.member) (λ seat. seat.pass) (λ seat. seat.looks) c.args.looks
+    whole_again (λ k. DidTurn H A k) g.R.ScriptThread.stance (λ b. b.value.build) (λ seat. seat.member) (λ seat. seat.pass) (λ seat. seat.looks) c.args.looks
     (map (λ seat. seat.pass) c.args.seats.now) c.hand_out.new.seats (known c.args.pass.now) (known c.hand_out.new.pass) (known c.take_in.new.pass) c.work_all.new.seats c.in-Ok.ensures.out
     (zip_weaker _ _ (λ a b r. r.2) c.hand_out.new.seats c.work_all.new.seats c.work_all.ensures.work)
     (subst (AllAre (λ own. own ≡ c.args.looks)) (sym c.hand_out.ensures.looks) c.requires.ready.looks) c.requires.ready.vacant c.take_in.ensures.taken
@@ -63,7 +63,7 @@ pub returns-in-Err-clause-whole : goal.returns-in-Err-clause-whole
 returns-in-Err-clause-whole g c =
     let H = g.H.Host in
     let A = g.A.Source in
-    whole_back (λ k. DidTurn H.honest H.faults H.calls H.launches H.dirs H.output H.exited A.left A.faults k) g.R.ScriptThread.stance (λ b. b.value.build) (λ seat. seat.member) (λ seat. seat.pass) (λ seat. seat.looks) c.args.looks
+    whole_back (λ k. DidTurn H A k) g.R.ScriptThread.stance (λ b. b.value.build) (λ seat. seat.member) (λ seat. seat.pass) (λ seat. seat.looks) c.args.looks
     (map (λ seat. seat.pass) c.args.seats.now) c.hand_out.new.seats (known c.args.pass.now) (known c.hand_out.new.pass) (known c.take_in-in-Err.new.pass) c.in-Err.memory c.in-Err.ensures.out c.requires.ready.vacant c.take_in-in-Err.ensures.taken
     ∙ c.requires.whole
 
@@ -71,18 +71,18 @@ pub returns-in-Ok-clause-round : goal.returns-in-Ok-clause-round
 returns-in-Ok-clause-round g c =
     let H = g.H.Host in
     let A = g.A.Source in
-    let round = whole_round (λ k. DidTurn H.honest H.faults H.calls H.launches H.dirs H.output H.exited A.left A.faults k) g.R.ScriptThread.stance (λ b. b.value.build) (λ seat. seat.member) (λ seat. seat.pass) (λ seat. seat.looks) c.args.looks
+    let round = whole_round (λ k. DidTurn H A k) g.R.ScriptThread.stance (λ b. b.value.build) (λ seat. seat.member) (λ seat. seat.pass) (λ seat. seat.looks) c.args.looks
     (map (λ seat. seat.pass) c.args.seats.now) c.hand_out.new.seats (known c.args.pass.now) (known c.hand_out.new.pass) (known c.take_in.new.pass) c.work_all.new.seats c.in-Ok.ensures.out
     (zip_weaker _ _ (λ a b r. r.2) c.hand_out.new.seats c.work_all.new.seats c.work_all.ensures.work)
     (subst (AllAre (λ own. own ≡ c.args.looks)) (sym c.hand_out.ensures.looks) c.requires.ready.looks) c.take_in.ensures.taken in
-    subst (λ olds. TakesRound (DidTurn H.honest H.faults H.calls H.launches H.dirs H.output H.exited A.left A.faults c.args.looks) (site_says g.R.ScriptThread.stance (λ b. b.value.build)) olds (map (λ seat. seat.member) c.take_in.new.seats) (known c.args.pass.now) (known c.take_in.new.pass) (Ok tt)) c.hand_out.ensures.members
-    (subst (λ news. TakesRound (DidTurn H.honest H.faults H.calls H.launches H.dirs H.output H.exited A.left A.faults c.args.looks) (site_says g.R.ScriptThread.stance (λ b. b.value.build)) (map (λ seat. seat.member) c.hand_out.new.seats) news (known c.args.pass.now) (known c.take_in.new.pass) (Ok tt)) (sym c.take_in.ensures.members) round)
+    subst (λ olds. TakesRound (DidTurn H A c.args.looks) (site_says g.R.ScriptThread.stance (λ b. b.value.build)) olds (map (λ seat. seat.member) c.take_in.new.seats) (known c.args.pass.now) (known c.take_in.new.pass) (Ok tt)) c.hand_out.ensures.members
+    (subst (λ news. TakesRound (DidTurn H A c.args.looks) (site_says g.R.ScriptThread.stance (λ b. b.value.build)) (map (λ seat. seat.member) c.hand_out.new.seats) news (known c.args.pass.now) (known c.take_in.new.pass) (Ok tt)) (sym c.take_in.ensures.members) round)
 
 pub returns-in-Err-clause-round : goal.returns-in-Err-clause-round
 returns-in-Err-clause-round g c =
     let H = g.H.Host in
     let A = g.A.Source in
-    let round = no_round (λ k. DidTurn H.honest H.faults H.calls H.launches H.dirs H.output H.exited A.left A.faults k) g.R.ScriptThread.stance (λ b. b.value.build) (λ seat. seat.member) (λ seat. seat.pass) (λ seat. seat.looks) c.args.looks
+    let round = no_round (λ k. DidTurn H A k) g.R.ScriptThread.stance (λ b. b.value.build) (λ seat. seat.member) (λ seat. seat.pass) (λ seat. seat.looks) c.args.looks
     (map (λ seat. seat.pass) c.args.seats.now) c.hand_out.new.seats (known c.args.pass.now) (known c.hand_out.new.pass) (known c.take_in-in-Err.new.pass) c.in-Err.memory c.in-Err.ensures.out c.requires.ready.vacant c.take_in-in-Err.ensures.taken in
-    subst (λ olds. TakesRound (DidTurn H.honest H.faults H.calls H.launches H.dirs H.output H.exited A.left A.faults c.args.looks) (site_says g.R.ScriptThread.stance (λ b. b.value.build)) olds (map (λ seat. seat.member) c.take_in-in-Err.new.seats) (known c.args.pass.now) (known c.take_in-in-Err.new.pass) (Err c.in-Err.memory)) c.hand_out.ensures.members
-    (subst (λ news. TakesRound (DidTurn H.honest H.faults H.calls H.launches H.dirs H.output H.exited A.left A.faults c.args.looks) (site_says g.R.ScriptThread.stance (λ b. b.value.build)) (map (λ seat. seat.member) c.hand_out.new.seats) news (known c.args.pass.now) (known c.take_in-in-Err.new.pass) (Err c.in-Err.memory)) (sym c.take_in-in-Err.ensures.members) round)
+    subst (λ olds. TakesRound (DidTurn H A c.args.looks) (site_says g.R.ScriptThread.stance (λ b. b.value.build)) olds (map (λ seat. seat.member) c.take_in-in-Err.new.seats) (known c.args.pass.now) (known c.take_in-in-Err.new.pass) (Err c.in-Err.memory)) c.hand_out.ensures.members
+    (subst (λ news. TakesRound (DidTurn H A c.args.looks) (site_says g.R.ScriptThread.stance (λ b. b.value.build)) (map (λ seat. seat.member) c.hand_out.new.seats) news (known c.args.pass.now) (known c.take_in-in-Err.new.pass) (Err c.in-Err.memory)) (sym c.take_in-in-Err.ensures.members) round)

@@ -21,7 +21,7 @@ returns-in-Ok-load-clause-opened g c = λ file told.
         some = o.some;
         has = o.has;
         keeps = record {
-          holds = still_holds D.reads D.may_leave D.clock D.may_have_left_since D.end c.in-Ok.journal c.load.new.journal o.payloads c.in-Ok-load.ensures.quiet c.in-Ok-load.ensures.same.0 o.holds;
+          holds = still_holds D c.in-Ok.journal c.load.new.journal o.payloads c.in-Ok-load.ensures.quiet c.in-Ok-load.ensures.same.0 o.holds;
           weighs = found.1;
           counted = c.len.ensures ∙ sym c.deref.ensures.len ∙ ap length (c.deref.ensures.value ∙ o.entries_are) ∙ length-entries 0 o.payloads;
           stands = found.0;
@@ -37,8 +37,8 @@ returns-in-Ok-load-clause-any_moment g c =
     let first = c.in-Ok.ensures.any_moment in
     let mid = c.in-Ok.journal.disk in
     let new = c.load.new.journal.disk in
-    runs_on D.clock D.may_have_left_since c.args.disk mid new (D.may_leave c.args.disk) first
-    (at_each_weaker D.clock D.may_have_left_since mid new (D.may_leave mid) (D.may_leave c.args.disk)
+    runs_on D c.args.disk mid new (D.may_leave c.args.disk) first
+    (at_each_weaker D mid new (D.may_leave mid) (D.may_leave c.args.disk)
     (λ image left. first.each image (g.met.D.Disk.counts_now mid (D.clock c.args.disk) image first.later left)) c.in-Ok-load.ensures.quiet.moments)
 
 pub returns-in-Ok-clause-opened : goal.returns-in-Ok-clause-opened

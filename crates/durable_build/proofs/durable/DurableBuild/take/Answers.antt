@@ -29,9 +29,9 @@ returns-in-Err-clause-keeps g c = λ ps keeps.
     let e = c.args.event.now in
     let accepted : c.in-Ok.answer ≡ Accepted = search rules in
     let running : i.stopped ≡ false = search rules in
-    let here : Keeps D.reads D.may_leave stance old ps = subst (λ (k : Kept g.row.D.Denot g.row.R.Denot). Keeps D.reads D.may_leave stance k ps) (sym c.self.view_is) keeps in
-    subst (λ (k : Kept g.row.D.Denot g.row.R.Denot). TakeKeeps D.reads D.may_leave D.clock D.may_have_left_since stance k new e ps (Err c.in-Err.fault)) c.self.view_is
-    (take_failed D.reads D.may_leave D.clock D.may_have_left_since stance old new e running (sym c.in-Ok.ensures.taken ∙ accepted) i.last.image (c.self.invariant.1 running).0 (c.in-Err.ensures.same.setting ∙ c.in-Ok.ensures.setting) (λ w st. c.in-Err.ensures.same.stands (W.after_one (setting_in i.build) w e) (c.in-Ok.ensures.stands w st)) c.in-Err.fault ps
+    let here : Keeps D stance old ps = subst (λ (k : Kept g.row.D.Denot g.row.R.Denot). Keeps D stance k ps) (sym c.self.view_is) keeps in
+    subst (λ (k : Kept g.row.D.Denot g.row.R.Denot). TakeKeeps D stance k new e ps (Err c.in-Err.fault)) c.self.view_is
+    (take_failed D stance old new e running (sym c.in-Ok.ensures.taken ∙ accepted) i.last.image (c.self.invariant.1 running).0 (c.in-Err.ensures.same.setting ∙ c.in-Ok.ensures.setting) (λ w st. c.in-Err.ensures.same.stands (W.after_one (setting_in i.build) w e) (c.in-Ok.ensures.stands w st)) c.in-Err.fault ps
     c.in-Err.ensures.adds here (λ no. (c.in-Err.ensures.image no).world))
 
 pub returns-clause-keeps : goal.returns-clause-keeps
@@ -45,13 +45,13 @@ returns-clause-keeps g c = λ ps keeps.
     let accepted : c.in-Ok.answer ≡ Accepted = search rules in
     let running : i.stopped ≡ false = search rules in
     let answered : taken (standing_of i.build) e ≡ Accepted = sym c.in-Ok.ensures.taken ∙ accepted in
-    let here : Keeps D.reads D.may_leave stance old ps = subst (λ (k : Kept g.row.D.Denot g.row.R.Denot). Keeps D.reads D.may_leave stance k ps) (sym c.self.view_is) keeps in
+    let here : Keeps D stance old ps = subst (λ (k : Kept g.row.D.Denot g.row.R.Denot). Keeps D stance k ps) (sym c.self.view_is) keeps in
     let may : MayStart (setting_in i.build) e =
     subst (λ (k : Kept g.row.D.Denot g.row.R.Denot). taken (standing_of k.build) e ≡ Accepted → MayStart (setting_in k.build) e) (sym c.self.view_is) c.requires.may_start answered in
-    let put = puts_of D.reads D.may_leave D.clock D.may_have_left_since stance old new e running answered i.last.image (c.self.invariant.1 running).0 (Ok c.in_default-add.field-0) ps c.in_default-add.ensures.adds here in
-    subst (λ (t : Taken). TakeKeeps D.reads D.may_leave D.clock D.may_have_left_since stance c.args.self.now new e ps (Ok t)) (sym accepted)
-    (subst (λ (k : Kept g.row.D.Denot g.row.R.Denot). Adds D.reads D.may_leave D.clock D.may_have_left_since stance k new e ps) c.self.view_is
-    (adds D.reads D.may_leave D.clock D.may_have_left_since stance old new e answered (c.in_default-add.ensures.same.setting ∙ c.in-Ok.ensures.setting) (λ w st. c.in_default-add.ensures.same.stands (W.after_one (setting_in i.build) w e) (c.in-Ok.ensures.stands w st)) (c.in_default-add.ensures.image (λ is. cc)).world ps
+    let put = puts_of D stance old new e running answered i.last.image (c.self.invariant.1 running).0 (Ok c.in_default-add.field-0) ps c.in_default-add.ensures.adds here in
+    subst (λ (t : Taken). TakeKeeps D stance c.args.self.now new e ps (Ok t)) (sym accepted)
+    (subst (λ (k : Kept g.row.D.Denot g.row.R.Denot). Adds D stance k new e ps) c.self.view_is
+    (adds D stance old new e answered (c.in_default-add.ensures.same.setting ∙ c.in-Ok.ensures.setting) (λ w st. c.in_default-add.ensures.same.stands (W.after_one (setting_in i.build) w e) (c.in-Ok.ensures.stands w st)) (c.in_default-add.ensures.image (λ is. cc)).world ps
     c.in-Ok-sources_of.sources here may c.in-Ok-sources_of.ensures (ap has_begun c.in_default-add.ensures.same.phase ∙ c.in-Ok.ensures.begun accepted) c.keep_sources.ensures.0 c.keep_sources.ensures.1 put.0 put.1 put.2 refl))
 
 pub returns-in-Err-clause-size : goal.returns-in-Err-clause-size
@@ -65,7 +65,7 @@ returns-in-Err-clause-size g c =
     let accepted : c.in-Ok.answer ≡ Accepted = search rules in
     let running : i.stopped ≡ false = search rules in
     subst (λ (k : Kept g.row.D.Denot g.row.R.Denot). IsSized stance k new e (Err c.in-Err.fault)) c.self.view_is
-    (take_sized D.reads D.may_leave D.clock D.may_have_left_since stance old new e running (sym c.in-Ok.ensures.taken ∙ accepted) i.last.image (c.self.invariant.1 running).0 (c.in-Err.ensures.same.setting ∙ c.in-Ok.ensures.setting) (λ w st. c.in-Err.ensures.same.stands (W.after_one (setting_in i.build) w e) (c.in-Ok.ensures.stands w st)) c.in-Err.fault (λ no. (c.in-Err.ensures.image no).world))
+    (take_sized D stance old new e running (sym c.in-Ok.ensures.taken ∙ accepted) i.last.image (c.self.invariant.1 running).0 (c.in-Err.ensures.same.setting ∙ c.in-Ok.ensures.setting) (λ w st. c.in-Err.ensures.same.stands (W.after_one (setting_in i.build) w e) (c.in-Ok.ensures.stands w st)) c.in-Err.fault (λ no. (c.in-Err.ensures.image no).world))
 
 pub returns-in-Err-clause-answers : goal.returns-in-Err-clause-answers
 returns-in-Err-clause-answers g c =
@@ -78,7 +78,7 @@ returns-in-Err-clause-answers g c =
     let accepted : c.in-Ok.answer ≡ Accepted = search rules in
     let running : i.stopped ≡ false = search rules in
     subst (λ (k : Kept g.row.D.Denot g.row.R.Denot). TakeAnswers stance k new e (Err c.in-Err.fault)) c.self.view_is
-    (take_answered D.reads D.may_leave D.clock D.may_have_left_since stance old new e running (sym c.in-Ok.ensures.taken ∙ accepted) i.last.image (c.self.invariant.1 running).0 c.in-Err.fault c.in-Err.ensures.adds)
+    (take_answered D stance old new e running (sym c.in-Ok.ensures.taken ∙ accepted) i.last.image (c.self.invariant.1 running).0 c.in-Err.fault c.in-Err.ensures.adds)
 
 pub returns-in-Err-clause-leaves : goal.returns-in-Err-clause-leaves
 returns-in-Err-clause-leaves g c =
@@ -91,7 +91,7 @@ returns-in-Err-clause-leaves g c =
     let accepted : c.in-Ok.answer ≡ Accepted = search rules in
     let running : i.stopped ≡ false = search rules in
     subst (λ (k : Kept g.row.D.Denot g.row.R.Denot). TakeLeaves stance k new e (Err c.in-Err.fault)) c.self.view_is
-    (take_left D.reads D.may_leave D.clock D.may_have_left_since stance old new e running (sym c.in-Ok.ensures.taken ∙ accepted) i.last.image (c.self.invariant.1 running).0 c.in-Err.fault refl refl c.in-Err.ensures.adds)
+    (take_left D stance old new e running (sym c.in-Ok.ensures.taken ∙ accepted) i.last.image (c.self.invariant.1 running).0 c.in-Err.fault refl refl c.in-Err.ensures.adds)
 
 pub returns-clause-leaves : goal.returns-clause-leaves
 returns-clause-leaves g c =
@@ -105,7 +105,7 @@ returns-clause-leaves g c =
     let running : i.stopped ≡ false = search rules in
     subst (λ (t : Taken). TakeLeaves stance c.args.self.now new e (Ok t)) (sym accepted)
     (subst (λ (k : Kept g.row.D.Denot g.row.R.Denot). TakeLeaves stance k new e (Ok Accepted)) c.self.view_is
-    (added_left D.reads D.may_leave D.clock D.may_have_left_since stance old new e running (sym c.in-Ok.ensures.taken ∙ accepted) i.last.image (c.self.invariant.1 running).0 tt running (ap has_begun c.in_default-add.ensures.same.phase ∙ c.in-Ok.ensures.begun accepted) refl c.in_default-add.ensures.adds))
+    (added_left D stance old new e running (sym c.in-Ok.ensures.taken ∙ accepted) i.last.image (c.self.invariant.1 running).0 tt running (ap has_begun c.in_default-add.ensures.same.phase ∙ c.in-Ok.ensures.begun accepted) refl c.in_default-add.ensures.adds))
 
 pub returns-clause-sources : goal.returns-clause-sources
 returns-clause-sources g c =

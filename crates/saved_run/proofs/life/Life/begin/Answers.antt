@@ -13,13 +13,13 @@ use Rattle.saved_run.proofs.life.Life.begin.Goals as goal
 pub returns-in_default-clause-begun : goal.returns-in_default-clause-begun
 returns-in_default-clause-begun g c = λ file told.
     let D = g.D.Disk in
-    (tt, inl (starts D.clock D.may_have_left_since c.args.disk (D.may_leave c.args.disk) (g.met.D.Disk.only_now c.args.disk)))
+    (tt, inl (starts D c.args.disk (D.may_leave c.args.disk) (g.met.D.Disk.only_now c.args.disk)))
 
 pub returns-in-Err-HasRecord-default-clause-begun : goal.returns-in-Err-HasRecord-default-clause-begun
 returns-in-Err-HasRecord-default-clause-begun g c = λ file told.
     let D = g.D.Disk in
     let e = c.in-Err-HasRecord-default in
-    let refused = subst (λ (f : CreateFault). CreateRefuses D.reads D.may_leave file e.disk f) e.field-0-0-is (e.ensures.created file told) in
+    let refused = subst (λ (f : CreateFault). CreateRefuses D file e.disk f) e.field-0-0-is (e.ensures.created file told) in
     (refused.0, refused.1, refused.2, since_started e.field-0-0 e.field-0-0-is (e.ensures.any_moment file told))
 
 pub returns-in-Err-Disk-default-clause-begun : goal.returns-in-Err-Disk-default-clause-begun
@@ -34,7 +34,7 @@ returns-in-Ok-take-clause-begun g c = λ file told.
     let is = c.in-Ok-create.ensures.fresh in
     let same : setting_in fresh.build ≡ setting = ap (λ (b : Parts g.row.R.Denot). setting_in b) is.0 ∙ c.in-Ok.ensures.setting in
     let stands = subst (λ (b : Parts g.row.R.Denot). StandsFor g.R.ScriptThread.stance b unbegun) (sym is.0) c.in-Ok.ensures.stands in
-    begins_taken D.reads D.may_leave D.clock D.may_have_left_since g.R.ScriptThread.stance setting c.args.script c.args.agents file c.args.disk fresh c.take.new.self c.requires.mean same stands made.0 made.1 made.2 (c.in-Ok-create.ensures.any_moment file told)
+    begins_taken D g.R.ScriptThread.stance setting c.args.script c.args.agents file c.args.disk fresh c.take.new.self c.requires.mean same stands made.0 made.1 made.2 (c.in-Ok-create.ensures.any_moment file told)
     c.in-Ok-take.field-0 (record { durable = c.take.new.self; has_answers = true }) refl c.in-Ok-take.ensures.answers.1 c.in-Ok-take.ensures.setting c.in-Ok-take.ensures.leaves c.in-Ok-take.ensures.stands (c.in-Ok-take.ensures.keeps [] made.2)
 
 pub returns-clause-begun : goal.returns-clause-begun
@@ -47,10 +47,10 @@ returns-clause-begun g c = λ file told.
     let same : setting_in fresh.build ≡ setting = ap (λ (b : Parts g.row.R.Denot). setting_in b) is.0 ∙ c.in-Ok.ensures.setting in
     let stands = subst (λ (b : Parts g.row.R.Denot). StandsFor g.R.ScriptThread.stance b unbegun) (sym is.0) c.in-Ok.ensures.stands in
     let first = StartEvent c.args.script c.args.agents in
-    start_refused D.reads D.may_leave D.clock D.may_have_left_since g.R.ScriptThread.stance setting first file c.args.disk _ c.in-Err.fault
+    start_refused D g.R.ScriptThread.stance setting first file c.args.disk _ c.in-Err.fault
     (start_faults g.R.ScriptThread.stance setting fresh c.take.new.self first c.in-Err.fault same stands is.1 is.2 c.in-Ok-create.ensures.counts.0 c.in-Err.ensures.answers c.in-Err.ensures.size)
-    (subst (λ (d : g.row.D.Denot). StartFails D.reads D.may_leave D.clock D.may_have_left_since g.R.ScriptThread.stance setting first file c.args.disk d c.in-Err.fault) (sym c.close.ensures)
-    (start_fails D.reads D.may_leave D.clock D.may_have_left_since g.R.ScriptThread.stance setting c.args.script c.args.agents file c.args.disk fresh c.take.new.self c.requires.mean same stands made.0 made.1 made.2 (c.in-Ok-create.ensures.any_moment file told)
+    (subst (λ (d : g.row.D.Denot). StartFails D g.R.ScriptThread.stance setting first file c.args.disk d c.in-Err.fault) (sym c.close.ensures)
+    (start_fails D g.R.ScriptThread.stance setting c.args.script c.args.agents file c.args.disk fresh c.take.new.self c.requires.mean same stands made.0 made.1 made.2 (c.in-Ok-create.ensures.any_moment file told)
     c.in-Err.fault is.1 c.in-Err.ensures.answers c.in-Err.ensures.leaves (c.in-Err.ensures.keeps [] made.2)))
 
 pub returns-in-Ok-take-clause-made : goal.returns-in-Ok-take-clause-made

@@ -18,7 +18,7 @@ returns-in-Ok-clause-rested g c = c.in-Ok.ensures.rested
 pub returns-in-Err-clause-rested : goal.returns-in-Err-clause-rested
 returns-in-Err-clause-rested g c = λ setting entry origin before first events so.
     let D = g.D.Disk in
-    broken_stopped D.reads D.may_leave D.clock D.may_have_left_since g.R.ScriptThread.stance setting entry origin before first (g.A.Source.left c.run.new.answers) c.in-Err.fault c.run.new.self _
+    broken_stopped D g.R.ScriptThread.stance setting entry origin before first (g.A.Source.left c.run.new.answers) c.in-Err.fault c.run.new.self _
     (ap (λ (k : Kept g.row.D.Denot g.row.R.Denot). k.journal) c.stop.ensures) (ap (λ (k : Kept g.row.D.Denot g.row.R.Denot). k.weights) c.stop.ensures) (c.in-Err.ensures.rested setting entry origin before first events so)
 
 pub returns-in-Err-clause-faults : goal.returns-in-Err-clause-faults
@@ -26,5 +26,4 @@ returns-in-Err-clause-faults g c = λ running. tells_stopped g.R.ScriptThread.st
 
 pub returns-in-Err-clause-disk : goal.returns-in-Err-clause-disk
 returns-in-Err-clause-disk g c =
-    let faults = g.D.Disk.faults in
-    subst (λ (k : Kept g.row.D.Denot g.row.R.Denot). CountsFault (faults c.args.self.now.durable.journal.disk) (faults k.journal.disk) (IsErrOf {T = Rest} (Err c.in-Err.fault) Disk)) (sym c.stop.ensures) c.in-Err.ensures.disk
+    subst (λ (k : Kept g.row.D.Denot g.row.R.Denot). CountsFault (g.D.Disk.faults c.args.self.now.durable.journal.disk) (g.D.Disk.faults k.journal.disk) (IsErrOf {T = Rest} (Err c.in-Err.fault) Disk)) (sym c.stop.ensures) c.in-Err.ensures.disk

@@ -5,7 +5,7 @@ pub returns-in-Ok-clause-stands : goal.returns-in-Ok-clause-stands
 returns-in-Ok-clause-stands g c = λ file told.
     let D = g.D.Disk in
     let opened = c.in-Ok.ensures.opened file told in
-    (opened.1, λ setting events stores. reopened D.reads D.may_leave D.clock D.may_have_left_since g.R.ScriptThread.stance setting events file c.in-Ok.durable opened.0 c.in-Ok.ensures.running stores)
+    (opened.1, λ setting events stores. reopened D g.R.ScriptThread.stance setting events file c.in-Ok.durable opened.0 c.in-Ok.ensures.running stores)
 
 pub returns-in-Ok-clause-opened : goal.returns-in-Ok-clause-opened
 returns-in-Ok-clause-opened g c = λ file told. (c.in-Ok.ensures.opened file told).0

@@ -9,7 +9,7 @@ pub returns-in-Ok-Some-clause-rested : goal.returns-in-Ok-Some-clause-rested
 returns-in-Ok-Some-clause-rested g c = λ setting entry origin before first events so.
     let D = g.D.Disk in
     let here = c.loop.invariant.so_far setting entry origin before first events so in
-    subst (λ (o : Option Rest). Turned D.reads D.may_leave D.clock D.may_have_left_since g.R.ScriptThread.stance setting entry origin before first (g.A.Source.left c.turn.new.answers) o c.turn.new.self) c.in-Ok-Some.field-0-is (c.in-Ok-Some.ensures.turned setting entry origin before first here.0 here.1)
+    subst (λ (o : Option Rest). Turned D g.R.ScriptThread.stance setting entry origin before first (g.A.Source.left c.turn.new.answers) o c.turn.new.self) c.in-Ok-Some.field-0-is (c.in-Ok-Some.ensures.turned setting entry origin before first here.0 here.1)
 
 pub returns-in-Err-clause-rested : goal.returns-in-Err-clause-rested
 returns-in-Err-clause-rested g c = λ setting entry origin before first events so.
@@ -34,6 +34,6 @@ loop-preserved g c =
       running = c.in-Ok-None.ensures.runs c.loop.invariant.running;
       so_far = λ setting entry origin before first events so.
           let here = c.loop.invariant.so_far setting entry origin before first events so in
-          let turned = subst (λ (o : Option Rest). Turned D.reads D.may_leave D.clock D.may_have_left_since g.R.ScriptThread.stance setting entry origin before first (g.A.Source.left c.turn.new.answers) o c.turn.new.self) none (c.in-Ok-None.ensures.turned setting entry origin before first here.0 here.1) in
-          (turned.events, goes_further D.reads D.may_leave D.clock D.may_have_left_since g.R.ScriptThread.stance setting entry origin before first (g.A.Source.left c.loop.answers) here.0 c.loop.self c.turn.new.self (g.A.Source.left c.turn.new.answers) turned);
+          let turned = subst (λ (o : Option Rest). Turned D g.R.ScriptThread.stance setting entry origin before first (g.A.Source.left c.turn.new.answers) o c.turn.new.self) none (c.in-Ok-None.ensures.turned setting entry origin before first here.0 here.1) in
+          (turned.events, goes_further D g.R.ScriptThread.stance setting entry origin before first (g.A.Source.left c.loop.answers) here.0 c.loop.self c.turn.new.self (g.A.Source.left c.turn.new.answers) turned);
     }

@@ -12,6 +12,6 @@ invariant-loop g l = record {
   disk : g.D.Disk.faults l.self.durable.journal.disk ≡ g.D.Disk.faults l.fn.self.durable.journal.disk;
   running : l.self.durable.stopped ≡ false;
   so_far : (setting : Setting) (entry : Option (List ℕ)) (origin : g.row.D.Denot) (before : List Event) (first : Option (List ℕ)) (events : List Event)
-      → SoFar g.D.Disk.reads g.D.Disk.may_leave g.D.Disk.clock g.D.Disk.may_have_left_since g.R.ScriptThread.stance setting entry origin before first (g.A.Source.left l.fn.answers) [] events l.fn.self
-      → (now : List Event) × SoFar g.D.Disk.reads g.D.Disk.may_leave g.D.Disk.clock g.D.Disk.may_have_left_since g.R.ScriptThread.stance setting entry origin before first (g.A.Source.left l.answers) [] now l.self;
+      → SoFar g.D.Disk g.R.ScriptThread.stance setting entry origin before first (g.A.Source.left l.fn.answers) [] events l.fn.self
+      → (now : List Event) × SoFar g.D.Disk g.R.ScriptThread.stance setting entry origin before first (g.A.Source.left l.answers) [] now l.self;
 }

@@ -15,7 +15,7 @@ returns-in_default-clause-turned g c = λ setting entry origin before first even
     let w = world_in setting events in
     let at = subst (λ (b : Parts g.row.R.Denot). StandsFor g.R.ScriptThread.stance b w) (sym c.build-build.ensures.is) so.lasts.goes.stands in
     let going : w.ended ≡ false = sym (c.has_ended.ensures.world w at) ∙ c.if-has_ended.false in
-    breaks D.reads D.may_leave D.clock D.may_have_left_since g.R.ScriptThread.stance setting entry origin before first (g.A.Source.left c.args.answers.now) events c.args.self.now Memory c.args.self.now so going (wanting D.reads D.may_leave D.clock D.may_have_left_since g.R.ScriptThread.stance setting entry origin before (IsCaused setting events (g.A.Source.left c.args.answers.now) []) events c.args.self.now.durable so.lasts)
+    breaks D g.R.ScriptThread.stance setting entry origin before first (g.A.Source.left c.args.answers.now) events c.args.self.now Memory c.args.self.now so going (wanting D g.R.ScriptThread.stance setting entry origin before (IsCaused setting events (g.A.Source.left c.args.answers.now) []) events c.args.self.now.durable so.lasts)
 
 pub returns-in_default-due-clause-turned : goal.returns-in_default-due-clause-turned
 returns-in_default-due-clause-turned g c = λ setting entry origin before first events so.
@@ -37,7 +37,7 @@ returns-in-Ok-take-clause-turned g c = λ setting entry origin before first even
     let same : setting_in c.build-build.result.now ≡ setting = ap (λ (b : Parts g.row.R.Denot). setting_in b) c.build-build.ensures.is ∙ so.lasts.goes.same in
     let due : next_grant setting w ≡ Some (c.in-Some.request, c.in-Some.executor) = subst (λ (s : Setting). next_grant s w ≡ Some (c.in-Some.request, c.in-Some.executor)) same (sym (c.in-Ok.ensures.world w at) ∙ c.in-Some.is) in
     let accepted = grant_accepted setting so.lasts.goes.proper events so.lasts.goes.begun going c.in-Some.request c.in-Some.executor due in
-    turns_granted D.reads D.may_leave D.clock D.may_have_left_since g.R.ScriptThread.stance setting entry origin before first (g.A.Source.left c.args.answers.now) events c.args.self.now c.in-Some.request c.in-Some.executor c.take.new.self so going due c.in-Ok-take.ensures.has_answers
+    turns_granted D g.R.ScriptThread.stance setting entry origin before first (g.A.Source.left c.args.answers.now) events c.args.self.now c.in-Some.request c.in-Some.executor c.take.new.self so going due c.in-Ok-take.ensures.has_answers
     (c.in-Ok-take.ensures.takes setting entry origin before events so.lasts accepted due)
 
 pub returns-clause-turned : goal.returns-clause-turned
@@ -49,5 +49,5 @@ returns-clause-turned g c = λ setting entry origin before first events so.
     let same : setting_in c.build-build.result.now ≡ setting = ap (λ (b : Parts g.row.R.Denot). setting_in b) c.build-build.ensures.is ∙ so.lasts.goes.same in
     let due : next_grant setting w ≡ Some (c.in-Some.request, c.in-Some.executor) = subst (λ (s : Setting). next_grant s w ≡ Some (c.in-Some.request, c.in-Some.executor)) same (sym (c.in-Ok.ensures.world w at) ∙ c.in-Some.is) in
     let accepted = grant_accepted setting so.lasts.goes.proper events so.lasts.goes.begun going c.in-Some.request c.in-Some.executor due in
-    breaks D.reads D.may_leave D.clock D.may_have_left_since g.R.ScriptThread.stance setting entry origin before first (g.A.Source.left c.args.answers.now) events c.args.self.now c.in-Err.fault c.take.new.self so going
-    (granted_by D.reads D.may_leave D.clock D.may_have_left_since g.R.ScriptThread.stance setting entry origin before events (g.A.Source.left c.args.answers.now) c.in-Some.request c.in-Some.executor c.in-Err.fault c.take.new.self.durable due (c.in-Err.ensures.takes setting entry origin before events so.lasts accepted due))
+    breaks D g.R.ScriptThread.stance setting entry origin before first (g.A.Source.left c.args.answers.now) events c.args.self.now c.in-Err.fault c.take.new.self so going
+    (granted_by D g.R.ScriptThread.stance setting entry origin before events (g.A.Source.left c.args.answers.now) c.in-Some.request c.in-Some.executor c.in-Err.fault c.take.new.self.durable due (c.in-Err.ensures.takes setting entry origin before events so.lasts accepted due))

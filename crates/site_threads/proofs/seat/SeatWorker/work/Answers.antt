@@ -14,7 +14,7 @@ returns g c =
     let e = c.work_through-pass.ensures in (
       refl,
       refl,
-      serves_seat (DidTurn H.honest H.faults H.calls H.launches H.dirs H.output H.exited A.left A.faults me.looks) (site_says g.R.ScriptThread.stance (λ b. b.value.build)) me.pass c.in-Some.pass c.work_through-pass.result.1 me.member c.work_through-pass.new.member is
+      serves_seat (DidTurn H A me.looks) (site_says g.R.ScriptThread.stance (λ b. b.value.build)) me.pass c.in-Some.pass c.work_through-pass.result.1 me.member c.work_through-pass.new.member is
           (e.belongs ∙ sym (me.belongs c.in-Some.pass is))
-          (λ fresh. served H.honest H.faults H.calls H.launches H.dirs H.output H.exited A.left A.faults me.looks (site_says g.R.ScriptThread.stance (λ b. b.value.build)) (known c.in-Some.pass) (known c.work_through-pass.result.1) me.member c.work_through-pass.new.member c.work_through-pass.result.0 fresh e.worked),
+          (λ fresh. served H A me.looks (site_says g.R.ScriptThread.stance (λ b. b.value.build)) (known c.in-Some.pass) (known c.work_through-pass.result.1) me.member c.work_through-pass.new.member c.work_through-pass.result.0 fresh e.worked),
     )
