@@ -1,6 +1,6 @@
 -- The operator's work, after one call on the gate more.
 use Rattle.std.proofs.Common.{◌≡◌, ◌⊎◌, ◌++◌, ◌∷◌, ◌||◌, [], ℕ, List, Bool, true, false, Option, Some, None, Result, Ok, inl, inr, sym, ap, subst, ◌∙◌, refl, append_assoc, append-nil}
-use Rattle.agent_worker.specs.declared.fault.TakeFault.{TakeFault}
+use Rattle.journal_core.specs.declared.faults.TakeFault.{TakeFault}
 use Rattle.agent_worker.specs.declared.gate.Heard.{Heard}
 use Rattle.agent_worker.specs.declared.gate.Inputs.{Inputs}
 use Rattle.agent_worker.specs.declared.gate.GateCall.TheVariants as gate_call

@@ -6,8 +6,8 @@ use Rattle.agent_worker.specs.declared.gate.GateCall.{GateCall}
 use Rattle.agent_worker.specs.declared.gate.Said.{Said}
 use Rattle.agent_worker.specs.declared.gate.Said.TheVariants as says
 use Rattle.agent_worker.specs.declared.gate.GateCall.TheVariants as gate_call
-use Rattle.agent_worker.specs.declared.fault.TakeFault.{TakeFault}
-use Rattle.agent_worker.specs.declared.fault.TakeFault.TheVariants as take_fault
+use Rattle.journal_core.specs.declared.faults.TakeFault.{TakeFault}
+use Rattle.journal_core.specs.declared.faults.TakeFault.TheVariants as take_fault
 use Rattle.agent_worker.specs.declared.task.Served.{Served}
 use Rattle.agent_worker.specs.declared.task.Served.TheVariants as served
 use Rattle.agent_worker.specs.Types.{Event, OutputEvent, Taken, Accepted, NotOpen, WrongPlace, Finished, Order, Stream, Log, Out, Call}

@@ -9,7 +9,7 @@ use Rattle.agent_worker.specs.declared.gate.GateCall.{GateCall}
 use Rattle.agent_worker.specs.declared.gate.Said.{Said}
 use Rattle.agent_worker.specs.declared.gate.Said.TheVariants as says
 use Rattle.agent_worker.specs.declared.gate.GateCall.TheVariants as gate_call
-use Rattle.agent_worker.specs.declared.fault.TakeFault.{TakeFault}
+use Rattle.journal_core.specs.declared.faults.TakeFault.{TakeFault}
 use Rattle.agent_worker.specs.Types.{Event, Taken, Order, Stream, Call, Look}
 use Rattle.agent_worker.specs.Gate.{Told, told_as, Adds, AddsTold, is_told, added_if}
 use Rattle.agent_worker.specs.Acts.{Act, Called, Reported, with_calls, with_told, with_reports, looked, unreported, bytes_of}

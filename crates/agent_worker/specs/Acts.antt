@@ -3,7 +3,7 @@ use Rattle.std.specs.Prelude.{◌≡◌, ◌⊎◌, ◌∷◌, ◌++◌, ◌+◌
 use Rattle.agent_worker.specs.Types.{Event, StartEvent, GrantedEvent, OutputEvent, ExitedEvent, LostEvent, DecidedEvent, Taken, LogStream, OutStream}
 use Rattle.agent_worker.specs.Types.{EventStream, Order, Stream, Log, Out, Call, Look, Made, Started}
 use Rattle.task_host.specs.declared.call.Call.TheVariants as call
-use Rattle.agent_worker.specs.declared.fault.TakeFault.{TakeFault}
+use Rattle.journal_core.specs.declared.faults.TakeFault.{TakeFault}
 use Rattle.agent_worker.specs.declared.gate.GateCall.{GateCall}
 use Rattle.agent_worker.specs.declared.gate.GateCall.TheVariants as gate_call
 use Rattle.agent_worker.specs.declared.gate.Said.{Said}

@@ -1,8 +1,8 @@
 -- What a call adds to the lists that a gate or a host tells. What is told after a call was told before it.
 use Rattle.std.specs.Prelude.{◌≡◌, ◌∷◌, ◌++◌, [], List, ℕ, Bool, true, false, Option, Some, None, IsSome, IsSomeAnd, Result, Ok, Err, if◌then◌else◌}
 use Rattle.agent_worker.specs.Types.{Order, Event, DecidedEvent, Taken, Accepted, NotOpen, WrongPlace, Finished}
-use Rattle.agent_worker.specs.declared.fault.TakeFault.{TakeFault}
-use Rattle.agent_worker.specs.declared.fault.TakeFault.TheVariants as fault
+use Rattle.journal_core.specs.declared.faults.TakeFault.{TakeFault}
+use Rattle.journal_core.specs.declared.faults.TakeFault.TheVariants as fault
 use Rattle.agent_worker.specs.declared.gate.Claim.{Claim}
 use Rattle.agent_worker.specs.declared.gate.Claim.TheVariants as claim
 use Rattle.agent_worker.specs.declared.gate.ClaimSaid.{ClaimSaid}

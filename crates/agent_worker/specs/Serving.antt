@@ -6,8 +6,8 @@ use Rattle.agent_worker.specs.Types.{Why, Order, Stream}
 use Rattle.task_host.specs.declared.call.Call.TheVariants as call
 use Rattle.task_host.specs.declared.answers.Made.TheVariants as made
 use Rattle.task_host.specs.declared.answers.Started.TheVariants as start
-use Rattle.agent_worker.specs.declared.fault.TakeFault.{TakeFault}
-use Rattle.agent_worker.specs.declared.fault.TakeFault.TheVariants as take_fault
+use Rattle.journal_core.specs.declared.faults.TakeFault.{TakeFault}
+use Rattle.journal_core.specs.declared.faults.TakeFault.TheVariants as take_fault
 use Rattle.agent_worker.specs.declared.task.Served.{Served}
 use Rattle.agent_worker.specs.declared.task.Served.TheVariants as served
 use Rattle.agent_worker.specs.Sizes.{piece_size}

@@ -4,7 +4,7 @@ use Rattle.task_host.specs.Host.{GoesOn}
 use Rattle.task_host.specs.declared.answers.Made.TheVariants as made
 use Rattle.task_host.specs.declared.answers.Started.TheVariants as start
 use Rattle.agent_worker.specs.Types.{Event, Taken, Order, Call}
-use Rattle.agent_worker.specs.declared.fault.TakeFault.{TakeFault}
+use Rattle.journal_core.specs.declared.faults.TakeFault.{TakeFault}
 use Rattle.agent_worker.specs.declared.gate.GateCall.{GateCall}
 use Rattle.agent_worker.specs.declared.gate.GateCall.TheVariants as gate_call
 use Rattle.agent_worker.specs.declared.gate.Said.{Said}

@@ -4,7 +4,7 @@ ghost use Rattle.std.specs.Prelude.{◌≡◌, ◌<◌, ℕ, true, false, ◌||�
 ghost use Rattle.model_run.specs.declared.event.Event.{Event};
 ghost use Rattle.agent_worker.specs.Gate.{GateTells, claim_said, Stays, Adds, AddsTold, AddsLine, AddsClaim, AddsDecided};
 
-use crate::TakeFault;
+use journal_core::TakeFault;
 use model_run::{Event, Taken};
 use model_text::Bytes;
 use task_host::Order;

@@ -20,7 +20,6 @@
 
 mod answer_line;
 mod executor;
-mod fault;
 mod gate;
 mod member;
 mod operator;
@@ -30,7 +29,6 @@ mod turn;
 mod worked;
 
 pub use answer_line::{AnswerLine, answer_of};
-pub use fault::TakeFault;
 pub use gate::{Claim, ClaimSaid, Gate, GateCall, Heard, Inputs, Said};
 pub use member::{Member, work};
 pub use operator::{LineEnd, answer_in, read_line};

@@ -7,8 +7,9 @@ ghost use Rattle.agent_worker.specs.AnswerBytes.{short, NoNewline, read_bytes, w
 ghost use Rattle.agent_worker.specs.Gate.{GateTells};
 ghost use Rattle.agent_worker.specs.Operating.{Ask, ReadLine, OperatesSoFar, GivesLine, Operates};
 
-use crate::{Gate, TakeFault, Worked};
+use crate::{Gate, Worked};
 use device_faults::Failed;
+use journal_core::TakeFault;
 use jp_io::Source;
 use model_text::Bytes;
 use std::alloc::{AllocError, Global};

@@ -9,7 +9,8 @@ ghost use Rattle.agent_worker.specs.Serve.{Seen, seen, KeepsGate};
 ghost use Rattle.agent_worker.specs.Standing.{Stands, Tells};
 ghost use Rattle.agent_worker.specs.Reading.{ReadsPiece, ReadsThrough};
 
-use crate::{Gate, Served, TakeFault};
+use crate::{Gate, Served};
+use journal_core::TakeFault;
 use model_run::{Event, Taken};
 use model_text::Bytes;
 use std::alloc::Global;

@@ -1,7 +1,7 @@
 -- Why a build was not begun, and of what it is begun.
 use Rattle.std.proofs.Common.{◌≡◌, ℕ, List, [], ◌∷◌, Option, None, Some, refl}
 use Rattle.std.specs.Prelude.{IsSome}
-use Rattle.agent_worker.specs.declared.fault.TakeFault.TheVariants as take
+use Rattle.journal_core.specs.declared.faults.TakeFault.TheVariants as take
 use Rattle.model_syntax.specs.declared.tree.Tree.{Tree}
 use Rattle.model_run.specs.declared.event.Event.{Event}
 use Rattle.model_run.specs.declared.site.Site.{Site}

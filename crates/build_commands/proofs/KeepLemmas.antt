@@ -11,8 +11,8 @@ use Rattle.site_run.specs.Lower.store_laws.Store.{Told as TellsRecords, events_o
 use Rattle.site_run.proofs.Lower.store_laws.Payloads.{image_behind_more, image_of_last, told_append, told_last}
 use Rattle.site_run.proofs.Lower.durable_build.TakeLemmas.{stands_last}
 use Rattle.program_lock.specs.declared.program.Memory.{Memory as NoMemory}
-use Rattle.agent_worker.specs.declared.fault.TakeFault.{TakeFault}
-use Rattle.agent_worker.specs.declared.fault.TakeFault.TheVariants as take
+use Rattle.journal_core.specs.declared.faults.TakeFault.{TakeFault}
+use Rattle.journal_core.specs.declared.faults.TakeFault.TheVariants as take
 use Rattle.agent_worker.specs.declared.member.Member.{Member}
 use Rattle.agent_worker.specs.Gate.{Told, told_at}
 use Rattle.model_run.specs.declared.event.Event.{Event}

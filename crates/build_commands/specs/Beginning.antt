@@ -3,8 +3,8 @@ use Rattle.std.specs.Prelude.{◌≡◌, ℕ, ℤ, List, [], ◌∷◌, Option, 
 use Rattle.device_faults.specs.Faults.{CountsFault}
 use Rattle.journal_core.specs.Answers.{IsStarted}
 use Rattle.journal_core.specs.Moments.{SinceSync}
-use Rattle.agent_worker.specs.declared.fault.TakeFault.{TakeFault}
-use Rattle.agent_worker.specs.declared.fault.TakeFault.TheVariants.{Disk, Full}
+use Rattle.journal_core.specs.declared.faults.TakeFault.{TakeFault}
+use Rattle.journal_core.specs.declared.faults.TakeFault.TheVariants.{Disk, Full}
 use Rattle.model_syntax.specs.declared.tree.Tree.{Tree}
 use Rattle.model_run.specs.declared.event.Event.TheVariants.{Start as StartEvent}
 use Rattle.model_run.specs.declared.site.Site.{Site}

@@ -2,7 +2,7 @@
 use Rattle.std.specs.Prelude.{◌≡◌, ◌⊎◌, ◌+◌, ◌<◌, ◌^◌, ℕ, false, List, [], ◌∷◌, ◌++◌, Option, Some, None, true, IfSome, IsSome, IsSomeAnd, Result, Ok, Err}
 use Rattle.device_faults.specs.Faults.{Rose}
 use Rattle.jp_disk.specs.Runs.{AtEachMoment}
-use Rattle.agent_worker.specs.declared.fault.TakeFault.{TakeFault}
+use Rattle.journal_core.specs.declared.faults.TakeFault.{TakeFault}
 use Rattle.model_run.specs.declared.event.Event.{Event}
 use Rattle.image_form.specs.declared.image.Image.{Image}
 use Rattle.model_run.specs.State.{Setting}

@@ -3,8 +3,8 @@ use Rattle.std.specs.Prelude.{◌≡◌, ◌⊎◌, ℕ, List, string_bytes}
 use Rattle.build_commands.specs.declared.refusal.Refusal.{Refusal}
 use Rattle.build_commands.specs.declared.refusal.Refusal.TheVariants.{ReadFailed, AgentsRefused, TooLong, ScriptRefused, DiskFailed, OutOfMemory, HasBuild, NoBuild, Damaged, Full}
 use Rattle.build_commands.specs.Texts.{damaged_text, disk_failed_text, full_text, has_build_text, no_build_text, out_of_memory_text}
-use Rattle.agent_worker.specs.declared.fault.TakeFault.{TakeFault}
-use Rattle.agent_worker.specs.declared.fault.TakeFault.TheVariants as take
+use Rattle.journal_core.specs.declared.faults.TakeFault.{TakeFault}
+use Rattle.journal_core.specs.declared.faults.TakeFault.TheVariants as take
 use Rattle.run_command.specs.Texts.{read_failed_text, too_long_text}
 use Rattle.site_run.specs.Lower.durable_build.declared.faults.StoreFault.{StoreFault}
 use Rattle.site_run.specs.Lower.durable_build.declared.faults.StoreFault.TheVariants as fault

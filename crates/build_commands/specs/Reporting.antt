@@ -10,7 +10,7 @@ use Rattle.site_run.specs.Lower.record_form.declared.record.EventRecord.{EventRe
 use Rattle.model_run.specs.declared.event.Event.{Event}
 use Rattle.model_run.specs.State.{Setting}
 use Rattle.site_run.specs.Lower.store_laws.Store.{Told, events_of, last_image}
-use Rattle.agent_worker.specs.declared.fault.TakeFault.TheVariants.{Full}
+use Rattle.journal_core.specs.declared.faults.TakeFault.TheVariants.{Full}
 use Rattle.site_run.specs.Lower.delta_records.declared.weights.Weights.{Weights}
 use Rattle.site_run.specs.Lower.durable_build.Kinds.{weights_of}
 use Rattle.site_run.specs.Lower.durable_build.Standing.{Closing, IsWhole, Opening}

@@ -1,7 +1,7 @@
 -- The tasks that were claimed in a life stand in each image that a crash may leave behind it.
 use Rattle.std.proofs.Common.{◌≡◌, ◌⊎◌, ◌∙◌, inl, inr, ℕ, ℤ, true, List, [], ◌∷◌, ◌++◌, Option, Some, None, Result, Ok, Err, refl, sym, ap, subst, append_assoc, append-nil}
 use Rattle.std.specs.Prelude.{IsSome, IsSomeAnd}
-use Rattle.agent_worker.specs.declared.fault.TakeFault.{TakeFault}
+use Rattle.journal_core.specs.declared.faults.TakeFault.{TakeFault}
 use Rattle.agent_worker.specs.declared.member.Member.{Member}
 use Rattle.site_run.specs.Lower.durable_build.Standing.{Kept}
 use Rattle.site_run.proofs.Lower.durable_build.OpenLemmas.{begun_all}

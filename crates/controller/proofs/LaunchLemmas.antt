@@ -11,7 +11,7 @@ use Rattle.launch_laws.specs.Fitting.{AllFit, ExecutorHost, all_launches}
 use Rattle.launch_laws.proofs.HostLaws.{fit_each, numbered_apart}
 use Rattle.launch_laws.proofs.LifeLaws.{none_yet}
 use Rattle.model_syntax.specs.declared.tree.Tree.{Tree}
-use Rattle.agent_worker.specs.declared.fault.TakeFault.TheVariants as take
+use Rattle.journal_core.specs.declared.faults.TakeFault.TheVariants as take
 use Rattle.model_run.specs.declared.event.Event.TheVariants.{Start as StartEvent}
 use Rattle.model_run.specs.declared.site.Site.{Site}
 use Rattle.build_commands.specs.Lower.script_run.Standing.{IsProper, script_setting}

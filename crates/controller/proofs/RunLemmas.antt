@@ -11,8 +11,8 @@ use Rattle.jp_disk.proofs.MomentLemmas.{runs_on, at_each_weaker, starts}
 use Rattle.journal_core.specs.Answers.{IsStarted}
 use Rattle.journal_core.specs.Moments.{SinceSync}
 use Rattle.journal_core.specs.Records.{Has, records}
-use Rattle.agent_worker.specs.declared.fault.TakeFault.{TakeFault}
-use Rattle.agent_worker.specs.declared.fault.TakeFault.TheVariants as take
+use Rattle.journal_core.specs.declared.faults.TakeFault.{TakeFault}
+use Rattle.journal_core.specs.declared.faults.TakeFault.TheVariants as take
 use Rattle.model_syntax.specs.declared.tree.Tree.{Tree}
 use Rattle.model_run.specs.declared.event.Event.{Event}
 use Rattle.model_run.specs.declared.event.Event.TheVariants.{Start as StartEvent}

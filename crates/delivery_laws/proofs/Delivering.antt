@@ -34,7 +34,7 @@ use Rattle.model_run.specs.World.{world_in}
 use Rattle.site_run.specs.Lower.script_run.declared.rest.Rest.{Rest}
 use Rattle.site_run.specs.Lower.script_run.Standing.{IsProper}
 use Rattle.settle_laws.specs.Stances.{Stance}
-use Rattle.agent_worker.specs.declared.fault.TakeFault.{TakeFault}
+use Rattle.journal_core.specs.declared.faults.TakeFault.{TakeFault}
 use Rattle.site_run.specs.Lower.site_gate.Tales.{claimed_of, is_grant, tells_of, told_of}
 use Rattle.site_run.proofs.Lower.site_gate.PartLemmas.{all_map}
 use Rattle.site_run.specs.Lower.site_life.Coming.{EachIs}

@@ -1,9 +1,9 @@
 //! Tests over hosts, gates and sources in memory.
 
 use agent_worker::{
-    Claim, ClaimSaid, Gate, Heard, Inputs, Member, Said, Served, TakeFault, Worked, answer_of,
-    serve, work,
+    Claim, ClaimSaid, Gate, Heard, Inputs, Member, Said, Served, Worked, answer_of, serve, work,
 };
+use journal_core::TakeFault;
 use jp_io::MemorySource;
 use model_run::{Event, Stream as EventStream, Taken, Why};
 use std::alloc::{AllocError, Global};

@@ -15,8 +15,8 @@ use Rattle.delta_records.specs.Payloads.{payload_form}
 use Rattle.delta_records.specs.declared.payload.Payload.{Payload}
 use Rattle.delta_records.specs.declared.weights.Weights.{Weights}
 use Rattle.model_run.specs.declared.event.Event.{Event}
-use Rattle.agent_worker.specs.declared.fault.TakeFault.{TakeFault}
-use Rattle.agent_worker.specs.declared.fault.TakeFault.TheVariants.{Memory, Disk, Full, Stopped}
+use Rattle.journal_core.specs.declared.faults.TakeFault.{TakeFault}
+use Rattle.journal_core.specs.declared.faults.TakeFault.TheVariants.{Memory, Disk, Full, Stopped}
 use Rattle.store_laws.specs.Store.{last_image, record_at, record_with}
 use Rattle.store_laws.proofs.Payloads.{payload_spelled}
 use Rattle.durable_build.specs.Kinds.{weights_of, weights_with}

@@ -22,8 +22,8 @@ use Rattle.store_laws.proofs.Payloads.{told_image}
 use Rattle.store_laws.proofs.Tellings.{one_record}
 use Rattle.store_laws.proofs.Stories.{Apart, apart, events-more, world-more, story_front, IsStart}
 use Rattle.store_laws.proofs.Starts.{only_start, no_second_start}
-use Rattle.agent_worker.specs.declared.fault.TakeFault.{TakeFault}
-use Rattle.agent_worker.specs.declared.fault.TakeFault.TheVariants.{Memory, Disk, Full, Stopped}
+use Rattle.journal_core.specs.declared.faults.TakeFault.{TakeFault}
+use Rattle.journal_core.specs.declared.faults.TakeFault.TheVariants.{Memory, Disk, Full, Stopped}
 use Rattle.durable_build.specs.declared.store.Sources.{Sources}
 use Rattle.build_images.specs.Images.{world_image, image_in}
 use Rattle.durable_build.specs.Kinds.{weights_of}

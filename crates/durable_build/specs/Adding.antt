@@ -24,8 +24,8 @@ use Rattle.build_images.specs.Lower.build_core.Builds.{Parts, StandsFor, setting
 use Rattle.build_images.specs.Fronts.{ThreadsStand}
 use Rattle.build_images.specs.Images.{image_in}
 use Rattle.model_run.specs.declared.event.Event.{Event}
-use Rattle.agent_worker.specs.declared.fault.TakeFault.{TakeFault}
-use Rattle.agent_worker.specs.declared.fault.TakeFault.TheVariants.{Memory, Disk, Full, Stopped}
+use Rattle.journal_core.specs.declared.faults.TakeFault.{TakeFault}
+use Rattle.journal_core.specs.declared.faults.TakeFault.TheVariants.{Memory, Disk, Full, Stopped}
 use Rattle.store_laws.specs.Store.{last_image}
 use Rattle.durable_build.specs.Kinds.{is_whole_due, weights_of, weights_with}
 use Rattle.durable_build.specs.Taking.{IsDue, Puts, added}

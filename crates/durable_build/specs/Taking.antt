@@ -23,8 +23,8 @@ use Rattle.settle_laws.specs.Stances.{Stance}
 use Rattle.build_images.specs.Lower.build_core.Builds.{Parts, StandsFor, setting_in, standing_of}
 use Rattle.build_images.specs.Lower.build_core.Phases.{has_begun}
 use Rattle.store_laws.specs.Store.{Mean, last_image, record_at, record_with}
-use Rattle.agent_worker.specs.declared.fault.TakeFault.{TakeFault}
-use Rattle.agent_worker.specs.declared.fault.TakeFault.TheVariants.{Memory, Disk, Full, Stopped}
+use Rattle.journal_core.specs.declared.faults.TakeFault.{TakeFault}
+use Rattle.journal_core.specs.declared.faults.TakeFault.TheVariants.{Memory, Disk, Full, Stopped}
 use Rattle.durable_build.specs.declared.store.Sources.{Sources}
 use Rattle.build_images.specs.Images.{world_image, image_in}
 use Rattle.durable_build.specs.Kinds.{is_whole_due, weights_of, weights_with}

@@ -10,13 +10,13 @@ ghost use Rattle.durable_build.specs.Adding.{IsDueDelta, MarksChanges};
 ghost use Rattle.durable_build.specs.Standing.{BeginsWhole};
 
 use crate::store::Last;
-use agent_worker::TakeFault;
 use build_images::build_core::Build;
 use build_images::image_changes::{Now, NowThread, changes_between};
 use build_images::saved_thread::SavedThread;
 use build_images::threads_now;
 use delta_records::delta_form::Delta;
 use image_form::Image;
+use journal_core::TakeFault;
 use std::alloc::{AllocError, Global};
 
 /// What changed from the image of the last record, where the next record is to hold that alone; `None` where it is to

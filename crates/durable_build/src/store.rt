@@ -23,7 +23,6 @@ ghost use Rattle.durable_build.specs.Standing.{BeginsWhole};
 ghost use Rattle.durable_build.specs.Taking.{IsSource, kept_script, kept_agents};
 
 use crate::changes::due_changes;
-use agent_worker::TakeFault;
 use build_images::build_core::Build;
 use build_images::image_of;
 use build_images::saved_thread::SavedThread;
@@ -31,7 +30,7 @@ use delta_records::delta_form::Delta;
 use delta_records::record_form::{Measured, record_size, write_record};
 use delta_records::{Payload, Weights, next_image, write_payload};
 use image_form::Image;
-use journal_core::{AppendFault, Journal};
+use journal_core::{AppendFault, Journal, TakeFault};
 use jp_disk::Disk;
 use model_run::{Event, Taken};
 use model_text::{Bytes, Sequence};

@@ -24,7 +24,7 @@ mod prepare;
 mod record;
 mod walk;
 
-pub use faults::{AppendFault, CreateFault, OpenFault, ReadFault};
+pub use faults::{AppendFault, CreateFault, OpenFault, ReadFault, TakeFault};
 pub use journal::Journal;
 pub use jp_disk::Bytes;
 pub use record::Record;

@@ -9,7 +9,7 @@ use Rattle.task_host.specs.Host.{GoesOn}
 use Rattle.task_host.specs.declared.order.Order.{Order}
 use Rattle.task_host.specs.declared.order.Stream.{Stream}
 use Rattle.task_host.specs.declared.order.Stream.TheVariants.{Log, Out}
-use Rattle.agent_worker.specs.declared.fault.TakeFault.{TakeFault}
+use Rattle.journal_core.specs.declared.faults.TakeFault.{TakeFault}
 use Rattle.agent_worker.specs.Acts.{Act, Called, Reported, WasDone, accepted, kept, kept_before, named, is_named, output_in, with_told}
 use Rattle.agent_worker.specs.Causes.{Gave}
 use Rattle.agent_worker.specs.Delivering.{Delivers, StandsFrom}

@@ -14,8 +14,8 @@ use Rattle.journal_core.specs.declared.faults.CreateFault.{CreateFault}
 use Rattle.journal_core.specs.declared.faults.CreateFault.TheVariants.{Disk as CreateDisk, HasRecord}
 use Rattle.durable_build.specs.Lower.record_form.Records.{record_of}
 use Rattle.durable_build.specs.Lower.record_form.declared.record.EventRecord.{EventRecord}
-use Rattle.agent_worker.specs.declared.fault.TakeFault.{TakeFault}
-use Rattle.agent_worker.specs.declared.fault.TakeFault.TheVariants.{Memory, Disk, Full, Stopped}
+use Rattle.journal_core.specs.declared.faults.TakeFault.{TakeFault}
+use Rattle.journal_core.specs.declared.faults.TakeFault.TheVariants.{Memory, Disk, Full, Stopped}
 use Rattle.model_run.specs.declared.agents.AgentsKind.TheVariants as kind
 use Rattle.model_run.specs.declared.event.Event.{Event}
 use Rattle.model_run.specs.declared.event.Event.TheVariants as event

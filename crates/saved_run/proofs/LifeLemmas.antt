@@ -8,8 +8,8 @@ use Rattle.journal_core.specs.State.{State}
 use Rattle.journal_core.proofs.RecordLemmas.{has_framed}
 use Rattle.journal_core.proofs.StepLemmas.{stores_has}
 use Rattle.durable_build.specs.Lower.record_form.Records.{record_of}
-use Rattle.agent_worker.specs.declared.fault.TakeFault.{TakeFault}
-use Rattle.agent_worker.specs.declared.fault.TakeFault.TheVariants.{Memory, Disk, Full, Stopped}
+use Rattle.journal_core.specs.declared.faults.TakeFault.{TakeFault}
+use Rattle.journal_core.specs.declared.faults.TakeFault.TheVariants.{Memory, Disk, Full, Stopped}
 use Rattle.model_run.specs.declared.event.Event.{Event}
 use Rattle.model_run.specs.declared.taken.Taken.{Taken}
 use Rattle.model_run.specs.declared.taken.Taken.TheVariants.{Accepted, NotOpen, WrongPlace, Finished}

@@ -12,8 +12,8 @@ use Rattle.task_host.specs.declared.order.Order.{Order}
 use Rattle.settle_laws.specs.Stances.{Stance}
 use Rattle.site_state.specs.Lower.build_core.Builds.{Parts}
 use Rattle.program_lock.specs.Legal.{IsRun, IsLegal}
-use Rattle.agent_worker.specs.declared.fault.TakeFault.{TakeFault}
-use Rattle.agent_worker.specs.declared.fault.TakeFault.TheVariants.{Memory, Disk, Full, Stopped}
+use Rattle.journal_core.specs.declared.faults.TakeFault.{TakeFault}
+use Rattle.journal_core.specs.declared.faults.TakeFault.TheVariants.{Memory, Disk, Full, Stopped}
 use Rattle.agent_worker.specs.declared.gate.Heard.{Heard}
 use Rattle.agent_worker.specs.declared.gate.Heard.TheVariants.{Decided, Skipped}
 use Rattle.agent_worker.specs.declared.gate.Claim.{Claim}

@@ -7,8 +7,8 @@ use Rattle.model_run.specs.declared.taken.Taken.{Taken}
 use Rattle.model_run.specs.declared.taken.Taken.TheVariants.{Accepted, NotOpen, WrongPlace, Finished}
 use Rattle.settle_laws.specs.Stances.{Stance}
 use Rattle.site_state.specs.Lower.build_core.Builds.{Parts}
-use Rattle.agent_worker.specs.declared.fault.TakeFault.{TakeFault}
-use Rattle.agent_worker.specs.declared.fault.TakeFault.TheVariants.{Memory, Disk, Full, Stopped}
+use Rattle.journal_core.specs.declared.faults.TakeFault.{TakeFault}
+use Rattle.journal_core.specs.declared.faults.TakeFault.TheVariants.{Memory, Disk, Full, Stopped}
 use Rattle.agent_worker.specs.Gate.{Told, told_at, told_as, is_told, added_if, Claimed as ClaimedTask}
 use Rattle.site_state.specs.declared.ask.Entry.{Entry}
 use Rattle.site_state.specs.declared.ask.Entry.TheVariants.{Took, Claimed, Line, Failed}

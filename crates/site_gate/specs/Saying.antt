@@ -4,7 +4,7 @@ use Rattle.program_lock.specs.declared.view.Known.{Known}
 use Rattle.program_lock.specs.History.{entries, numbered, NoneUnder}
 use Rattle.model_run.specs.declared.taken.Taken.TheVariants.{NotOpen}
 use Rattle.program_lock.specs.Legal.{Answers}
-use Rattle.agent_worker.specs.declared.fault.TakeFault.TheVariants.{Memory}
+use Rattle.journal_core.specs.declared.faults.TakeFault.TheVariants.{Memory}
 use Rattle.agent_worker.specs.declared.gate.GateCall.{GateCall}
 use Rattle.agent_worker.specs.declared.gate.GateCall.TheVariants.{Claim, Report, Inputs, Answer, Halt}
 use Rattle.site_state.specs.declared.ask.Ask.{Ask}

@@ -7,7 +7,8 @@ ghost use Rattle.std.specs.Prelude.{◌≡◌};
 ghost use Rattle.site_gate.specs.Asking.{WasCalled, IsTaken, IsClaimed, IsInputs, IsHeard};
 ghost use Rattle.site_gate.specs.Tales.{is_of_task};
 
-use agent_worker::{Claim, Heard, Inputs, TakeFault};
+use agent_worker::{Claim, Heard, Inputs};
+use journal_core::TakeFault;
 use jp_disk::Disk;
 use model_run::{Event, Taken};
 use model_text::Bytes;

@@ -5,8 +5,8 @@ use Rattle.std.specs.Prelude.{if◌then◌else◌}
 use Rattle.model_run.specs.declared.event.Event.{Event}
 use Rattle.task_host.specs.declared.call.Call.{Call}
 use Rattle.task_host.specs.declared.order.Stream.{Stream}
-use Rattle.agent_worker.specs.declared.fault.TakeFault.{TakeFault}
-use Rattle.agent_worker.specs.declared.fault.TakeFault.TheVariants.{Memory, Disk, Full, Stopped}
+use Rattle.journal_core.specs.declared.faults.TakeFault.{TakeFault}
+use Rattle.journal_core.specs.declared.faults.TakeFault.TheVariants.{Memory, Disk, Full, Stopped}
 use Rattle.agent_worker.specs.declared.gate.Heard.{Heard}
 use Rattle.agent_worker.specs.declared.gate.Heard.TheVariants.{Decided, Skipped}
 use Rattle.agent_worker.specs.declared.gate.GateCall.{GateCall}

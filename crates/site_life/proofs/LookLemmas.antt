@@ -6,7 +6,7 @@ use Rattle.program_lock.specs.Calls.{Steps}
 use Rattle.program_lock.proofs.EntryLemmas.{entries_of-step}
 use Rattle.settle_laws.specs.Stances.{Stance}
 use Rattle.site_gate.specs.Lower.build_core.Builds.{Parts}
-use Rattle.agent_worker.specs.declared.fault.TakeFault.{TakeFault}
+use Rattle.journal_core.specs.declared.faults.TakeFault.{TakeFault}
 use Rattle.site_gate.specs.Lower.site_state.declared.ask.Ask.{Ask}
 use Rattle.site_gate.specs.Lower.site_state.declared.ask.Ask.TheVariants.{Look}
 use Rattle.site_gate.specs.Lower.site_state.declared.ask.Entry.{Entry}

@@ -8,7 +8,7 @@ use Rattle.settle_laws.specs.Stances.{Stance}
 use Rattle.site_gate.specs.Lower.build_core.Builds.{Parts}
 use Rattle.task_host.specs.declared.call.Call.{Call}
 use Rattle.task_host.specs.declared.order.Stream.{Stream}
-use Rattle.agent_worker.specs.declared.fault.TakeFault.{TakeFault}
+use Rattle.journal_core.specs.declared.faults.TakeFault.{TakeFault}
 use Rattle.agent_worker.specs.declared.gate.Claim.{Claim}
 use Rattle.agent_worker.specs.declared.gate.GateCall.{GateCall}
 use Rattle.agent_worker.specs.declared.gate.GateCall.TheVariants as gate_call

@@ -3,7 +3,7 @@ use Rattle.std.specs.Prelude.{◌≡◌, ℕ, Bool, true, false, List, [], ◌�
 use Rattle.program_lock.specs.History.{has, entries}
 use Rattle.model_run.specs.declared.event.Event.{Event}
 use Rattle.model_run.specs.declared.event.Event.TheVariants.{Start, Granted, Output, Exited, Lost, Decided as DecidedEvent}
-use Rattle.agent_worker.specs.declared.fault.TakeFault.{TakeFault}
+use Rattle.journal_core.specs.declared.faults.TakeFault.{TakeFault}
 use Rattle.agent_worker.specs.declared.gate.Heard.TheVariants.{Decided}
 use Rattle.site_gate.specs.Lower.site_state.declared.ask.Ask.{Ask}
 use Rattle.site_gate.specs.Lower.site_state.declared.ask.Ask.TheVariants.{Answer}

@@ -9,8 +9,8 @@ use Rattle.program_lock.specs.declared.program.Memory.{Memory}
 use Rattle.program_lock.specs.Legal.{Answers}
 use Rattle.task_host.specs.declared.call.Call.{Call}
 use Rattle.task_host.specs.declared.order.Stream.{Stream}
-use Rattle.agent_worker.specs.declared.fault.TakeFault.{TakeFault}
-use Rattle.agent_worker.specs.declared.fault.TakeFault.TheVariants as take
+use Rattle.journal_core.specs.declared.faults.TakeFault.{TakeFault}
+use Rattle.journal_core.specs.declared.faults.TakeFault.TheVariants as take
 use Rattle.agent_worker.specs.declared.member.Member.{Member}
 use Rattle.image_form.specs.declared.image.Image.{Image}
 use Rattle.saved_run.specs.Lower.durable_build.Standing.{Kept}

@@ -8,8 +8,8 @@ use Rattle.jp_disk.specs.Runs.{AtEachMoment}
 use Rattle.jp_disk.proofs.MomentLemmas.{runs_on, at_each_weaker}
 use Rattle.journal_core.specs.Records.{Has, framed}
 use Rattle.saved_run.specs.Lower.record_form.declared.record.EventRecord.{EventRecord}
-use Rattle.agent_worker.specs.declared.fault.TakeFault.{TakeFault}
-use Rattle.agent_worker.specs.declared.fault.TakeFault.TheVariants.{Disk}
+use Rattle.journal_core.specs.declared.faults.TakeFault.{TakeFault}
+use Rattle.journal_core.specs.declared.faults.TakeFault.TheVariants.{Disk}
 use Rattle.agent_worker.specs.declared.member.Member.{Member}
 use Rattle.model_run.specs.declared.event.Event.{Event}
 use Rattle.model_run.specs.State.{Setting}

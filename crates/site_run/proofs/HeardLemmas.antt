@@ -10,7 +10,7 @@ use Rattle.program_lock.specs.declared.program.Memory.{Memory as NoMemory}
 use Rattle.program_lock.specs.Legal.{Answers as AnswersOf}
 use Rattle.program_lock.specs.Merge.{IsMergeOf}
 use Rattle.saved_run.specs.Lower.script_run.declared.rest.Rest.{Rest}
-use Rattle.agent_worker.specs.declared.fault.TakeFault.{TakeFault}
+use Rattle.journal_core.specs.declared.faults.TakeFault.{TakeFault}
 use Rattle.agent_worker.specs.declared.gate.GateCall.{GateCall}
 use Rattle.agent_worker.specs.declared.gate.GateCall.TheVariants as gate_call
 use Rattle.agent_worker.specs.declared.gate.Said.{Said}

@@ -10,8 +10,8 @@ use Rattle.jp_disk.proofs.MomentLemmas.{runs_on, at_each_weaker}
 use Rattle.journal_core.specs.Records.{Has, Walked, framed}
 use Rattle.journal_core.proofs.StepLemmas.{stores_has}
 use Rattle.saved_run.specs.Lower.record_form.declared.record.EventRecord.{EventRecord}
-use Rattle.agent_worker.specs.declared.fault.TakeFault.{TakeFault}
-use Rattle.agent_worker.specs.declared.fault.TakeFault.TheVariants.{Memory, Disk, Full, Stopped}
+use Rattle.journal_core.specs.declared.faults.TakeFault.{TakeFault}
+use Rattle.journal_core.specs.declared.faults.TakeFault.TheVariants.{Memory, Disk, Full, Stopped}
 use Rattle.model_run.specs.declared.event.Event.{Event}
 use Rattle.model_run.specs.declared.event.Event.TheVariants as event
 use Rattle.model_run.specs.State.{Setting}

@@ -4,8 +4,8 @@ use Rattle.std.specs.Prelude.{fold, IsSomeAnd, nat_eq, not, ◌&&◌, if◌then�
 use Rattle.std.specs.List.{AllByRecursion as AllAre}
 use Rattle.std.proofs.lemmas.List.Sums.{fold-append}
 use Rattle.std.proofs.Math.Logic.{∥∥₁_elim, ∥∥₁_map, ∥∥₁_prop}
-use Rattle.agent_worker.specs.declared.fault.TakeFault.{TakeFault}
-use Rattle.agent_worker.specs.declared.fault.TakeFault.TheVariants.{Memory, Disk, Full, Stopped}
+use Rattle.journal_core.specs.declared.faults.TakeFault.{TakeFault}
+use Rattle.journal_core.specs.declared.faults.TakeFault.TheVariants.{Memory, Disk, Full, Stopped}
 use Rattle.agent_worker.specs.declared.gate.Claim.{Claim}
 use Rattle.agent_worker.specs.declared.gate.Claim.TheVariants as claim
 use Rattle.agent_worker.specs.declared.gate.Heard.{Heard}

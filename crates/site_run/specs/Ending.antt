@@ -1,8 +1,8 @@
 -- Why a life with hosts rests (this product's own).
 use Rattle.std.specs.Prelude.{◌≡◌, ◌⊎◌, ◌<◌, Bool, true, false, ◌&&◌, ◌||◌, nat_lt, if◌then◌else◌, List, [], ◌∷◌, Option, Some, None, Result, Ok, Err}
 use Rattle.program_lock.specs.declared.program.Memory.{Memory}
-use Rattle.agent_worker.specs.declared.fault.TakeFault.{TakeFault}
-use Rattle.agent_worker.specs.declared.fault.TakeFault.TheVariants as take
+use Rattle.journal_core.specs.declared.faults.TakeFault.{TakeFault}
+use Rattle.journal_core.specs.declared.faults.TakeFault.TheVariants as take
 use Rattle.agent_worker.specs.declared.member.Member.{Member}
 use Rattle.agent_worker.specs.declared.member.Member.TheVariants.{Executor, Operator}
 use Rattle.build_requests.specs.Waiting.{open_tasks, waiting_inputs}

@@ -3,7 +3,7 @@
 use Rattle.std.specs.Prelude.{◌≡◌, ℕ, ℤ, List, Option, IsSome, Result}
 use Rattle.task_host.specs.declared.call.Call.{Call}
 use Rattle.task_host.specs.declared.order.Stream.{Stream}
-use Rattle.agent_worker.specs.declared.fault.TakeFault.{TakeFault}
+use Rattle.journal_core.specs.declared.faults.TakeFault.{TakeFault}
 use Rattle.agent_worker.specs.declared.member.Member.{Member}
 use Rattle.saved_run.specs.Lower.durable_build.Standing.{Kept}
 use Rattle.model_run.specs.declared.event.Event.{Event}

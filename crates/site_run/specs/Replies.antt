@@ -1,8 +1,8 @@
 -- What the state of a life replies to each ask, and what it adds to its history, by the events alone: those from before the life, and those
 -- that its history tells (this product's own).
 use Rattle.std.specs.Prelude.{◌≡◌, ◌<◌, ◌+◌, ◌^◌, ℕ, false, List, [], ◌∷◌, ◌++◌, Option, Some, None, Result, Ok, Err}
-use Rattle.agent_worker.specs.declared.fault.TakeFault.{TakeFault}
-use Rattle.agent_worker.specs.declared.fault.TakeFault.TheVariants.{Memory, Disk, Full, Stopped}
+use Rattle.journal_core.specs.declared.faults.TakeFault.{TakeFault}
+use Rattle.journal_core.specs.declared.faults.TakeFault.TheVariants.{Memory, Disk, Full, Stopped}
 use Rattle.agent_worker.specs.declared.gate.Claim.{Claim}
 use Rattle.agent_worker.specs.declared.gate.Heard.{Heard}
 use Rattle.agent_worker.specs.declared.gate.Heard.TheVariants.{Decided, Skipped}

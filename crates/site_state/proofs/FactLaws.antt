@@ -21,8 +21,8 @@ use Rattle.durable_build.specs.Lower.build_images.Images.{world_image, image_in}
 use Rattle.durable_build.specs.Lower.store_laws.Store.{Told, events_of, grant_of, last_image, record_at}
 use Rattle.durable_build.proofs.Lower.store_laws.Payloads.{image_behind_more}
 use Rattle.durable_build.proofs.Lower.store_laws.Stories.{tell_more, events-more, world-more, due_more, follows_more}
-use Rattle.agent_worker.specs.declared.fault.TakeFault.{TakeFault}
-use Rattle.agent_worker.specs.declared.fault.TakeFault.TheVariants.{Memory, Disk, Full, Stopped}
+use Rattle.journal_core.specs.declared.faults.TakeFault.{TakeFault}
+use Rattle.journal_core.specs.declared.faults.TakeFault.TheVariants.{Memory, Disk, Full, Stopped}
 use Rattle.std.specs.List.{AllByRecursion as AllAre}
 use Rattle.durable_build.specs.Standing.{IsWhole, Kept, Keeps, image_before, world_before}
 use Rattle.durable_build.specs.Lower.delta_records.declared.weights.Weights.{Weights}

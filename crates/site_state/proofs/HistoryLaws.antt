@@ -7,7 +7,7 @@ use Rattle.model_run.specs.World as W
 use Rattle.image_form.specs.declared.image.Image.{Image}
 use Rattle.durable_build.specs.Lower.delta_records.declared.weights.Weights.{Weights}
 use Rattle.settle_laws.specs.Stances.{Stance}
-use Rattle.agent_worker.specs.declared.fault.TakeFault.{TakeFault}
+use Rattle.journal_core.specs.declared.faults.TakeFault.{TakeFault}
 use Rattle.durable_build.specs.Standing.{Kept}
 use Rattle.site_state.specs.declared.ask.Entry.{Entry}
 use Rattle.site_state.specs.declared.ask.Entry.TheVariants.{Took, Claimed, Line, Failed}

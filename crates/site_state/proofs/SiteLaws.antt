@@ -5,7 +5,7 @@ use Rattle.std.proofs.Math.Logic.{∥∥₁_map, ∥∥₁_elim}
 use Rattle.settle_laws.specs.Stances.{Stance}
 use Rattle.durable_build.specs.Lower.build_core.Builds.{Parts}
 use Rattle.durable_build.specs.Lower.build_core.Phases.{has_begun}
-use Rattle.agent_worker.specs.declared.fault.TakeFault.{TakeFault}
+use Rattle.journal_core.specs.declared.faults.TakeFault.{TakeFault}
 use Rattle.durable_build.specs.Standing.{Kept}
 use Rattle.site_state.specs.declared.ask.Ask.{Ask}
 use Rattle.site_state.specs.declared.ask.Entry.{Entry}

@@ -13,8 +13,8 @@ use Rattle.settle_laws.specs.Stances.{Stance}
 use Rattle.durable_build.specs.Lower.build_core.Builds.{Parts, StandsFor, setting_in}
 use Rattle.durable_build.specs.Lower.build_images.Images.{world_image, image_in}
 use Rattle.durable_build.specs.Lower.store_laws.Store.{AllDue, Follows, Mean, Told, events_of, last_image}
-use Rattle.agent_worker.specs.declared.fault.TakeFault.{TakeFault}
-use Rattle.agent_worker.specs.declared.fault.TakeFault.TheVariants.{Memory, Disk, Full, Stopped}
+use Rattle.journal_core.specs.declared.faults.TakeFault.{TakeFault}
+use Rattle.journal_core.specs.declared.faults.TakeFault.TheVariants.{Memory, Disk, Full, Stopped}
 use Rattle.durable_build.specs.Standing.{IsWhole, Kept, Keeps, world_before}
 use Rattle.durable_build.specs.Lower.delta_records.declared.weights.Weights.{Weights}
 use Rattle.durable_build.specs.Kinds.{weights_of}

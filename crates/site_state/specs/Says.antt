@@ -1,8 +1,8 @@
 -- What a site state replies to each ask, and what it adds to its history, by the build at its opening and its history (this
 -- product's own).
 use Rattle.std.specs.Prelude.{◌≡◌, true, false, List, [], ◌∷◌, Option, Some, None, Err}
-use Rattle.agent_worker.specs.declared.fault.TakeFault.{TakeFault}
-use Rattle.agent_worker.specs.declared.fault.TakeFault.TheVariants.{Memory, Stopped}
+use Rattle.journal_core.specs.declared.faults.TakeFault.{TakeFault}
+use Rattle.journal_core.specs.declared.faults.TakeFault.TheVariants.{Memory, Stopped}
 use Rattle.agent_worker.specs.declared.gate.Claim.TheVariants as claim
 use Rattle.durable_build.specs.Lower.build_core.Builds.{Parts}
 use Rattle.durable_build.specs.Lower.build_core.Phases.{has_ended}

@@ -1,5 +1,6 @@
 //! What is asked of a site state, and what it says.
-use agent_worker::{Claim, Heard, Inputs, TakeFault};
+use agent_worker::{Claim, Heard, Inputs};
+use journal_core::TakeFault;
 use model_run::{Event, Taken};
 use model_text::Bytes;
 

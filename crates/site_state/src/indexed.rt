@@ -3,7 +3,7 @@ ghost use Rattle.std.specs.Prelude.{◌≡◌, ◌<◌, ◌≤◌, ◌+◌, ◌+
 ghost use Rattle.site_state.specs.Histories.{kept_fault, is_claimed, claims};
 
 use crate::ask::{Entry, History};
-use agent_worker::TakeFault;
+use journal_core::TakeFault;
 use std::alloc::{AllocError, Global};
 use std::marker::Model;
 use task_host::Order;

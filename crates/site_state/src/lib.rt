@@ -23,8 +23,8 @@ mod indexed;
 mod site;
 mod taking;
 
-pub use agent_worker::TakeFault;
 pub use ask::{Ask, Entry, History, Progress, Reply};
 pub use durable_build::saved_thread;
+pub use journal_core::TakeFault;
 pub use program_lock::Stepped;
 pub use site::SiteState;

@@ -11,9 +11,9 @@ ghost use Rattle.site_state.specs.Steps.{GrantSays, OneSays};
 
 use crate::ask::Entry;
 use crate::indexed::IndexedHistory;
-use agent_worker::TakeFault;
 use durable_build::DurableBuild;
 use durable_build::saved_thread::SavedThread;
+use journal_core::TakeFault;
 use jp_disk::Disk;
 use model_run::{Event, Taken};
 use std::alloc::{AllocError, Global};

@@ -1,6 +1,6 @@
 use Rattle.std.proofs.Common.{◌≡◌, ◌∙◌, sym, ap, subst}
 use Rattle.device_faults.specs.Faults.{CountsFault}
-use Rattle.agent_worker.specs.declared.fault.TakeFault.TheVariants.{Disk}
+use Rattle.journal_core.specs.declared.faults.TakeFault.TheVariants.{Disk}
 use Rattle.site_threads.specs.Lower.site_state.Facts.{Facts}
 use Rattle.site_threads.specs.Lower.site_state.Histories.{kept_fault}
 use Rattle.site_run.proofs.CloseLemmas.{disk_counts, err_tells, failed_so, known_from, opening_counts, opening_tells, same_start}

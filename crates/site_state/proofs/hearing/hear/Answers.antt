@@ -1,7 +1,7 @@
 use Rattle.std.proofs.Common.{ℕ, Option, None, [], ◌∷◌, refl, subst}
 use Rattle.std.specs.Prelude.{MatchOption}
 use Rattle.model_run.specs.declared.event.Event.{Event}
-use Rattle.agent_worker.specs.declared.fault.TakeFault.TheVariants.{Memory}
+use Rattle.journal_core.specs.declared.faults.TakeFault.TheVariants.{Memory}
 use Rattle.site_state.specs.declared.ask.Entry.TheVariants.{Failed}
 use Rattle.site_state.specs.Hearing.{Decides, IsSkipped}
 use Rattle.site_state.proofs.FactLaws.{facts_wanting}

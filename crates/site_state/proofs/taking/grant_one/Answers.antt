@@ -1,5 +1,5 @@
 use Rattle.std.proofs.Common.{refl, ◌∷◌, []}
-use Rattle.agent_worker.specs.declared.fault.TakeFault.TheVariants.{Memory}
+use Rattle.journal_core.specs.declared.faults.TakeFault.TheVariants.{Memory}
 use Rattle.std.specs.Prelude.{None}
 use Rattle.site_state.specs.declared.ask.Entry.TheVariants.{Failed}
 use Rattle.site_state.specs.Grants.{not_found}

@@ -1,7 +1,7 @@
 use Rattle.std.proofs.Common.{◌≡◌, ◌∙◌, true, false, Err, sym, ap, subst}
 use Rattle.std.specs.Prelude.{IsErrOf}
 use Rattle.device_faults.specs.Faults.{CountsFault}
-use Rattle.agent_worker.specs.declared.fault.TakeFault.TheVariants.{Disk}
+use Rattle.journal_core.specs.declared.faults.TakeFault.TheVariants.{Disk}
 use Rattle.durable_build.specs.Standing.{Kept}
 use Rattle.durable_build.specs.Lower.script_run.declared.rest.Rest.{Rest}
 use Rattle.saved_run.proofs.LifeLemmas.{tells_stopped}

@@ -1,5 +1,5 @@
 use Rattle.std.proofs.Common.{◌≡◌, ◌<◌, ℕ, [], Some, None, false, sym, ap, subst, ◌∙◌}
-use Rattle.agent_worker.specs.declared.fault.TakeFault.TheVariants.{Memory}
+use Rattle.journal_core.specs.declared.faults.TakeFault.TheVariants.{Memory}
 use Rattle.durable_build.specs.Lower.build_core.Builds.{Parts, StandsFor, setting_in}
 use Rattle.build_requests.specs.Waiting.{waiting_inputs}
 use Rattle.model_run.specs.State.{Setting}

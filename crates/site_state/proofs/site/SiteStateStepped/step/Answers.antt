@@ -2,7 +2,7 @@ use Rattle.std.proofs.Common.{rules, ◌≡◌, ◌∙◌, refl, sym, ap, subst,
 use Rattle.model_run.specs.declared.request.OpenRequest.{OpenRequest}
 use Rattle.site_state.specs.Claims.{ClaimSays}
 use Rattle.site_state.specs.Histories.{kept_fault}
-use Rattle.agent_worker.specs.declared.fault.TakeFault.TheVariants.{Memory}
+use Rattle.journal_core.specs.declared.faults.TakeFault.TheVariants.{Memory}
 use Rattle.site_state.specs.declared.ask.Ask.TheVariants as ask
 use Rattle.site_state.proofs.HistoryLaws.{fault_not_none}
 use Rattle.site_state.proofs.FactLaws.{facts_wanting, facts_quiet}
