@@ -14,3 +14,4 @@ pub mod WorkLemmas
 pub mod AnswerLemmas
 pub mod OperatorLemmas
 pub mod BlankLemmas
+pub mod CrewLemmas

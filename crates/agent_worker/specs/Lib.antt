@@ -15,3 +15,4 @@ pub mod Working
 pub mod AnswerBytes
 pub mod Operating
 pub mod MemberWork
+pub mod Crews

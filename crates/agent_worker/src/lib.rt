@@ -16,9 +16,21 @@
 //!     ..
 //! }
 //! ```
+//!
+//! Who works on a build: an executor for each one of its site, with its host, and the operator with the answers.
+//!
+//! [`Crew::gather`] makes the members of hosts and answers, host i for the executor at place i of the site. [`Crew::dismiss`] gives
+//! hosts and answers back, the hosts in their order. Neither loses a host where memory is refused.
+//!
+//! ```text
+//! let mut crew = Crew::gather(alloc, site.executors.as_slice(), hosts, answers)?;
+//! go_on(&rt, alloc, durable, &mut crew.members, site.looks);
+//! let (hosts, answers) = crew.dismiss();
+//! ```
 #![tactic(auto)]
 
 mod answer_line;
+mod crew;
 mod executor;
 mod gate;
 mod member;
@@ -29,6 +41,7 @@ mod turn;
 mod worked;
 
 pub use answer_line::{AnswerLine, answer_of};
+pub use crew::Crew;
 pub use gate::{Claim, ClaimSaid, Gate, GateCall, Heard, Inputs, Said};
 pub use member::{Member, work};
 pub use operator::{LineEnd, answer_in, read_line};

@@ -36,7 +36,7 @@ use Rattle.build_commands.specs.declared.refusal.Refusal.{Refusal}
 use Rattle.build_commands.specs.declared.refusal.Refusal.TheVariants.{DiskFailed, OutOfMemory}
 use Rattle.build_commands.specs.Refusals.{SaysTake, refusal_status, refusal_text}
 use Rattle.build_commands.specs.Finishing.{ComesNext, Made, Breaks, answers_failed, disk_failed, full, no_memory, Finishes, by_rest, by_break, TellsEnd, TellsRest, TellsText}
-use Rattle.site_crew.specs.Crews.{answers_in, hosts_in, members_of, others_of}
+use Rattle.agent_worker.specs.Crews.{answers_in, hosts_in, members_of, others_of}
 use Rattle.build_commands.specs.Living.{ComesBy, Finished, HeardOf, IsRefused, TakesBy}
 use Rattle.build_commands.specs.declared.end_text.EndText.{EndText}
 use Rattle.build_commands.specs.declared.end_text.EndText.TheVariants.{Log, Numbers}

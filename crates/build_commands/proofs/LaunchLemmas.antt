@@ -20,7 +20,7 @@ use Rattle.site_run.specs.Lower.site_state.declared.ask.Reply.{Reply}
 use Rattle.site_run.specs.Lower.site_life.Lives.{EndsWith, Life}
 use Rattle.site_run.specs.Lower.site_life.Rounds.{AreTurnsOf, Round, RoundsFrom, turns_of}
 use Rattle.site_run.specs.Lower.site_life.Turns.{DidTurn, Launches, Turn, launches_of}
-use Rattle.site_crew.specs.Crews.{hosts_in, members_of, others_of}
+use Rattle.agent_worker.specs.Crews.{hosts_in, members_of, others_of}
 use Rattle.build_commands.specs.Launching.{LaunchedOnce, all_launched_since, launched_since}
 use Rattle.build_commands.proofs.LivingLemmas.{hosts_all}
 use Rattle.task_host.specs.View.{HostView}

@@ -34,7 +34,7 @@ use Rattle.site_run.specs.Telling.{AreHeard}
 use Rattle.site_run.proofs.CloseLemmas.{no_turns}
 use Rattle.site_run.proofs.MemberLemmas.{all_came, all_served}
 use Rattle.site_run.proofs.WalkLemmas.{of_tree, small}
-use Rattle.site_crew.specs.Crews.{answers_in, hosts_in, IsCrew, members_of, others_of}
+use Rattle.agent_worker.specs.Crews.{answers_in, hosts_in, IsCrew, members_of, others_of}
 use Rattle.build_commands.specs.Living.{HeardOf, HostsStay, TakesBy}
 use Rattle.jp_disk.specs.View.{DiskView}
 use Rattle.task_host.specs.View.{HostView}

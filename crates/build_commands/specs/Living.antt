@@ -25,7 +25,7 @@ use Rattle.site_run.specs.Going.{Comes, GoesBy, heard_in}
 use Rattle.site_run.specs.Replies.{replies}
 use Rattle.site_run.specs.Telling.{ClaimedInTime, HeardInTime, IsOrderOf, orders_in}
 use Rattle.site_run.specs.Serving.{AllFit, AreHonest, AreServed, HostStays}
-use Rattle.site_crew.specs.Crews.{answers_in, hosts_in, members_of, others_of}
+use Rattle.agent_worker.specs.Crews.{answers_in, hosts_in, members_of, others_of}
 use Rattle.build_commands.specs.declared.end_text.EndText.{EndText}
 use Rattle.build_commands.specs.Finishing.{Finishes}
 use Rattle.jp_disk.specs.View.{DiskView}

@@ -8,7 +8,7 @@ ghost use Rattle.model_run.specs.declared.site.Executor.{Executor as SiteExecuto
 ghost use Rattle.model_run.specs.State.{Setting};
 ghost use Rattle.site_run.specs.Lower.durable_build.Standing.{IsWhole, Keeps};
 ghost use Rattle.site_run.specs.Lower.saved_run.Lives.{Lasts};
-ghost use Rattle.site_crew.specs.Crews.{IsCrew, members_of, others_of};
+ghost use Rattle.agent_worker.specs.Crews.{IsCrew, members_of, others_of};
 ghost use Rattle.build_commands.specs.declared.end_text.EndText.TheVariants.{Log};
 ghost use Rattle.build_commands.specs.EndTexts.{Counts};
 ghost use Rattle.build_commands.specs.Reporting.{KeepsRecords, Reports};
@@ -24,7 +24,7 @@ use generated_build::summary;
 use jp_disk::Disk;
 use jp_io::{Sink, Source};
 use run_command::build_status;
-use site_crew::Crew;
+use agent_worker::Crew;
 use site_run::build_core::Build;
 use site_run::durable_build::{DurableBuild, TakeFault};
 use site_run::saved_thread::SavedThread;

@@ -25,7 +25,7 @@ use Rattle.build_commands.specs.Lower.site_life.Coming.{EachIs}
 use Rattle.build_commands.specs.Lower.site_life.Turns.{DidTurn}
 use Rattle.build_commands.proofs.Lower.site_life.WayLaws.{LaunchesMore, MemberLaunches, launches_same, ways_launch}
 use Rattle.build_commands.specs.Lower.site_run.Telling.{ClaimedInTime}
-use Rattle.site_crew.specs.Crews.{hosts_in, members_of, others_of}
+use Rattle.agent_worker.specs.Crews.{hosts_in, members_of, others_of}
 use Rattle.build_commands.specs.Lower.run_command.Statuses.{HasRun, world_status}
 use Rattle.build_commands.specs.declared.end_text.EndText.TheVariants as end
 use Rattle.build_commands.specs.Living.{HostsStay}

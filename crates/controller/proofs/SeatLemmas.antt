@@ -17,7 +17,7 @@ use Rattle.settle_laws.specs.Stances.{Stance}
 use Rattle.build_commands.specs.Lower.saved_run.Saved.{Stores}
 use Rattle.build_commands.specs.Lower.site_run.Serving.{AreHonest, AreServed, hosts_of}
 use Rattle.build_commands.proofs.Lower.site_run.ManyLemmas.{HasNow, all_once, has_fits}
-use Rattle.site_crew.specs.Crews.{hosts_in, members_of, others_of}
+use Rattle.agent_worker.specs.Crews.{hosts_in, members_of, others_of}
 use Rattle.build_commands.proofs.LivingLemmas.{operator_alone}
 use Rattle.controller.specs.Call.{Call, Devices, Takes}
 use Rattle.controller.specs.Launches.{executor_hosts, tasks_on}

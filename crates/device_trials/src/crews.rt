@@ -1,7 +1,7 @@
 use agent_worker::Member;
 use model_run::Executor;
 use model_text::{Text, Texts};
-use site_crew::Crew;
+use agent_worker::Crew;
 use std::alloc::{AllocError, Global};
 use std::test::Fail;
 

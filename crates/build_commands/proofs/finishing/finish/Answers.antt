@@ -4,7 +4,7 @@ use Rattle.site_run.specs.Lower.build_core.Builds.{Parts, setting_in}
 use Rattle.model_run.specs.declared.site.Executor.{Executor as SiteExecutor}
 use Rattle.model_run.specs.declared.site.Site.{Site}
 use Rattle.model_run.specs.State.{Setting}
-use Rattle.site_crew.specs.Crews.{members_of, others_of}
+use Rattle.agent_worker.specs.Crews.{members_of, others_of}
 use Rattle.build_commands.specs.Launching.{LaunchedOnce}
 use Rattle.build_commands.specs.Leading.{IsLed}
 use Rattle.build_commands.specs.Living.{Finished, HostsStay}

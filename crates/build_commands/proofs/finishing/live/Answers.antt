@@ -18,7 +18,7 @@ use Rattle.site_run.specs.Lower.site_life.Waiting.{operators}
 use Rattle.site_run.specs.Serving.{AreServed}
 use Rattle.site_run.specs.Telling.{AreHeard}
 use Rattle.site_run.proofs.CloseLemmas.{no_turns}
-use Rattle.site_crew.specs.Crews.{answers_in, hosts_in, IsCrew, members_of, others_of}
+use Rattle.agent_worker.specs.Crews.{answers_in, hosts_in, IsCrew, members_of, others_of}
 use Rattle.build_commands.specs.Finishing.{TellsEnd}
 use Rattle.build_commands.specs.Launching.{LaunchedOnce}
 use Rattle.build_commands.specs.Leading.{IsLed}

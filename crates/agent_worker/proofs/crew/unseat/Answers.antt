@@ -1,8 +1,8 @@
 use Rattle.std.proofs.Common.{◌∙◌, ◌++◌, List, sym, ap, reverse, arith}
 use Rattle.agent_worker.specs.declared.member.Member.{Member}
-use Rattle.site_crew.specs.Crews.{hosts_in}
-use Rattle.site_crew.proofs.CrewLemmas.{last_host}
-use Rattle.site_crew.proofs.crew.unseat.Goals as goal
+use Rattle.agent_worker.specs.Crews.{hosts_in}
+use Rattle.agent_worker.proofs.CrewLemmas.{last_host}
+use Rattle.agent_worker.proofs.crew.unseat.Goals as goal
 
 pub loop-member-preserved : goal.loop-member-preserved
 loop-member-preserved g c = record {

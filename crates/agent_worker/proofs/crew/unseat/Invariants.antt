@@ -1,6 +1,6 @@
 use Rattle.std.proofs.Common.{◌≡◌, ◌≤◌, ◌+◌, ◌++◌, reverse, vec_len, vec_capacity}
-use Rattle.site_crew.specs.Crews.{hosts_in}
-use Rattle.site_crew.proofs.crew.unseat.Given as goal
+use Rattle.agent_worker.specs.Crews.{hosts_in}
+use Rattle.agent_worker.proofs.crew.unseat.Given as goal
 
 abbrev pub invariant-loop-member : goal.invariant-loop-member
 invariant-loop-member g l = record {

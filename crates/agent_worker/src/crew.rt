@@ -1,8 +1,8 @@
 //! The members of a build.
 ghost use Rattle.std.specs.Prelude.{◌≡◌, ◌≤◌, ◌<◌, ◌+◌, ◌++◌, [], ◌∷◌, false, length, reverse, IfOk, IfErr, vec_len, vec_capacity};
-ghost use Rattle.site_crew.specs.Crews.{answers_in, hosts_in, IsCrew, members_of, others_of, seats_of};
+ghost use Rattle.agent_worker.specs.Crews.{answers_in, hosts_in, IsCrew, members_of, others_of, seats_of};
 
-use agent_worker::Member;
+use crate::Member;
 use model_run::Executor;
 use model_text::Bytes;
 use std::alloc::Global;

@@ -1,9 +1,9 @@
 use Rattle.std.proofs.Common.{◌∙◌, ◌++◌, [], ◌∷◌, List, false, refl, sym, ap, subst, reverse}
 use Rattle.agent_worker.specs.declared.member.Member.{Member}
 use Rattle.agent_worker.specs.declared.member.Member.TheVariants.{Operator}
-use Rattle.site_crew.specs.Crews.{IsCrew, seats_of}
-use Rattle.site_crew.proofs.CrewLemmas.{seats_crew}
-use Rattle.site_crew.proofs.crew.Crew.gather.Goals as goal
+use Rattle.agent_worker.specs.Crews.{IsCrew, seats_of}
+use Rattle.agent_worker.proofs.CrewLemmas.{seats_crew}
+use Rattle.agent_worker.proofs.crew.Crew.gather.Goals as goal
 
 pub returns-clause-crew : goal.returns-clause-crew
 returns-clause-crew g c =

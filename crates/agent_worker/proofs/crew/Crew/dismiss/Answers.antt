@@ -1,9 +1,9 @@
 use Rattle.std.proofs.Common.{◌≡◌, ◌∙◌, ◌++◌, [], ◌∷◌, List, sym, ap, subst, reverse}
 use Rattle.std.proofs.lemmas.List.{reverse-append, reverse-reverse, append-nil}
 use Rattle.agent_worker.specs.declared.member.Member.{Member}
-use Rattle.site_crew.specs.Crews.{answers_in, hosts_in, IsCrew}
-use Rattle.site_crew.proofs.CrewLemmas.{answers_in-append, hosts_in-append, no_last_executor, one_operator}
-use Rattle.site_crew.proofs.crew.Crew.dismiss.Goals as goal
+use Rattle.agent_worker.specs.Crews.{answers_in, hosts_in, IsCrew}
+use Rattle.agent_worker.proofs.CrewLemmas.{answers_in-append, hosts_in-append, no_last_executor, one_operator}
+use Rattle.agent_worker.proofs.crew.Crew.dismiss.Goals as goal
 
 pub unreachable-requires : goal.unreachable-requires
 unreachable-requires g c =

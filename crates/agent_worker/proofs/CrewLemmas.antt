@@ -4,7 +4,7 @@ use Rattle.std.proofs.lemmas.List.{reverse-append}
 use Rattle.agent_worker.specs.declared.member.Member.{Member}
 use Rattle.agent_worker.specs.declared.member.Member.TheVariants.{Executor, Operator}
 use Rattle.model_run.specs.declared.site.Executor.{Executor as SiteExecutor}
-use Rattle.site_crew.specs.Crews.{answers_in, hosts_in, IsCrew, seats_of}
+use Rattle.agent_worker.specs.Crews.{answers_in, hosts_in, IsCrew, seats_of}
 
 module _ {H A : Type 0} where
   pub hosts_in-append : (xs ys : List (Member H A)) → hosts_in (xs ++ ys) ≡ hosts_in xs ++ hosts_in ys

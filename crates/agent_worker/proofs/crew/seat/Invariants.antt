@@ -1,6 +1,6 @@
 use Rattle.std.proofs.Common.{◌≡◌, ◌<◌, ◌+◌, ◌++◌, drop, length, reverse, vec_len, vec_capacity}
-use Rattle.site_crew.specs.Crews.{others_of, seats_of}
-use Rattle.site_crew.proofs.crew.seat.Given as goal
+use Rattle.agent_worker.specs.Crews.{others_of, seats_of}
+use Rattle.agent_worker.proofs.crew.seat.Given as goal
 
 abbrev pub invariant-loop-executor : goal.invariant-loop-executor
 invariant-loop-executor g l = record {
