@@ -27,8 +27,8 @@ use Rattle.site_run.specs.Lower.saved_run.Saved.{Stores, Survives}
 use Rattle.site_run.proofs.Lower.saved_run.LifeLemmas.{saved_image}
 use Rattle.site_run.specs.Lower.site_state.declared.ask.Entry.{Entry}
 use Rattle.site_run.specs.Lower.site_state.Histories.{lines}
-use Rattle.site_run.specs.Lower.site_life.Lives.{LifeOf, any_reply}
-use Rattle.site_run.specs.Lower.site_life.Turns.{Turn}
+use Rattle.site_run.specs.Lower.member_turns.Lives.{LifeOf, any_reply}
+use Rattle.site_run.specs.Lower.member_turns.Turns.{Turn}
 use Rattle.site_run.specs.Ending.{RestsWith}
 use Rattle.site_run.specs.Lives.{BreaksBehind, EndsBehind}
 use Rattle.site_run.specs.Serving.{AreServed}

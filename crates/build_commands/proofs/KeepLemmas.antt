@@ -36,8 +36,8 @@ use Rattle.site_run.specs.Lower.site_state.Facts.{Facts, Grown, HasFront, IsFull
 use Rattle.site_run.specs.Lower.site_state.Grants.{Grants, OpenRefuses, granted, none_due, not_found, refused}
 use Rattle.site_run.specs.Lower.site_state.Histories.{kept_fault, pending, tooks}
 use Rattle.site_run.proofs.Lower.site_state.HistoryLaws.{kept_fault-append, no_fault, pending-append, tooks-append}
-use Rattle.site_run.specs.Lower.site_gate.Tales.{asked_for, is_grant, told_of}
-use Rattle.site_run.proofs.Lower.site_gate.TaleLemmas.{grants_silent}
+use Rattle.site_run.specs.Lower.member_turns.Tales.{asked_for, is_grant, told_of}
+use Rattle.site_run.proofs.Lower.member_turns.TaleLemmas.{grants_silent}
 use Rattle.site_run.specs.Ending.{ended_as}
 use Rattle.site_run.proofs.StoreLemmas.{no_payloads, no_records, told_take}
 use Rattle.site_run.proofs.WalkLemmas.{all_behind}

@@ -17,9 +17,9 @@ use Rattle.site_run.specs.Lower.site_state.declared.ask.Ask.{Ask}
 use Rattle.site_run.specs.Lower.site_state.declared.ask.Entry.{Entry}
 use Rattle.site_run.specs.Lower.site_state.declared.ask.Progress.{Progress}
 use Rattle.site_run.specs.Lower.site_state.declared.ask.Reply.{Reply}
-use Rattle.site_run.specs.Lower.site_life.Lives.{EndsWith, Life}
-use Rattle.site_run.specs.Lower.site_life.Rounds.{AreTurnsOf, Round, RoundsFrom, turns_of}
-use Rattle.site_run.specs.Lower.site_life.Turns.{DidTurn, Launches, Turn, launches_of}
+use Rattle.site_run.specs.Lower.member_turns.Lives.{EndsWith, Life}
+use Rattle.site_run.specs.Lower.member_turns.Rounds.{AreTurnsOf, Round, RoundsFrom, turns_of}
+use Rattle.site_run.specs.Lower.member_turns.Turns.{DidTurn, Launches, Turn, launches_of}
 use Rattle.agent_worker.specs.Crews.{hosts_in, members_of, others_of}
 use Rattle.build_commands.specs.Launching.{LaunchedOnce, all_launched_since, launched_since}
 use Rattle.build_commands.proofs.LivingLemmas.{hosts_all}

@@ -23,8 +23,8 @@ use Rattle.site_run.specs.Lower.script_run.Standing.{IsProper}
 use Rattle.settle_laws.specs.Stances.{Stance}
 use Rattle.launch_laws.proofs.LifeLaws.{all_fit_more}
 use Rattle.site_run.specs.Lower.site_state.declared.ask.Entry.{Entry}
-use Rattle.site_run.specs.Lower.site_life.Turns.{Turn}
-use Rattle.site_run.specs.Lower.site_life.Waiting.{operators}
+use Rattle.site_run.specs.Lower.member_turns.Turns.{Turn}
+use Rattle.site_run.specs.Lower.member_turns.Waiting.{operators}
 use Rattle.site_run.specs.Ending.{AllReadOut, any_failed}
 use Rattle.site_run.specs.Going.{begins}
 use Rattle.site_run.specs.Lives.{Ends, OpeningBreaks}

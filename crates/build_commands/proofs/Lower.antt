@@ -3,4 +3,4 @@ pub use Rattle.run_command.proofs as run_command
 pub use Rattle.site_run.proofs as site_run
 pub use Rattle.site_run.proofs.Lower.durable_build
 pub use Rattle.site_run.proofs.Lower.saved_run
-pub use Rattle.site_run.proofs.Lower.site_life
+pub use Rattle.site_run.proofs.Lower.member_turns

@@ -16,10 +16,10 @@ use Rattle.launch_laws.specs.Fitting.{ExecutorHost}
 use Rattle.site_run.specs.Lower.script_run.declared.rest.Rest.TheVariants.{AnswersFailed, Waits}
 use Rattle.site_run.specs.Lower.site_state.declared.ask.Entry.{Entry}
 use Rattle.site_run.specs.Lower.site_state.Histories.{lines, tooks}
-use Rattle.site_run.specs.Lower.site_gate.Tales.{is_grant}
-use Rattle.site_run.specs.Lower.site_life.Lives.{LifeOf, any_reply}
-use Rattle.site_run.specs.Lower.site_life.Turns.{Explains, HoldsOfOne, Turn}
-use Rattle.site_run.specs.Lower.site_life.Coming.{EachIs}
+use Rattle.site_run.specs.Lower.member_turns.Tales.{is_grant}
+use Rattle.site_run.specs.Lower.member_turns.Lives.{LifeOf, any_reply}
+use Rattle.site_run.specs.Lower.member_turns.Turns.{Explains, HoldsOfOne, Turn}
+use Rattle.site_run.specs.Lower.member_turns.Coming.{EachIs}
 use Rattle.site_run.specs.Ending.{RestsWith}
 use Rattle.site_run.specs.Going.{Comes, GoesBy, heard_in}
 use Rattle.site_run.specs.Replies.{replies}

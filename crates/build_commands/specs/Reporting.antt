@@ -19,7 +19,7 @@ use Rattle.site_run.specs.Lower.site_state.declared.ask.Entry.{Entry}
 use Rattle.site_run.specs.Lower.site_state.declared.ask.Entry.TheVariants.{Failed}
 use Rattle.site_run.specs.Lower.site_state.Facts.{HasFront}
 use Rattle.site_run.specs.Lower.site_state.Histories.{pending, tooks}
-use Rattle.site_run.specs.Lower.site_gate.Tales.{is_grant}
+use Rattle.site_run.specs.Lower.member_turns.Tales.{is_grant}
 use Rattle.run_command.specs.Statuses.{HasLog, status_of}
 use Rattle.run_command.specs.Texts.{read_failed_text}
 use Rattle.build_commands.specs.Texts.{disk_failed_text, full_text, out_of_memory_text}

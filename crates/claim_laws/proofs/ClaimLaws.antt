@@ -16,7 +16,7 @@ use Rattle.model_run.specs.World.{world_in}
 use Rattle.site_run.specs.Lower.saved_run.Lives.{Lasts}
 use Rattle.site_run.specs.Lower.saved_run.Saved.{IsTold, Stores}
 use Rattle.settle_laws.specs.Stances.{Stance}
-use Rattle.site_run.proofs.Lower.site_gate.ClaimLaws.{free_order}
+use Rattle.site_run.proofs.Lower.member_turns.ClaimLaws.{free_order}
 use Rattle.site_run.proofs.StoreLemmas.{lasts_on}
 use Rattle.site_run.proofs.WalkLemmas.{ShowsAll, found_task, requests_are, shows_shown}
 use Rattle.site_run.specs.Lower.site_state.Claims.{ClaimSays}

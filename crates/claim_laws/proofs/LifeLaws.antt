@@ -13,8 +13,8 @@ use Rattle.model_run.specs.World.{world_in}
 use Rattle.site_run.specs.Lower.saved_run.Saved.{IsTold, Stores}
 use Rattle.site_run.specs.Lower.script_run.declared.rest.Rest.{Rest}
 use Rattle.settle_laws.specs.Stances.{Stance}
-use Rattle.site_run.specs.Lower.site_life.Coming.{EachIs}
-use Rattle.site_run.specs.Lower.site_life.Turns.{Turn}
+use Rattle.site_run.specs.Lower.member_turns.Coming.{EachIs}
+use Rattle.site_run.specs.Lower.member_turns.Turns.{Turn}
 use Rattle.site_run.specs.Lives.{Ends, EndsBehind}
 use Rattle.site_run.specs.Telling.{ClaimedInTime}
 use Rattle.site_run.specs.Lower.site_state.Histories.{tooks}

@@ -19,11 +19,11 @@ use Rattle.build_commands.specs.Lower.durable_build.Taking.{DueAdds}
 use Rattle.build_commands.specs.Lower.saved_run.Lives.{IsNext, image_after}
 use Rattle.build_commands.specs.Lower.saved_run.Saved.{Stores, journal_length, journal_weights}
 use Rattle.build_commands.specs.Lower.store_laws.Store.{last_image}
-use Rattle.build_commands.specs.Lower.site_gate.Tales.{claimed_of}
-use Rattle.build_commands.specs.Lower.site_gate.Turning.{tasks_of}
-use Rattle.build_commands.specs.Lower.site_life.Coming.{EachIs}
-use Rattle.build_commands.specs.Lower.site_life.Turns.{DidTurn}
-use Rattle.build_commands.proofs.Lower.site_life.WayLaws.{LaunchesMore, MemberLaunches, launches_same, ways_launch}
+use Rattle.build_commands.specs.Lower.member_turns.Tales.{claimed_of}
+use Rattle.build_commands.specs.Lower.member_turns.Turning.{tasks_of}
+use Rattle.build_commands.specs.Lower.member_turns.Coming.{EachIs}
+use Rattle.build_commands.specs.Lower.member_turns.Turns.{DidTurn}
+use Rattle.build_commands.proofs.Lower.member_turns.WayLaws.{LaunchesMore, MemberLaunches, launches_same, ways_launch}
 use Rattle.build_commands.specs.Lower.site_run.Telling.{ClaimedInTime}
 use Rattle.agent_worker.specs.Crews.{hosts_in, members_of, others_of}
 use Rattle.build_commands.specs.Lower.run_command.Statuses.{HasRun, world_status}

@@ -35,13 +35,13 @@ use Rattle.site_run.specs.Lower.script_run.declared.rest.Rest.{Rest}
 use Rattle.site_run.specs.Lower.script_run.Standing.{IsProper}
 use Rattle.settle_laws.specs.Stances.{Stance}
 use Rattle.journal_core.specs.declared.faults.TakeFault.{TakeFault}
-use Rattle.site_run.specs.Lower.site_gate.Tales.{claimed_of, is_grant, tells_of, told_of}
-use Rattle.site_run.proofs.Lower.site_gate.PartLemmas.{all_map}
-use Rattle.site_run.specs.Lower.site_life.Coming.{EachIs}
-use Rattle.site_run.specs.Lower.site_life.Lives.{EndsWith, Life}
-use Rattle.site_run.specs.Lower.site_life.Rounds.{turns_of}
-use Rattle.site_run.specs.Lower.site_life.Turns.{ComesFrom, DidTurn, Explains, HoldsOfOne, IsExplained, IsIn, MadeOf, Turn}
-use Rattle.site_run.proofs.Lower.site_life.MadeLemmas.{made_behind, made_join}
+use Rattle.site_run.specs.Lower.member_turns.Tales.{claimed_of, is_grant, tells_of, told_of}
+use Rattle.site_run.proofs.Lower.member_turns.PartLemmas.{all_map}
+use Rattle.site_run.specs.Lower.member_turns.Coming.{EachIs}
+use Rattle.site_run.specs.Lower.member_turns.Lives.{EndsWith, Life}
+use Rattle.site_run.specs.Lower.member_turns.Rounds.{turns_of}
+use Rattle.site_run.specs.Lower.member_turns.Turns.{ComesFrom, DidTurn, Explains, HoldsOfOne, IsExplained, IsIn, MadeOf, Turn}
+use Rattle.site_run.proofs.Lower.member_turns.MadeLemmas.{made_behind, made_join}
 use Rattle.site_run.specs.Lives.{Ends}
 use Rattle.site_run.specs.Replies.{replies}
 use Rattle.site_run.specs.Serving.{AreHonest, hosts_of}

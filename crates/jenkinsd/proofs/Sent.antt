@@ -14,7 +14,7 @@ use Rattle.model_run.specs.contracts.frame.FrameKind as FrameKind
 use Rattle.cps_frames.specs.contracts.thread.ThreadState as ThreadState
 use Rattle.cps_machine.specs.contracts.thread.MachineThread as MachineThread
 use Rattle.cps_machine.specs.contracts.thread.Start as Start
-use Rattle.site_threads.proofs.Sent.{binding_send, binding_sync, chain_send}
+use Rattle.member_turns.proofs.Sent.{binding_send, binding_sync, chain_send}
 
 env_send : IsSend (Chain.the_row Binding.the_row)
 env_send = chain_send Binding.the_row binding_send binding_sync

@@ -20,20 +20,20 @@ use Rattle.model_run.specs.World.{world_in}
 use Rattle.saved_run.specs.Lower.script_run.Standing.{IsProper}
 use Rattle.settle_laws.specs.Stances.{Stance}
 use Rattle.task_host.specs.declared.order.Order.{Order}
-use Rattle.site_threads.specs.Lower.site_state.declared.ask.Ask.{Ask}
-use Rattle.site_threads.specs.Lower.site_state.declared.ask.Ask.TheVariants as ask
-use Rattle.site_threads.specs.Lower.site_state.declared.ask.Entry.{Entry}
-use Rattle.site_threads.specs.Lower.site_state.declared.ask.Entry.TheVariants.{Took, Claimed, Line, Failed}
-use Rattle.site_threads.specs.Lower.site_state.declared.ask.Reply.{Reply}
-use Rattle.site_threads.specs.Lower.site_state.declared.ask.Reply.TheVariants as reply
-use Rattle.site_threads.specs.Lower.site_state.Claims.{first_free, is_free, order_as, within_u32}
-use Rattle.site_threads.specs.Lower.site_state.Histories.{kept_fault, tooks}
-use Rattle.site_threads.specs.Lower.site_state.Says.{Answers, SaysAt, Says}
-use Rattle.site_threads.proofs.Lower.site_state.HistoryLaws.{kept_fault-append, no_fault, tooks-append}
-use Rattle.site_threads.specs.Lower.site_life.Coming.{EachIs}
-use Rattle.site_threads.specs.Lower.site_life.Orders.{AllAnswered, AnsweredIn}
-use Rattle.site_threads.specs.Lower.site_life.Turns.{IsIn, Turn}
-use Rattle.site_threads.specs.Lower.site_life.Waiting.{Waited}
+use Rattle.member_turns.specs.Lower.site_state.declared.ask.Ask.{Ask}
+use Rattle.member_turns.specs.Lower.site_state.declared.ask.Ask.TheVariants as ask
+use Rattle.member_turns.specs.Lower.site_state.declared.ask.Entry.{Entry}
+use Rattle.member_turns.specs.Lower.site_state.declared.ask.Entry.TheVariants.{Took, Claimed, Line, Failed}
+use Rattle.member_turns.specs.Lower.site_state.declared.ask.Reply.{Reply}
+use Rattle.member_turns.specs.Lower.site_state.declared.ask.Reply.TheVariants as reply
+use Rattle.member_turns.specs.Lower.site_state.Claims.{first_free, is_free, order_as, within_u32}
+use Rattle.member_turns.specs.Lower.site_state.Histories.{kept_fault, tooks}
+use Rattle.member_turns.specs.Lower.site_state.Says.{Answers, SaysAt, Says}
+use Rattle.member_turns.proofs.Lower.site_state.HistoryLaws.{kept_fault-append, no_fault, tooks-append}
+use Rattle.member_turns.specs.Coming.{EachIs}
+use Rattle.member_turns.specs.Orders.{AllAnswered, AnsweredIn}
+use Rattle.member_turns.specs.Turns.{IsIn, Turn}
+use Rattle.member_turns.specs.Waiting.{Waited}
 use Rattle.site_run.specs.Telling.{HeardInTime, IsOrderOf, orders_in}
 use Rattle.site_run.proofs.WalkLemmas.{ShowsAll, kept_first, requests_are, shows_shown}
 

@@ -17,19 +17,19 @@ use Rattle.saved_run.specs.Lower.durable_build.Standing.{Kept}
 use Rattle.saved_run.specs.Lower.script_run.declared.rest.Rest.{Rest}
 use Rattle.saved_run.specs.Lower.script_run.declared.rest.Rest.TheVariants.{Ended, Waits, AnswersFailed}
 use Rattle.settle_laws.specs.Stances.{Stance}
-use Rattle.site_threads.specs.Lower.site_state.declared.ask.Ask.{Ask}
+use Rattle.member_turns.specs.Lower.site_state.declared.ask.Ask.{Ask}
 use Rattle.model_run.specs.declared.event.Event.{Event}
 use Rattle.saved_run.specs.Lives.{TellsFault}
-use Rattle.site_threads.specs.Lower.site_state.declared.ask.Entry.{Entry}
-use Rattle.site_threads.specs.Lower.site_state.declared.ask.Entry.TheVariants.{Took, Claimed, Line, Failed}
-use Rattle.site_threads.specs.Lower.site_state.declared.ask.Progress.{Progress}
-use Rattle.site_threads.specs.Lower.site_state.declared.ask.Reply.{Reply}
-use Rattle.site_threads.specs.Lower.site_state.Facts.{Facts, IsFull, IsFullAt, IsSite}
-use Rattle.site_threads.specs.Lower.site_state.Grants.{OpenRefuses}
-use Rattle.site_threads.specs.Lower.site_state.Histories.{kept_fault}
-use Rattle.site_threads.specs.Lower.site_life.Lives.{Life, LifeOf}
-use Rattle.site_threads.specs.Lower.site_life.Ways.{Way}
-use Rattle.site_threads.specs.Lower.site_life.Turns.{DidTurn}
+use Rattle.member_turns.specs.Lower.site_state.declared.ask.Entry.{Entry}
+use Rattle.member_turns.specs.Lower.site_state.declared.ask.Entry.TheVariants.{Took, Claimed, Line, Failed}
+use Rattle.member_turns.specs.Lower.site_state.declared.ask.Progress.{Progress}
+use Rattle.member_turns.specs.Lower.site_state.declared.ask.Reply.{Reply}
+use Rattle.member_turns.specs.Lower.site_state.Facts.{Facts, IsFull, IsFullAt, IsSite}
+use Rattle.member_turns.specs.Lower.site_state.Grants.{OpenRefuses}
+use Rattle.member_turns.specs.Lower.site_state.Histories.{kept_fault}
+use Rattle.member_turns.specs.Lives.{Life, LifeOf}
+use Rattle.member_turns.specs.Ways.{Way}
+use Rattle.member_turns.specs.Turns.{DidTurn}
 use Rattle.site_run.specs.Ending.{any_failed, ended_as, rest_of}
 use Rattle.jp_disk.specs.View.{DiskView}
 use Rattle.task_host.specs.View.{HostView}

@@ -14,10 +14,10 @@ use Rattle.model_run.specs.World as W
 use Rattle.saved_run.specs.Lower.script_run.declared.rest.Rest.TheVariants.{Waits, AnswersFailed}
 use Rattle.saved_run.specs.Lower.script_run.Standing.{IsProper}
 use Rattle.settle_laws.specs.Stances.{Stance}
-use Rattle.site_threads.specs.Lower.site_state.declared.ask.Progress.{Progress}
-use Rattle.site_threads.specs.Lower.site_state.Claims.{within_u32}
-use Rattle.site_threads.specs.Lower.site_state.Showing.{IsSettled}
-use Rattle.site_threads.specs.Lower.site_life.Ending.{can_answer, goes_on}
+use Rattle.member_turns.specs.Lower.site_state.declared.ask.Progress.{Progress}
+use Rattle.member_turns.specs.Lower.site_state.Claims.{within_u32}
+use Rattle.member_turns.specs.Lower.site_state.Showing.{IsSettled}
+use Rattle.member_turns.specs.Ending.{can_answer, goes_on}
 use Rattle.site_run.specs.Ending.{any_failed, AllReadOut, RestsWith, rest_of}
 use Rattle.site_run.specs.Going.{Comes, by_grant, by_report, by_line, GoesBy, begins, takes, passes}
 use Rattle.site_run.proofs.WalkLemmas.{ShowsAll, requests_are, settled_none}

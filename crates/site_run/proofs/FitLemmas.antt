@@ -22,25 +22,25 @@ use Rattle.model_run.specs.State.{Setting}
 use Rattle.model_run.specs.Terms.{term}
 use Rattle.model_run.specs.World.{world_in}
 use Rattle.settle_laws.specs.Stances.{Stance}
-use Rattle.site_threads.specs.Lower.site_state.declared.ask.Entry.{Entry}
-use Rattle.site_threads.specs.Lower.site_state.declared.ask.Entry.TheVariants.{Took, Claimed, Line, Failed}
-use Rattle.site_threads.specs.Lower.site_state.declared.ask.Progress.{Progress}
-use Rattle.site_threads.specs.Lower.site_state.Histories.{tooks}
-use Rattle.site_threads.specs.Lower.site_state.Says.{Says}
-use Rattle.site_threads.specs.Lower.site_gate.Tales.{asked_for, claimed_of, failed_of, is_grant, told_of}
-use Rattle.site_threads.specs.Lower.site_gate.Turning.{tasks_of}
-use Rattle.site_threads.proofs.Lower.site_life.LaunchLaws.{launches_differ}
-use Rattle.site_threads.proofs.Lower.site_gate.PartLemmas.{all_append, all_first, all_map}
-use Rattle.site_threads.proofs.Lower.site_gate.TaleLemmas.{claimed-append, told-append}
-use Rattle.site_threads.specs.Lower.site_life.Lives.{Life, EndsWith}
-use Rattle.site_threads.specs.Lower.site_life.Rounds.{turns_of}
-use Rattle.site_threads.specs.Lower.site_life.Turns.{Turn, MadeOf, Launches, launches_of}
+use Rattle.member_turns.specs.Lower.site_state.declared.ask.Entry.{Entry}
+use Rattle.member_turns.specs.Lower.site_state.declared.ask.Entry.TheVariants.{Took, Claimed, Line, Failed}
+use Rattle.member_turns.specs.Lower.site_state.declared.ask.Progress.{Progress}
+use Rattle.member_turns.specs.Lower.site_state.Histories.{tooks}
+use Rattle.member_turns.specs.Lower.site_state.Says.{Says}
+use Rattle.member_turns.specs.Tales.{asked_for, claimed_of, failed_of, is_grant, told_of}
+use Rattle.member_turns.specs.Turning.{tasks_of}
+use Rattle.member_turns.proofs.LaunchLaws.{launches_differ}
+use Rattle.member_turns.proofs.PartLemmas.{all_append, all_first, all_map}
+use Rattle.member_turns.proofs.TaleLemmas.{claimed-append, told-append}
+use Rattle.member_turns.specs.Lives.{Life, EndsWith}
+use Rattle.member_turns.specs.Rounds.{turns_of}
+use Rattle.member_turns.specs.Turns.{Turn, MadeOf, Launches, launches_of}
 use Rattle.launch_laws.specs.Fitting.{AreApart, ExecutorHost, Fits, all_launches}
 use Rattle.launch_laws.specs.ManyTurns.{AllTaken, InLife}
 use Rattle.launch_laws.proofs.Lists.{NoTwice, all_differ, none_twice}
 use Rattle.launch_laws.proofs.LifeLaws.{life_fits, no_task_twice}
 use Rattle.site_run.specs.Serving.{AreHonest, AllFit, AreServed, hosts_of}
-use Rattle.site_threads.proofs.Lower.site_life.MadeLemmas.{made_behind, made_join}
+use Rattle.member_turns.proofs.MadeLemmas.{made_behind, made_join}
 use Rattle.site_run.proofs.WalkLemmas.{all_behind, all_front}
 use Rattle.site_run.proofs.MemberLemmas.{Steps, steps_of, steps_then, rounds_steps, claims_of_all, SaysSo, AllCame, all_came, all_served}
 use Rattle.task_host.specs.View.{HostView}

@@ -29,20 +29,20 @@ use Rattle.saved_run.specs.Lower.build_core.Builds.{Parts}
 use Rattle.settle_laws.specs.Stances.{Stance}
 use Rattle.task_host.specs.declared.call.Call.{Call}
 use Rattle.task_host.specs.declared.order.Stream.{Stream}
-use Rattle.site_threads.specs.Lower.site_state.declared.ask.Ask.{Ask as AskState}
-use Rattle.site_threads.specs.Lower.site_state.declared.ask.Entry.{Entry}
-use Rattle.site_threads.specs.Lower.site_state.declared.ask.Progress.{Progress}
-use Rattle.site_threads.specs.Lower.site_state.declared.ask.Reply.{Reply}
-use Rattle.site_threads.specs.Lower.site_state.Histories.{kept_fault, lines}
-use Rattle.site_threads.specs.Lower.site_state.Says.{Says}
-use Rattle.site_threads.specs.Lower.site_gate.Tales.{tells_of}
-use Rattle.site_threads.proofs.Lower.site_gate.TaleLemmas.{lines-append}
-use Rattle.site_threads.specs.Lower.site_life.Lives.{EndsWith, Life}
-use Rattle.site_threads.specs.Lower.site_life.Rounds.{AreTurnsOf, Round, RoundsFrom, turns_of}
-use Rattle.site_threads.specs.Lower.site_life.Orders.{AllAnswered}
-use Rattle.site_threads.specs.Lower.site_life.Turns.{Turn, DidTurn, MadeOf, Work}
-use Rattle.site_threads.specs.Lower.site_life.Waiting.{operators}
-use Rattle.site_threads.proofs.Lower.site_life.WaitLemmas.{few_nows, few_olds}
+use Rattle.member_turns.specs.Lower.site_state.declared.ask.Ask.{Ask as AskState}
+use Rattle.member_turns.specs.Lower.site_state.declared.ask.Entry.{Entry}
+use Rattle.member_turns.specs.Lower.site_state.declared.ask.Progress.{Progress}
+use Rattle.member_turns.specs.Lower.site_state.declared.ask.Reply.{Reply}
+use Rattle.member_turns.specs.Lower.site_state.Histories.{kept_fault, lines}
+use Rattle.member_turns.specs.Lower.site_state.Says.{Says}
+use Rattle.member_turns.specs.Tales.{tells_of}
+use Rattle.member_turns.proofs.TaleLemmas.{lines-append}
+use Rattle.member_turns.specs.Lives.{EndsWith, Life}
+use Rattle.member_turns.specs.Rounds.{AreTurnsOf, Round, RoundsFrom, turns_of}
+use Rattle.member_turns.specs.Orders.{AllAnswered}
+use Rattle.member_turns.specs.Turns.{Turn, DidTurn, MadeOf, Work}
+use Rattle.member_turns.specs.Waiting.{operators}
+use Rattle.member_turns.proofs.WaitLemmas.{few_nows, few_olds}
 use Rattle.site_run.specs.Ending.{ended_as}
 use Rattle.site_run.specs.Going.{heard_in}
 use Rattle.site_run.specs.Telling.{AreHeard}

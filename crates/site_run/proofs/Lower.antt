@@ -2,6 +2,5 @@
 pub use Rattle.saved_run.proofs as saved_run
 pub use Rattle.saved_run.proofs.Lower.durable_build
 pub use Rattle.saved_run.proofs.Lower.store_laws
-pub use Rattle.site_threads.proofs.Lower.site_gate
-pub use Rattle.site_threads.proofs.Lower.site_life
-pub use Rattle.site_threads.proofs.Lower.site_state
+pub use Rattle.member_turns.proofs
+pub use Rattle.member_turns.proofs.Lower.site_state

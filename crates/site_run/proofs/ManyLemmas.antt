@@ -23,9 +23,9 @@ use Rattle.saved_run.specs.Lower.script_run.Standing.{IsProper}
 use Rattle.settle_laws.specs.Stances.{Stance}
 use Rattle.saved_run.specs.Lives.{Fails, IsOf, Lasts, MayRisk}
 use Rattle.saved_run.specs.Saved.{IsTold, Stores}
-use Rattle.site_threads.specs.Lower.site_state.declared.ask.Entry.{Entry}
-use Rattle.site_threads.specs.Lower.site_state.Histories.{tooks}
-use Rattle.site_threads.specs.Lower.site_life.Turns.{Turn}
+use Rattle.member_turns.specs.Lower.site_state.declared.ask.Entry.{Entry}
+use Rattle.member_turns.specs.Lower.site_state.Histories.{tooks}
+use Rattle.member_turns.specs.Turns.{Turn}
 use Rattle.site_run.specs.Lives.{Ends, EndsBehind, OpeningBreaks}
 use Rattle.site_run.specs.ManyLives.{Lives, OneLife, led, more, one, refused}
 use Rattle.site_run.specs.Serving.{AllFit, AreHonest, AreServed, hosts_of}

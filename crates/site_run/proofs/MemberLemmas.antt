@@ -18,17 +18,17 @@ use Rattle.agent_worker.specs.Gate.{Becomes, Told, Claimed as ClaimedTask}
 use Rattle.task_host.specs.declared.call.Call.TheVariants as call
 use Rattle.agent_worker.specs.Acts.{Act, Called, Reported, with_calls}
 use Rattle.agent_worker.specs.Working.{Deed, Claims, Serves, Pauses, Halts, AreOf, on_host, work_calls}
-use Rattle.site_threads.specs.Lower.site_state.declared.ask.Ask.{Ask}
-use Rattle.site_threads.specs.Lower.site_state.declared.ask.Entry.{Entry}
-use Rattle.site_threads.specs.Lower.site_state.declared.ask.Reply.{Reply}
-use Rattle.site_threads.specs.Lower.site_gate.Tales.{claimed_of, told_of, tells_of}
-use Rattle.site_threads.specs.Lower.site_gate.Turning.{tasks_of}
-use Rattle.site_threads.specs.Lower.site_gate.Turns.{Executed}
-use Rattle.site_threads.proofs.Lower.site_gate.ClaimLaws.{tasks-append}
-use Rattle.site_threads.proofs.Lower.site_life.MadeLemmas.{made_behind, made_join}
-use Rattle.site_threads.proofs.Lower.site_gate.PartLemmas.{all_append}
-use Rattle.site_threads.specs.Lower.site_life.Rounds.{Round, AreTurnsOf, RoundsFrom, turns_of}
-use Rattle.site_threads.specs.Lower.site_life.Turns.{Turn, MadeOf, DidTurn, Work}
+use Rattle.member_turns.specs.Lower.site_state.declared.ask.Ask.{Ask}
+use Rattle.member_turns.specs.Lower.site_state.declared.ask.Entry.{Entry}
+use Rattle.member_turns.specs.Lower.site_state.declared.ask.Reply.{Reply}
+use Rattle.member_turns.specs.Tales.{claimed_of, told_of, tells_of}
+use Rattle.member_turns.specs.Turning.{tasks_of}
+use Rattle.member_turns.specs.Served.{Executed}
+use Rattle.member_turns.proofs.ClaimLaws.{tasks-append}
+use Rattle.member_turns.proofs.MadeLemmas.{made_behind, made_join}
+use Rattle.member_turns.proofs.PartLemmas.{all_append}
+use Rattle.member_turns.specs.Rounds.{Round, AreTurnsOf, RoundsFrom, turns_of}
+use Rattle.member_turns.specs.Turns.{Turn, MadeOf, DidTurn, Work}
 use Rattle.launch_laws.specs.Fitting.{Among}
 use Rattle.launch_laws.specs.ManyTurns.{Turns, none as no_turn, more as another_turn}
 use Rattle.launch_laws.proofs.Lists.{NoTwice, among_either, twice_append, twice_front}

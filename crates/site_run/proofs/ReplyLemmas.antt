@@ -29,20 +29,20 @@ use Rattle.saved_run.proofs.Lower.durable_build.Sizes.{due_adds}
 use Rattle.saved_run.specs.Lives.{image_after}
 use Rattle.settle_laws.specs.Stances.{Stance}
 use Rattle.saved_run.proofs.Lower.store_laws.Stories.{world-more}
-use Rattle.site_threads.specs.Lower.site_state.declared.ask.Ask.{Ask}
-use Rattle.site_threads.specs.Lower.site_state.declared.ask.Ask.TheVariants as ask
-use Rattle.site_threads.specs.Lower.site_state.declared.ask.Entry.{Entry}
-use Rattle.site_threads.specs.Lower.site_state.declared.ask.Entry.TheVariants.{Took, Claimed, Line, Failed}
-use Rattle.site_threads.specs.Lower.site_state.declared.ask.Progress.{Progress}
-use Rattle.site_threads.specs.Lower.site_state.declared.ask.Reply.{Reply}
-use Rattle.site_threads.specs.Lower.site_state.declared.ask.Reply.TheVariants as reply
-use Rattle.site_threads.specs.Lower.site_state.Claims.{ClaimSays, busy_of, within_u32}
-use Rattle.site_threads.specs.Lower.site_state.Grants.{Grants, MayFail, RecordAdds, TakeSays, none_due, granted, refused, not_found}
-use Rattle.site_threads.specs.Lower.site_state.Hearing.{AnswerSays}
-use Rattle.site_threads.specs.Lower.site_state.Histories.{kept_fault, tooks}
-use Rattle.site_threads.specs.Lower.site_state.Says.{Answers, SaysAt, Says}
-use Rattle.site_threads.specs.Lower.site_state.Showing.{IsShown}
-use Rattle.site_threads.specs.Lower.site_life.Coming.{EachIs}
+use Rattle.member_turns.specs.Lower.site_state.declared.ask.Ask.{Ask}
+use Rattle.member_turns.specs.Lower.site_state.declared.ask.Ask.TheVariants as ask
+use Rattle.member_turns.specs.Lower.site_state.declared.ask.Entry.{Entry}
+use Rattle.member_turns.specs.Lower.site_state.declared.ask.Entry.TheVariants.{Took, Claimed, Line, Failed}
+use Rattle.member_turns.specs.Lower.site_state.declared.ask.Progress.{Progress}
+use Rattle.member_turns.specs.Lower.site_state.declared.ask.Reply.{Reply}
+use Rattle.member_turns.specs.Lower.site_state.declared.ask.Reply.TheVariants as reply
+use Rattle.member_turns.specs.Lower.site_state.Claims.{ClaimSays, busy_of, within_u32}
+use Rattle.member_turns.specs.Lower.site_state.Grants.{Grants, MayFail, RecordAdds, TakeSays, none_due, granted, refused, not_found}
+use Rattle.member_turns.specs.Lower.site_state.Hearing.{AnswerSays}
+use Rattle.member_turns.specs.Lower.site_state.Histories.{kept_fault, tooks}
+use Rattle.member_turns.specs.Lower.site_state.Says.{Answers, SaysAt, Says}
+use Rattle.member_turns.specs.Lower.site_state.Showing.{IsShown}
+use Rattle.member_turns.specs.Coming.{EachIs}
 use Rattle.site_run.specs.Replies as its
 use Rattle.site_run.specs.Telling.{ClaimedInTime}
 use Rattle.site_run.proofs.WalkLemmas.{ShowsAll, accepted_is, answer_is, due_is, found_task, line_decides, line_passed, requests_are, settled_none, shows_next, shows_shown}

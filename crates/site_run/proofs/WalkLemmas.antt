@@ -40,25 +40,25 @@ use Rattle.saved_run.proofs.Lower.script_run.Turns.{decided, grant_accepted}
 use Rattle.settle_laws.specs.Stances.{Stance}
 use Rattle.saved_run.specs.Lower.store_laws.Store.{grant_of}
 use Rattle.saved_run.proofs.Lower.store_laws.Stories.{world-more}
-use Rattle.site_threads.specs.Lower.site_state.declared.ask.Ask.{Ask}
-use Rattle.site_threads.specs.Lower.site_state.declared.ask.Ask.TheVariants as ask
-use Rattle.site_threads.specs.Lower.site_state.declared.ask.Reply.{Reply}
-use Rattle.site_threads.specs.Lower.site_state.declared.ask.Reply.TheVariants as reply
-use Rattle.site_threads.specs.Lower.site_state.declared.ask.Entry.{Entry}
-use Rattle.site_threads.specs.Lower.site_state.declared.ask.Entry.TheVariants.{Took, Claimed, Line, Failed}
-use Rattle.site_threads.specs.Lower.site_state.Claims.{ClaimSays, first_free, is_free, is_task_of}
-use Rattle.site_threads.specs.Lower.site_state.Grants.{Grants, TakeSays, none_due, granted, refused, not_found}
-use Rattle.site_threads.specs.Lower.site_state.Hearing as hearing
-use Rattle.site_threads.specs.Lower.site_state.Hearing.{AnswerSays, IsSkipped}
-use Rattle.site_threads.specs.Lower.site_state.Histories.{tooks, kept_fault, lines, is_claimed}
-use Rattle.site_threads.specs.Lower.site_state.Says.{Answers, SaysAt, Says}
-use Rattle.site_threads.specs.Lower.site_state.Showing.{answer_of, due, IsNext, IsSettled, IsShown}
-use Rattle.site_threads.proofs.Lower.site_state.HistoryLaws.{tooks-append, kept_fault-append, no_fault}
-use Rattle.site_threads.proofs.Lower.site_state.WorldLaws.{same_standing, same_answer, same_due}
-use Rattle.site_threads.specs.Lower.site_gate.Tales.{is_grant, claimed_of}
-use Rattle.site_threads.specs.Lower.site_life.Coming.{BehindItsLine, Came, EachIs, FailedSo, is_decision}
-use Rattle.site_threads.proofs.Lower.site_gate.PartLemmas.{all_append, all_map}
-use Rattle.site_threads.proofs.Lower.site_gate.TaleLemmas.{claimed-append, lines-append, grants_silent}
+use Rattle.member_turns.specs.Lower.site_state.declared.ask.Ask.{Ask}
+use Rattle.member_turns.specs.Lower.site_state.declared.ask.Ask.TheVariants as ask
+use Rattle.member_turns.specs.Lower.site_state.declared.ask.Reply.{Reply}
+use Rattle.member_turns.specs.Lower.site_state.declared.ask.Reply.TheVariants as reply
+use Rattle.member_turns.specs.Lower.site_state.declared.ask.Entry.{Entry}
+use Rattle.member_turns.specs.Lower.site_state.declared.ask.Entry.TheVariants.{Took, Claimed, Line, Failed}
+use Rattle.member_turns.specs.Lower.site_state.Claims.{ClaimSays, first_free, is_free, is_task_of}
+use Rattle.member_turns.specs.Lower.site_state.Grants.{Grants, TakeSays, none_due, granted, refused, not_found}
+use Rattle.member_turns.specs.Lower.site_state.Hearing as hearing
+use Rattle.member_turns.specs.Lower.site_state.Hearing.{AnswerSays, IsSkipped}
+use Rattle.member_turns.specs.Lower.site_state.Histories.{tooks, kept_fault, lines, is_claimed}
+use Rattle.member_turns.specs.Lower.site_state.Says.{Answers, SaysAt, Says}
+use Rattle.member_turns.specs.Lower.site_state.Showing.{answer_of, due, IsNext, IsSettled, IsShown}
+use Rattle.member_turns.proofs.Lower.site_state.HistoryLaws.{tooks-append, kept_fault-append, no_fault}
+use Rattle.member_turns.proofs.Lower.site_state.WorldLaws.{same_standing, same_answer, same_due}
+use Rattle.member_turns.specs.Tales.{is_grant, claimed_of}
+use Rattle.member_turns.specs.Coming.{BehindItsLine, Came, EachIs, FailedSo, is_decision}
+use Rattle.member_turns.proofs.PartLemmas.{all_append, all_map}
+use Rattle.member_turns.proofs.TaleLemmas.{claimed-append, lines-append, grants_silent}
 use Rattle.saved_run.specs.Lives.{IsNext as ComesNext}
 use Rattle.site_run.specs.Going.{Decides, IsPassedOver, no_answer, nothing_open, Comes, by_grant, by_report, by_line, GoesBy, begins, takes, passes}
 

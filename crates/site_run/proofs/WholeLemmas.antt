@@ -28,29 +28,29 @@ use Rattle.model_run.specs.World as W
 use Rattle.saved_run.specs.Lower.script_run.declared.rest.Rest.{Rest}
 use Rattle.settle_laws.specs.Stances.{Stance}
 use Rattle.saved_run.specs.Lives.{IsNext as ComesNext, Lasts, Fails}
-use Rattle.site_threads.specs.Lower.site_state.declared.ask.Ask.TheVariants.{Look}
-use Rattle.site_threads.specs.Lower.site_state.declared.ask.Entry.{Entry}
-use Rattle.site_threads.specs.Lower.site_state.declared.ask.Entry.TheVariants.{Failed}
-use Rattle.site_threads.specs.Lower.site_state.declared.ask.Progress.{Progress}
-use Rattle.site_threads.specs.Lower.site_state.declared.ask.Reply.TheVariants as reply
-use Rattle.site_threads.specs.Lower.site_state.Facts.{Facts, IsSite}
-use Rattle.site_threads.specs.Lower.site_state.Grants.{Grants, OpenRefuses, granted, none_due, not_found, refused}
-use Rattle.site_threads.specs.Lower.site_state.Histories.{tooks, kept_fault, lines}
-use Rattle.site_threads.specs.Lower.site_state.Says.{Answers as AnswersOf, SaysAt, Says}
-use Rattle.site_threads.proofs.Lower.site_state.HistoryLaws.{kept_fault-append, no_fault, tooks-append}
-use Rattle.site_threads.specs.Lower.site_gate.Tales.{is_grant, told_of}
-use Rattle.site_threads.proofs.Lower.site_gate.TaleLemmas.{grants_silent, told-append}
-use Rattle.site_threads.specs.Lower.site_life.Coming.{Came, EachIs}
-use Rattle.site_threads.specs.Lower.site_life.Orders.{AllAnswered}
-use Rattle.site_threads.specs.Lower.site_life.Waiting.{Waited, operators}
+use Rattle.member_turns.specs.Lower.site_state.declared.ask.Ask.TheVariants.{Look}
+use Rattle.member_turns.specs.Lower.site_state.declared.ask.Entry.{Entry}
+use Rattle.member_turns.specs.Lower.site_state.declared.ask.Entry.TheVariants.{Failed}
+use Rattle.member_turns.specs.Lower.site_state.declared.ask.Progress.{Progress}
+use Rattle.member_turns.specs.Lower.site_state.declared.ask.Reply.TheVariants as reply
+use Rattle.member_turns.specs.Lower.site_state.Facts.{Facts, IsSite}
+use Rattle.member_turns.specs.Lower.site_state.Grants.{Grants, OpenRefuses, granted, none_due, not_found, refused}
+use Rattle.member_turns.specs.Lower.site_state.Histories.{tooks, kept_fault, lines}
+use Rattle.member_turns.specs.Lower.site_state.Says.{Answers as AnswersOf, SaysAt, Says}
+use Rattle.member_turns.proofs.Lower.site_state.HistoryLaws.{kept_fault-append, no_fault, tooks-append}
+use Rattle.member_turns.specs.Tales.{is_grant, told_of}
+use Rattle.member_turns.proofs.TaleLemmas.{grants_silent, told-append}
+use Rattle.member_turns.specs.Coming.{Came, EachIs}
+use Rattle.member_turns.specs.Orders.{AllAnswered}
+use Rattle.member_turns.specs.Waiting.{Waited, operators}
 use Rattle.site_run.specs.Replies.{replies}
 use Rattle.site_run.specs.Telling.{ClaimedInTime, HeardInTime, IsOrderOf, orders_in}
 use Rattle.site_run.proofs.ReplyLemmas.{claimed_in_time, replies_so}
-use Rattle.site_threads.proofs.Lower.site_life.OverLemmas.{life_over}
+use Rattle.member_turns.proofs.OverLemmas.{life_over}
 use Rattle.site_run.proofs.CallLemmas.{heard_in_time, turns_ordered}
-use Rattle.site_threads.specs.Lower.site_life.Lives.{Life, LifeOf, EndsWith}
-use Rattle.site_threads.specs.Lower.site_life.Rounds.{turns_of}
-use Rattle.site_threads.specs.Lower.site_life.Turns.{Turn}
+use Rattle.member_turns.specs.Lives.{Life, LifeOf, EndsWith}
+use Rattle.member_turns.specs.Rounds.{turns_of}
+use Rattle.member_turns.specs.Turns.{Turn}
 use Rattle.site_run.specs.Ending.{RestsWith, ended_as, rest_of}
 use Rattle.site_run.specs.Going.{Comes, by_grant, by_report, by_line, GoesBy, begins}
 use Rattle.site_run.specs.Lives.{BreaksBehind, EndsBehind, Ends, IsReported, IsRefused, OpeningBreaks}

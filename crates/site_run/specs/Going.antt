@@ -1,6 +1,6 @@
 -- Which events come in a life with hosts, and in which order (this product's own): after each event all grants that are due, one by one;
 -- while none is due, what an executor reports, or the decision of an answer line.
-use Rattle.site_threads.specs.Lower.site_life.Coming.{is_decision}
+use Rattle.member_turns.specs.Coming.{is_decision}
 use Rattle.std.specs.Prelude.{◌≡◌, ℕ, Bool, true, false, List, [], ◌∷◌, ◌++◌, Some, None}
 use Rattle.agent_worker.specs.AnswerBytes.{begun_after, last_line, lines_of}
 use Rattle.agent_worker.specs.AnswerLine.{Answers}

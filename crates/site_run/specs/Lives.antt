@@ -15,27 +15,27 @@ use Rattle.model_run.specs.World.{answer_to, world_in}
 use Rattle.settle_laws.specs.Stances.{Stance}
 use Rattle.saved_run.specs.Lower.script_run.declared.rest.Rest.{Rest}
 use Rattle.saved_run.specs.Lives.{Lasts, Fails}
-use Rattle.site_threads.specs.Lower.site_state.declared.ask.Ask.{Ask}
-use Rattle.site_threads.specs.Lower.site_state.declared.ask.Entry.{Entry}
-use Rattle.site_threads.specs.Lower.site_state.declared.ask.Progress.{Progress}
-use Rattle.site_threads.specs.Lower.site_state.declared.ask.Reply.{Reply}
-use Rattle.site_threads.specs.Lower.site_state.Histories.{kept_fault, lines, tooks}
-use Rattle.site_threads.specs.Lower.site_life.Lives.{Life, LifeOf}
-use Rattle.site_threads.specs.Lower.site_life.Rounds.{turns_of}
-use Rattle.site_threads.specs.Lower.site_life.Turns.{Turn, Explains, HoldsOfOne}
+use Rattle.member_turns.specs.Lower.site_state.declared.ask.Ask.{Ask}
+use Rattle.member_turns.specs.Lower.site_state.declared.ask.Entry.{Entry}
+use Rattle.member_turns.specs.Lower.site_state.declared.ask.Progress.{Progress}
+use Rattle.member_turns.specs.Lower.site_state.declared.ask.Reply.{Reply}
+use Rattle.member_turns.specs.Lower.site_state.Histories.{kept_fault, lines, tooks}
+use Rattle.member_turns.specs.Lives.{Life, LifeOf}
+use Rattle.member_turns.specs.Rounds.{turns_of}
+use Rattle.member_turns.specs.Turns.{Turn, Explains, HoldsOfOne}
 use Rattle.site_run.specs.Ending.{RestsWith, ended_as}
 use Rattle.site_run.specs.Going.{Comes, GoesBy}
 use Rattle.site_run.specs.Replies.{replies}
 use Rattle.site_run.specs.Telling.{AreHeard, ClaimedInTime, HeardInTime, IsOrderOf, orders_in}
-use Rattle.site_threads.specs.Lower.site_life.Coming.{EachIs}
-use Rattle.site_threads.specs.Lower.site_life.Waiting.{operators}
+use Rattle.member_turns.specs.Coming.{EachIs}
+use Rattle.member_turns.specs.Waiting.{operators}
 use Rattle.site_run.specs.Serving.{AreHonest, AllFit, hosts_of}
 use Rattle.launch_laws.specs.Fitting as fitting
 use Rattle.launch_laws.specs.Fitting.{AreApart, ExecutorHost, all_launches}
 use Rattle.std.specs.List.{AllByRecursion as AllAre, IsDistinct}
-use Rattle.site_threads.specs.Lower.site_gate.Tales.{is_grant}
-use Rattle.site_threads.specs.Lower.site_state.Facts.{Facts, HasFront}
-use Rattle.site_threads.specs.Lower.site_state.Grants.{Grants}
+use Rattle.member_turns.specs.Tales.{is_grant}
+use Rattle.member_turns.specs.Lower.site_state.Facts.{Facts, HasFront}
+use Rattle.member_turns.specs.Lower.site_state.Grants.{Grants}
 use Rattle.jp_disk.specs.View.{DiskView}
 use Rattle.task_host.specs.View.{HostView}
 use Rattle.jp_io.specs.View.{SourceView}

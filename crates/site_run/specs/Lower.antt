@@ -8,6 +8,5 @@ pub use Rattle.saved_run.specs.Lower.durable_build
 pub use Rattle.saved_run.specs.Lower.record_form
 pub use Rattle.saved_run.specs.Lower.script_run
 pub use Rattle.saved_run.specs.Lower.store_laws
-pub use Rattle.site_threads.specs.Lower.site_gate
-pub use Rattle.site_threads.specs.Lower.site_life
-pub use Rattle.site_threads.specs.Lower.site_state
+pub use Rattle.member_turns.specs
+pub use Rattle.member_turns.specs.Lower.site_state

@@ -12,8 +12,8 @@ use Rattle.saved_run.specs.Lower.script_run.declared.rest.Rest.{Rest}
 use Rattle.settle_laws.specs.Stances.{Stance}
 use Rattle.saved_run.specs.Lives.{Lasts}
 use Rattle.saved_run.specs.Saved.{Stores}
-use Rattle.site_threads.specs.Lower.site_state.declared.ask.Entry.{Entry}
-use Rattle.site_threads.specs.Lower.site_life.Turns.{Turn}
+use Rattle.member_turns.specs.Lower.site_state.declared.ask.Entry.{Entry}
+use Rattle.member_turns.specs.Turns.{Turn}
 use Rattle.site_run.specs.Lives.{Ends, OpeningBreaks}
 use Rattle.site_run.specs.Serving.{AreHonest, AreServed, hosts_of}
 use Rattle.jp_disk.specs.View.{DiskView}

@@ -21,6 +21,6 @@ mod going;
 mod resting;
 
 pub use going::{Lived, go_on};
+pub use member_turns::site_state;
 pub use saved_run;
 pub use saved_run::{build_core, durable_build, saved_thread, script_run};
-pub use site_threads::site_state;

@@ -10,11 +10,11 @@ use Rattle.site_run.specs.Lower.build_images.Images.{image_in}
 use Rattle.site_run.specs.Lower.site_state.declared.ask.Entry.{Entry}
 use Rattle.site_run.specs.Lower.site_state.Histories.{lines, tooks}
 use Rattle.site_run.specs.Lower.site_state.Says.{Says}
-use Rattle.site_run.specs.Lower.site_life.Lives.{LifeOf, any_reply}
-use Rattle.site_run.proofs.Lower.site_life.OverLemmas.{life_over}
-use Rattle.site_run.specs.Lower.site_life.Rounds.{turns_of}
-use Rattle.site_run.specs.Lower.site_life.Turns.{Explains, HoldsOfOne}
-use Rattle.site_run.specs.Lower.site_life.Waiting.{operators}
+use Rattle.site_run.specs.Lower.member_turns.Lives.{LifeOf, any_reply}
+use Rattle.site_run.proofs.Lower.member_turns.OverLemmas.{life_over}
+use Rattle.site_run.specs.Lower.member_turns.Rounds.{turns_of}
+use Rattle.site_run.specs.Lower.member_turns.Turns.{Explains, HoldsOfOne}
+use Rattle.site_run.specs.Lower.member_turns.Waiting.{operators}
 use Rattle.site_run.specs.Serving.{AreServed}
 use Rattle.site_run.specs.Telling.{AreHeard}
 use Rattle.site_run.proofs.CloseLemmas.{no_turns}

@@ -1,14 +1,14 @@
 use Rattle.std.proofs.Common.{◌≡◌, ◌∙◌, sym, ap, subst}
 use Rattle.device_faults.specs.Faults.{CountsFault}
 use Rattle.journal_core.specs.declared.faults.TakeFault.TheVariants.{Disk}
-use Rattle.site_threads.specs.Lower.site_state.Facts.{Facts}
-use Rattle.site_threads.specs.Lower.site_state.Histories.{kept_fault}
+use Rattle.member_turns.specs.Lower.site_state.Facts.{Facts}
+use Rattle.member_turns.specs.Lower.site_state.Histories.{kept_fault}
 use Rattle.site_run.proofs.CloseLemmas.{disk_counts, err_tells, failed_so, known_from, opening_counts, opening_tells, same_start}
 use Rattle.site_run.proofs.FactLemmas.{facts_all, rests_keep}
 use Rattle.site_run.proofs.FitLemmas.{life_serves}
 use Rattle.site_run.proofs.HeardLemmas.{life_heard}
 use Rattle.site_run.proofs.WholeLemmas.{life_ends, opening_refused}
-use Rattle.site_threads.proofs.SeatLemmas.{zip_length}
+use Rattle.member_turns.proofs.SeatLemmas.{zip_length}
 use Rattle.site_run.proofs.going.go_on.Goals as goal
 
 pub returns-in-Ok-clause-lives : goal.returns-in-Ok-clause-lives

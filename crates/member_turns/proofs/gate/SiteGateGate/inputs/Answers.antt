@@ -1,0 +1,28 @@
+use Rattle.std.proofs.Common.{◌∙◌, ap, sym}
+use Rattle.member_turns.proofs.AskLemmas.{inputs_called, told_same, claims_same, lines_same}
+use Rattle.member_turns.proofs.TrailLemmas.{gate_more}
+use Rattle.member_turns.proofs.gate.SiteGateGate.inputs.Goals as goal
+
+pub invariant_of-self-clause-placed : goal.invariant_of-self-clause-placed
+invariant_of-self-clause-placed g c = c.ask_inputs-inputs.ensures.belongs ∙ sym c.args.self.now.belongs ∙ c.args.self.now.placed
+
+pub invariant_of-self-clause-shared : goal.invariant_of-self-clause-shared
+invariant_of-self-clause-shared g c = ap (λ k. k.parts) c.ask_inputs-inputs.ensures.called.now ∙ c.args.self.now.shared
+
+pub invariant_of-self-clause-number : goal.invariant_of-self-clause-number
+invariant_of-self-clause-number g c = ap (λ k. k.number) c.ask_inputs-inputs.ensures.called.now ∙ c.args.self.now.number
+
+pub invariant_of-self-clause-numbers : goal.invariant_of-self-clause-numbers
+invariant_of-self-clause-numbers g c = ap (λ k. k.numbers) c.ask_inputs-inputs.ensures.called.now ∙ c.args.self.now.numbers
+
+pub invariant_of-self-clause-answered : goal.invariant_of-self-clause-answered
+invariant_of-self-clause-answered g c = gate_more c.args.self.now.numbers c.args.self.now.number c.ask_inputs-inputs.ensures.called c.add_inputs.ensures c.args.self.now.answered
+
+pub returns-clause-told : goal.returns-clause-told
+returns-clause-told g c = told_same (inputs_called g.R.ScriptThread.stance (λ b. b.value.build) _ _ c.ask_inputs-inputs.result c.ask_inputs-inputs.ensures.called)
+
+pub returns-clause-lines : goal.returns-clause-lines
+returns-clause-lines g c = lines_same (inputs_called g.R.ScriptThread.stance (λ b. b.value.build) _ _ c.ask_inputs-inputs.result c.ask_inputs-inputs.ensures.called)
+
+pub returns-clause-claimed : goal.returns-clause-claimed
+returns-clause-claimed g c = claims_same (inputs_called g.R.ScriptThread.stance (λ b. b.value.build) _ _ c.ask_inputs-inputs.result c.ask_inputs-inputs.ensures.called)

@@ -1,0 +1,31 @@
+use Rattle.std.proofs.Common.{◌∙◌, ap, sym, [], ◌∷◌, ◌++◌}
+use Rattle.agent_worker.specs.declared.gate.GateCall.TheVariants as gate_call
+use Rattle.member_turns.specs.Called.{calls_of}
+use Rattle.member_turns.proofs.AskLemmas.{report_called, told_take, claims_same, lines_same}
+use Rattle.member_turns.proofs.TrailLemmas.{gate_more}
+use Rattle.member_turns.proofs.gate.SiteGateGate.report.Goals as goal
+
+pub invariant_of-self-clause-placed : goal.invariant_of-self-clause-placed
+invariant_of-self-clause-placed g c = c.ask_take-answer.ensures.belongs ∙ sym c.args.self.now.belongs ∙ c.args.self.now.placed
+
+pub invariant_of-self-clause-shared : goal.invariant_of-self-clause-shared
+invariant_of-self-clause-shared g c = ap (λ k. k.parts) c.ask_take-answer.ensures.called.now ∙ c.args.self.now.shared
+
+pub invariant_of-self-clause-number : goal.invariant_of-self-clause-number
+invariant_of-self-clause-number g c = ap (λ k. k.number) c.ask_take-answer.ensures.called.now ∙ c.args.self.now.number
+
+pub invariant_of-self-clause-numbers : goal.invariant_of-self-clause-numbers
+invariant_of-self-clause-numbers g c = ap (λ k. k.numbers) c.ask_take-answer.ensures.called.now ∙ c.args.self.now.numbers
+
+pub invariant_of-self-clause-answered : goal.invariant_of-self-clause-answered
+invariant_of-self-clause-answered g c = gate_more c.args.self.now.numbers c.args.self.now.number c.ask_take-answer.ensures.called
+    (c.add_report.ensures ∙ ap (λ e. calls_of c.args.self.now.calls.called.value ++ gate_call.Report e c.ask_take-answer.result ∷ []) c.of-reported.ensures) c.args.self.now.answered
+
+pub returns-clause-told : goal.returns-clause-told
+returns-clause-told g c = told_take c.args.event c.ask_take-answer.result (report_called g.R.ScriptThread.stance (λ b. b.value.build) _ _ c.args.event c.ask_take-answer.result c.ask_take-answer.ensures.called)
+
+pub returns-clause-lines : goal.returns-clause-lines
+returns-clause-lines g c = lines_same (report_called g.R.ScriptThread.stance (λ b. b.value.build) _ _ c.args.event c.ask_take-answer.result c.ask_take-answer.ensures.called)
+
+pub returns-clause-claimed : goal.returns-clause-claimed
+returns-clause-claimed g c = claims_same (report_called g.R.ScriptThread.stance (λ b. b.value.build) _ _ c.args.event c.ask_take-answer.result c.ask_take-answer.ensures.called)

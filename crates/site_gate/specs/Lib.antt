@@ -1,7 +1,0 @@
-pub mod Lower
-pub mod Called
-pub mod Tales
-pub mod Saying
-pub mod Asking
-pub mod Turning
-pub mod Turns

@@ -1,5 +1,0 @@
-use Rattle.std.proofs.Common.{ap}
-use Rattle.site_life.proofs.life.live.Goals as goal
-
-pub returns-in-Ok-clause-lives : goal.returns-in-Ok-clause-lives
-returns-in-Ok-clause-lives g c = c.live_in.ensures.lives c.args.state.base (ap (λ k. k.base) c.in-Ok.ensures.ok.1)
