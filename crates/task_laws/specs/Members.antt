@@ -11,7 +11,7 @@ use Rattle.model_run.specs.declared.event.Event.TheVariants.{Output}
 use Rattle.model_run.specs.declared.event.Stream.{Stream as EventStream}
 use Rattle.model_run.specs.Fitting.{Some_of}
 use Rattle.model_run.specs.State.{Setting}
-use Rattle.output_laws.specs.Streams.{AreInOrder, output_of}
+use Rattle.task_laws.specs.Streams.{AreInOrder, output_of}
 use Rattle.task_host.specs.View.{HostView}
 
 -- Member by member: each output of the tasks of an executor that these events have stands on its host.

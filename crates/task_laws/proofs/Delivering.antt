@@ -57,9 +57,9 @@ use Rattle.site_run.specs.Lower.site_state.declared.ask.Progress.{Progress}
 use Rattle.site_run.specs.Lower.site_state.declared.ask.Reply.{Reply}
 use Rattle.site_run.proofs.Lower.site_state.HistoryLaws.{tooks-append}
 use Rattle.world_laws.proofs.Places.{some_behind}
-use Rattle.delivery_laws.specs.Members.{AllDelivered, AreShort}
-use Rattle.delivery_laws.proofs.Serves.{caused_by}
-use Rattle.delivery_laws.proofs.Telling.{IsNumber, TellsAll, AllCame, all_came, numbers}
+use Rattle.task_laws.specs.Members.{AllDelivered, AreShort}
+use Rattle.task_laws.proofs.Serves.{caused_by}
+use Rattle.task_laws.proofs.Telling.{IsNumber, TellsAll, AllCame, all_came, numbers}
 use Rattle.jp_disk.specs.View.{DiskView}
 use Rattle.task_host.specs.View.{HostView}
 use Rattle.jp_io.specs.View.{SourceView}

@@ -31,8 +31,8 @@ use Rattle.world_laws.specs.Agreement.{Opens, OpensNone, TurnsOpen, places}
 use Rattle.world_laws.proofs.Opening.{turns_open}
 use Rattle.world_laws.proofs.Turns.{IfTurn, first_is}
 use Rattle.launch_laws.specs.ManyTurns.{AllTaken}
-use Rattle.output_laws.specs.Streams.{GrowsBy}
-use Rattle.output_laws.proofs.Growing.{grows_itself, grows_then, grows_same, grows_closed, grows_new, grows_without, grows_changed, log_grows, out_grows}
+use Rattle.task_laws.specs.Streams.{GrowsBy}
+use Rattle.task_laws.proofs.Growing.{grows_itself, grows_then, grows_same, grows_closed, grows_new, grows_without, grows_changed, log_grows, out_grows}
 
 -- numbers from this one on are still to be given, or the build has no threads
 abbrev GoesOn : ℕ → Build → Type 0

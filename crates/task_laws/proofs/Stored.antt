@@ -16,14 +16,14 @@ use Rattle.model_run.specs.Below.{Small}
 use Rattle.model_run.specs.State.{Setting}
 use Rattle.model_run.specs.Terms.{term}
 use Rattle.model_run.specs.World.{Build, after_one, unbegun, world_in}
-use Rattle.output_laws.specs.Streams.{output_of}
-use Rattle.output_laws.proofs.Orders.{delivered_together}
+use Rattle.task_laws.specs.Streams.{output_of}
+use Rattle.task_laws.proofs.Orders.{delivered_together}
 use Rattle.site_run.specs.Lower.record_form.declared.record.EventRecord.{EventRecord}
 use Rattle.site_run.specs.Lower.saved_run.Saved.{Stores}
 use Rattle.site_run.proofs.FactLemmas.{none_first}
 use Rattle.site_run.specs.Lower.store_laws.Store.{FirstStarts, Follows, Starts, events_of}
 use Rattle.task_host.specs.declared.order.Stream.{Stream}
-use Rattle.delivery_laws.specs.Members.{StandsTogether}
+use Rattle.task_laws.specs.Members.{StandsTogether}
 
 -- the events of the records of one build were taken
 follows_taken : (setting : Setting) (before : List Event) (rs : List EventRecord) → (world_in setting before).started ≡ true → Follows world_image setting (world_in setting before) rs → AllTaken setting before (events_of rs)

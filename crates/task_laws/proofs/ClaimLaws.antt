@@ -29,7 +29,7 @@ use Rattle.site_run.specs.Lower.site_state.declared.ask.Entry.{Entry}
 use Rattle.site_run.specs.Lower.site_state.declared.ask.Reply.TheVariants as reply
 use Rattle.site_run.proofs.Lower.site_state.HistoryLaws.{kept_fault-append, tooks-append}
 use Rattle.task_host.specs.declared.order.Order.{Order}
-use Rattle.claim_laws.specs.Tasks.{HasOpenTask}
+use Rattle.task_laws.specs.Tasks.{HasOpenTask}
 use Rattle.jp_disk.specs.View.{DiskView}
 
 stopped_order : (order : Order) → reply.Claimed (claim.Order order) ≡ reply.Claimed claim.Stopped → ⊥

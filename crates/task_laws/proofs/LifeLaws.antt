@@ -23,7 +23,7 @@ use Rattle.site_run.specs.Lower.site_state.declared.ask.Entry.TheVariants.{Took,
 use Rattle.site_run.proofs.Lower.site_state.HistoryLaws.{tooks-append}
 use Rattle.task_host.specs.declared.call.Call.{Call}
 use Rattle.task_host.specs.declared.order.Stream.{Stream}
-use Rattle.claim_laws.specs.Tasks.{AllClaimed, HadOpenTask}
+use Rattle.task_laws.specs.Tasks.{AllClaimed, HadOpenTask}
 use Rattle.jp_disk.specs.View.{DiskView}
 use Rattle.task_host.specs.View.{HostView}
 use Rattle.jp_io.specs.View.{SourceView}

@@ -13,7 +13,7 @@ use Rattle.model_run.specs.declared.request.OpenRequest.{OpenRequest}
 use Rattle.model_run.specs.State.{Common}
 use Rattle.model_run.specs.Taking.{request_of}
 use Rattle.model_run.specs.World.{change_if, with_taken, with_kept}
-use Rattle.output_laws.specs.Streams.{output_in, output_of, Grows, GrowsBy}
+use Rattle.task_laws.specs.Streams.{output_in, output_of, Grows, GrowsBy}
 
 pub grows_nothing : (log out : List ℕ) → log ≡ [] → out ≡ [] → (r : Request) → Grows log out r r
 grows_nothing log out no_log no_out (NodeRequest label) = tt

@@ -30,9 +30,9 @@ use Rattle.model_run.specs.World.{Build, answer_to, world_in}
 use Rattle.model_run.proofs.LaterWorlds.{accepted_answer, open_of}
 use Rattle.model_run.proofs.RequestLaws.{some_weaker}
 use Rattle.model_run.proofs.RequestWorlds.{request_below}
-use Rattle.output_laws.specs.Streams.{if_same, output_in, output_of, Grows, AreInOrder}
-use Rattle.output_laws.proofs.Growing.{output-append}
-use Rattle.output_laws.proofs.GrowLaws.{outputs_grow}
+use Rattle.task_laws.specs.Streams.{if_same, output_in, output_of, Grows, AreInOrder}
+use Rattle.task_laws.proofs.Growing.{output-append}
+use Rattle.task_laws.proofs.GrowLaws.{outputs_grow}
 
 heads_same : {A : Type 0} (x y : A) (xs ys : List A) → x ∷ xs ≡ y ∷ ys → x ≡ y
 heads_same x y xs ys is = cc

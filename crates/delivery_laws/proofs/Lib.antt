@@ -1,4 +1,0 @@
-pub mod Serves
-pub mod Telling
-pub mod Delivering
-pub mod Stored

@@ -1,0 +1,9 @@
+pub mod Growing
+pub mod GrowLaws
+pub mod Orders
+pub mod ClaimLaws
+pub mod LifeLaws
+pub mod Serves
+pub mod Telling
+pub mod Delivering
+pub mod Stored
