@@ -22,9 +22,9 @@ use Rattle.image_form.specs.declared.image.Image.{Image}
 use Rattle.site_run.specs.Lower.durable_build.Standing.{Kept}
 use Rattle.site_run.specs.Lower.script_run.declared.rest.Rest.{Rest}
 use Rattle.site_run.specs.Lower.script_run.declared.rest.Rest.TheVariants.{Ended, Waits, AnswersFailed}
-use Rattle.site_run.specs.Lower.saved_run.Lives.{image_after, IsFull as IsFullOf, IsNext, Lasts, TellsFault}
-use Rattle.site_run.specs.Lower.saved_run.Saved.{Stores, Survives}
-use Rattle.site_run.proofs.Lower.saved_run.LifeLemmas.{saved_image}
+use Rattle.site_run.specs.Lower.build_store.Lives.{image_after, IsFull as IsFullOf, IsNext, Lasts, TellsFault}
+use Rattle.site_run.specs.Lower.build_store.Saved.{Stores, Survives}
+use Rattle.site_run.proofs.Lower.build_store.LifeLemmas.{saved_image}
 use Rattle.site_run.specs.Lower.site_state.declared.ask.Entry.{Entry}
 use Rattle.site_run.specs.Lower.site_state.Histories.{lines}
 use Rattle.site_run.specs.Lower.member_turns.Lives.{LifeOf, any_reply}

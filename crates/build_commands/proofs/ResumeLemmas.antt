@@ -10,7 +10,7 @@ use Rattle.site_run.specs.Lower.store_laws.Store.{IsConsistent, Told, events_of}
 use Rattle.site_run.specs.Lower.durable_build.declared.faults.StoreFault.{StoreFault}
 use Rattle.site_run.specs.Lower.durable_build.declared.faults.StoreFault.TheVariants as fault
 use Rattle.site_run.specs.Lower.durable_build.Opening.{OpenFails}
-use Rattle.site_run.specs.Lower.saved_run.Saved.{Stores}
+use Rattle.site_run.specs.Lower.build_store.Saved.{Stores}
 use Rattle.build_commands.specs.declared.refusal.Refusal.{Refusal}
 use Rattle.build_commands.specs.declared.refusal.Refusal.TheVariants.{DiskFailed, NoBuild, OutOfMemory}
 use Rattle.build_commands.specs.Refusals.{TellsFault, refusal_status, refusal_text}

@@ -10,10 +10,10 @@ use Rattle.model_run.specs.declared.event.Event.TheVariants.{Start as StartEvent
 use Rattle.model_run.specs.declared.site.Site.{Site}
 use Rattle.site_run.specs.Lower.script_run.Standing.{script_setting}
 use Rattle.settle_laws.specs.Stances.{Stance}
-use Rattle.site_run.specs.Lower.saved_run.declared.life.BeginFault.{BeginFault}
-use Rattle.site_run.specs.Lower.saved_run.declared.life.BeginFault.TheVariants.{HasBuild, Take}
-use Rattle.site_run.specs.Lower.saved_run.Lives.{BeginRefuses, TellsStart}
-use Rattle.site_run.specs.Lower.saved_run.Saved.{Survives}
+use Rattle.site_run.specs.Lower.build_store.declared.life.BeginFault.{BeginFault}
+use Rattle.site_run.specs.Lower.build_store.declared.life.BeginFault.TheVariants.{HasBuild, Take}
+use Rattle.site_run.specs.Lower.build_store.Lives.{BeginRefuses, TellsStart}
+use Rattle.site_run.specs.Lower.build_store.Saved.{Survives}
 use Rattle.run_command.specs.Inputs.{Input}
 use Rattle.task_host.specs.declared.call.Call.{Call}
 use Rattle.task_host.specs.declared.order.Stream.{Stream}

@@ -13,8 +13,8 @@ use Rattle.site_run.specs.Lower.script_run.declared.rest.Rest.{Rest}
 use Rattle.site_run.specs.Lower.script_run.declared.rest.Rest.TheVariants.{AnswersFailed}
 use Rattle.site_run.specs.Lower.delta_records.declared.weights.Weights.{Weights}
 use Rattle.site_run.specs.Lower.durable_build.Taking.{DueAdds}
-use Rattle.site_run.specs.Lower.saved_run.Lives.{image_after, IsNext}
-use Rattle.site_run.specs.Lower.saved_run.Saved.{Stores, Survives, journal_length, journal_weights}
+use Rattle.site_run.specs.Lower.build_store.Lives.{image_after, IsNext}
+use Rattle.site_run.specs.Lower.build_store.Saved.{Stores, Survives, journal_length, journal_weights}
 use Rattle.build_commands.specs.declared.refusal.Refusal.{Refusal}
 use Rattle.build_commands.specs.declared.end_text.EndText.{EndText}
 use Rattle.build_commands.specs.declared.end_text.EndText.TheVariants.{Log}

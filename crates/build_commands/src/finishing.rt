@@ -7,7 +7,7 @@ ghost use Rattle.model_run.specs.declared.event.Event.{Event as AnEvent};
 ghost use Rattle.model_run.specs.declared.site.Executor.{Executor as SiteExecutor};
 ghost use Rattle.model_run.specs.State.{Setting};
 ghost use Rattle.site_run.specs.Lower.durable_build.Standing.{IsWhole, Keeps};
-ghost use Rattle.site_run.specs.Lower.saved_run.Lives.{Lasts};
+ghost use Rattle.site_run.specs.Lower.build_store.Lives.{Lasts};
 ghost use Rattle.agent_worker.specs.Crews.{IsCrew, members_of, others_of};
 ghost use Rattle.build_commands.specs.declared.end_text.EndText.TheVariants.{Log};
 ghost use Rattle.build_commands.specs.EndTexts.{Counts};

@@ -3,7 +3,7 @@
 ghost use Rattle.std.specs.Prelude.{◌≡◌, ℕ, List, Some};
 ghost use Rattle.model_run.specs.declared.event.Event.{Event as AnEvent};
 ghost use Rattle.model_run.specs.State.{Setting};
-ghost use Rattle.site_run.specs.Lower.saved_run.Saved.{Stores};
+ghost use Rattle.site_run.specs.Lower.build_store.Saved.{Stores};
 ghost use Rattle.build_commands.specs.Resuming.{Reopens, Resumes};
 
 use crate::done::Ended;
@@ -12,7 +12,7 @@ use crate::finishing::finish;
 use crate::refusal::{Refusal, tell};
 use jp_disk::Disk;
 use jp_io::{Sink, Source};
-use site_run::saved_run::Life;
+use site_run::build_store::Life;
 use site_run::saved_thread::SavedThread;
 use std::sync::Wait;
 use std::thread::Threads;

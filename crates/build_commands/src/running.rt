@@ -15,7 +15,7 @@ use crate::plan::{Plan, read_plan};
 use crate::refusal::{Refusal, tell};
 use jp_disk::Disk;
 use jp_io::{Sink, Source};
-use site_run::saved_run::Life;
+use site_run::build_store::Life;
 use site_run::saved_thread::SavedThread;
 use std::sync::Wait;
 use std::thread::Threads;

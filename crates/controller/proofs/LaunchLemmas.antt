@@ -15,9 +15,9 @@ use Rattle.journal_core.specs.declared.faults.TakeFault.TheVariants as take
 use Rattle.model_run.specs.declared.event.Event.TheVariants.{Start as StartEvent}
 use Rattle.model_run.specs.declared.site.Site.{Site}
 use Rattle.build_commands.specs.Lower.script_run.Standing.{IsProper, script_setting}
-use Rattle.build_commands.specs.Lower.saved_run.declared.life.BeginFault.{BeginFault}
-use Rattle.build_commands.specs.Lower.saved_run.declared.life.BeginFault.TheVariants as fault
-use Rattle.build_commands.specs.Lower.saved_run.Lives.{BeginRefuses}
+use Rattle.build_commands.specs.Lower.build_store.declared.life.BeginFault.{BeginFault}
+use Rattle.build_commands.specs.Lower.build_store.declared.life.BeginFault.TheVariants as fault
+use Rattle.build_commands.specs.Lower.build_store.Lives.{BeginRefuses}
 use Rattle.build_commands.specs.Lower.run_command.Files.{Builds}
 use Rattle.build_commands.specs.declared.end_text.EndText.{EndText}
 use Rattle.build_commands.specs.declared.end_text.EndText.TheVariants as end
@@ -34,8 +34,8 @@ use Rattle.model_run.specs.declared.event.Event.{Event}
 use Rattle.model_run.specs.State.{Setting}
 use Rattle.model_run.specs.World.{world_in}
 use Rattle.settle_laws.specs.Stances.{Stance}
-use Rattle.build_commands.specs.Lower.saved_run.Saved.{Stores}
-use Rattle.build_commands.proofs.Lower.saved_run.BeginLemmas.{mean_proper}
+use Rattle.build_commands.specs.Lower.build_store.Saved.{Stores}
+use Rattle.build_commands.proofs.Lower.build_store.BeginLemmas.{mean_proper}
 use Rattle.build_commands.proofs.Lower.site_run.ManyLemmas.{HasNow, all_once}
 use Rattle.build_commands.specs.Finishing.{ComesNext}
 use Rattle.build_commands.specs.Launching.{LaunchedOnce}

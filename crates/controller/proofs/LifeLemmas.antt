@@ -8,7 +8,7 @@ use Rattle.model_run.specs.declared.event.Event.{Event}
 use Rattle.model_run.specs.State.{Setting}
 use Rattle.model_run.specs.World.{world_in}
 use Rattle.build_commands.specs.Lower.script_run.declared.rest.Rest.TheVariants as why
-use Rattle.build_commands.specs.Lower.saved_run.Saved.{Stores, Survives}
+use Rattle.build_commands.specs.Lower.build_store.Saved.{Stores, Survives}
 use Rattle.build_commands.specs.Lower.site_run.Ending.{RestsWith}
 use Rattle.build_commands.specs.Lower.site_run.Going as life
 use Rattle.build_commands.specs.Lower.run_command.Statuses.{HasRun, world_status}

@@ -16,8 +16,8 @@ use Rattle.model_run.specs.State.{Setting}
 use Rattle.model_run.specs.World.{world_in}
 use Rattle.build_commands.specs.Lower.delta_records.declared.weights.Weights.{Weights}
 use Rattle.build_commands.specs.Lower.durable_build.Taking.{DueAdds}
-use Rattle.build_commands.specs.Lower.saved_run.Lives.{IsNext, image_after}
-use Rattle.build_commands.specs.Lower.saved_run.Saved.{Stores, journal_length, journal_weights}
+use Rattle.build_commands.specs.Lower.build_store.Lives.{IsNext, image_after}
+use Rattle.build_commands.specs.Lower.build_store.Saved.{Stores, journal_length, journal_weights}
 use Rattle.build_commands.specs.Lower.store_laws.Store.{last_image}
 use Rattle.build_commands.specs.Lower.member_turns.Tales.{claimed_of}
 use Rattle.build_commands.specs.Lower.member_turns.Turning.{tasks_of}

@@ -20,14 +20,14 @@ use Rattle.model_run.specs.declared.site.Site.{Site}
 use Rattle.model_run.specs.State.{Setting}
 use Rattle.settle_laws.specs.Stances.{Stance}
 use Rattle.build_commands.specs.Lower.script_run.Standing.{script_setting}
-use Rattle.build_commands.specs.Lower.saved_run.declared.life.BeginFault.{BeginFault}
-use Rattle.build_commands.specs.Lower.saved_run.declared.life.BeginFault.TheVariants as fault
+use Rattle.build_commands.specs.Lower.build_store.declared.life.BeginFault.{BeginFault}
+use Rattle.build_commands.specs.Lower.build_store.declared.life.BeginFault.TheVariants as fault
 use Rattle.build_commands.specs.Lower.record_form.declared.record.EventRecord.{EventRecord}
 use Rattle.build_commands.specs.Lower.store_laws.Store.{Mean, Told, events_of}
 use Rattle.build_commands.specs.Lower.durable_build.Kinds.{weights_of}
 use Rattle.build_commands.proofs.Lower.durable_build.Sizes.{start_adds}
-use Rattle.build_commands.specs.Lower.saved_run.Lives.{BeginRefuses, StartFails, MayRisk, image_after, TellsStart}
-use Rattle.build_commands.specs.Lower.saved_run.Saved.{Stores, Survives}
+use Rattle.build_commands.specs.Lower.build_store.Lives.{BeginRefuses, StartFails, MayRisk, image_after, TellsStart}
+use Rattle.build_commands.specs.Lower.build_store.Saved.{Stores, Survives}
 use Rattle.build_commands.specs.Lower.run_command.Files.{HasFault, HasSite, IsRefused, by_fault, by_length, OfFiles, Builds}
 use Rattle.build_commands.specs.Lower.run_command.Statuses.{HasLog, HasRun}
 use Rattle.build_commands.specs.Lower.run_command.Inputs.{HasFailed}

@@ -17,7 +17,7 @@ use Rattle.model_run.specs.declared.site.Executor.{Executor}
 use Rattle.model_run.specs.declared.site.Site.{Site}
 use Rattle.model_run.specs.State.{Setting}
 use Rattle.build_commands.specs.Lower.store_laws.Store.{FirstStarts, Mean, Starts, events_of}
-use Rattle.build_commands.specs.Lower.saved_run.Saved.{Stores}
+use Rattle.build_commands.specs.Lower.build_store.Saved.{Stores}
 
 -- the numbers of these executors go up by one, from this one on
 abbrev pub Consecutive : ℕ → List Executor → Type 0

@@ -9,7 +9,7 @@ use Rattle.task_host.specs.declared.order.Stream.{Stream}
 use Rattle.model_run.specs.declared.event.Event.{Event}
 use Rattle.model_run.specs.State.{Setting}
 use Rattle.model_run.specs.World.{next_grant, world_in}
-use Rattle.build_commands.specs.Lower.saved_run.Saved.{Stores}
+use Rattle.build_commands.specs.Lower.build_store.Saved.{Stores}
 use Rattle.build_commands.specs.Lower.site_state.declared.ask.Entry.{Entry}
 use Rattle.build_commands.specs.Lower.site_state.Histories.{lines}
 use Rattle.build_commands.specs.Lower.run_command.Inputs.{Input, HasFailed, taken_from}

@@ -14,8 +14,8 @@ use Rattle.model_run.specs.World.{world_in}
 use Rattle.build_commands.specs.Lower.store_laws.Store.{Mean}
 use Rattle.build_commands.specs.Lower.delta_records.declared.payload.Payload.TheVariants.{Whole}
 use Rattle.build_commands.specs.Lower.durable_build.Taking.{added}
-use Rattle.build_commands.specs.Lower.saved_run.Lives.{image_after}
-use Rattle.build_commands.specs.Lower.saved_run.Saved.{Stores}
+use Rattle.build_commands.specs.Lower.build_store.Lives.{image_after}
+use Rattle.build_commands.specs.Lower.build_store.Saved.{Stores}
 use Rattle.build_commands.specs.Lower.run_command.Files.{HasSite, IsRefused, OfFiles}
 use Rattle.build_commands.specs.Lower.run_command.Inputs.{HasFailed}
 use Rattle.build_commands.specs.Lower.run_command.Statuses.{HasLog, HasRun, world_status}

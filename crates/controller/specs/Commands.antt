@@ -9,7 +9,7 @@ use Rattle.model_run.specs.GraphText.{graph_text}
 use Rattle.model_run.specs.State.{Setting}
 use Rattle.model_run.specs.World.{Build}
 use Rattle.settle_laws.specs.Stances.{Stance}
-use Rattle.build_commands.specs.Lower.saved_run.Saved.{Stores}
+use Rattle.build_commands.specs.Lower.build_store.Saved.{Stores}
 use Rattle.build_commands.specs.declared.end_text.EndText.{EndText}
 use Rattle.build_commands.specs.declared.end_text.EndText.TheVariants as end
 use Rattle.build_commands.specs.Beginning.{Runs}

@@ -7,7 +7,7 @@ use Rattle.model_run.specs.AgentsFile.{agents_file, Means}
 use Rattle.model_run.specs.declared.event.Event.{Event}
 use Rattle.model_run.specs.declared.site.Site.{Site}
 use Rattle.model_run.specs.State.{Setting}
-use Rattle.build_commands.specs.Lower.saved_run.Saved.{Stores}
+use Rattle.build_commands.specs.Lower.build_store.Saved.{Stores}
 use Rattle.build_commands.specs.Launching.{LaunchedOnce}
 use Rattle.build_commands.specs.Living.{HostsStay}
 use Rattle.controller.specs.Call.{Call, Devices, Finds, IsUnled, LifeIn}

@@ -15,7 +15,7 @@ use Rattle.build_commands.specs.Lower.store_laws.Store.{Mean}
 use Rattle.journal_core.specs.Records.{Has}
 use Rattle.build_commands.specs.Lower.durable_build.declared.faults.StoreFault.TheVariants.{Damaged}
 use Rattle.build_commands.specs.Lower.durable_build.Opening.{OpenFails}
-use Rattle.build_commands.specs.Lower.saved_run.Saved.{Stores}
+use Rattle.build_commands.specs.Lower.build_store.Saved.{Stores}
 use Rattle.build_commands.specs.Lower.run_command.Files.{HasSite, IsRefused}
 use Rattle.build_commands.specs.Lower.run_command.Statuses.{HasRun, world_status}
 use Rattle.build_commands.specs.Lower.run_command.Texts as run

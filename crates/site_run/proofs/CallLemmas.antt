@@ -10,14 +10,14 @@ use Rattle.agent_worker.specs.declared.gate.Heard.{Heard}
 use Rattle.agent_worker.specs.declared.gate.GateCall.{GateCall}
 use Rattle.agent_worker.specs.declared.gate.GateCall.TheVariants.{Claim, Report, Inputs, Answer, Halt}
 use Rattle.agent_worker.specs.declared.gate.Inputs.{Inputs as InputsSaid}
-use Rattle.saved_run.specs.Lower.build_core.Builds.{Parts}
+use Rattle.build_store.specs.Lower.build_core.Builds.{Parts}
 use Rattle.build_requests.specs.Waiting.{waiting_inputs}
 use Rattle.model_run.specs.declared.event.Event.{Event}
 use Rattle.model_run.specs.declared.request.OpenRequest.{OpenRequest}
 use Rattle.model_run.specs.Fitting.{Some_of}
 use Rattle.model_run.specs.State.{Setting}
 use Rattle.model_run.specs.World.{world_in}
-use Rattle.saved_run.specs.Lower.script_run.Standing.{IsProper}
+use Rattle.build_store.specs.Lower.script_run.Standing.{IsProper}
 use Rattle.settle_laws.specs.Stances.{Stance}
 use Rattle.task_host.specs.declared.order.Order.{Order}
 use Rattle.member_turns.specs.Lower.site_state.declared.ask.Ask.{Ask}

@@ -3,16 +3,16 @@ use Rattle.std.proofs.Common.{◌≡◌, ◌∙◌, ◌<◌, inl, inr, ℕ, Bool
 use Rattle.std.specs.Prelude.{◌&&◌, ◌||◌, not, nat_lt, if◌then◌else◌}
 use Rattle.agent_worker.specs.declared.member.Member.{Member}
 use Rattle.agent_worker.specs.declared.member.Member.TheVariants.{Executor, Operator}
-use Rattle.saved_run.specs.Lower.build_core.Builds.{Parts}
-use Rattle.saved_run.specs.Lower.build_core.Phases.{has_ended}
+use Rattle.build_store.specs.Lower.build_core.Builds.{Parts}
+use Rattle.build_store.specs.Lower.build_core.Phases.{has_ended}
 use Rattle.build_requests.specs.Waiting.{open_tasks, waiting_inputs}
-use Rattle.saved_run.proofs.Lower.durable_build.OpenLemmas.{begun_all}
+use Rattle.build_store.proofs.Lower.durable_build.OpenLemmas.{begun_all}
 use Rattle.launch_laws.specs.ManyTurns.{AllTaken, IsTaken}
 use Rattle.model_run.specs.declared.event.Event.{Event}
 use Rattle.model_run.specs.State.{Setting}
 use Rattle.model_run.specs.World as W
-use Rattle.saved_run.specs.Lower.script_run.declared.rest.Rest.TheVariants.{Waits, AnswersFailed}
-use Rattle.saved_run.specs.Lower.script_run.Standing.{IsProper}
+use Rattle.build_store.specs.Lower.script_run.declared.rest.Rest.TheVariants.{Waits, AnswersFailed}
+use Rattle.build_store.specs.Lower.script_run.Standing.{IsProper}
 use Rattle.settle_laws.specs.Stances.{Stance}
 use Rattle.member_turns.specs.Lower.site_state.declared.ask.Progress.{Progress}
 use Rattle.member_turns.specs.Lower.site_state.Claims.{within_u32}

@@ -7,7 +7,7 @@ use Rattle.device_faults.specs.Faults.{Rose}
 use Rattle.jp_disk.specs.Runs.{AtEachMoment}
 use Rattle.jp_disk.proofs.MomentLemmas.{runs_on, at_each_weaker}
 use Rattle.journal_core.specs.Records.{Has, framed}
-use Rattle.saved_run.specs.Lower.record_form.declared.record.EventRecord.{EventRecord}
+use Rattle.build_store.specs.Lower.record_form.declared.record.EventRecord.{EventRecord}
 use Rattle.journal_core.specs.declared.faults.TakeFault.{TakeFault}
 use Rattle.journal_core.specs.declared.faults.TakeFault.TheVariants.{Disk}
 use Rattle.agent_worker.specs.declared.member.Member.{Member}
@@ -17,16 +17,16 @@ use Rattle.model_run.specs.World as W
 use Rattle.program_lock.specs.declared.program.Memory.{Memory as NoMemory}
 use Rattle.image_form.specs.declared.image.Image.{Image}
 use Rattle.settle_laws.specs.Stances.{Stance}
-use Rattle.saved_run.specs.Lower.build_core.Builds.{Parts, StandsFor, setting_in}
-use Rattle.saved_run.specs.Lower.build_images.Images.{world_image}
-use Rattle.saved_run.specs.Lower.store_laws.Store.{AllDue, Follows, Told, events_of, last_image}
-use Rattle.saved_run.proofs.Lower.store_laws.Payloads.{image_behind_more, told_append}
-use Rattle.saved_run.specs.Lower.delta_records.declared.weights.Weights.{Weights}
-use Rattle.saved_run.specs.Lower.durable_build.Kinds.{weights_of}
+use Rattle.build_store.specs.Lower.build_core.Builds.{Parts, StandsFor, setting_in}
+use Rattle.build_store.specs.Lower.build_images.Images.{world_image}
+use Rattle.build_store.specs.Lower.store_laws.Store.{AllDue, Follows, Told, events_of, last_image}
+use Rattle.build_store.proofs.Lower.store_laws.Payloads.{image_behind_more, told_append}
+use Rattle.build_store.specs.Lower.delta_records.declared.weights.Weights.{Weights}
+use Rattle.build_store.specs.Lower.durable_build.Kinds.{weights_of}
 use Rattle.std.specs.List.{AllByRecursion as AllAre}
-use Rattle.saved_run.specs.Lower.durable_build.Standing.{IsWhole, Kept, Keeps}
-use Rattle.saved_run.proofs.Lower.durable_build.OpenLemmas.{begun_all}
-use Rattle.saved_run.specs.Lower.script_run.declared.rest.Rest.{Rest}
+use Rattle.build_store.specs.Lower.durable_build.Standing.{IsWhole, Kept, Keeps}
+use Rattle.build_store.proofs.Lower.durable_build.OpenLemmas.{begun_all}
+use Rattle.build_store.specs.Lower.script_run.declared.rest.Rest.{Rest}
 use Rattle.member_turns.specs.Lower.site_state.declared.ask.Entry.{Entry}
 use Rattle.member_turns.specs.Lower.site_state.declared.ask.Entry.TheVariants.{Took, Claimed, Line, Failed}
 use Rattle.member_turns.specs.Lower.site_state.declared.ask.Progress.{Progress}

@@ -13,7 +13,7 @@ use Rattle.agent_worker.specs.declared.member.Member.TheVariants.{Executor, Oper
 use Rattle.agent_worker.specs.Gate.{Told, Claimed as ClaimedTask}
 use Rattle.agent_worker.specs.Serve.{tasks_at}
 use Rattle.agent_worker.specs.Working.{on_host}
-use Rattle.saved_run.specs.Lower.build_core.Builds.{Parts}
+use Rattle.build_store.specs.Lower.build_core.Builds.{Parts}
 use Rattle.model_syntax.specs.Nodes.{Node}
 use Rattle.model_run.specs.declared.event.Event.{Event}
 use Rattle.model_run.specs.Below.{Small}

@@ -9,9 +9,9 @@ use Rattle.model_run.specs.declared.event.Event.{Event}
 use Rattle.model_run.specs.declared.event.Event.TheVariants.{Granted}
 use Rattle.model_run.specs.State.{Setting}
 use Rattle.model_run.specs.World.{next_grant, world_in}
-use Rattle.saved_run.specs.Lower.script_run.Running.{Hears, IsPassedOver, Listens, decides, passes_over, too_long, no_answer, nothing_open}
-use Rattle.saved_run.specs.Going as going
-use Rattle.saved_run.specs.Going.{GoesOn}
+use Rattle.build_store.specs.Lower.script_run.Running.{Hears, IsPassedOver, Listens, decides, passes_over, too_long, no_answer, nothing_open}
+use Rattle.build_store.specs.Going as going
+use Rattle.build_store.specs.Going.{GoesOn}
 use Rattle.site_run.specs.Going as hosts
 use Rattle.site_run.specs.Going.{Comes, by_grant, by_line, GoesBy, begins, takes, passes, heard_in}
 

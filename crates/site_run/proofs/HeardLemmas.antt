@@ -9,7 +9,7 @@ use Rattle.std.proofs.Math.Seq.{take-nil}
 use Rattle.program_lock.specs.declared.program.Memory.{Memory as NoMemory}
 use Rattle.program_lock.specs.Legal.{Answers as AnswersOf}
 use Rattle.program_lock.specs.Merge.{IsMergeOf}
-use Rattle.saved_run.specs.Lower.script_run.declared.rest.Rest.{Rest}
+use Rattle.build_store.specs.Lower.script_run.declared.rest.Rest.{Rest}
 use Rattle.journal_core.specs.declared.faults.TakeFault.{TakeFault}
 use Rattle.agent_worker.specs.declared.gate.GateCall.{GateCall}
 use Rattle.agent_worker.specs.declared.gate.GateCall.TheVariants as gate_call
@@ -25,7 +25,7 @@ use Rattle.agent_worker.specs.AnswerBytes.{begun_after, last_line, lines_of, sho
 use Rattle.agent_worker.specs.Operating.{Ask, Asked, Reads, Given, Halted, FoundInput, IsOperating, IsReadToEnd, NoMore, LastHeeded, MayAsk, First, Busy, PassedOver, Heeded, Operates, OperatorEnds, ReadLine, GivesLines, given_in, has_ended, read_in, operator_calls}
 use Rattle.agent_worker.specs.Operating as operating
 use Rattle.agent_worker.proofs.AnswerLemmas.{begun-on, lines-on}
-use Rattle.saved_run.specs.Lower.build_core.Builds.{Parts}
+use Rattle.build_store.specs.Lower.build_core.Builds.{Parts}
 use Rattle.settle_laws.specs.Stances.{Stance}
 use Rattle.task_host.specs.declared.call.Call.{Call}
 use Rattle.task_host.specs.declared.order.Stream.{Stream}

@@ -9,7 +9,7 @@ use Rattle.journal_core.specs.declared.faults.TakeFault.{TakeFault}
 use Rattle.journal_core.specs.declared.faults.TakeFault.TheVariants.{Memory, Disk, Full, Stopped}
 use Rattle.agent_worker.specs.declared.member.Member.{Member}
 use Rattle.agent_worker.specs.declared.member.Member.TheVariants.{Executor, Operator}
-use Rattle.saved_run.specs.Lower.durable_build.Standing.{Kept}
+use Rattle.build_store.specs.Lower.durable_build.Standing.{Kept}
 use Rattle.launch_laws.specs.Fitting as fitting
 use Rattle.launch_laws.specs.Fitting.{ExecutorHost}
 use Rattle.launch_laws.proofs.LifeLaws.{no_task_twice}
@@ -18,11 +18,11 @@ use Rattle.model_run.specs.declared.event.Event.{Event}
 use Rattle.model_run.specs.declared.taken.Taken.TheVariants.{Accepted}
 use Rattle.model_run.specs.State.{Setting}
 use Rattle.model_run.specs.World.{answer_to, world_in}
-use Rattle.saved_run.specs.Lower.script_run.declared.rest.Rest.{Rest}
-use Rattle.saved_run.specs.Lower.script_run.Standing.{IsProper}
+use Rattle.build_store.specs.Lower.script_run.declared.rest.Rest.{Rest}
+use Rattle.build_store.specs.Lower.script_run.Standing.{IsProper}
 use Rattle.settle_laws.specs.Stances.{Stance}
-use Rattle.saved_run.specs.Lives.{Fails, IsOf, Lasts, MayRisk}
-use Rattle.saved_run.specs.Saved.{IsTold, Stores}
+use Rattle.build_store.specs.Lives.{Fails, IsOf, Lasts, MayRisk}
+use Rattle.build_store.specs.Saved.{IsTold, Stores}
 use Rattle.member_turns.specs.Lower.site_state.declared.ask.Entry.{Entry}
 use Rattle.member_turns.specs.Lower.site_state.Histories.{tooks}
 use Rattle.member_turns.specs.Turns.{Turn}

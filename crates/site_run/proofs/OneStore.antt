@@ -1,12 +1,12 @@
 -- A store tells of one build at most: of these events, and where there are any, of one setting.
 use Rattle.std.proofs.Common.{◌≡◌, ◌∙◌, ℕ, List, [], ◌∷◌, refl, sym, ap, subst}
-use Rattle.saved_run.specs.Lower.record_form.declared.record.EventRecord.{EventRecord}
+use Rattle.build_store.specs.Lower.record_form.declared.record.EventRecord.{EventRecord}
 use Rattle.model_run.specs.declared.event.Event.{Event}
 use Rattle.model_run.specs.declared.event.Event.TheVariants.{Start, Granted, Output, Exited, Lost, Decided}
 use Rattle.model_run.specs.State.{Setting}
-use Rattle.saved_run.specs.Lower.store_laws.Store.{FirstStarts, HasEvents, Starts, Tells, events_of}
-use Rattle.saved_run.proofs.Lower.store_laws.Tellings.{one_history, one_setting, one_telling}
-use Rattle.saved_run.specs.Saved.{Stores}
+use Rattle.build_store.specs.Lower.store_laws.Store.{FirstStarts, HasEvents, Starts, Tells, events_of}
+use Rattle.build_store.proofs.Lower.store_laws.Tellings.{one_history, one_setting, one_telling}
+use Rattle.build_store.specs.Saved.{Stores}
 
 tells : {s : Setting} {es : List Event} {file : List ℕ} → (a : Stores s es file) → Tells a.told.records file
 tells a = record { payloads = a.payloads; has = a.has; spelled = a.told.spelled }

@@ -9,8 +9,8 @@ use Rattle.agent_worker.specs.declared.gate.Claim.TheVariants as claim
 use Rattle.agent_worker.specs.declared.gate.Heard.{Heard}
 use Rattle.agent_worker.specs.declared.gate.Heard.TheVariants.{Decided, Skipped}
 use Rattle.agent_worker.specs.declared.gate.Inputs.{Inputs}
-use Rattle.saved_run.specs.Lower.build_core.Builds.{Parts}
-use Rattle.saved_run.specs.Lower.build_core.Phases.{has_ended}
+use Rattle.build_store.specs.Lower.build_core.Builds.{Parts}
+use Rattle.build_store.specs.Lower.build_core.Phases.{has_ended}
 use Rattle.build_requests.specs.Waiting.{input_of, open_tasks, waiting_inputs}
 use Rattle.model_run.specs.declared.event.Event.{Event}
 use Rattle.model_run.specs.declared.event.Event.TheVariants.{Granted}
@@ -20,15 +20,15 @@ use Rattle.model_run.specs.declared.taken.Taken.TheVariants.{Accepted, NotOpen, 
 use Rattle.model_run.specs.State.{Setting}
 use Rattle.model_run.specs.World as W
 use Rattle.program_lock.specs.Legal.{IsRun, IsLegal}
-use Rattle.saved_run.specs.Lower.script_run.Standing.{IsProper}
-use Rattle.saved_run.specs.Lower.build_images.Images.{world_image}
-use Rattle.saved_run.specs.Lower.delta_records.declared.weights.Weights.{Weights}
-use Rattle.saved_run.specs.Lower.durable_build.Standing.{world_before}
-use Rattle.saved_run.specs.Lower.durable_build.Taking.{DueAdds}
-use Rattle.saved_run.proofs.Lower.durable_build.Sizes.{due_adds}
-use Rattle.saved_run.specs.Lives.{image_after}
+use Rattle.build_store.specs.Lower.script_run.Standing.{IsProper}
+use Rattle.build_store.specs.Lower.build_images.Images.{world_image}
+use Rattle.build_store.specs.Lower.delta_records.declared.weights.Weights.{Weights}
+use Rattle.build_store.specs.Lower.durable_build.Standing.{world_before}
+use Rattle.build_store.specs.Lower.durable_build.Taking.{DueAdds}
+use Rattle.build_store.proofs.Lower.durable_build.Sizes.{due_adds}
+use Rattle.build_store.specs.Lives.{image_after}
 use Rattle.settle_laws.specs.Stances.{Stance}
-use Rattle.saved_run.proofs.Lower.store_laws.Stories.{world-more}
+use Rattle.build_store.proofs.Lower.store_laws.Stories.{world-more}
 use Rattle.member_turns.specs.Lower.site_state.declared.ask.Ask.{Ask}
 use Rattle.member_turns.specs.Lower.site_state.declared.ask.Ask.TheVariants as ask
 use Rattle.member_turns.specs.Lower.site_state.declared.ask.Entry.{Entry}

@@ -9,7 +9,7 @@ use Rattle.jp_disk.specs.Runs.{AtEachMoment}
 use Rattle.jp_disk.proofs.MomentLemmas.{runs_on, at_each_weaker}
 use Rattle.journal_core.specs.Records.{Has, Walked, framed}
 use Rattle.journal_core.proofs.StepLemmas.{stores_has}
-use Rattle.saved_run.specs.Lower.record_form.declared.record.EventRecord.{EventRecord}
+use Rattle.build_store.specs.Lower.record_form.declared.record.EventRecord.{EventRecord}
 use Rattle.journal_core.specs.declared.faults.TakeFault.{TakeFault}
 use Rattle.journal_core.specs.declared.faults.TakeFault.TheVariants.{Memory, Disk, Full, Stopped}
 use Rattle.model_run.specs.declared.event.Event.{Event}
@@ -18,19 +18,19 @@ use Rattle.model_run.specs.State.{Setting}
 use Rattle.model_run.specs.World as W
 use Rattle.image_form.specs.declared.image.Image.{Image}
 use Rattle.settle_laws.specs.Stances.{Stance}
-use Rattle.saved_run.specs.Lower.build_core.Builds.{StandsFor, setting_in}
-use Rattle.saved_run.specs.Lower.build_images.Images.{world_image}
-use Rattle.saved_run.specs.Lower.store_laws.Store.{AllDue, FirstStarts, Follows, Starts, Told, events_of, last_image}
-use Rattle.saved_run.proofs.Lower.store_laws.Payloads.{image_behind_more, told_append}
-use Rattle.saved_run.proofs.Lower.store_laws.Stories.{world-more}
-use Rattle.saved_run.specs.Lower.durable_build.Standing.{Kept, world_before}
-use Rattle.saved_run.specs.Lower.delta_records.declared.weights.Weights.{Weights}
-use Rattle.saved_run.specs.Lower.durable_build.Kinds.{weights_of}
-use Rattle.saved_run.specs.Lower.durable_build.Taking.{DueAdds}
-use Rattle.saved_run.proofs.Lower.durable_build.OpenLemmas.{begun_all}
-use Rattle.saved_run.proofs.Lower.durable_build.Sizes.{due_adds}
-use Rattle.saved_run.specs.Saved.{IsTold, IsFront, Saves, Stores, Survives}
-use Rattle.saved_run.specs.Lives.{IsFull as IsFullOf, IsOf, Lasts, Fails, MayRisk, TellsStore, image_after}
+use Rattle.build_store.specs.Lower.build_core.Builds.{StandsFor, setting_in}
+use Rattle.build_store.specs.Lower.build_images.Images.{world_image}
+use Rattle.build_store.specs.Lower.store_laws.Store.{AllDue, FirstStarts, Follows, Starts, Told, events_of, last_image}
+use Rattle.build_store.proofs.Lower.store_laws.Payloads.{image_behind_more, told_append}
+use Rattle.build_store.proofs.Lower.store_laws.Stories.{world-more}
+use Rattle.build_store.specs.Lower.durable_build.Standing.{Kept, world_before}
+use Rattle.build_store.specs.Lower.delta_records.declared.weights.Weights.{Weights}
+use Rattle.build_store.specs.Lower.durable_build.Kinds.{weights_of}
+use Rattle.build_store.specs.Lower.durable_build.Taking.{DueAdds}
+use Rattle.build_store.proofs.Lower.durable_build.OpenLemmas.{begun_all}
+use Rattle.build_store.proofs.Lower.durable_build.Sizes.{due_adds}
+use Rattle.build_store.specs.Saved.{IsTold, IsFront, Saves, Stores, Survives}
+use Rattle.build_store.specs.Lives.{IsFull as IsFullOf, IsOf, Lasts, Fails, MayRisk, TellsStore, image_after}
 use Rattle.member_turns.specs.Lower.site_state.declared.ask.Entry.{Entry}
 use Rattle.member_turns.specs.Lower.site_state.declared.ask.Entry.TheVariants.{Took, Claimed, Line, Failed}
 use Rattle.member_turns.specs.Lower.site_state.Facts.{Facts, Grown, HasFront, IsFull, IsFullAt, IsMeant, IsSized, IsSizedAt}

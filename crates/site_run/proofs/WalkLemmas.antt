@@ -11,11 +11,11 @@ use Rattle.agent_worker.specs.declared.gate.Claim.TheVariants as claim
 use Rattle.agent_worker.specs.declared.gate.Heard.{Heard}
 use Rattle.agent_worker.specs.declared.gate.Heard.TheVariants.{Decided, Skipped}
 use Rattle.agent_worker.specs.Gate.{Claimed as ClaimedTask}
-use Rattle.saved_run.specs.Lower.build_core.Builds.{Parts, StandsFor, setting_in, standing_of}
-use Rattle.saved_run.specs.Lower.build_core.Phases.{has_begun}
+use Rattle.build_store.specs.Lower.build_core.Builds.{Parts, StandsFor, setting_in, standing_of}
+use Rattle.build_store.specs.Lower.build_core.Phases.{has_begun}
 use Rattle.build_requests.specs.Waiting.{input_of}
-use Rattle.saved_run.proofs.Lower.durable_build.Cleared.{world_clears}
-use Rattle.saved_run.proofs.Lower.durable_build.OpenLemmas.{begun_all}
+use Rattle.build_store.proofs.Lower.durable_build.Cleared.{world_clears}
+use Rattle.build_store.proofs.Lower.durable_build.OpenLemmas.{begun_all}
 use Rattle.launch_laws.specs.ManyTurns.{InLife}
 use Rattle.model_run.specs.declared.event.Event.{Event}
 use Rattle.model_run.specs.declared.event.Event.TheVariants.{Start, Granted, Output, Exited, Lost, Decided as DecidedEvent}
@@ -35,11 +35,11 @@ use Rattle.model_run.specs.State.{Setting}
 use Rattle.model_run.specs.Taking.{Standing}
 use Rattle.model_run.specs.World as W
 use Rattle.program_lock.specs.Legal.{IsRun, IsLegal}
-use Rattle.saved_run.specs.Lower.script_run.Standing.{IsProper}
-use Rattle.saved_run.proofs.Lower.script_run.Turns.{decided, grant_accepted}
+use Rattle.build_store.specs.Lower.script_run.Standing.{IsProper}
+use Rattle.build_store.proofs.Lower.script_run.Turns.{decided, grant_accepted}
 use Rattle.settle_laws.specs.Stances.{Stance}
-use Rattle.saved_run.specs.Lower.store_laws.Store.{grant_of}
-use Rattle.saved_run.proofs.Lower.store_laws.Stories.{world-more}
+use Rattle.build_store.specs.Lower.store_laws.Store.{grant_of}
+use Rattle.build_store.proofs.Lower.store_laws.Stories.{world-more}
 use Rattle.member_turns.specs.Lower.site_state.declared.ask.Ask.{Ask}
 use Rattle.member_turns.specs.Lower.site_state.declared.ask.Ask.TheVariants as ask
 use Rattle.member_turns.specs.Lower.site_state.declared.ask.Reply.{Reply}
@@ -59,7 +59,7 @@ use Rattle.member_turns.specs.Tales.{is_grant, claimed_of}
 use Rattle.member_turns.specs.Coming.{BehindItsLine, Came, EachIs, FailedSo, is_decision}
 use Rattle.member_turns.proofs.PartLemmas.{all_append, all_map}
 use Rattle.member_turns.proofs.TaleLemmas.{claimed-append, lines-append, grants_silent}
-use Rattle.saved_run.specs.Lives.{IsNext as ComesNext}
+use Rattle.build_store.specs.Lives.{IsNext as ComesNext}
 use Rattle.site_run.specs.Going.{Decides, IsPassedOver, no_answer, nothing_open, Comes, by_grant, by_report, by_line, GoesBy, begins, takes, passes}
 
 pub all_front : {A : Type 0} (P : A → Type 0) (xs ys : List A) → AllAre P (xs ++ ys) → AllAre P xs

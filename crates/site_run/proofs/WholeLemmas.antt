@@ -12,9 +12,9 @@ use Rattle.journal_core.specs.declared.faults.TakeFault.{TakeFault}
 use Rattle.journal_core.specs.declared.faults.TakeFault.TheVariants.{Memory, Disk, Full, Stopped}
 use Rattle.agent_worker.specs.declared.member.Member.{Member}
 use Rattle.agent_worker.specs.Gate.{Told, told_at}
-use Rattle.saved_run.specs.Lower.build_core.Builds.{Parts}
-use Rattle.saved_run.specs.Lower.durable_build.Standing.{Kept}
-use Rattle.saved_run.proofs.Lower.durable_build.OpenLemmas.{begun_all}
+use Rattle.build_store.specs.Lower.build_core.Builds.{Parts}
+use Rattle.build_store.specs.Lower.durable_build.Standing.{Kept}
+use Rattle.build_store.proofs.Lower.durable_build.OpenLemmas.{begun_all}
 use Rattle.launch_laws.specs.Fitting as fitting
 use Rattle.launch_laws.specs.Fitting.{ExecutorHost}
 use Rattle.launch_laws.proofs.LifeLaws.{all_fit_more}
@@ -25,9 +25,9 @@ use Rattle.model_run.specs.declared.event.Event.TheVariants.{Start, Granted, Out
 use Rattle.model_run.specs.Fitting.{Some_of}
 use Rattle.model_run.specs.State.{Setting}
 use Rattle.model_run.specs.World as W
-use Rattle.saved_run.specs.Lower.script_run.declared.rest.Rest.{Rest}
+use Rattle.build_store.specs.Lower.script_run.declared.rest.Rest.{Rest}
 use Rattle.settle_laws.specs.Stances.{Stance}
-use Rattle.saved_run.specs.Lives.{IsNext as ComesNext, Lasts, Fails}
+use Rattle.build_store.specs.Lives.{IsNext as ComesNext, Lasts, Fails}
 use Rattle.member_turns.specs.Lower.site_state.declared.ask.Ask.TheVariants.{Look}
 use Rattle.member_turns.specs.Lower.site_state.declared.ask.Entry.{Entry}
 use Rattle.member_turns.specs.Lower.site_state.declared.ask.Entry.TheVariants.{Failed}

@@ -6,15 +6,15 @@ use Rattle.task_host.specs.declared.call.Call.{Call}
 use Rattle.task_host.specs.declared.order.Stream.{Stream}
 use Rattle.journal_core.specs.declared.faults.TakeFault.{TakeFault}
 use Rattle.agent_worker.specs.declared.member.Member.{Member}
-use Rattle.saved_run.specs.Lower.durable_build.Standing.{Kept, Keeps}
+use Rattle.build_store.specs.Lower.durable_build.Standing.{Kept, Keeps}
 use Rattle.jp_disk.specs.Runs.{AtEachMoment}
 use Rattle.model_run.specs.declared.event.Event.{Event}
 use Rattle.model_run.specs.declared.taken.Taken.TheVariants.{Accepted}
 use Rattle.model_run.specs.State.{Setting}
 use Rattle.model_run.specs.World.{answer_to, world_in}
 use Rattle.settle_laws.specs.Stances.{Stance}
-use Rattle.saved_run.specs.Lower.script_run.declared.rest.Rest.{Rest}
-use Rattle.saved_run.specs.Lives.{Lasts, Fails}
+use Rattle.build_store.specs.Lower.script_run.declared.rest.Rest.{Rest}
+use Rattle.build_store.specs.Lives.{Lasts, Fails}
 use Rattle.member_turns.specs.Lower.site_state.declared.ask.Ask.{Ask}
 use Rattle.member_turns.specs.Lower.site_state.declared.ask.Entry.{Entry}
 use Rattle.member_turns.specs.Lower.site_state.declared.ask.Progress.{Progress}

@@ -5,13 +5,13 @@ use Rattle.task_host.specs.declared.call.Call.{Call}
 use Rattle.task_host.specs.declared.order.Stream.{Stream}
 use Rattle.journal_core.specs.declared.faults.TakeFault.{TakeFault}
 use Rattle.agent_worker.specs.declared.member.Member.{Member}
-use Rattle.saved_run.specs.Lower.durable_build.Standing.{Kept}
+use Rattle.build_store.specs.Lower.durable_build.Standing.{Kept}
 use Rattle.model_run.specs.declared.event.Event.{Event}
 use Rattle.model_run.specs.State.{Setting}
-use Rattle.saved_run.specs.Lower.script_run.declared.rest.Rest.{Rest}
+use Rattle.build_store.specs.Lower.script_run.declared.rest.Rest.{Rest}
 use Rattle.settle_laws.specs.Stances.{Stance}
-use Rattle.saved_run.specs.Lives.{Lasts}
-use Rattle.saved_run.specs.Saved.{Stores}
+use Rattle.build_store.specs.Lives.{Lasts}
+use Rattle.build_store.specs.Saved.{Stores}
 use Rattle.member_turns.specs.Lower.site_state.declared.ask.Entry.{Entry}
 use Rattle.member_turns.specs.Turns.{Turn}
 use Rattle.site_run.specs.Lives.{Ends, OpeningBreaks}

@@ -14,10 +14,10 @@ use Rattle.model_run.specs.declared.taken.Taken.{Taken}
 use Rattle.model_run.specs.declared.taken.Taken.TheVariants.{Accepted, NotOpen, WrongPlace, Finished}
 use Rattle.model_run.specs.State.{Setting}
 use Rattle.model_run.specs.World.{Build, answer_to, next_grant, world_in}
-use Rattle.saved_run.specs.Lower.delta_records.declared.weights.Weights.{Weights}
-use Rattle.saved_run.specs.Lower.durable_build.Taking.{DueAdds}
+use Rattle.build_store.specs.Lower.delta_records.declared.weights.Weights.{Weights}
+use Rattle.build_store.specs.Lower.durable_build.Taking.{DueAdds}
 use Rattle.program_lock.specs.Legal.{Answers}
-use Rattle.saved_run.specs.Lives.{image_after}
+use Rattle.build_store.specs.Lives.{image_after}
 use Rattle.member_turns.specs.Lower.site_state.declared.ask.Ask.{Ask}
 use Rattle.member_turns.specs.Lower.site_state.declared.ask.Ask.TheVariants as ask
 use Rattle.member_turns.specs.Lower.site_state.declared.ask.Entry.{Entry}

@@ -22,5 +22,5 @@ mod resting;
 
 pub use going::{Lived, go_on};
 pub use member_turns::site_state;
-pub use saved_run;
-pub use saved_run::{build_core, durable_build, saved_thread, script_run};
+pub use build_store;
+pub use build_store::{build_core, durable_build, saved_thread, script_run};

@@ -4,7 +4,7 @@ ghost use Rattle.site_run.specs.Ending.{any_failed, has_failed, rest_of};
 
 use agent_worker::Member;
 use member_turns::site_state::Progress;
-use saved_run::script_run::Rest;
+use build_store::script_run::Rest;
 
 /// Whether it is an operator whose answers could not be read.
 fn has_failed<H, A>(member: &Member<H, A>) -> bool

@@ -13,8 +13,8 @@ use Rattle.model_run.specs.Requests.{IsTaskOf, RunsOn}
 use Rattle.model_run.specs.Fitting.{Some_of}
 use Rattle.model_run.specs.State.{Setting}
 use Rattle.model_run.specs.World.{world_in}
-use Rattle.site_run.specs.Lower.saved_run.Lives.{Lasts}
-use Rattle.site_run.specs.Lower.saved_run.Saved.{IsTold, Stores}
+use Rattle.site_run.specs.Lower.build_store.Lives.{Lasts}
+use Rattle.site_run.specs.Lower.build_store.Saved.{IsTold, Stores}
 use Rattle.settle_laws.specs.Stances.{Stance}
 use Rattle.site_run.proofs.Lower.member_turns.ClaimLaws.{free_order}
 use Rattle.site_run.proofs.StoreLemmas.{lasts_on}

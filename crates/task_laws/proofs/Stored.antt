@@ -19,7 +19,7 @@ use Rattle.model_run.specs.World.{Build, after_one, unbegun, world_in}
 use Rattle.task_laws.specs.Streams.{output_of}
 use Rattle.task_laws.proofs.Orders.{delivered_together}
 use Rattle.site_run.specs.Lower.record_form.declared.record.EventRecord.{EventRecord}
-use Rattle.site_run.specs.Lower.saved_run.Saved.{Stores}
+use Rattle.site_run.specs.Lower.build_store.Saved.{Stores}
 use Rattle.site_run.proofs.FactLemmas.{none_first}
 use Rattle.site_run.specs.Lower.store_laws.Store.{FirstStarts, Follows, Starts, events_of}
 use Rattle.task_host.specs.declared.order.Stream.{Stream}

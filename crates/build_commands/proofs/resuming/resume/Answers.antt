@@ -3,8 +3,8 @@ use Rattle.site_run.specs.Lower.build_core.Builds.{setting_in}
 use Rattle.jp_disk.specs.Runs.{AtEachMoment}
 use Rattle.site_run.specs.Lower.durable_build.Opening.{OpenFails}
 use Rattle.site_run.specs.Lower.durable_build.Standing.{Keeps, Kept}
-use Rattle.site_run.specs.Lower.saved_run.Lives.{Stands}
-use Rattle.site_run.proofs.Lower.saved_run.LifeLemmas.{lasts_here}
+use Rattle.site_run.specs.Lower.build_store.Lives.{Stands}
+use Rattle.site_run.proofs.Lower.build_store.LifeLemmas.{lasts_here}
 use Rattle.build_commands.specs.Reporting.{Reports}
 use Rattle.build_commands.specs.Resuming.{Reopens, Resumes, goes_on, refused, unopened, went_on}
 use Rattle.build_commands.specs.Showing.{HasBuild}

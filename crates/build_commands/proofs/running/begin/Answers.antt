@@ -3,9 +3,9 @@ use Rattle.std.specs.Prelude.{IsSome}
 use Rattle.site_run.specs.Lower.durable_build.Standing.{Kept}
 use Rattle.model_run.specs.declared.event.Event.TheVariants.{Start as StartEvent}
 use Rattle.site_run.specs.Lower.script_run.Standing.{script_setting}
-use Rattle.site_run.specs.Lower.saved_run.Lives.{Goes}
-use Rattle.site_run.specs.Lower.saved_run.Saved.{Saves}
-use Rattle.site_run.proofs.Lower.saved_run.LifeLemmas.{lasts_here}
+use Rattle.site_run.specs.Lower.build_store.Lives.{Goes}
+use Rattle.site_run.specs.Lower.build_store.Saved.{Saves}
+use Rattle.site_run.proofs.Lower.build_store.LifeLemmas.{lasts_here}
 use Rattle.build_commands.specs.Beginning.{Begins, BeginsOver, begun, unbegun}
 use Rattle.build_commands.specs.Reporting.{Reports}
 use Rattle.build_commands.proofs.BeginLemmas.{begin_says, counts_first, known_file, meant}

@@ -6,9 +6,9 @@ use Rattle.durable_build.specs.Lower.build_core.Builds.{Parts, StandsFor, settin
 use Rattle.model_run.specs.declared.event.Event.TheVariants.{Start as StartEvent}
 use Rattle.model_run.specs.World.{unbegun}
 use Rattle.durable_build.specs.Lower.script_run.Standing.{script_setting}
-use Rattle.saved_run.specs.Lives.{StartFails}
-use Rattle.saved_run.proofs.BeginLemmas.{begins_taken, is_begun, start_fails, start_faults, start_refused, since_started, since_either}
-use Rattle.saved_run.proofs.life.Life.begin.Goals as goal
+use Rattle.build_store.specs.Lives.{StartFails}
+use Rattle.build_store.proofs.BeginLemmas.{begins_taken, is_begun, start_fails, start_faults, start_refused, since_started, since_either}
+use Rattle.build_store.proofs.life.Life.begin.Goals as goal
 
 pub returns-in_default-clause-begun : goal.returns-in_default-clause-begun
 returns-in_default-clause-begun g c = λ file told.

@@ -4,8 +4,8 @@ use Rattle.model_run.specs.declared.event.Event.TheVariants.{Decided as DecidedE
 use Rattle.model_run.specs.World.{world_in}
 use Rattle.durable_build.specs.Lower.script_run.Running.{Decides, too_long, no_answer, nothing_open}
 use Rattle.durable_build.proofs.Lower.script_run.Turns.{decided}
-use Rattle.saved_run.proofs.TurnLemmas.{wanting, hears_passed, hears_taken}
-use Rattle.saved_run.proofs.life.Life.hear.Goals as goal
+use Rattle.build_store.proofs.TurnLemmas.{wanting, hears_passed, hears_taken}
+use Rattle.build_store.proofs.life.Life.hear.Goals as goal
 
 pub returns-in_default-clause-hears : goal.returns-in_default-clause-hears
 returns-in_default-clause-hears g c = λ setting entry origin before events lasts listens going.

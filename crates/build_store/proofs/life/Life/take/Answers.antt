@@ -1,5 +1,5 @@
-use Rattle.saved_run.proofs.LifeLemmas.{lasts_taken, fails_taken, still_runs, tells_fault}
-use Rattle.saved_run.proofs.life.Life.take.Goals as goal
+use Rattle.build_store.proofs.LifeLemmas.{lasts_taken, fails_taken, still_runs, tells_fault}
+use Rattle.build_store.proofs.life.Life.take.Goals as goal
 
 pub returns-in-Ok-clause-takes : goal.returns-in-Ok-clause-takes
 returns-in-Ok-clause-takes g c = λ setting entry origin before events lasts accepted due.

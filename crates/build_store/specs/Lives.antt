@@ -28,11 +28,11 @@ use Rattle.durable_build.specs.Lower.script_run.declared.rest.Rest.{Rest}
 use Rattle.durable_build.specs.Lower.script_run.Rests.{LeftOver, TurnsTo}
 use Rattle.durable_build.specs.Lower.script_run.Running.{Decides, EndsLine}
 use Rattle.durable_build.specs.Lower.script_run.Standing.{IsProper}
-use Rattle.saved_run.specs.declared.life.BeginFault.{BeginFault}
-use Rattle.saved_run.specs.declared.life.BeginFault.TheVariants.{HasBuild, Take}
-use Rattle.saved_run.specs.declared.life.Life.{Life}
-use Rattle.saved_run.specs.Going.{GoesOn}
-use Rattle.saved_run.specs.Saved.{Saves, Stores, Survives, journal_length, journal_weights}
+use Rattle.build_store.specs.declared.life.BeginFault.{BeginFault}
+use Rattle.build_store.specs.declared.life.BeginFault.TheVariants.{HasBuild, Take}
+use Rattle.build_store.specs.declared.life.Life.{Life}
+use Rattle.build_store.specs.Going.{GoesOn}
+use Rattle.build_store.specs.Saved.{Saves, Stores, Survives, journal_length, journal_weights}
 use Rattle.jp_disk.specs.View.{DiskView}
 
 -- an event behind the first

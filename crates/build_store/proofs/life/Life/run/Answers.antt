@@ -1,9 +1,9 @@
 use Rattle.std.proofs.Common.{◌≡◌, ◌∙◌, Option, Ok, Err, subst}
 use Rattle.journal_core.specs.declared.faults.TakeFault.TheVariants.{Disk}
 use Rattle.durable_build.specs.Lower.script_run.declared.rest.Rest.{Rest}
-use Rattle.saved_run.specs.Lives.{Turned}
-use Rattle.saved_run.proofs.TurnLemmas.{goes_further}
-use Rattle.saved_run.proofs.life.Life.run.Goals as goal
+use Rattle.build_store.specs.Lives.{Turned}
+use Rattle.build_store.proofs.TurnLemmas.{goes_further}
+use Rattle.build_store.proofs.life.Life.run.Goals as goal
 
 pub returns-in-Ok-Some-clause-rested : goal.returns-in-Ok-Some-clause-rested
 returns-in-Ok-Some-clause-rested g c = λ setting entry origin before first events so.

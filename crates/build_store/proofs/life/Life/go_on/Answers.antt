@@ -4,9 +4,9 @@ use Rattle.device_faults.specs.Faults.{CountsFault}
 use Rattle.journal_core.specs.declared.faults.TakeFault.TheVariants.{Disk}
 use Rattle.durable_build.specs.Standing.{Kept}
 use Rattle.durable_build.specs.Lower.script_run.declared.rest.Rest.{Rest}
-use Rattle.saved_run.proofs.LifeLemmas.{tells_stopped}
-use Rattle.saved_run.proofs.TurnLemmas.{broken_stopped}
-use Rattle.saved_run.proofs.life.Life.go_on.Goals as goal
+use Rattle.build_store.proofs.LifeLemmas.{tells_stopped}
+use Rattle.build_store.proofs.TurnLemmas.{broken_stopped}
+use Rattle.build_store.proofs.life.Life.go_on.Goals as goal
 
 pub returns-then-is_stopped-clause-rested : goal.returns-then-is_stopped-clause-rested
 returns-then-is_stopped-clause-rested g c = λ setting entry origin before first events so.

@@ -5,9 +5,9 @@ use Rattle.build_requests.specs.Waiting.{waiting_inputs}
 use Rattle.model_run.specs.State.{Setting}
 use Rattle.model_run.specs.World.{world_in, next_grant}
 use Rattle.durable_build.proofs.Lower.script_run.Turns.{grant_accepted}
-use Rattle.saved_run.specs.Lives.{IsCaused}
-use Rattle.saved_run.proofs.TurnLemmas.{wanting, breaks, granted_by, turns_granted, positive}
-use Rattle.saved_run.proofs.life.Life.turn.Goals as goal
+use Rattle.build_store.specs.Lives.{IsCaused}
+use Rattle.build_store.proofs.TurnLemmas.{wanting, breaks, granted_by, turns_granted, positive}
+use Rattle.build_store.proofs.life.Life.turn.Goals as goal
 
 pub returns-in_default-clause-turned : goal.returns-in_default-clause-turned
 returns-in_default-clause-turned g c = λ setting entry origin before first events so.

@@ -14,8 +14,8 @@ ghost use Rattle.model_run.specs.World.{answer_to, next_grant, unbegun, world_in
 ghost use Rattle.durable_build.specs.Lower.script_run.Running.{Decides, Hears, Listens};
 ghost use Rattle.durable_build.specs.Lower.script_run.Standing.{script_setting};
 ghost use Rattle.durable_build.specs.Lower.store_laws.Store.{IsConsistent, Mean, grant_of};
-ghost use Rattle.saved_run.specs.Lives.{Begins, BeginRefuses, Broken, FailsBy, IsBegun, IsLater, Lasts, SoFar, Stands, StaysRunning, TellsFault, TellsStart, Turned};
-ghost use Rattle.saved_run.specs.Saved.{Stores};
+ghost use Rattle.build_store.specs.Lives.{Begins, BeginRefuses, Broken, FailsBy, IsBegun, IsLater, Lasts, SoFar, Stands, StaysRunning, TellsFault, TellsStart, Turned};
+ghost use Rattle.build_store.specs.Saved.{Stores};
 
 use agent_worker::{LineEnd, answer_in, answer_of, read_line};
 use cps_code::number;

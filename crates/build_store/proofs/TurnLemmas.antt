@@ -20,10 +20,10 @@ use Rattle.durable_build.specs.Lower.script_run.declared.rest.Rest.TheVariants.{
 use Rattle.durable_build.specs.Lower.script_run.Rests.{nothing, of_line}
 use Rattle.durable_build.specs.Lower.script_run.Running.{Decides, EndsLine, Hears, IsPassedOver, Listens, decides, passes_over}
 use Rattle.durable_build.proofs.Lower.script_run.Turns.{grant_accepted}
-use Rattle.saved_run.specs.declared.life.Life.{Life}
-use Rattle.saved_run.specs.Going.{GoesOn, begins, grants, hears}
-use Rattle.saved_run.specs.Lives.{Lasts, FailsBy, IsCaused, by_grant, by_line, SoFar, Turned, Broken}
-use Rattle.saved_run.proofs.LifeLemmas.{fails_by, fails_same, saved_image, unsized}
+use Rattle.build_store.specs.declared.life.Life.{Life}
+use Rattle.build_store.specs.Going.{GoesOn, begins, grants, hears}
+use Rattle.build_store.specs.Lives.{Lasts, FailsBy, IsCaused, by_grant, by_line, SoFar, Turned, Broken}
+use Rattle.build_store.proofs.LifeLemmas.{fails_by, fails_same, saved_image, unsized}
 use Rattle.jp_disk.specs.View.{DiskView}
 
 pub positive : (n : ℕ) → (n ≡ 0 → ⊥) → 0 < n

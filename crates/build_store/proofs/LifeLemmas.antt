@@ -27,9 +27,9 @@ use Rattle.durable_build.specs.Lower.delta_records.declared.weights.Weights.{Wei
 use Rattle.durable_build.specs.Kinds.{weights_of}
 use Rattle.durable_build.specs.Taking.{DueAdds, IsAfter, IsBehind, IsSized, Puts, TakeAnswers, TakeLeaves, TakeKeeps}
 use Rattle.durable_build.proofs.Sizes.{due_adds}
-use Rattle.saved_run.specs.Saved.{IsTold, Saves, Stores, Survives, journal_length, journal_weights}
-use Rattle.saved_run.specs.Lives.{image_after, Goes, IsFull, IsOf, MayRisk, Lasts, FailsBy, TellsFault, TellsStore}
-use Rattle.saved_run.proofs.SavedLemmas.{same_standing, told_more, survives_all, survives_risked, survives_more, survives_risk}
+use Rattle.build_store.specs.Saved.{IsTold, Saves, Stores, Survives, journal_length, journal_weights}
+use Rattle.build_store.specs.Lives.{image_after, Goes, IsFull, IsOf, MayRisk, Lasts, FailsBy, TellsFault, TellsStore}
+use Rattle.build_store.proofs.SavedLemmas.{same_standing, told_more, survives_all, survives_risked, survives_more, survives_risk}
 use Rattle.jp_disk.specs.View.{DiskView}
 
 if_some : (o : Option Event) (P Q : Event → Type 0) → ((e : Event) → P e → Q e) → IfSome o P → IfSome o Q

@@ -16,7 +16,7 @@ use Rattle.durable_build.specs.Lower.cps_frames.Standing.{common_of}
 use Rattle.durable_build.specs.Lower.build_images.Images.{world_image}
 use Rattle.durable_build.specs.Lower.store_laws.Store.{FirstStarts, Mean, events_of, grant_of, last_image, record_at}
 use Rattle.durable_build.proofs.Lower.store_laws.Stories.{tell_more, events-more, due_more, follows_more}
-use Rattle.saved_run.specs.Saved.{IsTold, Stores, Survives}
+use Rattle.build_store.specs.Saved.{IsTold, Stores, Survives}
 
 shown_requests : (p : Phase) (u : Common) → (shown p u).requests ≡ u.requests
 shown_requests Unbegun u = refl

@@ -42,12 +42,12 @@ use Rattle.durable_build.proofs.Begun.{starts_first}
 use Rattle.durable_build.proofs.Sizes.{due_adds}
 use Rattle.durable_build.proofs.OpenLemmas.{begun_all, is_start}
 use Rattle.durable_build.specs.Taking.{IsSized, Puts, TakeAnswers, TakeLeaves, TakeKeeps, TakeSources}
-use Rattle.saved_run.specs.declared.life.Life.{Life}
-use Rattle.saved_run.specs.Saved.{IsTold, Saves, Stores, Survives}
-use Rattle.saved_run.specs.declared.life.BeginFault.TheVariants.{Take}
-use Rattle.saved_run.specs.Lives.{image_after, Goes, IsBegun, StartFaults, MayRisk, Stands, Begins, BeginRefuses, StartFails}
-use Rattle.saved_run.proofs.LifeLemmas.{saves_world}
-use Rattle.saved_run.proofs.SavedLemmas.{same_standing, told_none, told_start, survives_all, survives_risked}
+use Rattle.build_store.specs.declared.life.Life.{Life}
+use Rattle.build_store.specs.Saved.{IsTold, Saves, Stores, Survives}
+use Rattle.build_store.specs.declared.life.BeginFault.TheVariants.{Take}
+use Rattle.build_store.specs.Lives.{image_after, Goes, IsBegun, StartFaults, MayRisk, Stands, Begins, BeginRefuses, StartFails}
+use Rattle.build_store.proofs.LifeLemmas.{saves_world}
+use Rattle.build_store.proofs.SavedLemmas.{same_standing, told_none, told_start, survives_all, survives_risked}
 use Rattle.jp_disk.specs.View.{DiskView}
 
 -- the executors of an agents file have numbers of their own

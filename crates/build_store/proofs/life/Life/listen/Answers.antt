@@ -5,11 +5,11 @@ use Rattle.agent_worker.proofs.AnswerLemmas.{kept-short}
 use Rattle.model_run.specs.World.{world_in}
 use Rattle.durable_build.specs.Lower.script_run.Running.{Hears}
 use Rattle.durable_build.proofs.Lower.script_run.Turns.{whole_heard}
-use Rattle.saved_run.specs.declared.life.Life.{Life}
-use Rattle.saved_run.specs.Lives.{Lasts, Turned, Broken}
-use Rattle.saved_run.proofs.TurnLemmas.{breaks_reading, breaks_line, turns_heard}
-use Rattle.saved_run.proofs.life.Life.listen.Goals.{in-Line, in-End}
-use Rattle.saved_run.proofs.life.Life.listen.Goals as goal
+use Rattle.build_store.specs.declared.life.Life.{Life}
+use Rattle.build_store.specs.Lives.{Lasts, Turned, Broken}
+use Rattle.build_store.proofs.TurnLemmas.{breaks_reading, breaks_line, turns_heard}
+use Rattle.build_store.proofs.life.Life.listen.Goals.{in-Line, in-End}
+use Rattle.build_store.proofs.life.Life.listen.Goals as goal
 
 pub returns-in-Memory-clause-turned : goal.returns-in-Memory-clause-turned
 returns-in-Memory-clause-turned g c = λ setting entry origin before first events so listens going.

@@ -1,8 +1,8 @@
 use Rattle.std.proofs.Common.{◌≡◌, [], ℕ, false, List, Option}
 use Rattle.model_run.specs.declared.event.Event.{Event}
 use Rattle.model_run.specs.State.{Setting}
-use Rattle.saved_run.specs.Lives.{SoFar}
-use Rattle.saved_run.proofs.life.Life.run.Given as goal
+use Rattle.build_store.specs.Lives.{SoFar}
+use Rattle.build_store.proofs.life.Life.run.Given as goal
 
 abbrev pub invariant-loop : goal.invariant-loop
 invariant-loop g l = record {
