@@ -20,8 +20,8 @@ use Rattle.site_run.specs.Lower.build_core.Builds.{Parts, StandsFor}
 use Rattle.site_run.specs.Lower.build_images.Images.{image_in}
 use Rattle.image_form.specs.declared.image.Image.{Image}
 use Rattle.site_run.specs.Lower.durable_build.Standing.{Kept}
-use Rattle.site_run.specs.Lower.script_run.declared.rest.Rest.{Rest}
-use Rattle.site_run.specs.Lower.script_run.declared.rest.Rest.TheVariants.{Ended, Waits, AnswersFailed}
+use Rattle.site_run.specs.declared.resting.Rest.{Rest}
+use Rattle.site_run.specs.declared.resting.Rest.TheVariants.{Ended, Waits, AnswersFailed}
 use Rattle.site_run.specs.Lower.build_store.Lives.{image_after, IsFull as IsFullOf, IsNext, Lasts, TellsFault}
 use Rattle.site_run.specs.Lower.build_store.Saved.{Stores, Survives}
 use Rattle.site_run.proofs.Lower.build_store.LifeLemmas.{saved_image}

@@ -26,8 +26,8 @@ use Rattle.site_run.specs.Lower.build_images.Images.{image_in}
 use Rattle.site_run.specs.Lower.delta_records.declared.weights.Weights.{Weights}
 use Rattle.site_run.specs.Lower.durable_build.Kinds.{weights_of}
 use Rattle.site_run.specs.Lower.durable_build.Standing.{Closing, IsWhole, Keeps, Kept, StandsBy}
-use Rattle.site_run.specs.Lower.script_run.declared.rest.Rest.{Rest}
-use Rattle.site_run.specs.Lower.script_run.declared.rest.Rest.TheVariants.{Ended, Waits, AnswersFailed}
+use Rattle.site_run.specs.declared.resting.Rest.{Rest}
+use Rattle.site_run.specs.declared.resting.Rest.TheVariants.{Ended, Waits, AnswersFailed}
 use Rattle.run_command.specs.Statuses.{HasLog, result_status}
 use Rattle.site_run.specs.Lower.site_state.declared.ask.Entry.{Entry}
 use Rattle.site_run.specs.Lower.site_state.declared.ask.Entry.TheVariants.{Took, Claimed, Line, Failed}

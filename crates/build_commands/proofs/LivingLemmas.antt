@@ -18,8 +18,8 @@ use Rattle.model_run.specs.declared.event.Event.{Event}
 use Rattle.model_run.specs.declared.site.Executor.{Executor as SiteExecutor}
 use Rattle.model_run.specs.State.{Setting}
 use Rattle.model_run.specs.World.{world_in}
-use Rattle.site_run.specs.Lower.script_run.declared.rest.Rest.{Rest}
-use Rattle.site_run.specs.Lower.script_run.Standing.{IsProper}
+use Rattle.site_run.specs.declared.resting.Rest.{Rest}
+use Rattle.site_run.specs.Lower.durable_build.Settings.{IsProper}
 use Rattle.settle_laws.specs.Stances.{Stance}
 use Rattle.launch_laws.proofs.LifeLaws.{all_fit_more}
 use Rattle.site_run.specs.Lower.site_state.declared.ask.Entry.{Entry}

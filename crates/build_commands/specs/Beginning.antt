@@ -8,10 +8,10 @@ use Rattle.journal_core.specs.declared.faults.TakeFault.TheVariants.{Disk, Full}
 use Rattle.model_syntax.specs.declared.tree.Tree.{Tree}
 use Rattle.model_run.specs.declared.event.Event.TheVariants.{Start as StartEvent}
 use Rattle.model_run.specs.declared.site.Site.{Site}
-use Rattle.site_run.specs.Lower.script_run.Standing.{script_setting}
+use Rattle.site_run.specs.Lower.durable_build.Settings.{script_setting}
 use Rattle.settle_laws.specs.Stances.{Stance}
-use Rattle.site_run.specs.Lower.build_store.declared.life.BeginFault.{BeginFault}
-use Rattle.site_run.specs.Lower.build_store.declared.life.BeginFault.TheVariants.{HasBuild, Take}
+use Rattle.site_run.specs.Lower.build_store.declared.beginning.BeginFault.{BeginFault}
+use Rattle.site_run.specs.Lower.build_store.declared.beginning.BeginFault.TheVariants.{HasBuild, Take}
 use Rattle.site_run.specs.Lower.build_store.Lives.{BeginRefuses, TellsStart}
 use Rattle.site_run.specs.Lower.build_store.Saved.{Survives}
 use Rattle.run_command.specs.Inputs.{Input}

@@ -9,8 +9,8 @@ use Rattle.model_run.specs.State.{Setting}
 use Rattle.model_run.specs.World.{Build, world_in}
 use Rattle.run_command.specs.Statuses.{world_status, HasLog}
 use Rattle.run_command.specs.Texts.{read_failed_text}
-use Rattle.site_run.specs.Lower.script_run.declared.rest.Rest.{Rest}
-use Rattle.site_run.specs.Lower.script_run.declared.rest.Rest.TheVariants.{AnswersFailed}
+use Rattle.site_run.specs.declared.resting.Rest.{Rest}
+use Rattle.site_run.specs.declared.resting.Rest.TheVariants.{AnswersFailed}
 use Rattle.site_run.specs.Lower.delta_records.declared.weights.Weights.{Weights}
 use Rattle.site_run.specs.Lower.durable_build.Taking.{DueAdds}
 use Rattle.site_run.specs.Lower.build_store.Lives.{image_after, IsNext}

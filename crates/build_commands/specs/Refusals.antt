@@ -8,8 +8,8 @@ use Rattle.journal_core.specs.declared.faults.TakeFault.TheVariants as take
 use Rattle.run_command.specs.Texts.{read_failed_text, too_long_text}
 use Rattle.site_run.specs.Lower.durable_build.declared.faults.StoreFault.{StoreFault}
 use Rattle.site_run.specs.Lower.durable_build.declared.faults.StoreFault.TheVariants as fault
-use Rattle.site_run.specs.Lower.build_store.declared.life.BeginFault.{BeginFault}
-use Rattle.site_run.specs.Lower.build_store.declared.life.BeginFault.TheVariants as begin
+use Rattle.site_run.specs.Lower.build_store.declared.beginning.BeginFault.{BeginFault}
+use Rattle.site_run.specs.Lower.build_store.declared.beginning.BeginFault.TheVariants as begin
 
 abbrev pub refusal_status : Refusal → ℕ
 refusal_status ReadFailed = 6

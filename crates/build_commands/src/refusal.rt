@@ -6,8 +6,8 @@ ghost use Rattle.build_commands.specs.Writing.{Writes};
 
 use jp_io::{Sink, write_all};
 use model_text::Text;
-use site_run::durable_build::{StoreFault, TakeFault};
 use site_run::build_store::BeginFault;
+use site_run::durable_build::{StoreFault, TakeFault};
 use std::alloc::Global;
 
 /// Why a command does not write what it is for.

@@ -12,7 +12,7 @@ use crate::finishing::finish;
 use crate::refusal::{Refusal, tell};
 use jp_disk::Disk;
 use jp_io::{Sink, Source};
-use site_run::build_store::Life;
+use site_run::build_store::reopen;
 use site_run::saved_thread::SavedThread;
 use std::sync::Wait;
 use std::thread::Threads;
@@ -49,16 +49,8 @@ pub fn resume<
         setting events disk result.disk (K.written out.old) (K.written out.new) (K.faults out.old) (K.faults out.new) result.status }
 {
     let alloc = rt.alloc();
-    match Life::<D, R>::reopen(alloc, disk) {
-        Ok(life) => finish(
-            rt,
-            life.into_durable(),
-            EndText::Log,
-            hosts,
-            threads,
-            answers,
-            out,
-        ),
+    match reopen::<D, R>(alloc, disk) {
+        Ok(durable) => finish(rt, durable, EndText::Log, hosts, threads, answers, out),
         Err((fault, disk)) => {
             let status = tell(out, &Refusal::of_store(alloc, fault));
             Ended {

@@ -15,7 +15,7 @@ use crate::plan::{Plan, read_plan};
 use crate::refusal::{Refusal, tell};
 use jp_disk::Disk;
 use jp_io::{Sink, Source};
-use site_run::build_store::Life;
+use site_run::build_store;
 use site_run::saved_thread::SavedThread;
 use std::sync::Wait;
 use std::thread::Threads;
@@ -135,8 +135,8 @@ fn begin<
         tree,
         site,
     } = plan;
-    match Life::<D, R>::begin(alloc, disk, tree, site, script, agents) {
-        Ok(life) => finish(rt, life.into_durable(), kind, hosts, threads, answers, out),
+    match build_store::begin::<D, R>(alloc, disk, tree, site, script, agents) {
+        Ok(durable) => finish(rt, durable, kind, hosts, threads, answers, out),
         Err((fault, disk)) => {
             let status = tell(out, &Refusal::of_begin(alloc, fault));
             Ended {

@@ -1,5 +1,5 @@
 -- How a life begins.
-use Rattle.std.proofs.Common.{◌≡◌, ◌⊎◌, ◌<◌, ◌+◌, ℕ, Bool, true, false, List, [], ◌∷◌, Option, Some, None, Ok, Err, inl, inr, refl, sym, ap, ◌∙◌, subst, length, arith}
+use Rattle.std.proofs.Common.{◌≡◌, ◌⊎◌, ◌<◌, ◌+◌, ℕ, Bool, true, false, List, ◌∷◌, Option, Some, None, Ok, Err, inl, inr, refl, sym, ap, ◌∙◌, subst, length, arith}
 use Rattle.std.specs.Prelude.{nat_lt, if◌then◌else◌, codes}
 use Rattle.std.specs.Str.{is_utf8}
 use Rattle.serde_json.specs.Data.{Data}
@@ -31,8 +31,8 @@ use Rattle.model_run.specs.World.{Build, unbegun, after_one, world_in}
 use Rattle.settle_laws.specs.Stances.{Stance}
 use Rattle.durable_build.specs.Lower.build_core.Builds.{StandsFor, setting_in, standing_of}
 use Rattle.durable_build.specs.Lower.build_images.Images.{image_in, world_image}
-use Rattle.durable_build.proofs.Lower.script_run.Begun.{starts_begun}
-use Rattle.durable_build.specs.Lower.script_run.Standing.{AreNumbered, IsProper}
+use Rattle.durable_build.proofs.StaysBegun.{starts_begun}
+use Rattle.durable_build.specs.Settings.{AreNumbered, IsProper}
 use Rattle.durable_build.specs.Lower.store_laws.Store.{AllDue, IsStory, Mean, Starts, Told, events_of, record_at}
 use Rattle.durable_build.proofs.Lower.store_laws.Tellings.{one_record, one_setting}
 use Rattle.durable_build.specs.Standing.{Kept, Keeps, Opening, image_before}
@@ -42,9 +42,8 @@ use Rattle.durable_build.proofs.Begun.{starts_first}
 use Rattle.durable_build.proofs.Sizes.{due_adds}
 use Rattle.durable_build.proofs.OpenLemmas.{begun_all, is_start}
 use Rattle.durable_build.specs.Taking.{IsSized, Puts, TakeAnswers, TakeLeaves, TakeKeeps, TakeSources}
-use Rattle.build_store.specs.declared.life.Life.{Life}
 use Rattle.build_store.specs.Saved.{IsTold, Saves, Stores, Survives}
-use Rattle.build_store.specs.declared.life.BeginFault.TheVariants.{Take}
+use Rattle.build_store.specs.declared.beginning.BeginFault.TheVariants.{Take}
 use Rattle.build_store.specs.Lives.{image_after, Goes, IsBegun, StartFaults, MayRisk, Stands, Begins, BeginRefuses, StartFails}
 use Rattle.build_store.proofs.LifeLemmas.{saves_world}
 use Rattle.build_store.proofs.SavedLemmas.{same_standing, told_none, told_start, survives_all, survives_risked}
@@ -121,24 +120,23 @@ module _ {D T : Type 0} (disk : DiskView D) (stance : T → Stance) (setting : S
     without_start : (now : State D) → now ≡ fresh.journal → SinceSync disk file state now.disk (Survives setting [] taken risked)
     without_start now is = subst (λ (j : State D). SinceSync disk file state j.disk (Survives setting [] taken risked)) (sym is) (record { synced = quiet.synced; up_to = quiet.up_to; durable = quiet.durable; from_then = before_start })
 
-  pub begins_taken : (answer : Taken) (life : Life D T) → life.durable ≡ new → answer ≡ taken (standing_of fresh.build) start → setting_in new.build ≡ setting_in fresh.build → TakeLeaves stance fresh new start (Ok answer)
-      → ((w : Build) → StandsFor stance fresh.build w → StandsFor stance new.build (after_one (setting_in fresh.build) w start)) → TakeKeeps disk stance fresh new start [] (Ok answer) → Begins disk stance setting start file state life
-  begins_taken Accepted life at is here leaves goes a =
+  pub begins_taken : (answer : Taken) → answer ≡ taken (standing_of fresh.build) start → setting_in new.build ≡ setting_in fresh.build → TakeLeaves stance fresh new start (Ok answer)
+      → ((w : Build) → StandsFor stance fresh.build w → StandsFor stance new.build (after_one (setting_in fresh.build) w start)) → TakeKeeps disk stance fresh new start [] (Ok answer) → Begins disk stance setting start file state new
+  begins_taken Accepted is here leaves goes a =
       let told = told_here a.puts a.image in
       let now : setting_in new.build ≡ setting = here ∙ same in
       record {
         fresh = unstarted;
-        stands = subst (λ (k : Kept D T). Stands disk stance setting (start ∷ []) k) (sym at) (record {
+        stands = record {
           goes = goes_begun stance setting script agents fresh new mean same stands here leaves.0 goes;
           saves = record { payloads = a.puts.payload ∷ []; keeps = a.keeps; told = subst (λ (s : Setting). IsTold s (start ∷ []) (a.puts.payload ∷ [])) (sym now) told };
-        });
-        moments = subst (λ (k : Kept D T). SinceSync disk file state k.journal.disk (Survives setting [] (start ∷ []) None)) (sym at)
-            (with_start (start ∷ []) None (λ image stores. record { kept = []; front = record { begins = ([], refl); within = inl (start ∷ [], refl) }; stores = stores })
-            (λ image stores. survives_all setting [] (start ∷ []) None image (start ∷ [], refl) stores) new.journal.disk a.puts.payload told a.puts.moments);
+        };
+        moments = with_start (start ∷ []) None (λ image stores. record { kept = []; front = record { begins = ([], refl); within = inl (start ∷ [], refl) }; stores = stores })
+            (λ image stores. survives_all setting [] (start ∷ []) None image (start ∷ [], refl) stores) new.journal.disk a.puts.payload told a.puts.moments;
       }
-  begins_taken NotOpen life at is here leaves goes keeps = let bad : NotOpen ≡ Accepted = is ∙ starts_accepted in absurd (cc)
-  begins_taken (WrongPlace kept) life at is here leaves goes keeps = let bad : WrongPlace kept ≡ Accepted = is ∙ starts_accepted in absurd (cc)
-  begins_taken Finished life at is here leaves goes keeps = let bad : Finished ≡ Accepted = is ∙ starts_accepted in absurd (cc)
+  begins_taken NotOpen is here leaves goes keeps = let bad : NotOpen ≡ Accepted = is ∙ starts_accepted in absurd (cc)
+  begins_taken (WrongPlace kept) is here leaves goes keeps = let bad : WrongPlace kept ≡ Accepted = is ∙ starts_accepted in absurd (cc)
+  begins_taken Finished is here leaves goes keeps = let bad : Finished ≡ Accepted = is ∙ starts_accepted in absurd (cc)
 
   unrisked : (f : TakeFault) → new.journal ≡ fresh.journal → MayRisk f (Some start) None → StartFails disk stance setting start file state new.journal.disk f
   unrisked f is may = record {

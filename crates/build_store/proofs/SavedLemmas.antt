@@ -1,12 +1,11 @@
 -- What one event more makes of a store, and what a crash leaves of it.
-use Rattle.std.proofs.Common.{◌≡◌, ◌⊎◌, ℕ, true, false, List, [], ◌∷◌, ◌++◌, Option, Some, None, inl, inr, refl, sym, ap, ◌∙◌, subst, append-nil, append_assoc}
-use Rattle.std.specs.Prelude.{IsSomeAnd}
+use Rattle.std.proofs.Common.{◌≡◌, ℕ, List, ◌∷◌, ◌++◌, Option, Some, None, inl, inr, refl, sym, ap, ◌∙◌, subst, append-nil, append_assoc}
 use Rattle.durable_build.specs.Lower.record_form.declared.record.EventRecord.{EventRecord}
 use Rattle.model_run.specs.declared.event.Event.{Event}
 use Rattle.model_run.specs.declared.event.Event.TheVariants as event
 use Rattle.model_run.specs.declared.taken.Taken.TheVariants.{Accepted}
 use Rattle.model_run.specs.State.{Common, Setting}
-use Rattle.model_run.specs.World.{Build, unbegun, answer_to, after_one, next_grant, standing, world_in}
+use Rattle.model_run.specs.World.{Build, unbegun, answer_to, after_one, next_grant, standing}
 use Rattle.settle_laws.specs.Stances.{Stance}
 use Rattle.durable_build.specs.Lower.build_core.Builds.{Parts, StandsFor, setting_in, standing_of}
 use Rattle.durable_build.specs.Lower.build_core.Phases.{has_begun, has_ended, shown}
@@ -14,8 +13,7 @@ use Rattle.durable_build.specs.Lower.build_core.declared.phase.Phase.{Phase}
 use Rattle.durable_build.specs.Lower.build_core.declared.phase.Phase.TheVariants.{Unbegun, Running, Ended, Stopped}
 use Rattle.durable_build.specs.Lower.cps_frames.Standing.{common_of}
 use Rattle.durable_build.specs.Lower.build_images.Images.{world_image}
-use Rattle.durable_build.specs.Lower.store_laws.Store.{FirstStarts, Mean, events_of, grant_of, last_image, record_at}
-use Rattle.durable_build.proofs.Lower.store_laws.Stories.{tell_more, events-more, due_more, follows_more}
+use Rattle.durable_build.specs.Lower.store_laws.Store.{FirstStarts, Mean, grant_of, record_at}
 use Rattle.build_store.specs.Saved.{IsTold, Stores, Survives}
 
 shown_requests : (p : Phase) (u : Common) → (shown p u).requests ≡ u.requests
@@ -58,28 +56,6 @@ module _ (setting : Setting) where
     are = ap (λ (e : Event). e ∷ []) is;
   }
 
-  starts_more : (records : List EventRecord) (r : EventRecord) → FirstStarts setting records → (world_in setting (events_of records)).started ≡ true → FirstStarts setting (records ++ r ∷ [])
-  starts_more [] r starts begun = let bad : false ≡ true = begun in absurd (cc)
-  starts_more (q ∷ qs) r starts begun = starts
-
-  -- one event more, and its record
-  pub told_more : (events : List Event) (ps : List (List ℕ)) (p : List ℕ) (r : EventRecord) → IsTold setting events ps → (world_in setting events).started ≡ true → record_at (last_image ps) p ≡ Some r
-      → answer_to setting (world_in setting events) r.event ≡ Accepted → next_grant setting (world_in setting events) ≡ grant_of r.event
-      → r.image ≡ world_image setting (after_one setting (world_in setting events) r.event) → IsTold setting (events ++ r.event ∷ []) (ps ++ p ∷ [])
-  told_more events ps p r t begun tells accepted due image =
-      let at = sym t.are in
-      record {
-        records = t.records ++ r ∷ [];
-        spelled = tell_more None t.records ps r p t.spelled tells;
-        story = record {
-          starts = starts_more t.records r t.story.starts (subst (λ (es : List Event). (world_in setting es).started ≡ true) at begun);
-          follows = follows_more world_image setting unbegun t.records r t.story.follows (subst (λ (es : List Event). answer_to setting (world_in setting es) r.event ≡ Accepted) at accepted)
-              (subst (λ (es : List Event). r.image ≡ world_image setting (after_one setting (world_in setting es) r.event)) at image);
-        };
-        due = due_more setting unbegun t.records r t.due (subst (λ (es : List Event). next_grant setting (world_in setting es) ≡ grant_of r.event) at due);
-        are = events-more t.records r ∙ ap (λ (es : List Event). es ++ r.event ∷ []) t.are;
-      }
-
   module _ (before : List Event) where
     -- all that was taken survives, and what survives of some events survives of more
     pub survives_all : (events : List Event) (risked : Option Event) (image : List ℕ) → (more : List Event) × (events ≡ before ++ more) → Stores setting events image → Survives setting before events risked image
@@ -95,21 +71,3 @@ module _ (setting : Setting) where
       front = record { begins = (goes.0 ++ e ∷ [], ap (λ (es : List Event). es ++ e ∷ []) goes.1 ∙ append_assoc before goes.0 (e ∷ [])); within = inr refl };
       stores = stores;
     }
-
-    pub survives_more : (events : List Event) (e : Event) (image : List ℕ) → Survives setting before events None image → Survives setting before (events ++ e ∷ []) None image
-    survives_more events e image s = record {
-      kept = s.kept;
-      front = record { begins = s.front.begins; within = longer s.front.within };
-      stores = s.stores;
-    }
-      where
-        longer : ((rest : List Event) × (events ≡ s.kept ++ rest)) ⊎ IsSomeAnd {T = Event} None (λ x. s.kept ≡ events ++ x ∷ []) → ((rest : List Event) × (events ++ e ∷ [] ≡ s.kept ++ rest)) ⊎ IsSomeAnd {T = Event} None (λ x. s.kept ≡ (events ++ e ∷ []) ++ x ∷ [])
-        longer (inl rest) = inl (rest.0 ++ e ∷ [], ap (λ (es : List Event). es ++ e ∷ []) rest.1 ∙ append_assoc s.kept rest.0 (e ∷ []))
-        longer (inr none) = absurd none
-
-    pub survives_risk : (events : List Event) (risked : Option Event) (image : List ℕ) → Survives setting before events None image → Survives setting before events risked image
-    survives_risk events risked image s = record { kept = s.kept; front = record { begins = s.front.begins; within = inl (only s.front.within) }; stores = s.stores }
-      where
-        only : ((rest : List Event) × (events ≡ s.kept ++ rest)) ⊎ IsSomeAnd {T = Event} None (λ x. s.kept ≡ events ++ x ∷ []) → (rest : List Event) × (events ≡ s.kept ++ rest)
-        only (inl rest) = rest
-        only (inr none) = absurd none

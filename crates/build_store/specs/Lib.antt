@@ -1,4 +1,3 @@
 pub mod Lower
 pub mod Saved
-pub mod Going
 pub mod Lives

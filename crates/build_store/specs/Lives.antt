@@ -1,15 +1,12 @@
--- What holds of a life, and how it comes to rest or breaks off (this product's own).
-use Rattle.std.specs.Prelude.{◌≡◌, ◌⊎◌, ◌+◌, ◌<◌, ◌^◌, ℕ, Bool, true, false, List, [], ◌∷◌, ◌++◌, Option, Some, None, Result, IfSome, IsSome, IsSomeAnd, MatchResult}
-use Rattle.std.specs.Io.KnownBytes.{Consumes, IsAtEnd}
+-- What holds of a life over a store, and of an event that was not taken (this product's own).
+use Rattle.std.specs.Prelude.{◌≡◌, ◌⊎◌, ◌+◌, ◌<◌, ◌^◌, ℕ, true, false, List, ◌∷◌, ◌++◌, Option, Some, None, IfSome, IsSome, IsSomeAnd}
 use Rattle.jp_disk.specs.Images.{IsOnlyImage}
 use Rattle.jp_disk.specs.Runs.{AtEachMoment}
 use Rattle.journal_core.specs.Answers.{IsStarted}
 use Rattle.journal_core.specs.Moments.{SinceSync}
 use Rattle.journal_core.specs.Records.{Has, records}
-use Rattle.agent_worker.specs.AnswerBytes.{NoNewline, read_bytes}
 use Rattle.journal_core.specs.declared.faults.TakeFault.{TakeFault}
 use Rattle.journal_core.specs.declared.faults.TakeFault.TheVariants.{Memory, Disk, Full, Stopped}
-use Rattle.agent_worker.specs.declared.operator.LineEnd.{LineEnd}
 use Rattle.model_run.specs.declared.event.Event.{Event}
 use Rattle.model_run.specs.declared.event.Event.TheVariants as event
 use Rattle.model_run.specs.State.{Setting}
@@ -24,21 +21,11 @@ use Rattle.durable_build.specs.Taking.{DueAdds}
 use Rattle.settle_laws.specs.Stances.{Stance}
 use Rattle.durable_build.specs.Lower.build_core.Builds.{StandsFor, setting_in}
 use Rattle.durable_build.specs.Standing.{Kept}
-use Rattle.durable_build.specs.Lower.script_run.declared.rest.Rest.{Rest}
-use Rattle.durable_build.specs.Lower.script_run.Rests.{LeftOver, TurnsTo}
-use Rattle.durable_build.specs.Lower.script_run.Running.{Decides, EndsLine}
-use Rattle.durable_build.specs.Lower.script_run.Standing.{IsProper}
-use Rattle.build_store.specs.declared.life.BeginFault.{BeginFault}
-use Rattle.build_store.specs.declared.life.BeginFault.TheVariants.{HasBuild, Take}
-use Rattle.build_store.specs.declared.life.Life.{Life}
-use Rattle.build_store.specs.Going.{GoesOn}
+use Rattle.durable_build.specs.Settings.{IsProper}
+use Rattle.build_store.specs.declared.beginning.BeginFault.{BeginFault}
+use Rattle.build_store.specs.declared.beginning.BeginFault.TheVariants.{HasBuild, Take}
 use Rattle.build_store.specs.Saved.{Saves, Stores, Survives, journal_length, journal_weights}
 use Rattle.jp_disk.specs.View.{DiskView}
-
--- an event behind the first
-abbrev pub IsLater : Event → Type 0
-IsLater (event.Start script agents) = ⊥
-IsLater e = Unit {0}
 
 -- What a fault of the take of an event tells, at a journal of this length, whose records weigh this, with this image before the event and this one behind it: of `Full`
 -- the journal's length, and what the record that is due for the event would have added, which together are more than 1,073,741,824 bytes.
@@ -83,17 +70,6 @@ TellsFault stance kept Memory = Unit {0}
 TellsFault stance kept Disk = Unit {0}
 TellsFault stance kept (Full at add) = (e : Event) × (before : Option Image) × IsFull kept.weights before e (image_in stance kept.build) kept.journal.len (Full at add)
 TellsFault stance kept Stopped = ⊥
-
--- A life that no fault stopped goes on so, or tells its fault, on each disk.
-abbrev pub StaysRunning : {D T A : Type 0} → (T → Stance) → Kept D T → Kept D T → Result A TakeFault → Type 0
-StaysRunning stance old new r = old.stopped ≡ false → MatchResult r (λ a. new.stopped ≡ false) (TellsFault stance new)
-
--- Why a life takes an event: it makes the grant that is due, before anything more is read; or it is the decision of the line that was just
--- read whole, up to its newline or to the end of the answers. `left` is what the answers have left then.
-pub data IsCaused (setting : Setting) (events : List Event) (left : Option (List ℕ)) : List ℕ → Event → Type 0 where
-  by_grant : (request executor : ℕ) → next_grant setting (world_in setting events) ≡ Some (request, executor) → IsCaused setting events left [] (event.Granted request executor)
-  by_line : {e : Event} {more : Bool} (line : List ℕ) (end : LineEnd) → NoNewline line → EndsLine end more → (more ≡ false → IsAtEnd left) → Decides (world_in setting events) line e
-      → IsCaused setting events left (read_bytes end line) e
 
 -- The event that a life would have taken next: it is accepted, and makes a grant where one is due.
 pub record IsNext (setting : Setting) (events : List Event) (e : Event) : Type 0 where
@@ -141,44 +117,11 @@ module _ {D T : Type 0} (disk : DiskView D) (stance : T → Stance) where
     pub moments : IsSome entry → AtEachMoment disk origin kept.journal.disk (Survives setting before events risked)
     pub images : IsSome entry → (image : List ℕ) → disk.may_leave kept.journal.disk image → Stores setting events image ⊎ IsSomeAnd risked (λ e. Stores setting (events ++ e ∷ []) image)
 
-  -- And the event was one of these.
-  abbrev pub FailsBy : Setting → Option (List ℕ) → D → List Event → List Event → (Event → Type 0) → TakeFault → Kept D T → Type 0
-  FailsBy setting entry origin before events Cause fault kept = (fails : Fails setting entry origin before events fault kept) × IfSome fails.refused Cause
-
-  -- A life so far, with what was read of the answers: for its events, and a part behind that.
-  pub record SoFar (setting : Setting) (entry : Option (List ℕ)) (origin : D) (before : List Event) (old left : Option (List ℕ)) (part : List ℕ) (events : List Event) (life : Life D T) : Type 0 where
-    pub lasts : Lasts setting entry origin before events life.durable
-    pub read : List ℕ
-    pub goes : GoesOn setting before events read life.has_answers
-    pub answers : Consumes old left (read ++ part)
-    pub at_end : life.has_answers ≡ false → IsAtEnd left
-
-  -- It goes on, or rests for this.
-  pub record Turned (setting : Setting) (entry : Option (List ℕ)) (origin : D) (before : List Event) (old left : Option (List ℕ)) (rest : Option Rest) (life : Life D T) : Type 0 where
-    pub events : List Event
-    pub part : List ℕ
-    pub so_far : SoFar setting entry origin before old left part events life
-    pub turns : TurnsTo setting (world_in setting events) life.has_answers part rest
-
-  -- It broke off behind these events, and the build has not ended. The event that was not taken is the one that came next.
-  pub record Broken (setting : Setting) (entry : Option (List ℕ)) (origin : D) (before : List Event) (old left : Option (List ℕ)) (fault : TakeFault) (life : Life D T) : Type 0 where
-    pub events : List Event
-    pub has_answers : Bool
-    pub read : List ℕ
-    pub part : List ℕ
-    pub goes : GoesOn setting before events read has_answers
-    pub answers : Consumes old left (read ++ part)
-    pub at_end : has_answers ≡ false → IsAtEnd left
-    pub going : (world_in setting events).ended ≡ false
-    pub left_over : LeftOver setting (world_in setting events) has_answers part
-    pub fails : Fails setting entry origin before events fault life.durable
-    pub caused : IfSome fails.refused (IsCaused setting events left part)
-
   -- A build was begun, over a file without a record.
-  pub record Begins (setting : Setting) (start : Event) (file : List ℕ) (state : D) (life : Life D T) : Type 0 where
+  pub record Begins (setting : Setting) (start : Event) (file : List ℕ) (state : D) (kept : Kept D T) : Type 0 where
     pub fresh : ¬ (IsStarted file)
-    pub stands : Stands setting (start ∷ []) life.durable
-    pub moments : SinceSync disk file state life.durable.journal.disk (Survives setting [] (start ∷ []) None)
+    pub stands : Stands setting (start ∷ []) kept
+    pub moments : SinceSync disk file state kept.journal.disk (Survives setting [] (start ∷ []) None)
 
   -- The take of a `Start` failed, over a file without a record: a crash leaves no record, or that of the `Start`, where the disk failed.
   pub record StartFails (setting : Setting) (start : Event) (file : List ℕ) (state now : D) (fault : TakeFault) : Type 0 where

@@ -5,5 +5,4 @@ pub use Rattle.durable_build.specs.Lower.build_images
 pub use Rattle.durable_build.specs.Lower.cps_frames
 pub use Rattle.durable_build.specs.Lower.delta_records
 pub use Rattle.durable_build.specs.Lower.record_form
-pub use Rattle.durable_build.specs.Lower.script_run
 pub use Rattle.durable_build.specs.Lower.store_laws

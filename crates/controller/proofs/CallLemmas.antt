@@ -15,7 +15,7 @@ use Rattle.model_run.specs.declared.event.Event.{Event}
 use Rattle.model_run.specs.State.{Setting}
 use Rattle.model_run.specs.World.{Build}
 use Rattle.build_commands.specs.Lower.store_laws.Store.{Mean}
-use Rattle.build_commands.specs.Lower.script_run.Standing.{script_setting}
+use Rattle.build_commands.specs.Lower.durable_build.Settings.{script_setting}
 use Rattle.build_commands.specs.Lower.run_command.Files.{HasFault, HasSite, IsRefused, by_fault, by_length, OfFiles, Builds}
 use Rattle.build_commands.specs.Lower.run_command.Statuses.{HasRun, result_status, world_status, HasLog}
 use Rattle.build_commands.specs.Lower.run_command.Inputs.{Input}

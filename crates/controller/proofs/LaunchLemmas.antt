@@ -14,9 +14,9 @@ use Rattle.model_syntax.specs.declared.tree.Tree.{Tree}
 use Rattle.journal_core.specs.declared.faults.TakeFault.TheVariants as take
 use Rattle.model_run.specs.declared.event.Event.TheVariants.{Start as StartEvent}
 use Rattle.model_run.specs.declared.site.Site.{Site}
-use Rattle.build_commands.specs.Lower.script_run.Standing.{IsProper, script_setting}
-use Rattle.build_commands.specs.Lower.build_store.declared.life.BeginFault.{BeginFault}
-use Rattle.build_commands.specs.Lower.build_store.declared.life.BeginFault.TheVariants as fault
+use Rattle.build_commands.specs.Lower.durable_build.Settings.{IsProper, script_setting}
+use Rattle.build_commands.specs.Lower.build_store.declared.beginning.BeginFault.{BeginFault}
+use Rattle.build_commands.specs.Lower.build_store.declared.beginning.BeginFault.TheVariants as fault
 use Rattle.build_commands.specs.Lower.build_store.Lives.{BeginRefuses}
 use Rattle.build_commands.specs.Lower.run_command.Files.{Builds}
 use Rattle.build_commands.specs.declared.end_text.EndText.{EndText}

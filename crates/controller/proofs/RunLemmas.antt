@@ -19,9 +19,9 @@ use Rattle.model_run.specs.declared.event.Event.TheVariants.{Start as StartEvent
 use Rattle.model_run.specs.declared.site.Site.{Site}
 use Rattle.model_run.specs.State.{Setting}
 use Rattle.settle_laws.specs.Stances.{Stance}
-use Rattle.build_commands.specs.Lower.script_run.Standing.{script_setting}
-use Rattle.build_commands.specs.Lower.build_store.declared.life.BeginFault.{BeginFault}
-use Rattle.build_commands.specs.Lower.build_store.declared.life.BeginFault.TheVariants as fault
+use Rattle.build_commands.specs.Lower.durable_build.Settings.{script_setting}
+use Rattle.build_commands.specs.Lower.build_store.declared.beginning.BeginFault.{BeginFault}
+use Rattle.build_commands.specs.Lower.build_store.declared.beginning.BeginFault.TheVariants as fault
 use Rattle.build_commands.specs.Lower.record_form.declared.record.EventRecord.{EventRecord}
 use Rattle.build_commands.specs.Lower.store_laws.Store.{Mean, Told, events_of}
 use Rattle.build_commands.specs.Lower.durable_build.Kinds.{weights_of}

@@ -12,7 +12,7 @@ use Rattle.model_run.specs.declared.site.Executor.{Executor as SiteExecutor}
 use Rattle.model_run.specs.declared.taken.Taken.TheVariants.{Accepted}
 use Rattle.model_run.specs.State.{Setting}
 use Rattle.model_run.specs.World.{answer_to, world_in}
-use Rattle.build_commands.specs.Lower.script_run.Standing.{IsProper}
+use Rattle.build_commands.specs.Lower.durable_build.Settings.{IsProper}
 use Rattle.settle_laws.specs.Stances.{Stance}
 use Rattle.build_commands.specs.Lower.build_store.Saved.{Stores}
 use Rattle.build_commands.specs.Lower.site_run.Serving.{AreHonest, AreServed, hosts_of}

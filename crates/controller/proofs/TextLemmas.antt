@@ -5,7 +5,7 @@ use Rattle.model_run.specs.declared.event.Event.{Event}
 use Rattle.model_run.specs.State.{Setting}
 use Rattle.model_run.specs.World.{Build}
 use Rattle.build_commands.specs.Lower.build_store.Lives.{TellsStart}
-use Rattle.build_commands.specs.Lower.build_store.declared.life.BeginFault.{BeginFault}
+use Rattle.build_commands.specs.Lower.build_store.declared.beginning.BeginFault.{BeginFault}
 use Rattle.build_commands.specs.Lower.run_command.Statuses.{HasRun, HasLog}
 use Rattle.build_commands.specs.Lower.run_command.Inputs.{Input}
 use Rattle.build_commands.specs.Lower.run_command.Texts as texts

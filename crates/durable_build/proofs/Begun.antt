@@ -20,7 +20,7 @@ use Rattle.build_images.specs.Lower.cps_frames.declared.shared.Shared.{Shared}
 use Rattle.build_images.specs.Lower.cps_frames.Standing.{setting_of}
 use Rattle.settle_laws.specs.Stances.{Stance}
 use Rattle.settle_laws.specs.Standing.{Matches, OnlyScript, Rising}
-use Rattle.script_run.proofs.Begun.{starts_begun}
+use Rattle.durable_build.proofs.StaysBegun.{starts_begun}
 use Rattle.build_images.specs.Lower.build_core.Builds.{Parts, StandsFor, setting_in, standing_of}
 use Rattle.build_images.specs.Lower.build_core.Phases.{IsEmpty, SoundIn, StandsIn, has_begun, recounted}
 use Rattle.build_images.specs.Lower.build_core.Taking.{EndsAs, StepsOn}

@@ -15,3 +15,4 @@ pub mod Whole
 pub mod Undamaged
 pub mod Sizes
 pub mod Due
+pub mod StaysBegun

@@ -8,7 +8,7 @@ use Rattle.model_run.specs.declared.event.Event.TheVariants as event
 use Rattle.model_run.specs.State.{Setting}
 use Rattle.model_run.specs.World as W
 use Rattle.settle_laws.specs.Stances.{Stance}
-use Rattle.script_run.proofs.Begun.{stays_begun}
+use Rattle.durable_build.proofs.StaysBegun.{stays_begun}
 use Rattle.build_images.specs.Lower.build_core.Builds.{Parts, setting_in}
 use Rattle.store_laws.specs.Store.{Starts, Follows, Told, events_of}
 use Rattle.store_laws.proofs.Payloads.{image_of_last, told_last}

@@ -4,3 +4,4 @@ pub mod Standing
 pub mod Taking
 pub mod Adding
 pub mod Opening
+pub mod Settings

@@ -6,5 +6,4 @@ pub use Rattle.build_images.specs.Lower.saved_thread
 pub use Rattle.build_images.specs.Lower.script_thread
 pub use Rattle.delta_records.specs as delta_records
 pub use Rattle.delta_records.specs.Lower.record_form
-pub use Rattle.script_run.specs as script_run
 pub use Rattle.store_laws.specs as store_laws

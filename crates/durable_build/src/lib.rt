@@ -27,4 +27,3 @@ pub use build_images::{build_core, saved_thread, script_thread};
 pub use durable::DurableBuild;
 pub use faults::StoreFault;
 pub use journal_core::TakeFault;
-pub use script_run;

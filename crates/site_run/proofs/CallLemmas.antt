@@ -17,7 +17,7 @@ use Rattle.model_run.specs.declared.request.OpenRequest.{OpenRequest}
 use Rattle.model_run.specs.Fitting.{Some_of}
 use Rattle.model_run.specs.State.{Setting}
 use Rattle.model_run.specs.World.{world_in}
-use Rattle.build_store.specs.Lower.script_run.Standing.{IsProper}
+use Rattle.build_store.specs.Lower.durable_build.Settings.{IsProper}
 use Rattle.settle_laws.specs.Stances.{Stance}
 use Rattle.task_host.specs.declared.order.Order.{Order}
 use Rattle.member_turns.specs.Lower.site_state.declared.ask.Ask.{Ask}

@@ -14,8 +14,8 @@ use Rattle.journal_core.specs.declared.faults.TakeFault.TheVariants as take
 use Rattle.agent_worker.specs.declared.member.Member.{Member}
 use Rattle.image_form.specs.declared.image.Image.{Image}
 use Rattle.build_store.specs.Lower.durable_build.Standing.{Kept}
-use Rattle.build_store.specs.Lower.script_run.declared.rest.Rest.{Rest}
-use Rattle.build_store.specs.Lower.script_run.declared.rest.Rest.TheVariants.{Ended, Waits, AnswersFailed}
+use Rattle.site_run.specs.declared.resting.Rest.{Rest}
+use Rattle.site_run.specs.declared.resting.Rest.TheVariants.{Ended, Waits, AnswersFailed}
 use Rattle.settle_laws.specs.Stances.{Stance}
 use Rattle.member_turns.specs.Lower.site_state.declared.ask.Ask.{Ask}
 use Rattle.model_run.specs.declared.event.Event.{Event}

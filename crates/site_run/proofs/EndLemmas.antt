@@ -11,8 +11,8 @@ use Rattle.launch_laws.specs.ManyTurns.{AllTaken, IsTaken}
 use Rattle.model_run.specs.declared.event.Event.{Event}
 use Rattle.model_run.specs.State.{Setting}
 use Rattle.model_run.specs.World as W
-use Rattle.build_store.specs.Lower.script_run.declared.rest.Rest.TheVariants.{Waits, AnswersFailed}
-use Rattle.build_store.specs.Lower.script_run.Standing.{IsProper}
+use Rattle.site_run.specs.declared.resting.Rest.TheVariants.{Waits, AnswersFailed}
+use Rattle.build_store.specs.Lower.durable_build.Settings.{IsProper}
 use Rattle.settle_laws.specs.Stances.{Stance}
 use Rattle.member_turns.specs.Lower.site_state.declared.ask.Progress.{Progress}
 use Rattle.member_turns.specs.Lower.site_state.Claims.{within_u32}

@@ -26,7 +26,7 @@ use Rattle.build_store.specs.Lower.durable_build.Kinds.{weights_of}
 use Rattle.std.specs.List.{AllByRecursion as AllAre}
 use Rattle.build_store.specs.Lower.durable_build.Standing.{IsWhole, Kept, Keeps}
 use Rattle.build_store.proofs.Lower.durable_build.OpenLemmas.{begun_all}
-use Rattle.build_store.specs.Lower.script_run.declared.rest.Rest.{Rest}
+use Rattle.site_run.specs.declared.resting.Rest.{Rest}
 use Rattle.member_turns.specs.Lower.site_state.declared.ask.Entry.{Entry}
 use Rattle.member_turns.specs.Lower.site_state.declared.ask.Entry.TheVariants.{Took, Claimed, Line, Failed}
 use Rattle.member_turns.specs.Lower.site_state.declared.ask.Progress.{Progress}

@@ -9,7 +9,7 @@ use Rattle.std.proofs.Math.Seq.{take-nil}
 use Rattle.program_lock.specs.declared.program.Memory.{Memory as NoMemory}
 use Rattle.program_lock.specs.Legal.{Answers as AnswersOf}
 use Rattle.program_lock.specs.Merge.{IsMergeOf}
-use Rattle.build_store.specs.Lower.script_run.declared.rest.Rest.{Rest}
+use Rattle.site_run.specs.declared.resting.Rest.{Rest}
 use Rattle.journal_core.specs.declared.faults.TakeFault.{TakeFault}
 use Rattle.agent_worker.specs.declared.gate.GateCall.{GateCall}
 use Rattle.agent_worker.specs.declared.gate.GateCall.TheVariants as gate_call

@@ -7,9 +7,9 @@ pub mod EndLemmas
 pub mod FitLemmas
 pub mod WholeLemmas
 pub mod CloseLemmas
-pub mod GoingLaws
 pub mod FactLemmas
 pub mod OneStore
 pub mod ManyLemmas
 pub mod CallLemmas
 pub mod HeardLemmas
+pub mod Decisions

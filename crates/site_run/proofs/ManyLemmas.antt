@@ -18,8 +18,8 @@ use Rattle.model_run.specs.declared.event.Event.{Event}
 use Rattle.model_run.specs.declared.taken.Taken.TheVariants.{Accepted}
 use Rattle.model_run.specs.State.{Setting}
 use Rattle.model_run.specs.World.{answer_to, world_in}
-use Rattle.build_store.specs.Lower.script_run.declared.rest.Rest.{Rest}
-use Rattle.build_store.specs.Lower.script_run.Standing.{IsProper}
+use Rattle.site_run.specs.declared.resting.Rest.{Rest}
+use Rattle.build_store.specs.Lower.durable_build.Settings.{IsProper}
 use Rattle.settle_laws.specs.Stances.{Stance}
 use Rattle.build_store.specs.Lives.{Fails, IsOf, Lasts, MayRisk}
 use Rattle.build_store.specs.Saved.{IsTold, Stores}

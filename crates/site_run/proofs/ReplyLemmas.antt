@@ -20,7 +20,7 @@ use Rattle.model_run.specs.declared.taken.Taken.TheVariants.{Accepted, NotOpen, 
 use Rattle.model_run.specs.State.{Setting}
 use Rattle.model_run.specs.World as W
 use Rattle.program_lock.specs.Legal.{IsRun, IsLegal}
-use Rattle.build_store.specs.Lower.script_run.Standing.{IsProper}
+use Rattle.build_store.specs.Lower.durable_build.Settings.{IsProper}
 use Rattle.build_store.specs.Lower.build_images.Images.{world_image}
 use Rattle.build_store.specs.Lower.delta_records.declared.weights.Weights.{Weights}
 use Rattle.build_store.specs.Lower.durable_build.Standing.{world_before}

@@ -35,8 +35,8 @@ use Rattle.model_run.specs.State.{Setting}
 use Rattle.model_run.specs.Taking.{Standing}
 use Rattle.model_run.specs.World as W
 use Rattle.program_lock.specs.Legal.{IsRun, IsLegal}
-use Rattle.build_store.specs.Lower.script_run.Standing.{IsProper}
-use Rattle.build_store.proofs.Lower.script_run.Turns.{decided, grant_accepted}
+use Rattle.build_store.specs.Lower.durable_build.Settings.{IsProper}
+use Rattle.site_run.proofs.Decisions.{decided, grant_accepted}
 use Rattle.settle_laws.specs.Stances.{Stance}
 use Rattle.build_store.specs.Lower.store_laws.Store.{grant_of}
 use Rattle.build_store.proofs.Lower.store_laws.Stories.{world-more}

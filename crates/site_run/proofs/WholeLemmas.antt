@@ -25,7 +25,7 @@ use Rattle.model_run.specs.declared.event.Event.TheVariants.{Start, Granted, Out
 use Rattle.model_run.specs.Fitting.{Some_of}
 use Rattle.model_run.specs.State.{Setting}
 use Rattle.model_run.specs.World as W
-use Rattle.build_store.specs.Lower.script_run.declared.rest.Rest.{Rest}
+use Rattle.site_run.specs.declared.resting.Rest.{Rest}
 use Rattle.settle_laws.specs.Stances.{Stance}
 use Rattle.build_store.specs.Lives.{IsNext as ComesNext, Lasts, Fails}
 use Rattle.member_turns.specs.Lower.site_state.declared.ask.Ask.TheVariants.{Look}

@@ -13,7 +13,7 @@ use Rattle.model_run.specs.declared.taken.Taken.TheVariants.{Accepted}
 use Rattle.model_run.specs.State.{Setting}
 use Rattle.model_run.specs.World.{answer_to, world_in}
 use Rattle.settle_laws.specs.Stances.{Stance}
-use Rattle.build_store.specs.Lower.script_run.declared.rest.Rest.{Rest}
+use Rattle.site_run.specs.declared.resting.Rest.{Rest}
 use Rattle.build_store.specs.Lives.{Lasts, Fails}
 use Rattle.member_turns.specs.Lower.site_state.declared.ask.Ask.{Ask}
 use Rattle.member_turns.specs.Lower.site_state.declared.ask.Entry.{Entry}

@@ -6,7 +6,6 @@ pub use Rattle.build_store.specs.Lower.cps_frames
 pub use Rattle.build_store.specs.Lower.delta_records
 pub use Rattle.build_store.specs.Lower.durable_build
 pub use Rattle.build_store.specs.Lower.record_form
-pub use Rattle.build_store.specs.Lower.script_run
 pub use Rattle.build_store.specs.Lower.store_laws
-pub use Rattle.member_turns.specs
+pub use Rattle.member_turns.specs as member_turns
 pub use Rattle.member_turns.specs.Lower.site_state

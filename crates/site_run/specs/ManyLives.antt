@@ -8,7 +8,7 @@ use Rattle.agent_worker.specs.declared.member.Member.{Member}
 use Rattle.build_store.specs.Lower.durable_build.Standing.{Kept}
 use Rattle.model_run.specs.declared.event.Event.{Event}
 use Rattle.model_run.specs.State.{Setting}
-use Rattle.build_store.specs.Lower.script_run.declared.rest.Rest.{Rest}
+use Rattle.site_run.specs.declared.resting.Rest.{Rest}
 use Rattle.settle_laws.specs.Stances.{Stance}
 use Rattle.build_store.specs.Lives.{Lasts}
 use Rattle.build_store.specs.Saved.{Stores}

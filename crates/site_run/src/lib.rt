@@ -20,7 +20,8 @@
 mod going;
 mod resting;
 
+pub use build_store;
+pub use build_store::{build_core, durable_build, saved_thread};
 pub use going::{Lived, go_on};
 pub use member_turns::site_state;
-pub use build_store;
-pub use build_store::{build_core, durable_build, saved_thread, script_run};
+pub use resting::Rest;

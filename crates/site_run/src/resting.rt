@@ -4,7 +4,17 @@ ghost use Rattle.site_run.specs.Ending.{any_failed, has_failed, rest_of};
 
 use agent_worker::Member;
 use member_turns::site_state::Progress;
-use build_store::script_run::Rest;
+
+/// Why a life rests.
+#[derive(Clone, Copy, Debug, PartialEq, Eq)]
+pub enum Rest {
+    /// The build has ended.
+    Ended,
+    /// The build waits, and nobody is there who answers: no input is open, or the answers were read to their end.
+    Waits,
+    /// An input is open, and the answers could not be read.
+    AnswersFailed,
+}
 
 /// Whether it is an operator whose answers could not be read.
 fn has_failed<H, A>(member: &Member<H, A>) -> bool

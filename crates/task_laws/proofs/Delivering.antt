@@ -31,8 +31,8 @@ use Rattle.model_run.specs.Requests.{IsTaskOf}
 use Rattle.model_run.specs.State.{Setting}
 use Rattle.model_run.specs.Terms.{term}
 use Rattle.model_run.specs.World.{world_in}
-use Rattle.site_run.specs.Lower.script_run.declared.rest.Rest.{Rest}
-use Rattle.site_run.specs.Lower.script_run.Standing.{IsProper}
+use Rattle.site_run.specs.declared.resting.Rest.{Rest}
+use Rattle.site_run.specs.Lower.durable_build.Settings.{IsProper}
 use Rattle.settle_laws.specs.Stances.{Stance}
 use Rattle.journal_core.specs.declared.faults.TakeFault.{TakeFault}
 use Rattle.site_run.specs.Lower.member_turns.Tales.{claimed_of, is_grant, tells_of, told_of}

@@ -11,7 +11,7 @@ use Rattle.model_run.specs.Requests.{IsTaskOf}
 use Rattle.model_run.specs.State.{Setting}
 use Rattle.model_run.specs.World.{world_in}
 use Rattle.site_run.specs.Lower.build_store.Saved.{IsTold, Stores}
-use Rattle.site_run.specs.Lower.script_run.declared.rest.Rest.{Rest}
+use Rattle.site_run.specs.declared.resting.Rest.{Rest}
 use Rattle.settle_laws.specs.Stances.{Stance}
 use Rattle.site_run.specs.Lower.member_turns.Coming.{EachIs}
 use Rattle.site_run.specs.Lower.member_turns.Turns.{Turn}

@@ -19,24 +19,22 @@ returns-in-Ok-clause-reopens g c =
     let D = g.D.Disk in
     let A = g.A.Source in
     let K = g.K.Sink in
-    let life = c.in-Ok.life in
     let stance = g.R.ScriptThread.stance in
-    let kept = c.into_durable.result in
+    let kept = c.in-Ok.durable in
     goes_on (setting_in kept.build) c.finish.ensures.led c.finish.ensures.stay c.finish.ensures.launched
-    (if_told (D.reads c.args.disk) HasBuild (λ file at. has_build D stance file life.durable (c.in-Ok.ensures.opened file at) c.in-Ok.ensures.whole))
+    (if_told (D.reads c.args.disk) HasBuild (λ file at. has_build D stance file kept (c.in-Ok.ensures.opened file at) c.in-Ok.ensures.whole))
     (λ file at.
     let o = c.in-Ok.ensures.opened file at in
-    let keeps = subst (λ (k : Kept g.row.D.Denot g.row.R.Denot). Keeps D stance k o.payloads) (sym c.into_durable.ensures) o.keeps in
     record {
       payloads = o.payloads;
       has = o.has;
-      begun = starts_by stance kept.build kept.script kept.agents o.payloads o.some keeps.stands;
+      begun = starts_by stance kept.build kept.script kept.agents o.payloads o.some o.keeps.stands;
       opened = kept.journal.disk;
-      up_to = subst (λ (k : Kept g.row.D.Denot g.row.R.Denot). AtEachMoment D c.args.disk k.journal.disk (D.may_leave c.args.disk)) (sym c.into_durable.ensures) c.in-Ok.ensures.any_moment;
-      keeps = c.finish.ensures.last refl o.payloads keeps;
+      up_to = c.in-Ok.ensures.any_moment;
+      keeps = c.finish.ensures.last refl o.payloads o.keeps;
     })
     (subst (λ (n : ℕ). Reports n (D.faults c.finish.result.disk) (A.faults c.args.answers) (A.faults c.finish.result.answers) (K.written c.args.out.now) (K.written c.finish.new.out) (K.faults c.args.out.now) (K.faults c.finish.new.out) c.finish.result.status)
-    (ap (λ (k : Kept g.row.D.Denot g.row.R.Denot). D.faults k.journal.disk) c.into_durable.ensures ∙ c.in-Ok.ensures.cause.calm (λ e. e)) c.finish.ensures.reports)
+    (c.in-Ok.ensures.cause.calm (λ e. e)) c.finish.ensures.reports)
 
 pub returns-in-Ok-clause-resumes : goal.returns-in-Ok-clause-resumes
 returns-in-Ok-clause-resumes g c = λ file told setting events stores.
@@ -44,14 +42,13 @@ returns-in-Ok-clause-resumes g c = λ file told setting events stores.
     let A = g.A.Source in
     let K = g.K.Sink in
     let stance = g.R.ScriptThread.stance in
-    let life = c.in-Ok.life in
-    let kept = c.into_durable.result in
+    let kept = c.in-Ok.durable in
     let opened = kept.journal.disk in
-    let stands = subst (λ (k : Kept g.row.D.Denot g.row.R.Denot). Stands D stance setting events k) (sym c.into_durable.ensures) ((c.in-Ok.ensures.stands file told).1 setting events stores) in
-    went_on opened (subst (λ (k : Kept g.row.D.Denot g.row.R.Denot). AtEachMoment D c.args.disk k.journal.disk (D.may_leave c.args.disk)) (sym c.into_durable.ensures) c.in-Ok.ensures.any_moment)
-    (ap (λ (k : Kept g.row.D.Denot g.row.R.Denot). D.faults k.journal.disk) c.into_durable.ensures ∙ c.in-Ok.ensures.cause.calm (λ e. e))
+    let stands = (c.in-Ok.ensures.stands file told).1 setting events stores in
+    went_on opened c.in-Ok.ensures.any_moment
+    (c.in-Ok.ensures.cause.calm (λ e. e))
     (subst (λ (n : ℕ). Reports n (D.faults c.finish.result.disk) (A.faults c.args.answers) (A.faults c.finish.result.answers) (K.written c.args.out.now) (K.written c.finish.new.out) (K.faults c.args.out.now) (K.faults c.finish.new.out) c.finish.result.status)
-    (ap (λ (k : Kept g.row.D.Denot g.row.R.Denot). D.faults k.journal.disk) c.into_durable.ensures ∙ c.in-Ok.ensures.cause.calm (λ e. e)) c.finish.ensures.reports)
+    (c.in-Ok.ensures.cause.calm (λ e. e)) c.finish.ensures.reports)
     (c.finish.ensures.finishes setting (D.reads c.args.disk) opened events (lasts_here D stance (g.met.D.Disk g.world.𝓛 g.world.𝓜 g.world.𝓡 ((λ s x. x), (λ x. x), (λ x. x), λ x. x)).only_now setting (D.reads c.args.disk) events kept stands.goes (λ known. stands.saves)) tt)
 
 pub returns-in-Err-clause-reopens : goal.returns-in-Err-clause-reopens

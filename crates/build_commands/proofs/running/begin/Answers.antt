@@ -2,7 +2,7 @@ use Rattle.std.proofs.Common.{◌∙◌, [], ◌∷◌, ℕ, refl, sym, ap, subs
 use Rattle.std.specs.Prelude.{IsSome}
 use Rattle.site_run.specs.Lower.durable_build.Standing.{Kept}
 use Rattle.model_run.specs.declared.event.Event.TheVariants.{Start as StartEvent}
-use Rattle.site_run.specs.Lower.script_run.Standing.{script_setting}
+use Rattle.site_run.specs.Lower.durable_build.Settings.{script_setting}
 use Rattle.site_run.specs.Lower.build_store.Lives.{Goes}
 use Rattle.site_run.specs.Lower.build_store.Saved.{Saves}
 use Rattle.site_run.proofs.Lower.build_store.LifeLemmas.{lasts_here}
@@ -24,22 +24,18 @@ returns-in-Ok g c =
     let plan = c.args.plan in
     let setting = script_setting plan.tree plan.site in
     let first = StartEvent plan.script plan.agents ∷ [] in
-    let life = c.in-Ok.life in
-    let kept = c.into_durable.result in
-    let back = sym c.into_durable.ensures in
+    let kept = c.in-Ok.durable in
     let started = kept.journal.disk in
-    let calm = ap (λ (k : Kept g.row.D.Denot g.row.R.Denot). D.faults k.journal.disk) c.into_durable.ensures ∙ c.in-Ok.ensures.cause.calm (λ e. e) in
+    let calm = c.in-Ok.ensures.cause.calm (λ e. e) in
     let entry = D.reads c.args.disk in
     let saves : IsSome entry → Saves D stance kept first =
-    λ known. let file = known_file entry known in subst (λ (k : Kept g.row.D.Denot g.row.R.Denot). Saves D stance k first) back (c.in-Ok.ensures.begun file.0 file.1).stands.saves in
-    let goes = subst (λ (k : Kept g.row.D.Denot g.row.R.Denot). Goes stance setting first k) back c.in-Ok.ensures.made.goes in
+    λ known. let file = known_file entry known in (c.in-Ok.ensures.begun file.0 file.1).stands.saves in
+    let goes = c.in-Ok.ensures.made.goes in
     begun started calm c.finish.ensures.stay c.finish.ensures.launched
     (subst (λ (n : ℕ). Reports n (D.faults c.finish.result.disk) (A.faults c.args.answers) (A.faults c.finish.result.answers) (K.written c.args.out.now) (K.written c.finish.new.out) (K.faults c.args.out.now) (K.faults c.finish.new.out) c.finish.result.status) calm c.finish.ensures.reports)
     (c.finish.ensures.finishes setting entry started first (lasts_here D stance (g.met.D.Disk g.world.𝓛 g.world.𝓜 g.world.𝓡 ((λ s x. x), (λ x. x), (λ x. x), λ x. x)).only_now setting entry first kept goes saves)
-    (counts_first c.args.kind kept.records (StartEvent plan.script plan.agents) (ap (λ (k : Kept g.row.D.Denot g.row.R.Denot). k.records) c.into_durable.ensures ∙ c.in-Ok.ensures.made.counted)))
-    (λ file told. subst (λ (k : Kept g.row.D.Denot g.row.R.Denot). BeginsOver D stance H A c.args.disk c.finish.result.disk
-    c.args.hosts.items c.finish.result.hosts.items c.args.answers c.finish.result.answers c.finish.result.history.items c.args.kind (K.written c.args.out.now) (K.written c.finish.new.out) (K.faults c.args.out.now) (K.faults c.finish.new.out) plan.script plan.agents plan.tree plan.site file k.journal.disk) back
-    (let made = c.in-Ok.ensures.begun file told in record { fresh = made.fresh; moments = made.moments }))
+    (counts_first c.args.kind kept.records (StartEvent plan.script plan.agents) c.in-Ok.ensures.made.counted))
+    (λ file told. let made = c.in-Ok.ensures.begun file told in record { fresh = made.fresh; moments = made.moments })
 
 pub returns-in-Err : goal.returns-in-Err
 returns-in-Err g c =

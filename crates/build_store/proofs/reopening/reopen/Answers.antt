@@ -1,5 +1,5 @@
 use Rattle.build_store.proofs.BeginLemmas.{reopened}
-use Rattle.build_store.proofs.life.Life.reopen.Goals as goal
+use Rattle.build_store.proofs.reopening.reopen.Goals as goal
 
 pub returns-in-Ok-clause-stands : goal.returns-in-Ok-clause-stands
 returns-in-Ok-clause-stands g c = λ file told.

@@ -1,10 +1,10 @@
--- A decision of an open input is accepted.
-use Rattle.std.proofs.Common.{arith, ◌≡◌, ◌<◌, ◌≤◌, ◌∙◌, ap, refl, subst, ℕ, suc, Bool, true, false, List, [], ◌∷◌, Option, Some, None}
+-- A decision of an open input is accepted, and so is a grant that is due.
+use Rattle.std.proofs.Common.{arith, lit≤, sym, ◌≡◌, ◌<◌, ◌≤◌, ◌∙◌, ap, refl, subst, ℕ, suc, Bool, true, false, List, [], ◌∷◌, Option, Some, None}
 use Rattle.std.specs.Prelude.{nat_eq, find, option_map, if◌then◌else◌}
 use Rattle.std.proofs.lemmas.Bool.{eqb-true, eqb-false}
 use Rattle.build_requests.specs.Waiting.{is_input_of, input_of}
 use Rattle.model_syntax.specs.Nodes.{Node}
-use Rattle.model_run.specs.declared.event.Event.TheVariants.{Decided as DecidedEvent}
+use Rattle.model_run.specs.declared.event.Event.TheVariants.{Decided as DecidedEvent, Granted as GrantedEvent}
 use Rattle.model_run.specs.declared.request.OpenRequest.{OpenRequest}
 use Rattle.model_run.specs.declared.request.Request.{Request}
 use Rattle.model_run.specs.declared.request.Request.TheVariants.{Node as NodeRequest, Task as TaskRequest, Input as InputRequest}
@@ -17,9 +17,12 @@ use Rattle.model_run.specs.Requests.{numbers_of}
 use Rattle.model_run.specs.State.{Setting}
 use Rattle.model_run.specs.Taking.{request_of, is_input, accepted_if}
 use Rattle.model_run.specs.Terms.{term}
-use Rattle.model_run.specs.World.{answer_to, world_in}
+use Rattle.model_run.specs.World.{answer_to, next_grant, world_in}
 use Rattle.model_run.proofs.LaterWorlds.{open_of, world_requests}
 use Rattle.model_run.proofs.RequestLaws.{some_all, rise_from}
+use Rattle.model_run.proofs.DueLaws.{due_accepted}
+use Rattle.model_syntax.specs.TreeNodes.{tree_node}
+use Rattle.build_store.specs.Lower.durable_build.Settings.{IsProper}
 
 input_is : (id : List ℕ) (q : Request) → is_input_of id q ≡ true → is_input (Some q) ≡ true
 input_is id (InputRequest i) e = refl
@@ -69,3 +72,19 @@ module _ (setting : Setting) (p : Node) (e : setting.script ≡ term 0 p) (small
   decision_accepted events started going id n proceed name found =
       goes (world_in setting events).ended (world_in setting events).started (accepted_if (is_input (request_of (world_in setting events).shared.requests n))) NotOpen going started
       (ap accepted_if (input_found id 1 (world_in setting events).shared.next_request n (world_in setting events).shared.requests (world_requests setting p e small events).requests found))
+
+module _ (setting : Setting) (proper : IsProper setting) where
+  of_tree : setting.script ≡ term 0 (tree_node proper.tree)
+  of_tree = ap (λ (s : Setting). s.script) proper.is
+
+  small : Small setting
+  small = subst Small (sym proper.is) (lit≤ tt)
+
+  -- the grant that is due is accepted, and so is a decision of an open input
+  pub grant_accepted : (events : List Event) → (world_in setting events).started ≡ true → (world_in setting events).ended ≡ false → (request executor : ℕ)
+      → next_grant setting (world_in setting events) ≡ Some (request, executor) → answer_to setting (world_in setting events) (GrantedEvent request executor) ≡ Accepted
+  grant_accepted events started going request executor due = due_accepted setting (tree_node proper.tree) of_tree small proper.numbered events started going request executor due
+
+  pub decided : (events : List Event) → (world_in setting events).started ≡ true → (world_in setting events).ended ≡ false → (id : List ℕ) (n : ℕ) (proceed : Bool) (name : List ℕ)
+      → input_of id (world_in setting events).shared.requests ≡ Some n → answer_to setting (world_in setting events) (DecidedEvent n proceed name) ≡ Accepted
+  decided events started going id n proceed name found = decision_accepted setting (tree_node proper.tree) of_tree small events started going id n proceed name found

@@ -1,14 +1,14 @@
-use Rattle.std.proofs.Common.{◌≡◌, ◌∙◌, [], true, inl, refl, sym, ap, subst}
+use Rattle.std.proofs.Common.{◌≡◌, ◌∙◌, inl, sym, ap, subst}
 use Rattle.jp_disk.proofs.MomentLemmas.{starts}
 use Rattle.journal_core.specs.Answers.{CreateRefuses}
 use Rattle.journal_core.specs.declared.faults.CreateFault.{CreateFault}
 use Rattle.durable_build.specs.Lower.build_core.Builds.{Parts, StandsFor, setting_in}
 use Rattle.model_run.specs.declared.event.Event.TheVariants.{Start as StartEvent}
 use Rattle.model_run.specs.World.{unbegun}
-use Rattle.durable_build.specs.Lower.script_run.Standing.{script_setting}
+use Rattle.durable_build.specs.Settings.{script_setting}
 use Rattle.build_store.specs.Lives.{StartFails}
 use Rattle.build_store.proofs.BeginLemmas.{begins_taken, is_begun, start_fails, start_faults, start_refused, since_started, since_either}
-use Rattle.build_store.proofs.life.Life.begin.Goals as goal
+use Rattle.build_store.proofs.beginning.begin.Goals as goal
 
 pub returns-in_default-clause-begun : goal.returns-in_default-clause-begun
 returns-in_default-clause-begun g c = λ file told.
@@ -35,7 +35,7 @@ returns-in-Ok-take-clause-begun g c = λ file told.
     let same : setting_in fresh.build ≡ setting = ap (λ (b : Parts g.row.R.Denot). setting_in b) is.0 ∙ c.in-Ok.ensures.setting in
     let stands = subst (λ (b : Parts g.row.R.Denot). StandsFor g.R.ScriptThread.stance b unbegun) (sym is.0) c.in-Ok.ensures.stands in
     begins_taken D g.R.ScriptThread.stance setting c.args.script c.args.agents file c.args.disk fresh c.take.new.self c.requires.mean same stands made.0 made.1 made.2 (c.in-Ok-create.ensures.any_moment file told)
-    c.in-Ok-take.field-0 (record { durable = c.take.new.self; has_answers = true }) refl c.in-Ok-take.ensures.answers.1 c.in-Ok-take.ensures.setting c.in-Ok-take.ensures.leaves c.in-Ok-take.ensures.stands (c.in-Ok-take.ensures.keeps [] made.2)
+    c.in-Ok-take.field-0 c.in-Ok-take.ensures.answers.1 c.in-Ok-take.ensures.setting c.in-Ok-take.ensures.leaves c.in-Ok-take.ensures.stands (c.in-Ok-take.ensures.keeps [] made.2)
 
 pub returns-clause-begun : goal.returns-clause-begun
 returns-clause-begun g c = λ file told.

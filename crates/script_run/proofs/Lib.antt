@@ -1,4 +1,0 @@
-pub mod Begun
-pub mod Decisions
-pub mod Turns
-pub mod RunLaws

@@ -1,3 +1,0 @@
-pub mod Running
-pub mod Rests
-pub mod Standing
