@@ -51,7 +51,7 @@ use Rattle.build_commands.specs.Texts.{full_text}
 use Rattle.build_commands.specs.Writing as writing
 use Rattle.build_commands.specs.Writing.{Tells, Writes}
 use Rattle.build_commands.proofs.FinishLemmas.{broken_status}
-use Rattle.jp_disk.specs.View.{DiskView}
+use Rattle.jp_disk.specs.View.{DiskLaws, DiskView}
 
 -- At most one event is kept from the disk by a fault, and none but by a fault of the disk.
 few_pending : (h : List Entry) → length (pending h) ≤ 1
@@ -388,10 +388,10 @@ module _ {D T : Type 0} (disk : DiskView D) (stance : T → Stance) (old kept : 
         full_so all history f.at f.add full.event g.ends full.is (inr (empty, grant_of_opening (weights_of all) (last_image all) f.at f.add full)) f.tells)
 
 -- Nothing was done.
-pub nothing_kept : {D T : Type 0} (disk : DiskView D) → ((d : D) (image : List ℕ) → disk.may_have_left_since d (disk.clock d) image → disk.may_leave d image) → (stance : T → Stance) (kept : Kept D T)
+pub nothing_kept : {D T : Type 0} (disk : DiskView D) → DiskLaws disk → (stance : T → Stance) (kept : Kept D T)
     (payloads : List (List ℕ)) (history : List Entry) (wrote now_written : Option (List ℕ)) (c d status : ℕ) → has_begun kept.build.phase ≡ true → IsWhole (setting_in kept.build) (image_in stance kept.build) → Keeps disk stance kept payloads → history ≡ [] → status ≡ 8
     → KeepsRecords disk (setting_in kept.build) kept.journal.disk payloads history kept.journal.disk wrote now_written c d status
-nothing_kept disk only_now stance kept payloads history wrote now_written c d status begun first keeps empty eight =
+nothing_kept disk laws stance kept payloads history wrote now_written c d status begun first keeps empty eight =
     let has : (image : List ℕ) → disk.may_leave kept.journal.disk image → Has (payloads ++ []) image =
     λ image left. subst (λ (ps : List (List ℕ)). Has ps image) (sym (append-nil payloads)) (stores_has disk kept.journal.disk kept.journal.len payloads image keeps.holds left) in
     record {
@@ -402,7 +402,7 @@ nothing_kept disk only_now stance kept payloads history wrote now_written c d st
       one = omega arith;
       sure = λ other. refl;
       at_end = λ image left. inl (has image left);
-      moments = starts disk kept.journal.disk (HasFront payloads []) (λ image left. (0, has image (only_now kept.journal.disk image left)));
+      moments = starts disk kept.journal.disk (HasFront payloads []) (λ image left. (0, has image (laws.only_now kept.journal.disk image left)));
       sound = sound_so disk stance kept payloads begun keeps first [] [] tt tt;
       shown = inl (inr (inr (inr eight)));
       full = λ fourteen. absurd (omega (arith, eight, fourteen));

@@ -13,7 +13,7 @@ use Rattle.durable_build.specs.Standing.{Kept}
 use Rattle.build_store.specs.Saved.{IsTold, Saves, Stores, Survives}
 use Rattle.build_store.specs.Lives.{Goes, Lasts}
 use Rattle.build_store.proofs.SavedLemmas.{survives_all}
-use Rattle.jp_disk.specs.View.{DiskView}
+use Rattle.jp_disk.specs.View.{DiskLaws, DiskView}
 
 module _ {D T : Type 0} (disk : DiskView D) (stance : T → Stance) where
   -- a build that is saved stands for that of its events
@@ -32,12 +32,12 @@ module _ {D T : Type 0} (disk : DiskView D) (stance : T → Stance) where
   }
 
   -- a life from its own disk on
-  pub lasts_here : ((d : D) (image : List ℕ) → disk.may_have_left_since d (disk.clock d) image → disk.may_leave d image) → (setting : Setting) (entry : Option (List ℕ)) (events : List Event) (kept : Kept D T) → Goes stance setting events kept
+  pub lasts_here : DiskLaws disk → (setting : Setting) (entry : Option (List ℕ)) (events : List Event) (kept : Kept D T) → Goes stance setting events kept
       → (IsSome entry → Saves disk stance kept events) → Lasts disk stance setting entry kept.journal.disk events events kept
-  lasts_here only_now setting entry events kept goes saves = record {
+  lasts_here laws setting entry events kept goes saves = record {
     goes = goes;
     goes_on = ([], sym (append-nil events));
     saves = saves;
     moments = λ known. starts disk kept.journal.disk (Survives setting events events None)
-        (λ image left. survives_all setting events events None image ([], sym (append-nil events)) (saved_image setting events kept image goes.same (saves known) (only_now kept.journal.disk image left)));
+        (λ image left. survives_all setting events events None image ([], sym (append-nil events)) (saved_image setting events kept image goes.same (saves known) (laws.only_now kept.journal.disk image left)));
   }

@@ -27,27 +27,27 @@ use Rattle.controller.proofs.LaunchLemmas.{made_launches, resume_launches, run_l
 use Rattle.controller.proofs.ResumeLemmas.{resume_unread, resume_says, resume_untold, resume_known, resume_any, resume_outputs, resume_crashes, resume_causes}
 use Rattle.controller.proofs.RunLemmas.{run_unread, run_outputs, run_says, run_crashes, run_judges, run_causes, run_known}
 use Rattle.controller.proofs.ShowLemmas.{show_says, show_outputs, show_untold, show_known}
+use Rattle.jp_disk.specs.View.{DiskLaws}
 
-module _ {D H A T : Type 0} (v : Devices D H A) (stance : T → Stance) (told_image : (d : D) → IfSome (v.disk.reads d) (λ file. v.disk.may_leave d file))
-    (counts_now : (d : D) (t : ℕ) (image : List ℕ) → t ≤ v.disk.clock d → v.disk.may_leave d image → v.disk.may_have_left_since d t image) (only_now : (d : D) (image : List ℕ) → v.disk.may_have_left_since d (v.disk.clock d) image → v.disk.may_leave d image) (c : Call D H A) where
+module _ {D H A T : Type 0} (v : Devices D H A) (stance : T → Stance) (laws : DiskLaws v.disk) (c : Call D H A) where
   abbrev DoesSo : Type 0
   DoesSo = Does v stance c
 
   -- OUTPUT
   output_by : DoesSo → (command : Command) → Is command c → OutputOf v command c
   output_by (does.usage unsaid files unled same two tells) k is = absurd (unsaid (is_command c k is))
-  output_by (does.runs by files table) k is = subst (λ (command : Command). OutputOf v command c) (one_command c Run k by is) (run_outputs v stance told_image counts_now only_now end.Log c table)
-  output_by (does.generates stages by files table) k is = subst (λ (command : Command). OutputOf v command c) (one_command c (Generate stages) k by is) (run_outputs v stance told_image counts_now only_now (end.Numbers stages) (made stages c) table)
-  output_by (does.resumes by files table) k is = subst (λ (command : Command). OutputOf v command c) (one_command c Resume k by is) (resume_outputs v told_image c table, resume_any v told_image c table.reopens)
+  output_by (does.runs by files table) k is = subst (λ (command : Command). OutputOf v command c) (one_command c Run k by is) (run_outputs v stance laws end.Log c table)
+  output_by (does.generates stages by files table) k is = subst (λ (command : Command). OutputOf v command c) (one_command c (Generate stages) k by is) (run_outputs v stance laws (end.Numbers stages) (made stages c) table)
+  output_by (does.resumes by files table) k is = subst (λ (command : Command). OutputOf v command c) (one_command c Resume k by is) (resume_outputs v laws c table, resume_any v laws c table.reopens)
   output_by (does.logs by files unled table) k is = subst (λ (command : Command). OutputOf v command c) (one_command c Log k by is) (show_outputs (λ (w : Build). w.shared.log) (λ (i : Image). i.log) v c table)
   output_by (does.graphs by files unled table) k is = subst (λ (command : Command). OutputOf v command c) (one_command c Graph k by is) (show_outputs (λ (w : Build). graph_text w.shared.nodes) (λ (i : Image). graph_text i.nodes) v c table)
   output_by (does.checks by files unled same table) k is = subst (λ (command : Command). OutputOf v command c) (one_command c Check k by is) (check_outputs c table)
 
   refusal_by : DoesSo → HasRun c.status ⊎ ((text : List ℕ) × Says c.status text × Tells text c)
   refusal_by (does.usage unsaid files unled same two tells) = inr (usage_text, subst (λ (n : ℕ). Says n usage_text) (sym two) output.usage, tells)
-  refusal_by (does.runs by files table) = run_says v stance told_image counts_now only_now end.Log c table
-  refusal_by (does.generates stages by files table) = run_says v stance told_image counts_now only_now (end.Numbers stages) (made stages c) table
-  refusal_by (does.resumes by files table) = resume_says v told_image c table.reopens
+  refusal_by (does.runs by files table) = run_says v stance laws end.Log c table
+  refusal_by (does.generates stages by files table) = run_says v stance laws (end.Numbers stages) (made stages c) table
+  refusal_by (does.resumes by files table) = resume_says v laws c table.reopens
   refusal_by (does.logs by files unled table) = show_says (λ (w : Build). w.shared.log) (λ (i : Image). i.log) v c table.shows
   refusal_by (does.graphs by files unled table) = show_says (λ (w : Build). graph_text w.shared.nodes) (λ (i : Image). graph_text i.nodes) v c table.shows
   refusal_by (does.checks by files unled same table) = check_says c table
@@ -59,11 +59,11 @@ module _ {D H A T : Type 0} (v : Devices D H A) (stance : T → Stance) (told_im
   crash_by : DoesSo → (command : Command) → Is command c → CrashOf v command c
   crash_by (does.usage unsaid files unled same two tells) k is = absurd (unsaid (is_command c k is))
   crash_by (does.runs by files table) k is =
-      subst (λ (command : Command). CrashOf v command c) (one_command c Run k by is) (run_crashes v stance told_image counts_now only_now end.Log c table)
+      subst (λ (command : Command). CrashOf v command c) (one_command c Run k by is) (run_crashes v stance laws end.Log c table)
   crash_by (does.generates stages by files table) k is =
-      subst (λ (command : Command). CrashOf v command c) (one_command c (Generate stages) k by is) (run_crashes v stance told_image counts_now only_now (end.Numbers stages) (made stages c) table)
+      subst (λ (command : Command). CrashOf v command c) (one_command c (Generate stages) k by is) (run_crashes v stance laws (end.Numbers stages) (made stages c) table)
   crash_by (does.resumes by files table) k is =
-      subst (λ (command : Command). CrashOf v command c) (one_command c Resume k by is) (resume_crashes v told_image c table)
+      subst (λ (command : Command). CrashOf v command c) (one_command c Resume k by is) (resume_crashes v laws c table)
   crash_by (does.logs by files unled table) k is = subst (λ (command : Command). CrashOf v command c) (one_command c Log k by is) table.any_moment
   crash_by (does.graphs by files unled table) k is = subst (λ (command : Command). CrashOf v command c) (one_command c Graph k by is) table.any_moment
   crash_by (does.checks by files unled same table) k is = subst (λ (command : Command). CrashOf v command c) (one_command c Check k by is) same
@@ -83,9 +83,9 @@ module _ {D H A T : Type 0} (v : Devices D H A) (stance : T → Stance) (told_im
   -- FIRST FAULT
   fault_by : DoesSo → (command : Command) → Is command c → FaultOf command c
   fault_by (does.usage unsaid files unled same two tells) k is = absurd (unsaid (is_command c k is))
-  fault_by (does.runs by files table) k is = subst (λ (command : Command). FaultOf command c) (one_command c Run k by is) (run_judges v stance told_image counts_now only_now end.Log c table)
-  fault_by (does.generates stages by files table) k is = subst (λ (command : Command). FaultOf command c) (one_command c (Generate stages) k by is) (run_judges v stance told_image counts_now only_now (end.Numbers stages) (made stages c) table)
-  fault_by (does.resumes by files table) k is = subst (λ (command : Command). FaultOf command c) (one_command c Resume k by is) (resume_untold v told_image c table.reopens)
+  fault_by (does.runs by files table) k is = subst (λ (command : Command). FaultOf command c) (one_command c Run k by is) (run_judges v stance laws end.Log c table)
+  fault_by (does.generates stages by files table) k is = subst (λ (command : Command). FaultOf command c) (one_command c (Generate stages) k by is) (run_judges v stance laws (end.Numbers stages) (made stages c) table)
+  fault_by (does.resumes by files table) k is = subst (λ (command : Command). FaultOf command c) (one_command c Resume k by is) (resume_untold v laws c table.reopens)
   fault_by (does.logs by files unled table) k is = subst (λ (command : Command). FaultOf command c) (one_command c Log k by is) (show_untold (λ (w : Build). w.shared.log) (λ (i : Image). i.log) v c table)
   fault_by (does.graphs by files unled table) k is = subst (λ (command : Command). FaultOf command c) (one_command c Graph k by is) (show_untold (λ (w : Build). graph_text w.shared.nodes) (λ (i : Image). graph_text i.nodes) v c table)
   fault_by (does.checks by files unled same table) k is = subst (λ (command : Command). FaultOf command c) (one_command c Check k by is) (check_judges c same table)
@@ -96,18 +96,18 @@ module _ {D H A T : Type 0} (v : Devices D H A) (stance : T → Stance) (told_im
   -- CAUSES
   causes_by : DoesSo → (command : Command) → Is command c → CausesOf v command c
   causes_by (does.usage unsaid files unled same two tells) k is = absurd (unsaid (is_command c k is))
-  causes_by (does.runs by files table) k is = subst (λ (command : Command). CausesOf v command c) (one_command c Run k by is) (run_causes v stance told_image counts_now only_now end.Log c table)
-  causes_by (does.generates stages by files table) k is = subst (λ (command : Command). CausesOf v command c) (one_command c (Generate stages) k by is) (run_causes v stance told_image counts_now only_now (end.Numbers stages) (made stages c) table)
-  causes_by (does.resumes by files table) k is = subst (λ (command : Command). CausesOf v command c) (one_command c Resume k by is) (resume_causes v told_image c table)
+  causes_by (does.runs by files table) k is = subst (λ (command : Command). CausesOf v command c) (one_command c Run k by is) (run_causes v stance laws end.Log c table)
+  causes_by (does.generates stages by files table) k is = subst (λ (command : Command). CausesOf v command c) (one_command c (Generate stages) k by is) (run_causes v stance laws (end.Numbers stages) (made stages c) table)
+  causes_by (does.resumes by files table) k is = subst (λ (command : Command). CausesOf v command c) (one_command c Resume k by is) (resume_causes v laws c table)
   causes_by (does.logs by files unled table) k is = subst (λ (command : Command). CausesOf v command c) (one_command c Log k by is) table.causes
   causes_by (does.graphs by files unled table) k is = subst (λ (command : Command). CausesOf v command c) (one_command c Graph k by is) table.causes
   causes_by (does.checks by files unled same table) k is = subst (λ (command : Command). CausesOf v command c) (one_command c Check k by is) (check_causes c {v = v} same unled table)
 
   usage_only : DoesSo → c.status ≡ 2 → ¬ (IsCommand c.words)
   usage_only (does.usage unsaid files unled same two tells) is = unsaid
-  usage_only (does.runs by files table) is = absurd (run_known v stance told_image counts_now only_now end.Log c table is)
-  usage_only (does.generates stages by files table) is = absurd (run_known v stance told_image counts_now only_now (end.Numbers stages) (made stages c) table is)
-  usage_only (does.resumes by files table) is = absurd (resume_known v told_image c table.reopens is)
+  usage_only (does.runs by files table) is = absurd (run_known v stance laws end.Log c table is)
+  usage_only (does.generates stages by files table) is = absurd (run_known v stance laws (end.Numbers stages) (made stages c) table is)
+  usage_only (does.resumes by files table) is = absurd (resume_known v laws c table.reopens is)
   usage_only (does.logs by files unled table) is = absurd (show_known (λ (w : Build). w.shared.log) (λ (i : Image). i.log) v c table is)
   usage_only (does.graphs by files unled table) is = absurd (show_known (λ (w : Build). graph_text w.shared.nodes) (λ (i : Image). graph_text i.nodes) v c table is)
   usage_only (does.checks by files unled same table) is = absurd (check_known c table is)
@@ -127,9 +127,9 @@ module _ {D H A T : Type 0} (v : Devices D H A) (stance : T → Stance) (told_im
   -- READS
   reads_by : DoesSo → (command : Command) → Is command c → ReadsOf command c
   reads_by (does.usage unsaid files unled same two tells) k is = absurd (unsaid (is_command c k is))
-  reads_by (does.runs by files table) k is = subst (λ (command : Command). ReadsOf command c) (one_command c Run k by is) (files, run_unread v stance told_image counts_now only_now end.Log c table)
-  reads_by (does.generates stages by files table) k is = subst (λ (command : Command). ReadsOf command c) (one_command c (Generate stages) k by is) (files, run_unread v stance told_image counts_now only_now (end.Numbers stages) (made stages c) table)
-  reads_by (does.resumes by files table) k is = subst (λ (command : Command). ReadsOf command c) (one_command c Resume k by is) (files, resume_unread v told_image c table.reopens)
+  reads_by (does.runs by files table) k is = subst (λ (command : Command). ReadsOf command c) (one_command c Run k by is) (files, run_unread v stance laws end.Log c table)
+  reads_by (does.generates stages by files table) k is = subst (λ (command : Command). ReadsOf command c) (one_command c (Generate stages) k by is) (files, run_unread v stance laws (end.Numbers stages) (made stages c) table)
+  reads_by (does.resumes by files table) k is = subst (λ (command : Command). ReadsOf command c) (one_command c Resume k by is) (files, resume_unread v laws c table.reopens)
   reads_by (does.logs by files unled table) k is = subst (λ (command : Command). ReadsOf command c) (one_command c Log k by is) (files, unled)
   reads_by (does.graphs by files unled table) k is = subst (λ (command : Command). ReadsOf command c) (one_command c Graph k by is) (files, unled)
   reads_by (does.checks by files unled same table) k is = subst (λ (command : Command). ReadsOf command c) (one_command c Check k by is) (files, unled)
@@ -148,13 +148,13 @@ module _ {D H A T : Type 0} (v : Devices D H A) (stance : T → Stance) (told_im
 
   -- LAUNCHES
   launches_of : length c.hosts ≡ 64 → DoesSo → Launches v c
-  launches_of many (does.usage unsaid files unled same two tells) = same_launches v stance told_image counts_now only_now c many unled same
-  launches_of many (does.runs by files table) = run_launches v stance told_image counts_now only_now c many end.Log table
-  launches_of many (does.generates stages by files table) = made_launches v stages c (run_launches v stance told_image counts_now only_now (made stages c) many (end.Numbers stages) table)
-  launches_of many (does.resumes by files table) = resume_launches v stance told_image counts_now only_now c many table
-  launches_of many (does.logs by files unled table) = show_launches v stance told_image counts_now only_now c many unled table.any_moment
-  launches_of many (does.graphs by files unled table) = show_launches v stance told_image counts_now only_now c many unled table.any_moment
-  launches_of many (does.checks by files unled same table) = same_launches v stance told_image counts_now only_now c many unled same
+  launches_of many (does.usage unsaid files unled same two tells) = same_launches v stance laws c many unled same
+  launches_of many (does.runs by files table) = run_launches v stance laws c many end.Log table
+  launches_of many (does.generates stages by files table) = made_launches v stages c (run_launches v stance laws (made stages c) many (end.Numbers stages) table)
+  launches_of many (does.resumes by files table) = resume_launches v stance laws c many table
+  launches_of many (does.logs by files unled table) = show_launches v stance laws c many unled table.any_moment
+  launches_of many (does.graphs by files unled table) = show_launches v stance laws c many unled table.any_moment
+  launches_of many (does.checks by files unled same table) = same_launches v stance laws c many unled same
 
   pub promises : length c.hosts ≡ 64 → DoesSo → Promises v c
   promises many so = record { output = output_of so; crash = crash_of so; first_fault = first_fault_of so; causes = causes_of so; reads = reads_of so; launches = launches_of many so }

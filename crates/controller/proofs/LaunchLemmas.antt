@@ -45,6 +45,7 @@ use Rattle.build_commands.proofs.LivingLemmas.{stay_same}
 use Rattle.controller.specs.Call.{Call, ComesIn, Devices, Finds, IsUnled, LifeIn, made}
 use Rattle.controller.specs.Launches.{FitLeft, Launches, executor_hosts, tasks_on}
 use Rattle.controller.proofs.SiteLemmas.{Consecutive, site_seated, store_begun}
+use Rattle.jp_disk.specs.View.{DiskLaws}
 
 -- a file that has not the beginning of a record has none
 unstarted : (file : List ℕ) → ¬ (IsStarted file) → Has [] file
@@ -80,13 +81,13 @@ none_launched : (setting : Setting) (hosts : List ExecutorHost) → AllFit setti
 none_launched setting [] fit = refl
 none_launched setting (host ∷ hosts) fit = ap (λ (l : List ℕ). l ++ all_launches hosts) (none_yet setting host.number host.tasks fit.0) ∙ none_launched setting hosts fit.1
 
-module _ {D H A T : Type 0} (v : Devices D H A) (stance : T → Stance) (told_image : (d : D) → IfSome (v.disk.reads d) (λ file. v.disk.may_leave d file)) (c : Call D H A) where
+module _ {D H A T : Type 0} (v : Devices D H A) (stance : T → Stance) (laws : DiskLaws v.disk) (c : Call D H A) where
   abbrev AllFitBy : Setting → List Event → List H → Type 0
   AllFitBy setting events hosts = AllFit setting events (executor_hosts v hosts)
 
   -- at the beginning, they fit what the disk tells
   pub entry_fit : (setting : Setting) (events : List Event) → Finds v setting events c → FitLeft v c.disk c.hosts → ∥ AllFitBy setting events c.hosts ∥₁
-  entry_fit setting events finds left = left finds.file (if_told (λ f. v.disk.may_leave c.disk f) finds.told (told_image c.disk)) setting events finds.stores
+  entry_fit setting events finds left = left finds.file (if_told (λ f. v.disk.may_leave c.disk f) finds.told (laws.told_image c.disk)) setting events finds.stores
 
   -- and no task was launched twice
   fit_once : (setting : Setting) (file : List ℕ) (events : List Event) → Stores setting events file → AllFitBy setting events c.hosts → IsDistinct nat_eq (all_launches (executor_hosts v c.hosts))
@@ -133,12 +134,12 @@ module _ {D H A T : Type 0} (v : Devices D H A) (stance : T → Stance) (told_im
   -- a store with the records of the file that was found is fitted as that is
   pub fit_records : (setting : Setting) (events : List Event) → Finds v setting events c → FitLeft v c.disk c.hosts → (file image : List ℕ) → v.disk.reads c.disk ≡ Some file → records image ≡ records file
       → (s : Setting) (es : List Event) → Stores s es image → ∥ AllFitBy s es c.hosts ∥₁
-  fit_records setting events finds left file image told same s es stores = left file (if_told (λ f. v.disk.may_leave c.disk f) told (told_image c.disk)) s es (same_records s es image file same stores)
+  fit_records setting events finds left file image told same s es stores = left file (if_told (λ f. v.disk.may_leave c.disk f) told (laws.told_image c.disk)) s es (same_records s es image file same stores)
 
   -- over a file without a record nothing was launched
   pub fit_fresh : FitLeft v c.disk c.hosts → (file : List ℕ) → v.disk.reads c.disk ≡ Some file → Has [] file → (setting s : Setting) (es : List Event) → ∥ AllFitBy s es c.hosts ∥₁
   fit_fresh left file told none setting s es =
-      ∥∥₁_map (left file (if_told (λ f. v.disk.may_leave c.disk f) told (told_image c.disk)) setting [] (none_stored setting file none)) (λ fit. fit_each setting (executor_hosts v c.hosts) fit s es)
+      ∥∥₁_map (left file (if_told (λ f. v.disk.may_leave c.disk f) told (laws.told_image c.disk)) setting [] (none_stored setting file none)) (λ fit. fit_each setting (executor_hosts v c.hosts) fit s es)
 
 -- events behind those of a build that has begun are some
 none_first : (es fs : List Event) → es ++ fs ≡ [] → es ≡ []
@@ -156,26 +157,25 @@ left_now Comes setting taken image risked next (inl has) = inl has
 left_now Comes setting taken image None next (inr none) = absurd none
 left_now Comes setting taken image (Some e) next (inr has) = inr (e, next.is_next.accepted, has)
 
-module _ {D H A T : Type 0} (v : Devices D H A) (stance : T → Stance) (told_image : (d : D) → IfSome (v.disk.reads d) (λ file. v.disk.may_leave d file))
-    (counts_now : (d : D) (t : ℕ) (image : List ℕ) → t ≤ v.disk.clock d → v.disk.may_leave d image → v.disk.may_have_left_since d t image) (only_now : (d : D) (image : List ℕ) → v.disk.may_have_left_since d (v.disk.clock d) image → v.disk.may_leave d image) (c : Call D H A) (many : length c.hosts ≡ 64) where
-  unled_here : IsUnled c → LeavesFit v stance told_image c → Launches v c
-  unled_here = unled v stance told_image c many
+module _ {D H A T : Type 0} (v : Devices D H A) (stance : T → Stance) (laws : DiskLaws v.disk) (c : Call D H A) (many : length c.hosts ≡ 64) where
+  unled_here : IsUnled c → LeavesFit v stance laws c → Launches v c
+  unled_here = unled v stance laws c many
 
   -- a crash leaves what it might have left at the beginning
-  stays : AtEachMoment v.disk c.disk c.now (v.disk.may_leave c.disk) → LeavesFit v stance told_image c
-  stays moments = nothing_new v stance told_image c (λ image left. moments.each image (counts_now c.now (v.disk.clock c.disk) image moments.later left))
+  stays : AtEachMoment v.disk c.disk c.now (v.disk.may_leave c.disk) → LeavesFit v stance laws c
+  stays moments = nothing_new v stance laws c (λ image left. moments.each image (laws.counts_now c.now (v.disk.clock c.disk) image moments.later left))
 
   -- a life that finished, of a build whose setting this is
   module _ (kind : EndText) (setting : Setting) (proper : IsProper setting) (all : Consecutive 0 setting.site.executors) (origin : D) (before : List Event) (same : v.disk.faults origin ≡ v.disk.faults c.disk) where
     finished_fit : FinishedIn v c kind setting origin before c.status → IsSome (v.disk.reads c.disk) → AllAre v.host.honest c.hosts → AllFit setting before (executor_hosts v c.hosts) → (image : List ℕ) → v.disk.may_leave c.now image
         → (s : Setting) (es : List Event) → Stores s es image → AllFit s es (executor_hosts v c.hosts_now)
     finished_fit f known are fit image left s es stores =
-        let g = gone v told_image kind setting origin before c same f in
+        let g = gone v laws kind setting origin before c same f in
         led_fit v stance c setting proper all before g.taken g.takes (some_taken setting before g.taken g.more g.takes.goes.begun g.is) are fit image
         (left_now (ComesIn v setting c g.takes.life) setting g.taken image g.risked g.next (g.images known image left)) s es stores
 
     finished_once : FinishedIn v c kind setting origin before c.status → AllAre v.host.honest c.hosts → AllFit setting before (executor_hosts v c.hosts) → IsDistinct nat_eq (all_launches (executor_hosts v c.hosts_now))
-    finished_once f are fit = let g = gone v told_image kind setting origin before c same f in led_once v stance c setting proper all before g.taken g.takes are fit
+    finished_once f are fit = let g = gone v laws kind setting origin before c same f in led_once v stance c setting proper all before g.taken g.takes are fit
 
     life_fits : ∥ FinishedIn v c kind setting origin before c.status ∥₁ → IsSome (v.disk.reads c.disk) → AllAre v.host.honest c.hosts → ∥ AllFit setting before (executor_hosts v c.hosts) ∥₁ → FitLeft v c.now c.hosts_now
     life_fits finishes known are fits image left s es stores = ∥∥₁_elim finishes ∥∥₁_prop (λ f. ∥∥₁_map fits (λ fit. finished_fit f known are fit image left s es stores))
@@ -187,11 +187,11 @@ module _ {D H A T : Type 0} (v : Devices D H A) (stance : T → Stance) (told_im
 
   -- `run`: no build was begun, or one was over a file without a record, and then no host had launched a task
   unbegun_leaves : (s a : List ℕ) (tree : Tree) (site : Site) → Builds s a tree site → (f : BeginFault) → (f ≡ fault.Take take.Disk → c.status ≡ 5)
-      → ((file : List ℕ) → v.disk.reads c.disk ≡ Some file → BeginRefuses v.disk stance (script_setting tree site) (StartEvent s a) file c.disk f c.now) → LeavesFit v stance told_image c
+      → ((file : List ℕ) → v.disk.reads c.disk ≡ Some file → BeginRefuses v.disk stance (script_setting tree site) (StartEvent s a) file c.disk f c.now) → LeavesFit v stance laws c
   unbegun_leaves s a tree site builds f five refuses setting events finds left image leaves t es stores =
       ⊎_elim (λ old. left image old t es stores)
-      (⊎_elim (λ kept. fit_records v stance told_image c setting events finds left finds.file image finds.told kept t es stores) (λ start. fit_fresh v stance told_image c left finds.file finds.told start.1 setting t es))
-      (unbegun_image v stance told_image counts_now only_now end.Log c s a tree site builds finds.file f image five (refuses finds.file finds.told) leaves)
+      (⊎_elim (λ kept. fit_records v stance laws c setting events finds left finds.file image finds.told kept t es stores) (λ start. fit_fresh v stance laws c left finds.file finds.told start.1 setting t es))
+      (unbegun_image v stance laws end.Log c s a tree site builds finds.file f image five (refuses finds.file finds.told) leaves)
 
   begun_launches : (kind : EndText) (s a : List ℕ) (tree : Tree) (site : Site) → Builds s a tree site → (started : D) → v.disk.faults started ≡ v.disk.faults c.disk → HostsStay v.host c.hosts c.hosts_now → LaunchedOnce v.host c.hosts c.hosts_now
       → ∥ FinishedIn v c kind (script_setting tree site) started (StartEvent s a ∷ []) c.status ∥₁ → ((file : List ℕ) → v.disk.reads c.disk ≡ Some file → ¬ (IsStarted file)) → Launches v c
@@ -200,9 +200,9 @@ module _ {D H A T : Type 0} (v : Devices D H A) (stance : T → Stance) (told_im
       let proper = mean_proper s a setting (mean_of builds) in
       let all = (site_seated a site builds.means).consecutive in
       let first = StartEvent s a ∷ [] in
-      let fits = λ (t : Setting) (es : List Event) (finds : Finds v t es c) (left : FitLeft v c.disk c.hosts). fit_fresh v stance told_image c left finds.file finds.told (unstarted finds.file (fresh finds.file finds.told)) setting setting first in
+      let fits = λ (t : Setting) (es : List Event) (finds : Finds v t es c) (left : FitLeft v c.disk c.hosts). fit_fresh v stance laws c left finds.file finds.told (unstarted finds.file (fresh finds.file finds.told)) setting setting first in
       record {
-        enough = enough v stance told_image c many;
+        enough = enough v stance laws c many;
         stay = stay;
         led = inr (∥∥₁_map finishes (λ f. (setting, f.lived)));
         launched = launched;
@@ -211,7 +211,7 @@ module _ {D H A T : Type 0} (v : Devices D H A) (stance : T → Stance) (told_im
       }
 
   run_by : (kind : EndText) {n : ℕ} → RunsBy v stance kind c n → n ≡ c.status → Launches v c
-  run_by kind (begin.refused refused same unled tells) is = unled_here unled (same_disk v stance told_image c same)
+  run_by kind (begin.refused refused same unled tells) is = unled_here unled (same_disk v stance laws c same)
   run_by kind (begin.built {s = s} {a = a} {tree = tree} {site = site} give (begin.unbegun {fault = f} unled says counts sizes refuses tells)) is =
       unled_here unled (unbegun_leaves s a tree site give.builds f (λ disk. sym is ∙ begin_disk says disk) refuses)
   run_by kind (begin.built {s = s} {a = a} {tree = tree} {site = site} give (begin.begun started same stay launched reports finishes over)) is =
@@ -237,14 +237,14 @@ module _ {D H A T : Type 0} (v : Devices D H A) (stance : T → Stance) (told_im
 
   reopens_launched : {n : ℕ} → Reopens v.disk v.host v.source c.hosts c.hosts_now c.answers c.answers_now c.history
       c.disk c.now c.old c.new c.sink_before c.sink_after n → LaunchedOnce v.host c.hosts c.hosts_now
-  reopens_launched (resume.unopened unled same why tells) = unled_launched v stance told_image c unled
+  reopens_launched (resume.unopened unled same why tells) = unled_launched v stance laws c unled
   reopens_launched (resume.goes_on setting led stay launched has store reports) = launched
 
   -- a store's setting is that of a script, with executors numbered one after the other
   went_fits : (setting : Setting) (events : List Event) → Finds v setting events c → (opened : D) → v.disk.faults opened ≡ v.disk.faults c.disk → ∥ FinishedIn v c end.Log setting opened events c.status ∥₁ → AllAre v.host.honest c.hosts → FitLeft v c.disk c.hosts
       → FitLeft v c.now c.hosts_now × IsDistinct nat_eq (all_launches (executor_hosts v c.hosts_now))
   went_fits setting [] finds opened same finishes are left =
-      let never = λ (f : FinishedIn v c end.Log setting opened [] c.status). let g = gone v told_image end.Log setting opened [] c same f in let bad : false ≡ true = g.takes.goes.begun in bad in (
+      let never = λ (f : FinishedIn v c end.Log setting opened [] c.status). let g = gone v laws end.Log setting opened [] c same f in let bad : false ≡ true = g.takes.goes.begun in bad in (
         λ image leaves t es stores. ∥∥₁_elim finishes ∥∥₁_prop (λ f. let bad : false ≡ true = never f in absurd (cc)),
         ∥∥₁_elim finishes (IsDistinct-prop nat_eq (all_launches (executor_hosts v c.hosts_now))) (λ f. let bad : false ≡ true = never f in absurd (cc)),
       )
@@ -252,19 +252,19 @@ module _ {D H A T : Type 0} (v : Devices D H A) (stance : T → Stance) (told_im
       let begun = store_begun setting (e ∷ es) finds.file finds.stores (λ none. let bad : e ∷ es ≡ [] = none in cc) in
       let proper = mean_proper begun.script begun.agents setting begun.mean in
       let all = (site_seated begun.agents setting.site begun.mean.means).consecutive in
-      let fits = entry_fit v stance told_image c setting (e ∷ es) finds left in
+      let fits = entry_fit v stance laws c setting (e ∷ es) finds left in
       (life_fits end.Log setting proper all opened (e ∷ es) same finishes (ap is_some finds.told) are fits, life_once end.Log setting proper all opened (e ∷ es) same finishes are fits)
 
   resume_fits : {n : ℕ} (setting : Setting) (events : List Event) → Finds v setting events c → ResumesSo setting events n → n ≡ c.status → AllAre v.host.honest c.hosts → FitLeft v c.disk c.hosts
       → FitLeft v c.now c.hosts_now × IsDistinct nat_eq (all_launches (executor_hosts v c.hosts_now))
   resume_fits setting events finds (resume.refused unled same why tells) is are left =
-      let so = unled_so v stance told_image c c.hosts_now unled.0 (stays same.moments) in (so.1 setting events finds are left, so.2 setting events finds are left)
+      let so = unled_so v stance laws c c.hosts_now unled.0 (stays same.moments) in (so.1 setting events finds are left, so.2 setting events finds are left)
   resume_fits setting events finds (resume.went_on opened up_to same reports finishes) is are left =
       went_fits setting events finds opened same (subst (λ (m : ℕ). ∥ FinishedIn v c end.Log setting opened events m ∥₁) is finishes) are left
 
   pub resume_launches : ResumesBy v c → Launches v c
   resume_launches by = record {
-    enough = enough v stance told_image c many;
+    enough = enough v stance laws c many;
     stay = reopens_stay by.reopens;
     led = reopens_led by.reopens;
     launched = reopens_launched by.reopens;
@@ -277,7 +277,7 @@ module _ {D H A T : Type 0} (v : Devices D H A) (stance : T → Stance) (told_im
   show_launches unled moments = unled_here unled (stays moments)
 
   pub same_launches : IsUnled c → c.now ≡ c.disk → Launches v c
-  same_launches unled same = unled_here unled (same_disk v stance told_image c same)
+  same_launches unled same = unled_here unled (same_disk v stance laws c same)
 
 -- What is promised of the launches of a call on files that were made is promised of the call: the sources of the two files have no part in it.
 pub made_launches : {D H A : Type 0} (v : Devices D H A) (stages : ℕ) (c : Call D H A) → Launches v (made stages c) → Launches v c

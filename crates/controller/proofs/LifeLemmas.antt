@@ -26,6 +26,7 @@ use Rattle.controller.specs.Output as output
 use Rattle.controller.specs.Output.{Says, Delivers}
 use Rattle.controller.proofs.CallLemmas.{FinishedIn, where_told}
 use Rattle.controller.proofs.TextLemmas.{written, says_unrun}
+use Rattle.jp_disk.specs.View.{DiskLaws}
 
 -- a life's events begin with those from before
 pub goes_more : {setting : Setting} {Reported : Event → Type 0} {before events : List Event} {lines : List (List ℕ)} → life.GoesBy setting Reported before events lines → (rest : List Event) × (events ≡ before ++ rest)
@@ -34,7 +35,7 @@ goes_more {before = before} (life.takes e goes comes accepted) =
     let so = goes_more goes in (so.0 ++ e ∷ [], ap (λ (es : List Event). es ++ e ∷ []) so.1 ∙ append_assoc before so.0 (e ∷ []))
 goes_more (life.passes line goes none passed) = goes_more goes
 
-module _ {D H A : Type 0} (v : Devices D H A) (told_image : (d : D) → IfSome (v.disk.reads d) (λ file. v.disk.may_leave d file)) (kind : EndText) (setting : Setting) (origin : D) (before : List Event) (c : Call D H A)
+module _ {D H A : Type 0} (v : Devices D H A) (laws : DiskLaws v.disk) (kind : EndText) (setting : Setting) (origin : D) (before : List Event) (c : Call D H A)
     (same : v.disk.faults origin ≡ v.disk.faults c.disk) where
   abbrev FinishedSo : ℕ → Type 0
   FinishedSo n = FinishedIn v c kind setting origin before n
@@ -140,7 +141,7 @@ module _ {D H A : Type 0} (v : Devices D H A) (told_image : (d : D) → IfSome (
     durable made known image left = only (made.images known image left)
 
     stored : {events : List Event} → MadeSo events None → IsSome (v.disk.reads c.disk) → IfSome (v.disk.reads c.now) (Stores setting events)
-    stored {events = events} made known = where_told (v.disk.reads c.now) (Stores setting events) (λ file told. durable made known file (if_told (λ f. v.disk.may_leave c.now f) told (told_image c.now)))
+    stored {events = events} made known = where_told (v.disk.reads c.now) (Stores setting events) (λ file told. durable made known file (if_told (λ f. v.disk.may_leave c.now f) told (laws.told_image c.now)))
 
     -- nobody goes on
     idle : (events : List Event) → IdlesSo events → IsIdle v setting events c

@@ -25,6 +25,7 @@ use Rattle.controller.proofs.CallLemmas.{FinishedIn, unrun, untold}
 use Rattle.controller.proofs.LifeLemmas.{gone, finish_delivers, finish_went}
 use Rattle.controller.proofs.RunLemmas.{reports_untold, reports_answers, reports_disk, reports_sink, reports_build, reports_calm, reports_usage, reports_worked}
 use Rattle.controller.proofs.TextLemmas.{reports_say, not_told_says, says_unrun}
+use Rattle.jp_disk.specs.View.{DiskLaws}
 
 -- a store does not have a build and none
 both : (file : List ℕ) → HasBuild file → HasNone file → ⊥
@@ -63,7 +64,7 @@ not_told_always (showing.no_memory calm) = inr (inl refl)
 not_told_unrun : {stored : Option (List ℕ)} {a b n : ℕ} {text : List ℕ} → NotTold stored a b n text → HasRun n → ⊥
 not_told_unrun why run = says_unrun (not_told_says why) run
 
-module _ {D H A : Type 0} (v : Devices D H A) (told_image : (d : D) → IfSome (v.disk.reads d) (λ file. v.disk.may_leave d file)) (c : Call D H A) where
+module _ {D H A : Type 0} (v : Devices D H A) (laws : DiskLaws v.disk) (c : Call D H A) where
   abbrev ReopensSo : ℕ → Type 0
   ReopensSo n = Reopens v.disk v.host v.source c.hosts c.hosts_now c.answers c.answers_now c.history
       c.disk c.now c.old c.new c.sink_before c.sink_after n
@@ -134,11 +135,11 @@ module _ {D H A : Type 0} (v : Devices D H A) (told_image : (d : D) → IfSome (
     delivered : {n : ℕ} → ResumesSo setting events n → n ≡ c.status → HasRun n → ∥ ((more : List Event) × Delivers v end.Log setting events (events ++ more) c) ∥₁
     delivered (resume.refused unled same why tells) is run = absurd (opened_unrun why run)
     delivered (resume.went_on opened up_to same reports finishes) is run =
-        ∥∥₁_map (subst (λ (m : ℕ). ∥ FinishedSo opened m ∥₁) is finishes) (λ f. finish_delivers v told_image end.Log setting opened events c same f (subst HasRun is run))
+        ∥∥₁_map (subst (λ (m : ℕ). ∥ FinishedSo opened m ∥₁) is finishes) (λ f. finish_delivers v laws end.Log setting opened events c same f (subst HasRun is run))
 
     lasts_by : IsSome (v.disk.reads c.disk) → (opened : D) → AtEachMoment v.disk c.disk opened (v.disk.may_leave c.disk) → v.disk.faults opened ≡ v.disk.faults c.disk → FinishedSo opened c.status → LastsResume v setting events c
     lasts_by known opened up_to same finishes =
-        let g = gone v told_image end.Log setting opened events c same finishes in
+        let g = gone v laws end.Log setting opened events c same finishes in
         record {
           taken = g.taken;
           risked = g.risked;
@@ -157,7 +158,7 @@ module _ {D H A : Type 0} (v : Devices D H A) (told_image : (d : D) → IfSome (
 
     went : {n : ℕ} → ResumesSo setting events n → n ≡ c.status → Unopened v c ⊎ ∥ WentOn v setting events c ∥₁
     went (resume.refused unled same why tells) is = inl (record { why = subst (λ (m : ℕ). (m ≡ 9) ⊎ (m ≡ 5) ⊎ (m ≡ 8)) is (opened_why why); disk = same; unled = unled })
-    went (resume.went_on opened up_to same reports finishes) is = inr (∥∥₁_map (subst (λ (m : ℕ). ∥ FinishedSo opened m ∥₁) is finishes) (finish_went v told_image end.Log setting opened events c same))
+    went (resume.went_on opened up_to same reports finishes) is = inr (∥∥₁_map (subst (λ (m : ℕ). ∥ FinishedSo opened m ∥₁) is finishes) (finish_went v laws end.Log setting opened events c same))
 
     not_opened_works : {n : ℕ} {text : List ℕ} → NotOpened events (v.disk.faults c.disk) (v.disk.faults c.now) n text → AllCalm v c → ¬ (events ≡ []) → HasWorked n
     not_opened_works (resume.no_build none) calm some = absurd (some none)

@@ -47,6 +47,7 @@ use Rattle.controller.specs.Output.{DeliversRun, Says}
 use Rattle.controller.proofs.CallLemmas.{FinishedIn, unrun, seven_no_log, untold, run_untold, built_not_refused, built_site, site_no_fault, mean_of, of_files, some_and}
 use Rattle.controller.proofs.LifeLemmas.{gone, finish_delivers, finish_went}
 use Rattle.controller.proofs.TextLemmas.{written, written_run, says_unrun, files_say, begin_says, reports_say}
+use Rattle.jp_disk.specs.View.{DiskLaws}
 
 -- a front of nothing is nothing
 nothing_front : (kept rest : List Event) → [] ≡ kept ++ rest → kept ≡ []
@@ -247,8 +248,7 @@ risked_only take.Memory start risked is = inr is
 risked_only (take.Full len add) start risked is = inr is
 risked_only take.Stopped start risked is = inr is
 
-module _ {D H A T : Type 0} (v : Devices D H A) (stance : T → Stance) (told_image : (d : D) → IfSome (v.disk.reads d) (λ file. v.disk.may_leave d file))
-    (counts_now : (d : D) (t : ℕ) (image : List ℕ) → t ≤ v.disk.clock d → v.disk.may_leave d image → v.disk.may_have_left_since d t image) (only_now : (d : D) (image : List ℕ) → v.disk.may_have_left_since d (v.disk.clock d) image → v.disk.may_leave d image) (kind : EndText) (c : Call D H A) where
+module _ {D H A T : Type 0} (v : Devices D H A) (stance : T → Stance) (laws : DiskLaws v.disk) (kind : EndText) (c : Call D H A) where
   abbrev RunsSo : ℕ → Type 0
   RunsSo n = RunsBy v stance kind c n
 
@@ -262,12 +262,12 @@ module _ {D H A T : Type 0} (v : Devices D H A) (stance : T → Stance) (told_im
 
   -- a call that left the disk as it was
   pub stays_here : c.now ≡ c.disk → Stays v c
-  stays_here same = subst (λ (d : D). AtEachMoment v.disk c.disk d (v.disk.may_leave c.disk)) (sym same) (starts v.disk c.disk (v.disk.may_leave c.disk) (λ image left. only_now c.disk image left))
+  stays_here same = subst (λ (d : D). AtEachMoment v.disk c.disk d (v.disk.may_leave c.disk)) (sym same) (starts v.disk c.disk (v.disk.may_leave c.disk) (λ image left. laws.only_now c.disk image left))
 
   -- OUTPUT
   delivered : (s a : List ℕ) (tree : Tree) (site : Site) → Builds s a tree site → (started : D) → v.disk.faults started ≡ v.disk.faults c.disk → HasRun c.status → FinishedBy s a tree site started c.status → DeliversRun v kind c s a
   delivered s a tree site builds started same run finishes =
-      let d = finish_delivers v told_image kind (script_setting tree site) started (StartEvent s a ∷ []) c same finishes run in
+      let d = finish_delivers v laws kind (script_setting tree site) started (StartEvent s a ∷ []) c same finishes run in
       record { setting = script_setting tree site; mean = mean_of builds; more = d.0; delivers = d.1 }
 
   outputs : {n : ℕ} → RunsSo n → n ≡ c.status → HasRun n → IsAtEnd c.script.rest × IsAtEnd c.agents.rest × WithFiles c (λ script agents. ∥ DeliversRun v kind c script agents ∥₁)
@@ -306,7 +306,7 @@ module _ {D H A T : Type 0} (v : Devices D H A) (stance : T → Stance) (told_im
         origin = fails.moments.synced;
         up_to = fails.moments.up_to;
         from_then = fails.moments.from_then;
-        at_end = λ image left. kept_then image (fails.moments.from_then.each image (counts_now c.now (v.disk.clock fails.moments.synced) image fails.moments.from_then.later left));
+        at_end = λ image left. kept_then image (fails.moments.from_then.each image (laws.counts_now c.now (v.disk.clock fails.moments.synced) image fails.moments.from_then.later left));
         sure = λ calm. ⊎_elim (λ disk. absurd (calm (counts.failed (ap (λ (x : TakeFault). fault.Take x) disk.0)))) (λ none. none) (risked_only f (StartEvent s a) fails.risked fails.may_risk);
         shown = λ run. absurd (unrun run);
       };
@@ -340,7 +340,7 @@ module _ {D H A T : Type 0} (v : Devices D H A) (stance : T → Stance) (told_im
     begun_lasts file started told same finishes over =
         let setting : Setting = script_setting tree site in
         let start : List Event = StartEvent s a ∷ [] in
-        let g = gone v told_image kind setting started start c same finishes in
+        let g = gone v laws kind setting started start c same finishes in
         let known : IsSome (v.disk.reads c.disk) = ap is_some told in
         record {
           setting = setting;
@@ -501,7 +501,7 @@ module _ {D H A T : Type 0} (v : Devices D H A) (stance : T → Stance) (told_im
     -- a `Start` whose take failed: the file has no record, and neither has what a crash leaves, but for that `Start`
     failed_image : (file : List ℕ) (f : TakeFault) (image : List ℕ) → (f ≡ take.Disk → c.status ≡ 5) → StartFails v.disk stance (script_setting tree site) (StartEvent s a) file c.disk c.now f → v.disk.may_leave c.now image → UntakenSo file image
     failed_image file f image five fails left =
-        let survives = fails.moments.from_then.each image (counts_now c.now (v.disk.clock fails.moments.synced) image fails.moments.from_then.later left) in
+        let survives = fails.moments.from_then.each image (laws.counts_now c.now (v.disk.clock fails.moments.synced) image fails.moments.from_then.later left) in
         ⊎_elim (λ front. inr (inl (has_none (script_setting tree site) image (subst (λ (es : List Event). Stores (script_setting tree site) es image) (nothing_front survives.kept front.0 front.1) survives.stores) ∙ sym fails.none)))
         (λ all. with_start survives.kept survives.stores all (risked_only f (StartEvent s a) fails.risked fails.may_risk)) survives.front.within
       where
@@ -515,13 +515,13 @@ module _ {D H A T : Type 0} (v : Devices D H A) (stance : T → Stance) (told_im
         → AtEachMoment v.disk c.disk c.now (v.disk.may_leave c.disk) ⊎ (SinceSync v.disk file c.disk c.now (λ image. records image ≡ records file) ⊎ StartFails v.disk stance (script_setting tree site) (StartEvent s a) file c.disk c.now f)
         → v.disk.may_leave c.now image → UntakenSo file image
     either_image file f image five why left =
-        ⊎_elim (λ stays. inl (stays.each image (counts_now c.now (v.disk.clock c.disk) image stays.later left)))
-        (⊎_elim (λ keeps. inr (inl (keeps.from_then.each image (counts_now c.now (v.disk.clock keeps.synced) image keeps.from_then.later left)))) (λ fails. failed_image file f image five fails left)) why
+        ⊎_elim (λ stays. inl (stays.each image (laws.counts_now c.now (v.disk.clock c.disk) image stays.later left)))
+        (⊎_elim (λ keeps. inr (inl (keeps.from_then.each image (laws.counts_now c.now (v.disk.clock keeps.synced) image keeps.from_then.later left)))) (λ fails. failed_image file f image five fails left)) why
 
     pub unbegun_image : (file : List ℕ) (f : BeginFault) (image : List ℕ) → (f ≡ fault.Take take.Disk → c.status ≡ 5) → BeginRefuses v.disk stance (script_setting tree site) (StartEvent s a) file c.disk f c.now → v.disk.may_leave c.now image → UntakenSo file image
     unbegun_image file fault.HasBuild image five refuses left =
         let keeps = refuses.3 in
-        inr (inl (keeps.from_then.each image (counts_now c.now (v.disk.clock keeps.synced) image keeps.from_then.later left)))
+        inr (inl (keeps.from_then.each image (laws.counts_now c.now (v.disk.clock keeps.synced) image keeps.from_then.later left)))
     unbegun_image file (fault.Take (take.Full len add)) image five refuses left = failed_image file (take.Full len add) image (λ e. five (ap (λ (x : TakeFault). fault.Take x) e)) refuses.1 left
     unbegun_image file (fault.Take take.Memory) image five refuses left = either_image file take.Memory image (λ e. five (ap (λ (x : TakeFault). fault.Take x) e)) refuses.1 left
     unbegun_image file (fault.Take take.Disk) image five refuses left = either_image file take.Disk image (λ e. five (ap (λ (x : TakeFault). fault.Take x) e)) refuses.1 left
@@ -531,7 +531,7 @@ module _ {D H A T : Type 0} (v : Devices D H A) (stance : T → Stance) (told_im
   went_by s a tree site builds started same finishes = record {
     setting = script_setting tree site;
     mean = mean_of builds;
-    went_on = finish_went v told_image kind (script_setting tree site) started (StartEvent s a ∷ []) c same finishes;
+    went_on = finish_went v laws kind (script_setting tree site) started (StartEvent s a ∷ []) c same finishes;
   }
 
   went_on : {n : ℕ} → RunsSo n → n ≡ c.status → LeavesAll v c ⊎ WithFiles c (λ script agents. Unbegun v c script agents ⊎ ∥ RunWentOn v c script agents ∥₁)

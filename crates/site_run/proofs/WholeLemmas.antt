@@ -60,7 +60,7 @@ use Rattle.site_run.proofs.StoreLemmas.{lasts_on, fails_on, wants, wants_on}
 use Rattle.site_run.proofs.EndLemmas.{rests_so, goes_then, goes_taken}
 use Rattle.site_run.proofs.FitLemmas.{told_taken, life_serves, once_fit, came_all, fit_life}
 use Rattle.model_syntax.specs.TreeNodes.{tree_node}
-use Rattle.jp_disk.specs.View.{DiskView}
+use Rattle.jp_disk.specs.View.{DiskLaws, DiskView}
 use Rattle.task_host.specs.View.{HostView}
 use Rattle.jp_io.specs.View.{SourceView}
 
@@ -144,7 +144,7 @@ pub counts_kept : (first last : ℕ) (kept : Option TakeFault) (Fails : Type 0) 
 counts_kept first last kept Fails below rose calm so is = record { never_falls = below; calm = λ other. calm (λ disk. other (is disk)); failed = λ failed. rose (so failed) }
 
 module _ {D T : Type 0} (disk : DiskView D) (stance : T → Stance)
-    (told_image : (d : D) → IfSome (disk.reads d) (disk.may_leave d)) where
+    (laws : DiskLaws disk) where
   module _ (setting : Setting) (entry : Option (List ℕ)) (origin : D) (before events : List Event) (durable : Kept D T) (lasts : Lasts disk stance setting entry origin before events durable) where
     abbrev shown_first : ShowsAll stance setting lasts.goes.proper durable.build events
     shown_first = record { same = lasts.goes.same; begun = lasts.goes.begun; stands = lasts.goes.stands }
@@ -204,7 +204,7 @@ module _ {D T : Type 0} (disk : DiskView D) (stance : T → Stance)
               let here : s.fault ≡ fault = same_fault s.fault fault (sym (kept_last s.front s.fault s.event s.none) ∙ ap kept_fault (sym s.is) ∙ kept) in
               let now_is : events ++ tooks s.front ≡ begun = ap (λ (es : List Event). events ++ es) (sym (tooks_front s.front s.fault s.event) ∙ ap tooks (sym s.is)) in
               let of : IsFaultOf setting begun s.fault s.event = subst (λ (es : List Event). IsFaultOf setting es s.fault s.event) now_is s.of in
-              let fails = fails_on disk stance setting entry origin before events durable k made lasts facts s.front s.fault s.event s.is s.none (told_image k.journal.disk) of in
+              let fails = fails_on disk stance setting entry origin before events durable k made lasts facts s.front s.fault s.event s.is s.none (laws.told_image k.journal.disk) of in
               subst (λ (f : TakeFault). OpeningBreaks disk stance setting entry origin before events f state) here (breaks_opening (tooks made) s.fault state k (grants_are grants) goes_made same
               (breaks_with disk stance setting entry origin before (λ e. ⊥) begun s.fault k s.event fails (caused_by setting (λ e. ⊥) begun s.fault s.event of (λ e some. told_last (λ (t : Told). ⊥) made s.front s.fault e (same_last made s.front s.fault s.event e some s.is) (grants_refused grants)))))
 
@@ -273,7 +273,7 @@ module _ {D T : Type 0} (disk : DiskView D) (stance : T → Stance)
                 let now_is : begun ++ tooks s.front ≡ now = ap (λ (es : List Event). begun ++ es) (sym (tooks_front s.front s.fault s.event) ∙ ap tooks (sym s.is)) in
                 let of : IsFaultOf setting now s.fault s.event = subst (λ (es : List Event). IsFaultOf setting es s.fault s.event) now_is s.of in
                 breaks_with disk stance setting entry origin before Refused now s.fault kept s.event
-                (fails_on disk stance setting entry origin before begun opened kept h lasts_opened site s.front s.fault s.event s.is s.none (told_image kept.journal.disk) of)
+                (fails_on disk stance setting entry origin before begun opened kept h lasts_opened site s.front s.fault s.event s.is s.none (laws.told_image kept.journal.disk) of)
                 (caused_by setting Refused now s.fault s.event of (λ e some. told_last _ h s.front s.fault e (same_last h s.front s.fault s.event e some s.is) life.told))
 
             -- it rests, or memory was wanted

@@ -38,7 +38,7 @@ use Rattle.site_state.specs.Facts.{IsMeant, GoOn, HasFront, Grown, IsFull, IsSiz
 use Rattle.site_state.specs.Grants.{noted}
 use Rattle.site_state.proofs.HistoryLaws.{tooks-append, kept_fault-append, fault_not_none, pending-append, none_pending, none_full, full-append, none_sized, sized-append}
 use Rattle.site_state.proofs.WorldLaws.{IsInOrder, next_in_order, same_answer}
-use Rattle.jp_disk.specs.View.{DiskView}
+use Rattle.jp_disk.specs.View.{DiskLaws, DiskView}
 
 fold-append : (s : Setting) (w : W.Build) (es fs : List Event) → fold (W.after_one s) w (es ++ fs) ≡ fold (W.after_one s) (fold (W.after_one s) w es) fs
 fold-append s w [] fs = refl
@@ -202,10 +202,10 @@ module _ {D T : Type 0} (disk : DiskView D) (stance : T → Stance) (opening old
     }
 
     -- a take that the disk failed
-    pub grown_torn : ((d : D) (t : ℕ) (image : List ℕ) → t ≤ disk.clock d → disk.may_leave d image → disk.may_have_left_since d t image) → (e : Event) → new.journal.len ≡ old.journal.len → new.weights ≡ old.weights → Risks disk stance old new e (ps ++ g.added)
+    pub grown_torn : DiskLaws disk → (e : Event) → new.journal.len ≡ old.journal.len → new.weights ≡ old.weights → Risks disk stance old new e (ps ++ g.added)
         → GoOn stance opening.build (g.records ++ record_of e (image_in stance new.build) ∷ []) → IsWhole (setting_in opening.build) (image_in stance new.build)
         → Grown disk stance opening new (h ++ Failed Disk (Some e) ∷ []) ps
-    grown_torn counts_now e len weighs a on whole =
+    grown_torn laws e len weighs a on whole =
         let p = a.puts.payload in
         record {
           records = g.records;
@@ -223,7 +223,7 @@ module _ {D T : Type 0} (disk : DiskView D) (stance : T → Stance) (opening old
           full = full-append stance (weights_of (ps ++ g.added)) (last_image (ps ++ g.added)) new h Disk (Some e) none tt;
           keeps = λ is. absurd (fault_not_none h Disk (Some e) none is);
           moments = moments_more p a.puts.moments;
-          images = λ image left. a.puts.moments.each image (counts_now new.journal.disk (disk.clock old.journal.disk) image a.puts.moments.later left);
+          images = λ image left. a.puts.moments.each image (laws.counts_now new.journal.disk (disk.clock old.journal.disk) image a.puts.moments.later left);
         }
 
   -- entries that tell of no event and no fault
@@ -267,8 +267,8 @@ module _ {D T : Type 0} (disk : DiskView D) (stance : T → Stance) where
   Known opening now h = Facts disk stance opening now h
 
   -- at the opening
-  pub facts_start : ((d : D) (image : List ℕ) → disk.may_have_left_since d (disk.clock d) image → disk.may_leave d image) → (k : Kept D T) → k.stopped ≡ false → has_begun k.build.phase ≡ true → Known k k []
-  facts_start only_now k running begun = record {
+  pub facts_start : DiskLaws disk → (k : Kept D T) → k.stopped ≡ false → has_begun k.build.phase ≡ true → Known k k []
+  facts_start laws k running begun = record {
     count = omega arith;
     rose = λ bad. absurd (none_disk bad);
     calm = λ _. refl;
@@ -295,7 +295,7 @@ module _ {D T : Type 0} (disk : DiskView D) (stance : T → Stance) where
           weighs = subst (λ (xs : List (List ℕ)). k.weights ≡ weights_of xs) (sym (append-nil ps)) held.weighs;
           full = tt;
           keeps = λ _. subst (Keeps disk stance k) (sym (append-nil ps)) held;
-          moments = starts disk k.journal.disk (HasFront ps []) (λ image left. (0, has image (only_now k.journal.disk image left)));
+          moments = starts disk k.journal.disk (HasFront ps []) (λ image left. (0, has image (laws.only_now k.journal.disk image left)));
           images = λ image left. inl (has image left);
         };
   }
@@ -370,15 +370,15 @@ module _ {D T : Type 0} (disk : DiskView D) (stance : T → Stance) where
             (whole_here whole);
       }
 
-      facts_torn : ((d : D) (t : ℕ) (image : List ℕ) → t ≤ disk.clock d → disk.may_leave d image → disk.may_have_left_since d t image) → (e : Event) → new.journal.len ≡ old.journal.len → (new.weights ≡ old.weights) × (new.records ≡ old.records) → Rose (disk.faults old.journal.disk) (disk.faults new.journal.disk) → IsInOrder old.build e → answer_of old.build e ≡ Accepted
+      facts_torn : DiskLaws disk → (e : Event) → new.journal.len ≡ old.journal.len → (new.weights ≡ old.weights) × (new.records ≡ old.records) → Rose (disk.faults old.journal.disk) (disk.faults new.journal.disk) → IsInOrder old.build e → answer_of old.build e ≡ Accepted
           → ((payloads : List (List ℕ)) → Keeps disk stance old payloads → Risks disk stance old new e payloads) → IsWhole (setting_in old.build) (image_in stance new.build)
           → Known opening new (h ++ Failed Disk (Some e) ∷ [])
-      facts_torn counts_now e len same rose order accepted risks whole =
+      facts_torn laws e len same rose order accepted risks whole =
           facts_fault Disk (Some e) (λ _. rose) (λ other. absurd (other refl)) (omega (arith, len)) same.1 (None, tt) (λ w at. tt)
           (λ ps held.
           let g = k.grown ps held in
           let a = risks (ps ++ g.added) (g.keeps none) in
-          grown_torn disk stance opening old h none ps g new counts_now e len same.0 a
+          grown_torn disk stance opening old h none ps g new laws e len same.0 a
           (go_on_more stance opening.build old.build g.records (tooks h) (record_of e (image_in stance new.build)) (on_so_far disk stance opening old h none ps g) g.events (k.shown none) accepted order a.image) (whole_here whole))
 
       facts_still : (f : TakeFault) (event : Option Event) → at_risk f event ≡ [] → (f ≡ Disk → ⊥) → (before : Option Image) × IsFull stance new.weights before new f event
@@ -392,20 +392,20 @@ module _ {D T : Type 0} (disk : DiskView D) (stance : T → Stance) where
       facts_same : new ≡ old → Known opening new (h ++ [])
       facts_same same = subst (λ (es : List Entry). Known opening new es) (sym (append-nil h)) (subst (λ (n : Kept D T). Known opening n h) (sym same) k)
 
-      pub facts_one : ((d : D) (t : ℕ) (image : List ℕ) → t ≤ disk.clock d → disk.may_leave d image → disk.may_have_left_since d t image) → (e : Event) (r : Result Taken TakeFault) → old.stopped ≡ false → IsInOrder old.build e
+      pub facts_one : DiskLaws disk → (e : Event) (r : Result Taken TakeFault) → old.stopped ≡ false → IsInOrder old.build e
           → TakeAnswers stance old new e r → TakeLeaves stance old new e r → TellsSize stance old new e r → LeavesWhole stance (setting_in old.build) new.build r → OnOk r (setting_in new.build ≡ setting_in old.build)
           → OnOk r ((w : W.Build) → StandsFor stance old.build w → StandsFor stance new.build (W.after_one (setting_in old.build) w e))
           → ((payloads : List (List ℕ)) → Keeps disk stance old payloads → TakeKeeps disk stance old new e payloads r)
           → (IsErrOf r Disk → Rose (disk.faults old.journal.disk) (disk.faults new.journal.disk)) → (¬ (IsErrOf r Disk) → disk.faults new.journal.disk ≡ disk.faults old.journal.disk)
           → Known opening new (h ++ noted e r)
-      facts_one counts_now e (Ok Accepted) run order answers leaves size whole setting stands keeps cause calm =
+      facts_one laws e (Ok Accepted) run order answers leaves size whole setting stands keeps cause calm =
           facts_more e (calm (λ is. cc)) (omega (arith, leaves.2.len)) leaves.2.records leaves.0 leaves.1 order (record { accepted = sym answers.1; setting = setting; stands = stands }) keeps whole
-      facts_one counts_now e (Ok NotOpen) run order answers leaves size whole setting stands keeps cause calm = facts_same leaves
-      facts_one counts_now e (Ok (WrongPlace kept)) run order answers leaves size whole setting stands keeps cause calm = facts_same leaves
-      facts_one counts_now e (Ok Finished) run order answers leaves size whole setting stands keeps cause calm = facts_same leaves
-      facts_one counts_now e (Err Memory) run order answers leaves size whole setting stands keeps cause calm = facts_still Memory None refl memory_disk (None, tt) (λ w at. tt) (λ ps keeps. tt) leaves.1 leaves.2
-      facts_one counts_now e (Err Disk) run order answers leaves size whole setting stands keeps cause calm = facts_torn counts_now e leaves.1 leaves.2 (cause refl) order answers.1 keeps whole
-      facts_one counts_now e (Err (Full len add)) run order answers leaves size whole setting stands keeps cause calm =
+      facts_one laws e (Ok NotOpen) run order answers leaves size whole setting stands keeps cause calm = facts_same leaves
+      facts_one laws e (Ok (WrongPlace kept)) run order answers leaves size whole setting stands keeps cause calm = facts_same leaves
+      facts_one laws e (Ok Finished) run order answers leaves size whole setting stands keeps cause calm = facts_same leaves
+      facts_one laws e (Err Memory) run order answers leaves size whole setting stands keeps cause calm = facts_still Memory None refl memory_disk (None, tt) (λ w at. tt) (λ ps keeps. tt) leaves.1 leaves.2
+      facts_one laws e (Err Disk) run order answers leaves size whole setting stands keeps cause calm = facts_torn laws e leaves.1 leaves.2 (cause refl) order answers.1 keeps whole
+      facts_one laws e (Err (Full len add)) run order answers leaves size whole setting stands keeps cause calm =
           let len_is : len ≡ new.journal.len = answers.2 ∙ ap (λ j. j.len) (sym leaves.1) in
           let here = image_in stance new.build in
           facts_still (Full len add) (Some e) refl (full_disk len add)
@@ -413,7 +413,7 @@ module _ {D T : Type 0} (disk : DiskView D) (stance : T → Stance) where
           (λ w at. due_adds old.weights new.weights (image_before stance old.build) (world_before (setting_in old.build) w) here (world_image (setting_in old.build) (W.after_one (setting_in old.build) w e)) e add (sym leaves.2.0) (size.1 w at) (size.0 w at) answers.4)
           (λ ps kept. (len_is, answers.3, due_adds old.weights (weights_of ps) (image_before stance old.build) (last_image ps) here here e add kept.weighs (stands_last stance old.build old.script old.agents ps kept.stands) refl answers.4))
           leaves.1 leaves.2
-      facts_one counts_now e (Err Stopped) run order answers leaves size whole setting stands keeps cause calm = absurd (true_false (sym answers ∙ run))
+      facts_one laws e (Err Stopped) run order answers leaves size whole setting stands keeps cause calm = absurd (true_false (sym answers ∙ run))
 
     -- want of memory is noted
     pub facts_wanting : Known opening old (h ++ Failed Memory None ∷ [])

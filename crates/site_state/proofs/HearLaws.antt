@@ -25,23 +25,23 @@ use Rattle.site_state.proofs.HistoryLaws.{kept_fault-append}
 use Rattle.site_state.proofs.WorldLaws.{IsInOrder}
 use Rattle.site_state.proofs.FactLaws.{facts_one, facts_quiet, facts_wanting}
 use Rattle.site_state.proofs.GrantLaws.{kept_behind}
-use Rattle.jp_disk.specs.View.{DiskView}
+use Rattle.jp_disk.specs.View.{DiskLaws, DiskView}
 
 module _ {D T : Type 0} (disk : DiskView D) (stance : T → Stance) (opening old : Kept D T) (h : List Entry) (none : kept_fault h ≡ None)
     (k : Facts disk stance opening old h) (line : List ℕ) where
   -- what is known goes on through a line and its decision
-  pub heard_one : (new : Kept D T) → disk.faults old.journal.disk ≤ disk.faults new.journal.disk → ((d : D) (t : ℕ) (image : List ℕ) → t ≤ disk.clock d → disk.may_leave d image → disk.may_have_left_since d t image) → (e : Event) (r : Result Taken TakeFault) → old.stopped ≡ false → IsInOrder old.build e
+  pub heard_one : (new : Kept D T) → disk.faults old.journal.disk ≤ disk.faults new.journal.disk → DiskLaws disk → (e : Event) (r : Result Taken TakeFault) → old.stopped ≡ false → IsInOrder old.build e
       → TakeAnswers stance old new e r → TakeLeaves stance old new e r → IsSized stance old new e r → LeavesWhole stance (setting_in old.build) new.build r → OnOk r (setting_in new.build ≡ setting_in old.build)
       → OnOk r ((w : W.Build) → StandsFor stance old.build w → StandsFor stance new.build (W.after_one (setting_in old.build) w e))
       → ((payloads : List (List ℕ)) → Keeps disk stance old payloads → TakeKeeps disk stance old new e payloads r)
       → (IsErrOf r Disk → Rose (disk.faults old.journal.disk) (disk.faults new.journal.disk)) → (¬ (IsErrOf r Disk) → disk.faults new.journal.disk ≡ disk.faults old.journal.disk)
       → Facts disk stance opening new (h ++ noted_line line e r)
-  heard_one new count counts_now e (Ok t) run order answers leaves size whole setting stands keeps cause calm =
+  heard_one new count laws e (Ok t) run order answers leaves size whole setting stands keeps cause calm =
       let quiet = facts_quiet disk stance opening old h none k (Line line ∷ []) (refl, refl) in
       subst (λ (es : List Entry). Facts disk stance opening new es) (append_assoc h (Line line ∷ []) (noted e (Ok t)))
-      (facts_one disk stance opening old (h ++ Line line ∷ []) (kept_fault-append h (Line line ∷ []) none) quiet new count counts_now e (Ok t) run order answers leaves size whole setting stands keeps cause calm)
-  heard_one new count counts_now e (Err f) run order answers leaves size whole setting stands keeps cause calm =
-      facts_one disk stance opening old h none k new count counts_now e (Err f) run order answers leaves size whole setting stands keeps cause calm
+      (facts_one disk stance opening old (h ++ Line line ∷ []) (kept_fault-append h (Line line ∷ []) none) quiet new count laws e (Ok t) run order answers leaves size whole setting stands keeps cause calm)
+  heard_one new count laws e (Err f) run order answers leaves size whole setting stands keeps cause calm =
+      facts_one disk stance opening old h none k new count laws e (Err f) run order answers leaves size whole setting stands keeps cause calm
 
   pub skipped_facts : (r : Result Heard TakeFault) (after : List Entry) → SkipSays line r h after → Facts disk stance opening old after
   skipped_facts (Ok Skipped) after is = subst (λ (es : List Entry). Facts disk stance opening old es) (sym is) (facts_quiet disk stance opening old h none k (Line line ∷ []) (refl, refl))

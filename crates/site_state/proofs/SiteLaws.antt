@@ -15,7 +15,7 @@ use Rattle.site_state.specs.Showing.{IsSettled, IsShown}
 use Rattle.site_state.specs.Facts.{Facts, IsSite}
 use Rattle.site_state.specs.Says.{Answers, SaysAt, Says, stopped_reply}
 use Rattle.site_state.proofs.FactLaws.{facts_start}
-use Rattle.jp_disk.specs.View.{DiskView}
+use Rattle.jp_disk.specs.View.{DiskLaws, DiskView}
 
 bool_prop : (a b : Bool) → IsProp (a ≡ b)
 bool_prop a b = hlevel props
@@ -79,12 +79,12 @@ pub only_new : (made es after : List Entry) → made ≡ [] → after ≡ made +
 only_new made es after none is = subst (λ (xs : List Entry). after ≡ xs ++ es) none is
 
 pub site_begins : {D T : Type 0} (disk : DiskView D) (stance : T → Stance)
-    → ((d : D) (image : List ℕ) → disk.may_have_left_since d (disk.clock d) image → disk.may_leave d image) → (before k opening : Kept D T) (es h : List Entry) (capacity : ℕ) → Facts disk stance before k es → kept_fault es ≡ None
+    → DiskLaws disk → (before k opening : Kept D T) (es h : List Entry) (capacity : ℕ) → Facts disk stance before k es → kept_fault es ≡ None
     → IsSettled k.build → opening ≡ k → h ≡ [] → length h < capacity → ∥ IsSite disk stance opening k h capacity ∥₁
-site_begins disk stance only_now before k opening es h capacity facts none settled same empty room =
+site_begins disk stance laws before k opening es h capacity facts none settled same empty room =
     subst (λ (o : Kept _ _). ∥ IsSite disk stance o k h capacity ∥₁) (sym same)
     (∣ record {
-      facts = subst (λ (xs : List Entry). Facts disk stance k k xs) (sym empty) (facts_start disk stance only_now k (facts.running none) (facts.shown none).begun);
+      facts = subst (λ (xs : List Entry). Facts disk stance k k xs) (sym empty) (facts_start disk stance laws k (facts.running none) (facts.shown none).begun);
       room = λ _. room;
       settled = λ _. settled;
     } ∣₁)

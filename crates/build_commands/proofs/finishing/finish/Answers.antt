@@ -52,7 +52,7 @@ returns-in-Err-clause-last g c = λ log payloads keeps.
     let D = g.D.Disk in
     let K = g.K.Sink in
     ∣ subst (λ (d : g.row.D.Denot). KeepsRecords D (setting_in c.args.durable.build) c.args.durable.journal.disk payloads c.new.result.items d (K.written c.args.out.now) (K.written c.tell-status.new.out) (K.faults c.args.out.now) (K.faults c.tell-status.new.out) c.tell-status.result) (sym c.close.ensures)
-    (nothing_kept D (g.met.D.Disk g.world.𝓛 g.world.𝓜 g.world.𝓡 ((λ s x. x), (λ x. x), (λ x. x), λ x. x)).only_now g.R.ScriptThread.stance c.args.durable payloads c.new.result.items
+    (nothing_kept D (let met = g.met.D.Disk g.world.𝓛 g.world.𝓜 g.world.𝓡 ((λ s x. x), (λ x. x), (λ x. x), λ x. x) in record { told_end = met.told_end; told_image = met.told_image; counts_now = met.counts_now; only_now = met.only_now }) g.R.ScriptThread.stance c.args.durable payloads c.new.result.items
     (K.written c.args.out.now) (K.written c.tell-status.new.out) (K.faults c.args.out.now) (K.faults c.tell-status.new.out) c.tell-status.result c.requires.begun (c.build.ensures.whole c.requires.running c.requires.begun) keeps c.new.ensures.items c.tell-status.ensures.status) ∣₁
 
 pub returns-in-Err-clause-launched : goal.returns-in-Err-clause-launched

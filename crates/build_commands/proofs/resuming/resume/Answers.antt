@@ -49,7 +49,7 @@ returns-in-Ok-clause-resumes g c = λ file told setting events stores.
     (c.in-Ok.ensures.cause.calm (λ e. e))
     (subst (λ (n : ℕ). Reports n (D.faults c.finish.result.disk) (A.faults c.args.answers) (A.faults c.finish.result.answers) (K.written c.args.out.now) (K.written c.finish.new.out) (K.faults c.args.out.now) (K.faults c.finish.new.out) c.finish.result.status)
     (c.in-Ok.ensures.cause.calm (λ e. e)) c.finish.ensures.reports)
-    (c.finish.ensures.finishes setting (D.reads c.args.disk) opened events (lasts_here D stance (g.met.D.Disk g.world.𝓛 g.world.𝓜 g.world.𝓡 ((λ s x. x), (λ x. x), (λ x. x), λ x. x)).only_now setting (D.reads c.args.disk) events kept stands.goes (λ known. stands.saves)) tt)
+    (c.finish.ensures.finishes setting (D.reads c.args.disk) opened events (lasts_here D stance (let met = g.met.D.Disk g.world.𝓛 g.world.𝓜 g.world.𝓡 ((λ s x. x), (λ x. x), (λ x. x), λ x. x) in record { told_end = met.told_end; told_image = met.told_image; counts_now = met.counts_now; only_now = met.only_now }) setting (D.reads c.args.disk) events kept stands.goes (λ known. stands.saves)) tt)
 
 pub returns-in-Err-clause-reopens : goal.returns-in-Err-clause-reopens
 returns-in-Err-clause-reopens g c =

@@ -33,7 +33,7 @@ returns-in-Ok g c =
     let goes = c.in-Ok.ensures.made.goes in
     begun started calm c.finish.ensures.stay c.finish.ensures.launched
     (subst (λ (n : ℕ). Reports n (D.faults c.finish.result.disk) (A.faults c.args.answers) (A.faults c.finish.result.answers) (K.written c.args.out.now) (K.written c.finish.new.out) (K.faults c.args.out.now) (K.faults c.finish.new.out) c.finish.result.status) calm c.finish.ensures.reports)
-    (c.finish.ensures.finishes setting entry started first (lasts_here D stance (g.met.D.Disk g.world.𝓛 g.world.𝓜 g.world.𝓡 ((λ s x. x), (λ x. x), (λ x. x), λ x. x)).only_now setting entry first kept goes saves)
+    (c.finish.ensures.finishes setting entry started first (lasts_here D stance (let met = g.met.D.Disk g.world.𝓛 g.world.𝓜 g.world.𝓡 ((λ s x. x), (λ x. x), (λ x. x), λ x. x) in record { told_end = met.told_end; told_image = met.told_image; counts_now = met.counts_now; only_now = met.only_now }) setting entry first kept goes saves)
     (counts_first c.args.kind kept.records (StartEvent plan.script plan.agents) c.in-Ok.ensures.made.counted))
     (λ file told. let made = c.in-Ok.ensures.begun file told in record { fresh = made.fresh; moments = made.moments })
 

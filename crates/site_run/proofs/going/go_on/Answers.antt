@@ -31,7 +31,7 @@ returns-in-Ok-clause-lives g c =
       whole = facts_all D stance c.args.durable site.durable l.site.durable made.0 l.site.history.items _ made.2 made.3
           (known_from D stance (λ b. b.value) site.base l.site.base site.durable l.site.durable l.site.history.items _ e.1.base_stays c.in-Ok.ensures.fresh.1 l.site.stands);
       comes = λ setting entry origin before events lasts.
-          life_ends D stance (g.met.D.Disk g.world.𝓛 g.world.𝓜 g.world.𝓡 ((λ s x. x), (λ x. x), (λ x. x), λ x. x)).told_image setting entry origin before events c.args.durable lasts made.0 made.1 site.durable made.3 made.2
+          life_ends D stance (let met = g.met.D.Disk g.world.𝓛 g.world.𝓜 g.world.𝓡 ((λ s x. x), (λ x. x), (λ x. x), λ x. x) in record { told_end = met.told_end; told_image = met.told_image; counts_now = met.counts_now; only_now = met.only_now }) setting entry origin before events c.args.durable lasts made.0 made.1 site.durable made.3 made.2
           H A c.args.looks (λ b. b.value.build) l.site.base l.site.base c.args.members.now.items c.live_on.new.members.items l.site.history.items e.0 life
           (ap (λ b. b.value.build) e.1.base_stays ∙ ap (λ k. k.build) c.in-Ok.ensures.fresh.1) l.site.durable _
           (known_from D stance (λ b. b.value) site.base l.site.base site.durable l.site.durable l.site.history.items _ e.1.base_stays c.in-Ok.ensures.fresh.1 l.site.stands)
@@ -95,7 +95,7 @@ pub returns-in-Err-clause-breaks : goal.returns-in-Err-clause-breaks
 returns-in-Err-clause-breaks g c = λ setting entry origin before events lasts.
     let D = g.D.Disk in
     let e = c.in-Err.ensures.refused in
-    opening_refused D g.R.ScriptThread.stance (g.met.D.Disk g.world.𝓛 g.world.𝓜 g.world.𝓡 ((λ s x. x), (λ x. x), (λ x. x), λ x. x)).told_image setting entry origin before events c.args.durable lasts e.0 e.1 _ _ e.2 e.3 e.4
+    opening_refused D g.R.ScriptThread.stance (let met = g.met.D.Disk g.world.𝓛 g.world.𝓜 g.world.𝓡 ((λ s x. x), (λ x. x), (λ x. x), λ x. x) in record { told_end = met.told_end; told_image = met.told_image; counts_now = met.counts_now; only_now = met.only_now }) setting entry origin before events c.args.durable lasts e.0 e.1 _ _ e.2 e.3 e.4
 
 pub returns-in-Err-clause-disk : goal.returns-in-Err-clause-disk
 returns-in-Err-clause-disk g c =
