@@ -1,5 +1,5 @@
 //! How a command ends that lets a life go on.
-ghost use Rattle.std.specs.Prelude.{◌≡◌, ◌⊎◌, ◌≤◌, ◌<◌, ◌+◌, false, true, max, ℕ, List, Option, reverse, vec_len, vec_capacity};
+ghost use Rattle.std.specs.Prelude.{◌≡◌, ◌⊎◌, ◌≤◌, ◌<◌, ◌+◌, false, true, max, ℕ, List, Option, length, reverse, vec_len, vec_capacity};
 ghost use Rattle.site_run.specs.Lower.build_core.Builds.{StandsFor, setting_in};
 ghost use Rattle.site_run.specs.Lower.build_core.Phases.{has_begun};
 ghost use Rattle.site_run.specs.Lower.build_images.Images.{image_in};
@@ -47,7 +47,7 @@ use task_host::Host;
 /// | 3 | only where no grant is due, no task is open, and no input is open or the answers were read to their end | the text so far |
 /// | 8 | want of memory | `controller: out of memory` |
 ///
-/// `threads` says how many members work at once; with 1 they work one after the other, in their order. It may wait for ever, as the
+/// There are at most 126 hosts. `threads` says how many members work at once; with 1 they work one after the other, in their order. It may wait for ever, as the
 /// answers and the tasks may.
 pub fn finish<
     D: Disk + Send,
@@ -65,6 +65,7 @@ pub fn finish<
     answers: A,
     out: &mut K,
 ) -> Ended<D, H, A>
+    requires few { length hosts.items ≤ 126 }
     requires running { durable.stopped ≡ false }
     requires begun { has_begun durable.build.phase ≡ true }
     ensures stay { HostsStay H.Host hosts.items result.hosts.items }
@@ -117,6 +118,7 @@ fn live<
     out: &mut K,
 ) -> Ended<D, H, A>
     requires looks { 0 < looks }
+    requires few { length crew.members.items ≤ 127 }
     requires running { durable.stopped ≡ false }
     requires begun { has_begun durable.build.phase ≡ true }
     requires crew { IsCrew crew.members.items }

@@ -1,5 +1,6 @@
 //! The command that begins the build of a script that it makes.
 
+ghost use Rattle.std.specs.Prelude.{◌≤◌, length};
 ghost use Rattle.generated_build.specs.Files.{agents_of_any, script_of};
 ghost use Rattle.build_commands.specs.declared.end_text.EndText.TheVariants.{Numbers};
 ghost use Rattle.build_commands.specs.Beginning.{Runs};
@@ -25,7 +26,8 @@ use task_host::Host;
 /// numbers.
 ///
 /// It is [`run`](crate::run) on these two files, with the numbers in place of the log, and reads no source for them. So each status comes
-/// as it says there; 4 and 13 would come only where the files that are made had a fault, and 8 may come behind the end of the build too.
+/// as it says there; 4 and 13 would come only where the files that are made had a fault, and 8 may come behind the end of the build too. There are
+/// at most 126 hosts.
 pub fn generate<
     D: Disk + Send,
     R: SavedThread + Drop + Send,
@@ -42,6 +44,7 @@ pub fn generate<
     answers: A,
     out: &mut K,
 ) -> Ended<D, H, A>
+    requires few { length hosts.items ≤ 126 }
     ensures { Runs D.Disk R.stance H.Host A.Source disk result.disk hosts.items result.hosts.items answers result.answers result.history.items
         (Numbers stages) (K.written out.old) (K.written out.new) (K.faults out.old) (K.faults out.new) (whole (script_of stages)) (whole agents_of_any) result.status }
 {

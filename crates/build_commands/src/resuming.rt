@@ -1,6 +1,6 @@
 //! The command that goes on with the build of a store.
 
-ghost use Rattle.std.specs.Prelude.{◌≡◌, ℕ, List, Some};
+ghost use Rattle.std.specs.Prelude.{◌≡◌, ◌≤◌, ℕ, List, Some, length};
 ghost use Rattle.model_run.specs.declared.event.Event.{Event as AnEvent};
 ghost use Rattle.model_run.specs.State.{Setting};
 ghost use Rattle.site_run.specs.Lower.build_store.Saved.{Stores};
@@ -32,7 +32,7 @@ use task_host::Host;
 /// | 3 | only where no grant is due, no task is open, and no input is open or the answers were read to their end | the log so far |
 /// | 8 | want of memory | `controller: out of memory` |
 ///
-/// `threads` says how many members work at once; with 1 they work one after the other, in their order. It may wait for ever, as the
+/// There are at most 126 hosts. `threads` says how many members work at once; with 1 they work one after the other, in their order. It may wait for ever, as the
 /// answers and the tasks may.
 pub fn resume<
     D: Disk + Send,
@@ -42,6 +42,7 @@ pub fn resume<
     A: Source + Drop + Send,
     K: Sink,
 >(rt: &W, disk: D, hosts: Vec<H>, threads: usize, answers: A, out: &mut K) -> Ended<D, H, A>
+    requires few { length hosts.items ≤ 126 }
     ensures reopens { Reopens D.Disk H.Host A.Source hosts.items result.hosts.items answers result.answers result.history.items
         disk result.disk (K.written out.old) (K.written out.new) (K.faults out.old) (K.faults out.new) result.status }
     ensures resumes { (file : List ℕ) → D.reads disk ≡ Some file → (setting : Setting) (events : List AnEvent) → Stores setting events file

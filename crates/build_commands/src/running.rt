@@ -1,6 +1,6 @@
 //! The command that begins the build of a script.
 
-ghost use Rattle.std.specs.Prelude.{◌+◌, IfOk};
+ghost use Rattle.std.specs.Prelude.{◌+◌, ◌≤◌, IfOk, length};
 ghost use Rattle.jp_io.specs.Whole.{TakesAtMost};
 ghost use Rattle.run_command.specs.Files.{agents_limit, script_limit, Builds};
 ghost use Rattle.run_command.specs.Inputs.{Input, taken_from};
@@ -38,7 +38,7 @@ use task_host::Host;
 /// | 8 | want of memory | `controller: out of memory` |
 ///
 /// The disk is called only where script and agents file are without a fault. Each of their sources is asked for at most one byte
-/// more than its file may have. `threads` says how many members work at once; with 1 they work one after the other, in their order. It
+/// more than its file may have. There are at most 126 hosts. `threads` says how many members work at once; with 1 they work one after the other, in their order. It
 /// may wait for ever, as the answers and the tasks may.
 pub fn run<
     D: Disk + Send,
@@ -58,6 +58,7 @@ pub fn run<
     answers: A,
     out: &mut K,
 ) -> Ended<D, H, A>
+    requires few { length hosts.items ≤ 126 }
     ensures runs { Runs D.Disk R.stance H.Host A.Source disk result.disk hosts.items result.hosts.items answers result.answers result.history.items
         Log (K.written out.old) (K.written out.new) (K.faults out.old) (K.faults out.new) (taken_from S.Source script.old script.new) (taken_from S.Source agents.old agents.new) result.status }
     ensures most_script { TakesAtMost (script_limit + 1) (S.left script.old) (S.left script.new) }
@@ -86,6 +87,7 @@ pub(crate) fn build_planned<
     answers: A,
     out: &mut K,
 ) -> Ended<D, H, A>
+    requires few { length hosts.items ≤ 126 }
     requires builds { IfOk plan (λ plan. Builds plan.script plan.agents plan.tree plan.site) }
     ensures { (script agents : Input) → Plans script agents plan
         → Runs D.Disk R.stance H.Host A.Source disk result.disk hosts.items result.hosts.items answers result.answers result.history.items
@@ -124,6 +126,7 @@ fn begin<
     answers: A,
     out: &mut K,
 ) -> Ended<D, H, A>
+    requires few { length hosts.items ≤ 126 }
     requires builds { Builds plan.script plan.agents plan.tree plan.site }
     ensures { Begins D.Disk R.stance H.Host A.Source disk result.disk hosts.items result.hosts.items answers result.answers result.history.items
         kind (K.written out.old) (K.written out.new) (K.faults out.old) (K.faults out.new) plan.script plan.agents plan.tree plan.site result.status }

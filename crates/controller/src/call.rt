@@ -1,5 +1,5 @@
 //! The call that the program makes.
-ghost use Rattle.std.specs.Prelude.{◌≡◌, length, map, string_bytes};
+ghost use Rattle.std.specs.Prelude.{◌≡◌, ◌≤◌, length, map, string_bytes};
 ghost use Rattle.build_commands.specs.Lower.run_command.Inputs.{taken_from};
 ghost use Rattle.build_commands.specs.Writing as writing;
 ghost use Rattle.controller.specs.Call.{call_of, devices, usage_text};
@@ -103,6 +103,7 @@ fn do_command<
     answers: A,
     out: &mut K,
 ) -> Ended<D, H, A>
+    requires few { length hosts.items ≤ 126 }
     ensures does { Does
         (devices D.Disk H.Host A.Source) R.stance
         (call_of (map string_bytes words.now) (taken_from S.Source script.old script.new) (taken_from S.Source agents.old agents.new)

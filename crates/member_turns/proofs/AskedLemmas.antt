@@ -1,5 +1,5 @@
 -- The calls of a turn, and where in the history they were answered.
-use Rattle.std.proofs.Common.{◌≡◌, ◌∙◌, ℕ, true, List, [], ◌∷◌, ◌++◌, sym, ap, subst, append_assoc}
+use Rattle.std.proofs.Common.{◌≡◌, ◌∙◌, ℕ, true, List, [], ◌∷◌, ◌++◌, ap, subst, append_assoc}
 use Rattle.program_lock.specs.History.{has, entries, numbered, entries_of}
 use Rattle.program_lock.proofs.HistoryLemmas.{entries-append, entries-numbered, under-none, under-numbered}
 use Rattle.agent_worker.specs.declared.gate.GateCall.{GateCall}
@@ -51,9 +51,6 @@ module _ (says : List Entry → Ask → Reply → List Entry → Type 0) where
     a.5,
     a.6,
     asked_later (front ++ (a.0 ++ a.1)) calls a.2 a.3 more a.7,
-  )
-
-  -- from an earlier beginning on
   )
 
   pub all_later : {H A : Type 0} (front rest more : List Entry) (turns : List (Turn H A)) → AllAsked says front rest turns → AllAsked says front (rest ++ more) turns

@@ -1,10 +1,8 @@
 -- Where the events of a life come from.
-use Rattle.std.proofs.Common.{◌≡◌, ◌⊎◌, ⊎_elim, inl, inr, ℕ, ℤ, Bool, true, false, List, [], ◌∷◌, ◌++◌, Option, Some, None, Result, Ok, Err, refl, ap, subst}
+use Rattle.std.proofs.Common.{◌≡◌, ◌⊎◌, ⊎_elim, inl, inr, ℕ, Bool, true, false, List, [], ◌∷◌, ◌++◌, Option, Some, None, Result, Ok, Err, refl, ap, subst}
 use Rattle.std.specs.List.{AllByRecursion as AllAre}
 use Rattle.std.specs.Prelude.{if◌then◌else◌}
 use Rattle.model_run.specs.declared.event.Event.{Event}
-use Rattle.task_host.specs.declared.call.Call.{Call}
-use Rattle.task_host.specs.declared.order.Stream.{Stream}
 use Rattle.journal_core.specs.declared.faults.TakeFault.{TakeFault}
 use Rattle.journal_core.specs.declared.faults.TakeFault.TheVariants.{Memory, Disk, Full, Stopped}
 use Rattle.agent_worker.specs.declared.gate.Heard.{Heard}

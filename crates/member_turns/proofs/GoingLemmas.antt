@@ -1,24 +1,17 @@
 -- How a pass goes on.
-use Rattle.std.proofs.Common.{◌≡◌, ◌∙◌, ◌+◌, ◌≤◌, ℕ, suc, Bool, true, false, List, [], ◌∷◌, ◌++◌, length, Some, refl, sym, ap, subst, append_assoc, append-nil, length-append, arith}
+use Rattle.std.proofs.Common.{◌≡◌, ◌∙◌, ◌+◌, ◌≤◌, ℕ, suc, Bool, true, false, List, [], ◌∷◌, ◌++◌, length, refl, sym, ap, subst, append_assoc, append-nil, length-append, arith}
 use Rattle.std.proofs.Math.Logic.{∥∥₁_elim, ∥∥₁_map, ∥∥₁_prop}
 use Rattle.program_lock.specs.declared.view.Known.{Known}
 use Rattle.program_lock.specs.History.{has, entries, keep_if, under, NoneUnder}
 use Rattle.program_lock.specs.Legal.{Answers}
 use Rattle.program_lock.proofs.HistoryLemmas.{entries-append, under-append}
-use Rattle.settle_laws.specs.Stances.{Stance}
-use Rattle.member_turns.specs.Lower.build_core.Builds.{Parts}
-use Rattle.agent_worker.specs.Gate.{GateTells}
-use Rattle.agent_worker.specs.declared.gate.GateCall.{GateCall}
 use Rattle.member_turns.specs.Lower.site_state.declared.ask.Ask.{Ask}
 use Rattle.member_turns.specs.Lower.site_state.declared.ask.Entry.{Entry}
 use Rattle.member_turns.specs.Lower.site_state.declared.ask.Reply.{Reply}
-use Rattle.member_turns.specs.Saying.{AreAnswered}
-use Rattle.member_turns.specs.Served.{TakesTurn}
-use Rattle.member_turns.proofs.CallLemmas.{site_says}
-use Rattle.member_turns.proofs.TrailLemmas.{same_front, under-first}
+use Rattle.member_turns.proofs.TrailLemmas.{same_front}
 use Rattle.member_turns.specs.Coming.{Came, EachIs, EachUnder}
 use Rattle.member_turns.specs.Passing.{IsWhole, CameUnder, GoesOn}
-use Rattle.member_turns.proofs.ComeLemmas.{calls_came, each_append, each_none, each_first, each_second}
+use Rattle.member_turns.proofs.ComeLemmas.{each_append, each_none}
 
 -- two that may be followed one by the other
 pub both_ways : {X Y Z : Type 0} → ∥ (X → Y) ∥₁ → ∥ (Y → Z) ∥₁ → ∥ (X → Z) ∥₁
@@ -89,8 +82,4 @@ module _ {B : Type 0} (answers : Answers B Entry Ask Reply) where
         let P = Came (answers base) in
         subst (λ (ns : List ℕ). EachUnder P ns [] w.seen) (sym numbers)
         (subst (EachUnder P v.numbers []) begins (each_append P v.numbers [] v.seen more (c base (sym same ∙ is)) (each_none P v.numbers v.seen more none)))) ∣₁;
-  }
-
--- a pass over a turn, or that took in one that was split off
-module _ {B T : Type 0} (stance : T → Stance) (opening : B → Parts T) where
   }

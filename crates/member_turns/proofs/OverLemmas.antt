@@ -1,11 +1,9 @@
 -- A life is one over all replies that its own ones imply.
-use Rattle.std.proofs.Common.{◌≡◌, inl, inr, ℕ, ℤ, List, [], ◌∷◌, ◌++◌, Option, Some, None, Result, Ok, Err, refl}
+use Rattle.std.proofs.Common.{inl, inr, ℕ, List, [], ◌∷◌, ◌++◌, Option, Some, None, Result, Ok, Err, refl}
 use Rattle.std.proofs.Math.Logic.{∥∥₁_map}
 use Rattle.std.specs.List.{AllByRecursion as AllAre}
 use Rattle.program_lock.specs.declared.program.Memory.{Memory}
 use Rattle.program_lock.specs.Legal.{Answers, IsRun}
-use Rattle.task_host.specs.declared.call.Call.{Call}
-use Rattle.task_host.specs.declared.order.Stream.{Stream}
 use Rattle.journal_core.specs.declared.faults.TakeFault.{TakeFault}
 use Rattle.agent_worker.specs.declared.gate.GateCall.{GateCall}
 use Rattle.agent_worker.specs.declared.gate.GateCall.TheVariants.{Claim, Report, Inputs, Answer, Halt}

@@ -1,12 +1,10 @@
 -- A member's work through a pass of its own, by what its gate told.
-use Rattle.std.proofs.Common.{◌≡◌, ◌∙◌, ℕ, ℤ, false, List, [], Option, Some, refl, sym, ap, subst}
+use Rattle.std.proofs.Common.{◌≡◌, ◌∙◌, ℕ, false, List, [], Option, Some, refl, sym, ap, subst}
 use Rattle.program_lock.specs.declared.program.PassOf.{PassOf}
 use Rattle.program_lock.specs.declared.view.Known.{Known}
 use Rattle.program_lock.specs.Legal.{Answers}
 use Rattle.program_lock.specs.Passes.{known, own_entries}
 use Rattle.program_lock.specs.History.{entries_of}
-use Rattle.task_host.specs.declared.call.Call.{Call}
-use Rattle.task_host.specs.declared.order.Stream.{Stream}
 use Rattle.agent_worker.specs.declared.gate.Said.TheVariants.{Nothing}
 use Rattle.agent_worker.specs.declared.member.Member.{Member}
 use Rattle.agent_worker.specs.declared.worked.Worked.{Worked}

@@ -8,7 +8,6 @@ use Rattle.task_host.specs.declared.answers.Made.TheVariants as made
 use Rattle.task_host.specs.declared.call.Call.{Call}
 use Rattle.task_host.specs.declared.call.Call.TheVariants as call
 use Rattle.task_host.specs.declared.order.Order.{Order}
-use Rattle.task_host.specs.declared.order.Stream.{Stream}
 use Rattle.journal_core.specs.declared.faults.TakeFault.{TakeFault}
 use Rattle.agent_worker.specs.declared.gate.Claim.{Claim}
 use Rattle.agent_worker.specs.declared.gate.Claim.TheVariants as claim

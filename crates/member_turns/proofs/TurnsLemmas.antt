@@ -1,17 +1,11 @@
 -- A turn of a member, put together from its calls on the lock.
-use Rattle.std.proofs.Common.{◌≡◌, ◌<◌, arith, ℕ, ℤ, Bool, false, List, [], ◌∷◌, ◌++◌, length, Option, Some, refl, sym, ap, ◌∙◌, subst, append_assoc}
-use Rattle.std.proofs.Math.Logic.{∥∥₁_map}
+use Rattle.std.proofs.Common.{◌≡◌, ◌<◌, arith, ℕ, ℤ, Bool, false, List, [], ◌++◌, length, Option, Some, sym, ap, ◌∙◌, subst, append_assoc}
 use Rattle.program_lock.specs.declared.view.Known.{Known}
-use Rattle.program_lock.specs.History.{entries, entries_of, under, NoneUnder}
+use Rattle.program_lock.specs.History.{entries_of, NoneUnder}
 use Rattle.program_lock.specs.Calls.{Splits, Joins}
-use Rattle.program_lock.proofs.EntryLemmas.{entries_of-split_off, entries_of-join_theirs}
-use Rattle.program_lock.proofs.HistoryLemmas.{none_append, none_behind, under-none}
-use Rattle.program_lock.proofs.NumberLemmas.{among_itself}
 use Rattle.program_lock.proofs.PartLemmas.{parts-split, parts-join}
 use Rattle.program_lock.specs.Views.{all_parts}
 use Rattle.program_lock.specs.Legal.{Answers}
-use Rattle.task_host.specs.declared.call.Call.{Call}
-use Rattle.task_host.specs.declared.order.Stream.{Stream}
 use Rattle.agent_worker.specs.declared.gate.GateCall.{GateCall}
 use Rattle.agent_worker.specs.declared.gate.Said.{Said}
 use Rattle.agent_worker.specs.declared.gate.Said.TheVariants.{Nothing}
@@ -26,8 +20,8 @@ use Rattle.site_state.specs.declared.ask.Entry.{Entry}
 use Rattle.site_state.specs.declared.ask.Reply.{Reply}
 use Rattle.member_turns.specs.Saying.{AreAnswered, WereAnswered}
 use Rattle.member_turns.specs.Tales.{tells_of}
-use Rattle.member_turns.specs.Served.{WorksThrough, TakesTurn, Executed}
-use Rattle.member_turns.proofs.TrailLemmas.{none_of, none_first, under-first, under-second, entries_of-append, same_front, answered_later, answered_sooner}
+use Rattle.member_turns.specs.Served.{WorksThrough, Executed}
+use Rattle.member_turns.proofs.TrailLemmas.{same_front, answered_later}
 use Rattle.member_turns.proofs.TurnLaws.{executor_turn}
 use Rattle.task_host.specs.View.{HostView}
 use Rattle.jp_io.specs.View.{SourceView}

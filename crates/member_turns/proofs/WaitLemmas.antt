@@ -1,5 +1,5 @@
 -- Answer lines are heard only where an input was open since the line before.
-use Rattle.std.proofs.Common.{◌≡◌, ◌⊎◌, ◌∙◌, ⊎_elim, inl, inr, ◌+◌, ◌≤◌, ◌<◌, ◌||◌, ℕ, ℤ, suc, Bool, true, false, nat_lt, List, [], ◌∷◌, ◌++◌, length, map, Option, Result, Ok, Err, refl, sym, ap, subst, append_assoc, append-nil, length-append, arith}
+use Rattle.std.proofs.Common.{◌≡◌, ◌⊎◌, ◌∙◌, ⊎_elim, inl, inr, ◌+◌, ◌≤◌, ◌<◌, ◌||◌, ℕ, suc, Bool, true, false, nat_lt, List, [], ◌∷◌, ◌++◌, length, map, Result, Ok, Err, refl, sym, ap, subst, append_assoc, append-nil, length-append, arith}
 use Rattle.std.proofs.lemmas.Bool.Decides.{nat_tests}
 use Rattle.std.specs.List.{AllByRecursion as AllAre}
 use Rattle.program_lock.specs.declared.program.Memory.{Memory}
@@ -7,8 +7,6 @@ use Rattle.program_lock.specs.Merge.{IsMergeOf}
 use Rattle.program_lock.proofs.NumberLemmas.{or_right, or_true}
 use Rattle.settle_laws.specs.Stances.{Stance}
 use Rattle.member_turns.specs.Lower.build_core.Builds.{Parts}
-use Rattle.task_host.specs.declared.call.Call.{Call}
-use Rattle.task_host.specs.declared.order.Stream.{Stream}
 use Rattle.journal_core.specs.declared.faults.TakeFault.{TakeFault}
 use Rattle.agent_worker.specs.declared.gate.GateCall.{GateCall}
 use Rattle.agent_worker.specs.declared.gate.GateCall.TheVariants as gate_call

@@ -1,5 +1,5 @@
 -- What a member's own way through a life adds to the launches of its host: tasks that were claimed in that life.
-use Rattle.std.proofs.Common.{◌≡◌, ◌∙◌, ⊎_elim, inl, inr, ℕ, Bool, List, [], ◌∷◌, ◌++◌, refl, sym, ap, subst, append_assoc, append-nil}
+use Rattle.std.proofs.Common.{◌≡◌, ◌∙◌, ⊎_elim, inl, inr, ℕ, List, [], ◌∷◌, ◌++◌, refl, sym, ap, subst, append_assoc, append-nil}
 use Rattle.std.specs.List.{AllZip, AllByRecursion as AllAre}
 use Rattle.program_lock.specs.Merge.{IsMergeOf}
 use Rattle.agent_worker.specs.declared.member.Member.{Member}

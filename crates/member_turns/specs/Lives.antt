@@ -1,10 +1,8 @@
 -- What a life with members is: from the opening of the lock to its closing (this product's own).
-use Rattle.std.specs.Prelude.{◌≡◌, ◌≤◌, ℕ, ℤ, true, false, is_some, nat_eq, List, [], ◌++◌, Option, Result, Ok, Err}
+use Rattle.std.specs.Prelude.{◌≡◌, ◌≤◌, ℕ, true, false, is_some, nat_eq, List, [], ◌++◌, Result, Ok, Err}
 use Rattle.std.specs.List.{IsDistinct, AllZip, AllByRecursion as AllAre}
 use Rattle.program_lock.specs.declared.program.Memory.{Memory}
 use Rattle.program_lock.specs.Legal.{Answers, IsLegal}
-use Rattle.task_host.specs.declared.call.Call.{Call}
-use Rattle.task_host.specs.declared.order.Stream.{Stream}
 use Rattle.agent_worker.specs.declared.member.Member.{Member}
 use Rattle.agent_worker.specs.declared.worked.Worked.TheVariants as worked
 use Rattle.agent_worker.specs.Gate.{Told}

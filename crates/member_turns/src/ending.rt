@@ -1,6 +1,6 @@
 //! Whether there is another round.
 ghost use Rattle.std.specs.Prelude.{◌≡◌};
-ghost use Rattle.member_turns.specs.Ending.{can_read, can_answer, goes_by};
+ghost use Rattle.member_turns.specs.Ending.{can_read, goes_by};
 
 use crate::site_state::Progress;
 use agent_worker::Member;

@@ -8,12 +8,13 @@ ghost use Rattle.member_turns.specs.Passing.{TakesRounds};
 ghost use Rattle.member_turns.specs.Turns.{DidTurn};
 ghost use Rattle.member_turns.specs.Ready.{AreReady};
 
+use crate::ending::goes_on;
+use crate::looking::{look, pause};
 use crate::round::take_round_in_threads;
 use crate::saved_thread::SavedThread;
 use crate::seat::Seat;
 use crate::seating::{can_answer, seated, unseat};
 use crate::site_state::{Progress, SiteState};
-use crate::{goes_on, look, pause};
 use agent_worker::Member;
 use jp_disk::Disk;
 use jp_io::Source;
@@ -134,18 +135,19 @@ fn live_in<
     }
 }
 
-/// The life of a build with these members, who work in threads: what [`live`] is, with as many members of a round at work at once as
-/// `threads` says, each in a thread of its own as far as threads can be made. Nothing else is different, and its contract is the same.
+/// The life of a build with these members, at most 127: opens the program lock over the state, gives the members one round of turns
+/// after the other, asks behind each round how far the build has come, and closes the lock when nobody can go on.
 ///
-/// With 1 thread, or none, the members have their turns one after the other, in their order; so have more than 127 members (no
-/// clause speaks of the threads, nor of this order). The members stay in their order.
+/// As many members of a round work at once as `threads` says, each in a thread of its own as far as threads can be made. With 1
+/// thread, or none, the members have their turns one after the other, in their order (no clause speaks of the threads, nor of this
+/// order). The members stay in their order.
 ///
 /// `looks`, at least 1, is as for [`agent_worker::work`]. It may wait for ever.
 ///
 /// # Errors
 ///
 /// `Memory` comes only for want of memory: with the state alone, before anything was done; or beside it, before a round, in which
-/// then no member has had a turn, which no clause says (of more than 127 members, as [`live`] says).
+/// then no member has had a turn, which no clause says.
 pub fn live_in_threads<
     T: Threads + Wait + Sync + Clock + AllocGlobal,
     D: Disk + Send,

@@ -1,27 +1,19 @@
-//! A life of members.
-ghost use Rattle.std.specs.Prelude.{◌≡◌, ◌<◌, [], IfOk, IfErr, Some};
+//! The look behind a round, and the pause before the next one.
+ghost use Rattle.std.specs.Prelude.{◌≡◌};
 ghost use Rattle.program_lock.specs.Calls.{Steps};
 ghost use Rattle.program_lock.specs.Passes.{known, IsPassOf};
-ghost use Rattle.program_lock.specs.Views.{all_parts};
 ghost use Rattle.member_turns.specs.Lower.site_state.Says.{Says};
 ghost use Rattle.member_turns.specs.Lower.site_state.declared.ask.Ask.TheVariants as asks;
 ghost use Rattle.member_turns.specs.Lower.site_state.declared.ask.Reply.TheVariants as says;
-ghost use Rattle.member_turns.specs.Lives.{Life};
-ghost use Rattle.member_turns.specs.Passing.{IsProgress, TakesRounds};
-ghost use Rattle.member_turns.specs.Turns.{DidTurn};
+ghost use Rattle.member_turns.specs.Passing.{IsProgress};
 
-use crate::ending::{can_answer, goes_on};
 use crate::saved_thread::SavedThread;
 use crate::site_state::{Ask, Progress, Reply, SiteState};
-use agent_worker::Member;
 use jp_disk::Disk;
-use jp_io::Source;
-use program_lock::{Memory, Pass, Program};
-use std::alloc::{AllocGlobal, Global};
+use program_lock::{Pass, Program};
 use std::sync::Wait;
 use std::thread;
 use std::time::{Clock, Duration};
-use task_host::Host;
 
 /// How many milliseconds pass before a round where the one before it left the build where it was.
 const PAUSE: u64 = 20;

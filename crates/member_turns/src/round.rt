@@ -119,8 +119,8 @@ fn work_all<
 /// threads can be made; with 1, or none, and where no thread can be made, they have their turns one after the other, in their order
 /// (no clause speaks of the threads, nor of this order).
 ///
-/// Each member has a pass of its own, which is split off before and taken in behind. `TakesRound` says what each turn was, as
-/// `take_round` of `member_turns` does, and which entries of them the pass has. It has all parts of the right to close before and behind it.
+/// Each member has a pass of its own, which is split off before and taken in behind. `TakesRound` says what each turn was,
+/// and which entries of them the pass has. It has all parts of the right to close before and behind it.
 ///
 /// # Errors
 ///

@@ -1,9 +1,9 @@
 //! Members at their seats, and taken from them.
-ghost use Rattle.std.specs.Prelude.{◌≡◌, ◌≤◌, ◌<◌, [], map, length, IfOk, IfErr, vec_len, vec_capacity};
+ghost use Rattle.std.specs.Prelude.{◌≡◌, ◌≤◌, ◌<◌, [], map, length, IfOk, IfErr, vec_capacity};
 ghost use Rattle.member_turns.specs.Ending.{can_answer};
 ghost use Rattle.member_turns.specs.Ready.{AreReady};
 
-use crate::can_read;
+use crate::ending::can_read;
 use crate::saved_thread::SavedThread;
 use crate::seat::Seat;
 use crate::site_state::SiteState;

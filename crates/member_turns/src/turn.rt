@@ -1,18 +1,17 @@
 //! A turn of one member.
-ghost use Rattle.std.specs.Prelude.{◌≡◌, ◌<◌, length, IfOk, IfErr};
+ghost use Rattle.std.specs.Prelude.{◌≡◌, ◌<◌, length};
 ghost use Rattle.site_state.specs.Says.{Says};
 ghost use Rattle.program_lock.specs.Passes.{known, IsPassOf};
-ghost use Rattle.program_lock.specs.Views.{all_parts};
 ghost use Rattle.agent_worker.specs.MemberWork.{WorksAs};
 ghost use Rattle.agent_worker.specs.Working.{telling};
-ghost use Rattle.member_turns.specs.Served.{WorksThrough, TakesTurn, Executed};
+ghost use Rattle.member_turns.specs.Served.{WorksThrough};
 
 use crate::gate::SiteGate;
 use crate::place::Place;
 use agent_worker::{Member, Worked, work};
 use jp_disk::Disk;
 use jp_io::Source;
-use program_lock::{Memory, Pass, Program};
+use program_lock::{Pass, Program};
 use site_state::SiteState;
 use site_state::saved_thread::SavedThread;
 use std::alloc::{AllocGlobal, Global};

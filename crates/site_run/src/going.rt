@@ -1,5 +1,5 @@
 //! A life with hosts.
-ghost use Rattle.std.specs.Prelude.{◌≡◌, ◌<◌, ℕ, Option, List, [], false, true, Result, Ok, Err, IfOk, IfErr, MatchResult, length};
+ghost use Rattle.std.specs.Prelude.{◌≡◌, ◌<◌, ◌≤◌, ℕ, Option, List, [], false, true, Result, Ok, Err, IfOk, IfErr, MatchResult, length};
 ghost use Rattle.device_faults.specs.Faults.{CountsFault};
 ghost use Rattle.build_store.specs.Lower.build_core.Phases.{has_begun};
 ghost use Rattle.model_run.specs.declared.event.Event.{Event as AnEvent};
@@ -53,7 +53,7 @@ pub struct Lived<D: Disk, R: SavedThread + Drop> {
 /// (`AnswersFailed`).
 ///
 /// An open input can be answered by an operator among the members alone; without one a life rests though an input is open.
-/// `looks`, at least 1, is as for [`agent_worker::work`]. It may wait for ever.
+/// There are at most 127 members. `looks`, at least 1, is as for [`agent_worker::work`]. It may wait for ever.
 ///
 /// # Errors
 ///
@@ -77,6 +77,7 @@ pub fn go_on<
     looks: u32,
 ) -> Result<Lived<D, R>, (TakeFault, D)>
     requires looks { 0 < looks }
+    requires few { length members.old.items ≤ 127 }
     requires running { durable.stopped ≡ false }
     requires begun { has_begun durable.build.phase ≡ true }
     ensures lives { IfOk result (λ l. LivesOn D.Disk R.stance
@@ -122,6 +123,7 @@ fn live_on<
     looks: u32,
 ) -> Lived<D, R>
     requires looks { 0 < looks }
+    requires few { length members.old.items ≤ 127 }
     requires fresh { site.history.items ≡ [] }
     ensures lives { (how : Result Come NoMemory) × Life H.Host A.Source looks
         (λ base history ask reply new. Says R.stance base.value.build history ask reply new) site.base result.site.base members.old.items members.new.items result.site.history.items how
