@@ -1,11 +1,9 @@
 -- A call of the controller, as its contract sees it: what came in, and what it left. This product's own.
-use Rattle.std.specs.Prelude.{◌≡◌, ◌⊎◌, ◌<◌, ℕ, ℤ, false, max, List, Option, Some, None, codes}
+use Rattle.std.specs.Prelude.{◌≡◌, ◌⊎◌, ◌<◌, ℕ, false, max, List, Option, Some, None, codes}
 use Rattle.std.specs.Io.KnownBytes.{IsAtEnd}
 use Rattle.build_requests.specs.Waiting.{open_tasks, waiting_inputs}
 use Rattle.command_words.specs.declared.command.Command.{Command}
 use Rattle.command_words.specs.Words.{Gives}
-use Rattle.task_host.specs.declared.call.Call.{Call as HostCall}
-use Rattle.task_host.specs.declared.order.Stream.{Stream}
 use Rattle.model_run.specs.declared.event.Event.{Event}
 use Rattle.model_run.specs.State.{Setting}
 use Rattle.model_run.specs.World.{next_grant, world_in}
@@ -22,24 +20,11 @@ use Rattle.jp_disk.specs.View.{DiskView}
 use Rattle.task_host.specs.View.{HostView}
 use Rattle.jp_io.specs.View.{SourceView}
 
--- What devices tell of themselves: a disk (what a read of it gives, what a crash may leave, its clock, what a crash may have left since a moment, its count of
--- faults), the host of an executor (whether it is honest, its count of faults, its calls, launches and folders, the output and the code of a task), and the
--- source of the answers (the bytes that it has left, its count of faults).
+-- What devices tell of each of their states: the disk of the store, the host of an executor, and the source of the answers.
 pub record Devices (D H A : Type 0) : Type 1 where
-  pub reads : D → Option (List ℕ)
-  pub may_leave : D → List ℕ → Type 0
-  pub clock : D → ℕ
-  pub since : D → ℕ → List ℕ → Type 0
-  pub faults : D → ℕ
-  pub honest : H → Type 0
-  pub host_faults : H → ℕ
-  pub calls : H → Option (List HostCall)
-  pub launches : H → List ℕ
-  pub dirs : H → List ℕ
-  pub output : H → ℕ → Stream → List ℕ
-  pub exited : H → ℕ → Option ℤ
-  pub left : A → Option (List ℕ)
-  pub source_faults : A → ℕ
+  pub disk : DiskView D
+  pub host : HostView H
+  pub source : SourceView A
 
 -- The words of the command line, what was taken from the sources of the two files; disk, hosts and answers at the beginning and at the end, of which host i is
 -- that of executor i; the history of the life that the call led; the bytes of the sink where it tells them with its count of faults; and the exit status.
@@ -62,22 +47,7 @@ pub record Call (D H A : Type 0) : Type 0 where
 
 module _ {D H A : Type 0} where
   abbrev pub devices : DiskView D → HostView H → SourceView A → Devices D H A
-  devices disk host source = record {
-    reads = disk.reads;
-    may_leave = disk.may_leave;
-    clock = disk.clock;
-    since = disk.may_have_left_since;
-    faults = disk.faults;
-    honest = host.honest;
-    host_faults = host.faults;
-    calls = host.calls;
-    launches = host.launches;
-    dirs = host.dirs;
-    output = host.output;
-    exited = host.exited;
-    left = source.left;
-    source_faults = source.faults;
-  }
+  devices disk host source = record { disk = disk; host = host; source = source }
 
   abbrev pub call_of : List (List ℕ) → Input → Input → D → D → List H → List H → A → A → List Entry → Option (List ℕ) → Option (List ℕ) → ℕ → ℕ → ℕ → Call D H A
   call_of words script agents disk now hosts hosts_now answers answers_now history old new before after status = record {
