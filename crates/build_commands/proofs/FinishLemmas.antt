@@ -25,8 +25,8 @@ use Rattle.site_run.specs.declared.resting.Rest.TheVariants.{Ended, Waits, Answe
 use Rattle.site_run.specs.Lower.build_store.Lives.{image_after, IsFull as IsFullOf, IsNext, Lasts, TellsFault}
 use Rattle.site_run.specs.Lower.build_store.Saved.{Stores, Survives}
 use Rattle.site_run.proofs.Lower.build_store.LifeLemmas.{saved_image}
-use Rattle.site_run.specs.Lower.site_state.declared.ask.Entry.{Entry}
-use Rattle.site_run.specs.Lower.site_state.Histories.{lines}
+use Rattle.site_run.specs.Lower.locked_build.declared.ask.Entry.{Entry}
+use Rattle.site_run.specs.Lower.locked_build.Histories.{lines}
 use Rattle.site_run.specs.Lower.member_turns.Lives.{LifeOf, any_reply}
 use Rattle.site_run.specs.Lower.member_turns.Turns.{Turn}
 use Rattle.site_run.specs.Ending.{RestsWith}

@@ -29,13 +29,13 @@ use Rattle.site_run.specs.Lower.durable_build.Standing.{Closing, IsWhole, Keeps,
 use Rattle.site_run.specs.declared.resting.Rest.{Rest}
 use Rattle.site_run.specs.declared.resting.Rest.TheVariants.{Ended, Waits, AnswersFailed}
 use Rattle.run_command.specs.Statuses.{HasLog, result_status}
-use Rattle.site_run.specs.Lower.site_state.declared.ask.Entry.{Entry}
-use Rattle.site_run.specs.Lower.site_state.declared.ask.Entry.TheVariants.{Took, Claimed, Line, Failed}
-use Rattle.site_run.specs.Lower.site_state.declared.ask.Progress.{Progress}
-use Rattle.site_run.specs.Lower.site_state.Facts.{Facts, Grown, HasFront, IsFull, IsFullAt}
-use Rattle.site_run.specs.Lower.site_state.Grants.{Grants, OpenRefuses, granted, none_due, not_found, refused}
-use Rattle.site_run.specs.Lower.site_state.Histories.{kept_fault, pending, tooks}
-use Rattle.site_run.proofs.Lower.site_state.HistoryLaws.{kept_fault-append, no_fault, pending-append, tooks-append}
+use Rattle.site_run.specs.Lower.locked_build.declared.ask.Entry.{Entry}
+use Rattle.site_run.specs.Lower.locked_build.declared.ask.Entry.TheVariants.{Took, Claimed, Line, Failed}
+use Rattle.site_run.specs.Lower.locked_build.declared.ask.Progress.{Progress}
+use Rattle.site_run.specs.Lower.locked_build.Facts.{Facts, Grown, HasFront, IsFull, IsFullAt}
+use Rattle.site_run.specs.Lower.locked_build.Grants.{Grants, OpenRefuses, granted, none_due, not_found, refused}
+use Rattle.site_run.specs.Lower.locked_build.Histories.{kept_fault, pending, tooks}
+use Rattle.site_run.proofs.Lower.locked_build.HistoryLaws.{kept_fault-append, no_fault, pending-append, tooks-append}
 use Rattle.site_run.specs.Lower.member_turns.Tales.{asked_for, is_grant, told_of}
 use Rattle.site_run.proofs.Lower.member_turns.TaleLemmas.{grants_silent}
 use Rattle.site_run.specs.Ending.{ended_as}

@@ -22,7 +22,7 @@ use Rattle.site_run.specs.declared.resting.Rest.{Rest}
 use Rattle.site_run.specs.Lower.durable_build.Settings.{IsProper}
 use Rattle.settle_laws.specs.Stances.{Stance}
 use Rattle.launch_laws.proofs.LifeLaws.{all_fit_more}
-use Rattle.site_run.specs.Lower.site_state.declared.ask.Entry.{Entry}
+use Rattle.site_run.specs.Lower.locked_build.declared.ask.Entry.{Entry}
 use Rattle.site_run.specs.Lower.member_turns.Turns.{Turn}
 use Rattle.site_run.specs.Lower.member_turns.Waiting.{operators}
 use Rattle.site_run.specs.Ending.{AllReadOut, any_failed}

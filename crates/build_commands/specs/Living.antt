@@ -14,8 +14,8 @@ use Rattle.model_run.specs.World.{answer_to, world_in}
 use Rattle.launch_laws.specs.Fitting as fitting
 use Rattle.launch_laws.specs.Fitting.{ExecutorHost}
 use Rattle.site_run.specs.declared.resting.Rest.TheVariants.{AnswersFailed, Waits}
-use Rattle.site_run.specs.Lower.site_state.declared.ask.Entry.{Entry}
-use Rattle.site_run.specs.Lower.site_state.Histories.{lines, tooks}
+use Rattle.site_run.specs.Lower.locked_build.declared.ask.Entry.{Entry}
+use Rattle.site_run.specs.Lower.locked_build.Histories.{lines, tooks}
 use Rattle.site_run.specs.Lower.member_turns.Tales.{is_grant}
 use Rattle.site_run.specs.Lower.member_turns.Lives.{LifeOf, any_reply}
 use Rattle.site_run.specs.Lower.member_turns.Turns.{Explains, HoldsOfOne, Turn}

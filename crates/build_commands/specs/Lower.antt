@@ -6,5 +6,5 @@ pub use Rattle.site_run.specs.Lower.durable_build
 pub use Rattle.site_run.specs.Lower.record_form
 pub use Rattle.site_run.specs.Lower.build_store
 pub use Rattle.site_run.specs.Lower.member_turns
-pub use Rattle.site_run.specs.Lower.site_state
+pub use Rattle.site_run.specs.Lower.locked_build
 pub use Rattle.site_run.specs.Lower.store_laws

@@ -15,10 +15,10 @@ use Rattle.site_run.specs.Lower.delta_records.declared.weights.Weights.{Weights}
 use Rattle.site_run.specs.Lower.durable_build.Kinds.{weights_of}
 use Rattle.site_run.specs.Lower.durable_build.Standing.{Closing, IsWhole, Opening}
 use Rattle.site_run.specs.Lower.durable_build.Taking.{DueAdds}
-use Rattle.site_run.specs.Lower.site_state.declared.ask.Entry.{Entry}
-use Rattle.site_run.specs.Lower.site_state.declared.ask.Entry.TheVariants.{Failed}
-use Rattle.site_run.specs.Lower.site_state.Facts.{HasFront}
-use Rattle.site_run.specs.Lower.site_state.Histories.{pending, tooks}
+use Rattle.site_run.specs.Lower.locked_build.declared.ask.Entry.{Entry}
+use Rattle.site_run.specs.Lower.locked_build.declared.ask.Entry.TheVariants.{Failed}
+use Rattle.site_run.specs.Lower.locked_build.Facts.{HasFront}
+use Rattle.site_run.specs.Lower.locked_build.Histories.{pending, tooks}
 use Rattle.site_run.specs.Lower.member_turns.Tales.{is_grant}
 use Rattle.run_command.specs.Statuses.{HasLog, status_of}
 use Rattle.run_command.specs.Texts.{read_failed_text}

@@ -32,7 +32,7 @@ use Rattle.build_commands.specs.Living.{HostsStay}
 use Rattle.build_commands.specs.Reporting.{IsBroken, KeepsRecords, LeavesStore, ShowsEnd, StartsBy, TellTaken}
 use Rattle.jp_disk.specs.Runs.{AtEachMoment}
 use Rattle.jp_disk.proofs.MomentLemmas.{at_each_weaker}
-use Rattle.build_commands.specs.Lower.site_state.Facts.{HasFront}
+use Rattle.build_commands.specs.Lower.locked_build.Facts.{HasFront}
 use Rattle.build_commands.specs.Resuming.{IsUntouched}
 use Rattle.build_commands.specs.Showing.{HasBuild, HasNone}
 use Rattle.build_commands.specs.Texts.{full_text}

@@ -11,7 +11,7 @@ use Rattle.model_run.specs.declared.taken.Taken.{Taken}
 use Rattle.model_run.specs.declared.taken.Taken.TheVariants.{Accepted}
 use Rattle.task_host.specs.declared.order.Order.{Order}
 use Rattle.settle_laws.specs.Stances.{Stance}
-use Rattle.site_state.specs.Lower.build_core.Builds.{Parts}
+use Rattle.locked_build.specs.Lower.build_core.Builds.{Parts}
 use Rattle.journal_core.specs.declared.faults.TakeFault.{TakeFault}
 use Rattle.journal_core.specs.declared.faults.TakeFault.TheVariants.{Memory, Disk, Full, Stopped}
 use Rattle.agent_worker.specs.declared.gate.Claim.{Claim}
@@ -20,15 +20,15 @@ use Rattle.agent_worker.specs.declared.gate.Heard.{Heard}
 use Rattle.agent_worker.specs.declared.gate.Heard.TheVariants.{Decided, Skipped}
 use Rattle.agent_worker.specs.declared.gate.Inputs.{Inputs}
 use Rattle.agent_worker.specs.Gate.{Told, told_at, told_as, is_told, added_if, Claimed as ClaimedTask, claimed_as, claimed_in, heard_of, AddsClaim, IsOf, IsToldOf, Decides as IsAnswer}
-use Rattle.site_state.specs.declared.ask.Ask.{Ask}
-use Rattle.site_state.specs.declared.ask.Ask.TheVariants as ask
-use Rattle.site_state.specs.declared.ask.Entry.{Entry}
-use Rattle.site_state.specs.declared.ask.Reply.{Reply}
-use Rattle.site_state.specs.declared.ask.Reply.TheVariants as reply
-use Rattle.site_state.specs.Histories.{kept_fault, lines}
-use Rattle.site_state.specs.Claims.{ClaimSays}
-use Rattle.site_state.specs.Hearing.{AnswerSays}
-use Rattle.site_state.specs.Says.{Says, SaysAt}
+use Rattle.locked_build.specs.declared.ask.Ask.{Ask}
+use Rattle.locked_build.specs.declared.ask.Ask.TheVariants as ask
+use Rattle.locked_build.specs.declared.ask.Entry.{Entry}
+use Rattle.locked_build.specs.declared.ask.Reply.{Reply}
+use Rattle.locked_build.specs.declared.ask.Reply.TheVariants as reply
+use Rattle.locked_build.specs.Histories.{kept_fault, lines}
+use Rattle.locked_build.specs.Claims.{ClaimSays}
+use Rattle.locked_build.specs.Hearing.{AnswerSays}
+use Rattle.locked_build.specs.Says.{Says, SaysAt}
 use Rattle.agent_worker.specs.declared.gate.GateCall.TheVariants as gate_call
 use Rattle.agent_worker.specs.declared.gate.GateCall.{GateCall}
 use Rattle.member_turns.specs.Asking.{WasCalled, IsTaken, IsClaimed, IsInputs, IsHeard}

@@ -3,9 +3,9 @@ use Rattle.std.proofs.Common.{◌≡◌, ◌∙◌, ℕ, true, List, [], ◌∷�
 use Rattle.program_lock.specs.History.{has, entries, numbered, entries_of}
 use Rattle.program_lock.proofs.HistoryLemmas.{entries-append, entries-numbered, under-none, under-numbered}
 use Rattle.agent_worker.specs.declared.gate.GateCall.{GateCall}
-use Rattle.member_turns.specs.Lower.site_state.declared.ask.Ask.{Ask}
-use Rattle.member_turns.specs.Lower.site_state.declared.ask.Entry.{Entry}
-use Rattle.member_turns.specs.Lower.site_state.declared.ask.Reply.{Reply}
+use Rattle.member_turns.specs.Lower.locked_build.declared.ask.Ask.{Ask}
+use Rattle.member_turns.specs.Lower.locked_build.declared.ask.Entry.{Entry}
+use Rattle.member_turns.specs.Lower.locked_build.declared.ask.Reply.{Reply}
 use Rattle.member_turns.specs.Saying.{AnswersCall, AreAnswered}
 use Rattle.member_turns.proofs.PartLemmas.{all_map}
 use Rattle.member_turns.proofs.TrailLemmas.{entries_of-append}

@@ -10,7 +10,7 @@ use Rattle.model_run.specs.declared.event.Event.{Event}
 use Rattle.model_run.specs.declared.taken.Taken.{Taken}
 use Rattle.model_run.specs.declared.taken.Taken.TheVariants.{NotOpen}
 use Rattle.settle_laws.specs.Stances.{Stance}
-use Rattle.site_state.specs.Lower.build_core.Builds.{Parts}
+use Rattle.locked_build.specs.Lower.build_core.Builds.{Parts}
 use Rattle.journal_core.specs.declared.faults.TakeFault.{TakeFault}
 use Rattle.journal_core.specs.declared.faults.TakeFault.TheVariants.{Memory}
 use Rattle.agent_worker.specs.declared.gate.Claim.{Claim}
@@ -18,12 +18,12 @@ use Rattle.agent_worker.specs.declared.gate.GateCall.{GateCall}
 use Rattle.agent_worker.specs.declared.gate.GateCall.TheVariants as gate_call
 use Rattle.agent_worker.specs.declared.gate.Heard.{Heard}
 use Rattle.agent_worker.specs.declared.gate.Inputs.{Inputs}
-use Rattle.site_state.specs.declared.ask.Ask.{Ask}
-use Rattle.site_state.specs.declared.ask.Ask.TheVariants as ask
-use Rattle.site_state.specs.declared.ask.Entry.{Entry}
-use Rattle.site_state.specs.declared.ask.Reply.{Reply}
-use Rattle.site_state.specs.declared.ask.Reply.TheVariants as reply
-use Rattle.site_state.specs.Says.{Says}
+use Rattle.locked_build.specs.declared.ask.Ask.{Ask}
+use Rattle.locked_build.specs.declared.ask.Ask.TheVariants as ask
+use Rattle.locked_build.specs.declared.ask.Entry.{Entry}
+use Rattle.locked_build.specs.declared.ask.Reply.{Reply}
+use Rattle.locked_build.specs.declared.ask.Reply.TheVariants as reply
+use Rattle.locked_build.specs.Says.{Says}
 use Rattle.member_turns.specs.Asking.{WasCalled}
 use Rattle.member_turns.specs.Saying.{AnswersCall}
 use Rattle.member_turns.specs.Tales.{is_of_task}

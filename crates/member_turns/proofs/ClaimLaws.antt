@@ -10,7 +10,7 @@ use Rattle.model_run.specs.declared.taken.Taken.{Taken}
 use Rattle.model_run.specs.declared.taken.Taken.TheVariants.{Accepted, NotOpen, WrongPlace, Finished}
 use Rattle.task_host.specs.declared.order.Order.{Order}
 use Rattle.settle_laws.specs.Stances.{Stance}
-use Rattle.site_state.specs.Lower.build_core.Builds.{Parts}
+use Rattle.locked_build.specs.Lower.build_core.Builds.{Parts}
 use Rattle.program_lock.specs.Legal.{IsRun, IsLegal}
 use Rattle.journal_core.specs.declared.faults.TakeFault.{TakeFault}
 use Rattle.journal_core.specs.declared.faults.TakeFault.TheVariants.{Memory, Disk, Full, Stopped}
@@ -19,17 +19,17 @@ use Rattle.agent_worker.specs.declared.gate.Heard.TheVariants.{Decided, Skipped}
 use Rattle.agent_worker.specs.declared.gate.Claim.{Claim}
 use Rattle.agent_worker.specs.declared.gate.Claim.TheVariants as claim
 use Rattle.agent_worker.specs.Gate.{Claimed as ClaimedTask}
-use Rattle.site_state.specs.declared.ask.Ask.{Ask}
-use Rattle.site_state.specs.declared.ask.Ask.TheVariants as ask
-use Rattle.site_state.specs.declared.ask.Reply.{Reply}
-use Rattle.site_state.specs.declared.ask.Reply.TheVariants as reply
-use Rattle.site_state.specs.declared.ask.Entry.{Entry}
-use Rattle.site_state.specs.declared.ask.Entry.TheVariants.{Took, Claimed, Line, Failed}
-use Rattle.site_state.specs.Claims.{is_task_of, is_free, first_free, order_as, ClaimSays}
-use Rattle.site_state.specs.Grants.{noted, Grants, TakeSays}
-use Rattle.site_state.specs.Hearing.{AnswerSays}
-use Rattle.site_state.specs.Histories.{is_claimed, kept_fault}
-use Rattle.site_state.specs.Says.{Says, SaysAt, Answers}
+use Rattle.locked_build.specs.declared.ask.Ask.{Ask}
+use Rattle.locked_build.specs.declared.ask.Ask.TheVariants as ask
+use Rattle.locked_build.specs.declared.ask.Reply.{Reply}
+use Rattle.locked_build.specs.declared.ask.Reply.TheVariants as reply
+use Rattle.locked_build.specs.declared.ask.Entry.{Entry}
+use Rattle.locked_build.specs.declared.ask.Entry.TheVariants.{Took, Claimed, Line, Failed}
+use Rattle.locked_build.specs.Claims.{is_task_of, is_free, first_free, order_as, ClaimSays}
+use Rattle.locked_build.specs.Grants.{noted, Grants, TakeSays}
+use Rattle.locked_build.specs.Hearing.{AnswerSays}
+use Rattle.locked_build.specs.Histories.{is_claimed, kept_fault}
+use Rattle.locked_build.specs.Says.{Says, SaysAt, Answers}
 use Rattle.member_turns.specs.Tales.{claimed_of}
 use Rattle.member_turns.specs.Turning.{tasks_of}
 use Rattle.member_turns.proofs.PartLemmas.{all_append}

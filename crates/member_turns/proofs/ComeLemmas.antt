@@ -15,15 +15,15 @@ use Rattle.agent_worker.specs.declared.gate.GateCall.TheVariants as gate_call
 use Rattle.agent_worker.specs.declared.gate.Heard.{Heard}
 use Rattle.agent_worker.specs.declared.gate.Heard.TheVariants.{Decided, Skipped}
 use Rattle.agent_worker.specs.Gate.{Told, told_as, is_told, added_if}
-use Rattle.member_turns.specs.Lower.site_state.declared.ask.Ask.{Ask}
-use Rattle.member_turns.specs.Lower.site_state.declared.ask.Ask.TheVariants as ask
-use Rattle.member_turns.specs.Lower.site_state.declared.ask.Entry.{Entry}
-use Rattle.member_turns.specs.Lower.site_state.declared.ask.Entry.TheVariants.{Took, Claimed, Line, Failed}
-use Rattle.member_turns.specs.Lower.site_state.declared.ask.Reply.{Reply}
-use Rattle.member_turns.specs.Lower.site_state.declared.ask.Reply.TheVariants as reply
-use Rattle.member_turns.specs.Lower.site_state.Hearing.{AnswerSays}
-use Rattle.member_turns.specs.Lower.site_state.Histories.{kept_fault}
-use Rattle.member_turns.specs.Lower.site_state.Says.{Says, SaysAt}
+use Rattle.member_turns.specs.Lower.locked_build.declared.ask.Ask.{Ask}
+use Rattle.member_turns.specs.Lower.locked_build.declared.ask.Ask.TheVariants as ask
+use Rattle.member_turns.specs.Lower.locked_build.declared.ask.Entry.{Entry}
+use Rattle.member_turns.specs.Lower.locked_build.declared.ask.Entry.TheVariants.{Took, Claimed, Line, Failed}
+use Rattle.member_turns.specs.Lower.locked_build.declared.ask.Reply.{Reply}
+use Rattle.member_turns.specs.Lower.locked_build.declared.ask.Reply.TheVariants as reply
+use Rattle.member_turns.specs.Lower.locked_build.Hearing.{AnswerSays}
+use Rattle.member_turns.specs.Lower.locked_build.Histories.{kept_fault}
+use Rattle.member_turns.specs.Lower.locked_build.Says.{Says, SaysAt}
 use Rattle.member_turns.specs.Saying.{AnswersCall, AreAnswered}
 use Rattle.member_turns.specs.Tales.{is_of_task, asked_for, told_of}
 use Rattle.member_turns.proofs.AskLemmas.{Asked, task_plain, claim_adds, take_adds, inputs_adds, halt_adds}

@@ -14,9 +14,9 @@ use Rattle.agent_worker.specs.declared.member.Member.TheVariants.{Executor, Oper
 use Rattle.agent_worker.specs.declared.worked.Worked.{Worked}
 use Rattle.agent_worker.specs.Gate.{Told, told_at, Decides, IsToldOf}
 use Rattle.agent_worker.specs.Operating.{Ask, Asked, Reads, Given, Halted, AreToldOf, given_in}
-use Rattle.member_turns.specs.Lower.site_state.declared.ask.Entry.{Entry}
-use Rattle.member_turns.specs.Lower.site_state.declared.ask.Entry.TheVariants.{Took, Claimed, Line, Failed}
-use Rattle.member_turns.specs.Lower.site_state.Histories.{tooks, at_risk, pending}
+use Rattle.member_turns.specs.Lower.locked_build.declared.ask.Entry.{Entry}
+use Rattle.member_turns.specs.Lower.locked_build.declared.ask.Entry.TheVariants.{Took, Claimed, Line, Failed}
+use Rattle.member_turns.specs.Lower.locked_build.Histories.{tooks, at_risk, pending}
 use Rattle.member_turns.specs.Tales.{is_grant, asked_for, failed_of, told_of}
 use Rattle.member_turns.specs.Turning.{IsCausedBy}
 use Rattle.member_turns.proofs.PartLemmas.{all_append, all_map}

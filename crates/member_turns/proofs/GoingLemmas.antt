@@ -5,9 +5,9 @@ use Rattle.program_lock.specs.declared.view.Known.{Known}
 use Rattle.program_lock.specs.History.{has, entries, keep_if, under, NoneUnder}
 use Rattle.program_lock.specs.Legal.{Answers}
 use Rattle.program_lock.proofs.HistoryLemmas.{entries-append, under-append}
-use Rattle.member_turns.specs.Lower.site_state.declared.ask.Ask.{Ask}
-use Rattle.member_turns.specs.Lower.site_state.declared.ask.Entry.{Entry}
-use Rattle.member_turns.specs.Lower.site_state.declared.ask.Reply.{Reply}
+use Rattle.member_turns.specs.Lower.locked_build.declared.ask.Ask.{Ask}
+use Rattle.member_turns.specs.Lower.locked_build.declared.ask.Entry.{Entry}
+use Rattle.member_turns.specs.Lower.locked_build.declared.ask.Reply.{Reply}
 use Rattle.member_turns.proofs.TrailLemmas.{same_front}
 use Rattle.member_turns.specs.Coming.{Came, EachIs, EachUnder}
 use Rattle.member_turns.specs.Passing.{IsWhole, CameUnder, GoesOn}

@@ -9,10 +9,10 @@ use Rattle.program_lock.specs.Calls.{Ends}
 use Rattle.settle_laws.specs.Stances.{Stance}
 use Rattle.member_turns.specs.Lower.build_core.Builds.{Parts}
 use Rattle.agent_worker.specs.declared.member.Member.{Member}
-use Rattle.member_turns.specs.Lower.site_state.declared.ask.Ask.{Ask}
-use Rattle.member_turns.specs.Lower.site_state.declared.ask.Entry.{Entry}
-use Rattle.member_turns.specs.Lower.site_state.declared.ask.Progress.{Progress}
-use Rattle.member_turns.specs.Lower.site_state.declared.ask.Reply.{Reply}
+use Rattle.member_turns.specs.Lower.locked_build.declared.ask.Ask.{Ask}
+use Rattle.member_turns.specs.Lower.locked_build.declared.ask.Entry.{Entry}
+use Rattle.member_turns.specs.Lower.locked_build.declared.ask.Progress.{Progress}
+use Rattle.member_turns.specs.Lower.locked_build.declared.ask.Reply.{Reply}
 use Rattle.member_turns.proofs.ClaimLaws.{claims_differ}
 use Rattle.member_turns.proofs.PartLemmas.{all_map}
 use Rattle.member_turns.specs.Lives.{EndsWith, Life}

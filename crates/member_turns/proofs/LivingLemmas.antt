@@ -9,10 +9,10 @@ use Rattle.program_lock.specs.Legal.{Answers}
 use Rattle.settle_laws.specs.Stances.{Stance}
 use Rattle.member_turns.specs.Lower.build_core.Builds.{Parts}
 use Rattle.agent_worker.specs.declared.member.Member.{Member}
-use Rattle.member_turns.specs.Lower.site_state.declared.ask.Ask.{Ask}
-use Rattle.member_turns.specs.Lower.site_state.declared.ask.Entry.{Entry}
-use Rattle.member_turns.specs.Lower.site_state.declared.ask.Progress.{Progress}
-use Rattle.member_turns.specs.Lower.site_state.declared.ask.Reply.{Reply}
+use Rattle.member_turns.specs.Lower.locked_build.declared.ask.Ask.{Ask}
+use Rattle.member_turns.specs.Lower.locked_build.declared.ask.Entry.{Entry}
+use Rattle.member_turns.specs.Lower.locked_build.declared.ask.Progress.{Progress}
+use Rattle.member_turns.specs.Lower.locked_build.declared.ask.Reply.{Reply}
 use Rattle.member_turns.proofs.CallLemmas.{site_says}
 use Rattle.member_turns.specs.Passing.{TakesRounds}
 use Rattle.member_turns.specs.Turns.{Turn}

@@ -7,14 +7,14 @@ use Rattle.program_lock.proofs.EntryLemmas.{entries_of-step}
 use Rattle.settle_laws.specs.Stances.{Stance}
 use Rattle.member_turns.specs.Lower.build_core.Builds.{Parts}
 use Rattle.journal_core.specs.declared.faults.TakeFault.{TakeFault}
-use Rattle.member_turns.specs.Lower.site_state.declared.ask.Ask.{Ask}
-use Rattle.member_turns.specs.Lower.site_state.declared.ask.Ask.TheVariants.{Look}
-use Rattle.member_turns.specs.Lower.site_state.declared.ask.Entry.{Entry}
-use Rattle.member_turns.specs.Lower.site_state.declared.ask.Progress.{Progress}
-use Rattle.member_turns.specs.Lower.site_state.declared.ask.Reply.{Reply}
-use Rattle.member_turns.specs.Lower.site_state.declared.ask.Reply.TheVariants as reply
-use Rattle.member_turns.specs.Lower.site_state.Histories.{kept_fault}
-use Rattle.member_turns.specs.Lower.site_state.Says.{Says, SaysAt}
+use Rattle.member_turns.specs.Lower.locked_build.declared.ask.Ask.{Ask}
+use Rattle.member_turns.specs.Lower.locked_build.declared.ask.Ask.TheVariants.{Look}
+use Rattle.member_turns.specs.Lower.locked_build.declared.ask.Entry.{Entry}
+use Rattle.member_turns.specs.Lower.locked_build.declared.ask.Progress.{Progress}
+use Rattle.member_turns.specs.Lower.locked_build.declared.ask.Reply.{Reply}
+use Rattle.member_turns.specs.Lower.locked_build.declared.ask.Reply.TheVariants as reply
+use Rattle.member_turns.specs.Lower.locked_build.Histories.{kept_fault}
+use Rattle.member_turns.specs.Lower.locked_build.Says.{Says, SaysAt}
 use Rattle.member_turns.specs.Passing.{IsProgress, GoesOn}
 use Rattle.member_turns.proofs.CallLemmas.{site_says}
 use Rattle.member_turns.proofs.GoingLemmas.{goes_without}

@@ -19,16 +19,16 @@ use Rattle.agent_worker.specs.declared.worked.Worked.TheVariants as worked
 use Rattle.agent_worker.specs.Operating.{Ask as OperatorDeed, operator_calls}
 use Rattle.agent_worker.specs.Acts.{Act, Called, Reported, with_reports}
 use Rattle.agent_worker.specs.Working.{Deed, Claims, Serves, Pauses, Halts, work_reports}
-use Rattle.member_turns.specs.Lower.site_state.declared.ask.Ask.{Ask}
-use Rattle.member_turns.specs.Lower.site_state.declared.ask.Ask.TheVariants as ask
-use Rattle.member_turns.specs.Lower.site_state.declared.ask.Entry.{Entry}
-use Rattle.member_turns.specs.Lower.site_state.declared.ask.Entry.TheVariants.{Took, Claimed, Line, Failed}
-use Rattle.member_turns.specs.Lower.site_state.declared.ask.Progress.{Progress}
-use Rattle.member_turns.specs.Lower.site_state.declared.ask.Reply.{Reply}
-use Rattle.member_turns.specs.Lower.site_state.declared.ask.Reply.TheVariants as reply
-use Rattle.member_turns.specs.Lower.site_state.Histories.{kept_fault}
-use Rattle.member_turns.specs.Lower.site_state.Says.{SaysAt}
-use Rattle.member_turns.proofs.Lower.site_state.HistoryLaws.{kept_fault-append}
+use Rattle.member_turns.specs.Lower.locked_build.declared.ask.Ask.{Ask}
+use Rattle.member_turns.specs.Lower.locked_build.declared.ask.Ask.TheVariants as ask
+use Rattle.member_turns.specs.Lower.locked_build.declared.ask.Entry.{Entry}
+use Rattle.member_turns.specs.Lower.locked_build.declared.ask.Entry.TheVariants.{Took, Claimed, Line, Failed}
+use Rattle.member_turns.specs.Lower.locked_build.declared.ask.Progress.{Progress}
+use Rattle.member_turns.specs.Lower.locked_build.declared.ask.Reply.{Reply}
+use Rattle.member_turns.specs.Lower.locked_build.declared.ask.Reply.TheVariants as reply
+use Rattle.member_turns.specs.Lower.locked_build.Histories.{kept_fault}
+use Rattle.member_turns.specs.Lower.locked_build.Says.{SaysAt}
+use Rattle.member_turns.proofs.Lower.locked_build.HistoryLaws.{kept_fault-append}
 use Rattle.member_turns.specs.Saying.{AnswersCall}
 use Rattle.member_turns.specs.Tales.{tells_of}
 use Rattle.member_turns.proofs.PartLemmas.{all_append, all_map}

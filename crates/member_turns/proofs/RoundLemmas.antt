@@ -6,7 +6,7 @@ use Rattle.agent_worker.specs.declared.gate.GateCall.{GateCall}
 use Rattle.agent_worker.specs.declared.member.Member.{Member}
 use Rattle.agent_worker.specs.declared.member.Member.TheVariants.{Executor, Operator}
 use Rattle.agent_worker.specs.declared.worked.Worked.{Worked}
-use Rattle.member_turns.specs.Lower.site_state.declared.ask.Entry.{Entry}
+use Rattle.member_turns.specs.Lower.locked_build.declared.ask.Entry.{Entry}
 use Rattle.member_turns.specs.Served.{Executed}
 use Rattle.member_turns.specs.Turns.{Launches}
 use Rattle.task_host.specs.View.{HostView}

@@ -10,12 +10,12 @@ use Rattle.program_lock.proofs.HistoryLemmas.{entries-append}
 use Rattle.settle_laws.specs.Stances.{Stance}
 use Rattle.member_turns.specs.Lower.build_core.Builds.{Parts}
 use Rattle.agent_worker.specs.declared.member.Member.{Member}
-use Rattle.member_turns.specs.Lower.site_state.declared.ask.Ask.{Ask}
-use Rattle.member_turns.specs.Lower.site_state.declared.ask.Ask.TheVariants.{Look}
-use Rattle.member_turns.specs.Lower.site_state.declared.ask.Entry.{Entry}
-use Rattle.member_turns.specs.Lower.site_state.declared.ask.Progress.{Progress}
-use Rattle.member_turns.specs.Lower.site_state.declared.ask.Reply.{Reply}
-use Rattle.member_turns.specs.Lower.site_state.declared.ask.Reply.TheVariants as reply
+use Rattle.member_turns.specs.Lower.locked_build.declared.ask.Ask.{Ask}
+use Rattle.member_turns.specs.Lower.locked_build.declared.ask.Ask.TheVariants.{Look}
+use Rattle.member_turns.specs.Lower.locked_build.declared.ask.Entry.{Entry}
+use Rattle.member_turns.specs.Lower.locked_build.declared.ask.Progress.{Progress}
+use Rattle.member_turns.specs.Lower.locked_build.declared.ask.Reply.{Reply}
+use Rattle.member_turns.specs.Lower.locked_build.declared.ask.Reply.TheVariants as reply
 use Rattle.member_turns.proofs.PartLemmas.{all_append}
 use Rattle.member_turns.specs.Ending.{goes_on}
 use Rattle.member_turns.specs.Passing.{IsWhole, GoesOn, TakesRound, TakesRounds}

@@ -19,7 +19,7 @@ use Rattle.program_lock.proofs.NumberLemmas.{among_left, among_right, off}
 use Rattle.program_lock.proofs.PartLemmas.{kept_back_half, parts-split, parts-split_kept, parts-join}
 use Rattle.member_turns.proofs.PartLemmas.{all_append}
 use Rattle.member_turns.proofs.TrailLemmas.{none_of}
-use Rattle.member_turns.specs.Lower.site_state.declared.ask.Entry.{Entry}
+use Rattle.member_turns.specs.Lower.locked_build.declared.ask.Entry.{Entry}
 use Rattle.member_turns.specs.Seats.{SeesMore, IsNew, WithinIf, AreAllApart, all_numbers, numbers_of, parts_of, total, given, HandsOut, TakesIn}
 
 -- a split leaves enough for xs many splits xs are left

@@ -52,10 +52,10 @@ use Rattle.journal_core.specs.contracts.journal.Journal as Journal
 use Rattle.member_turns.specs.Lower.durable_build.contracts.durable.DurableBuild as DurableBuild
 use Rattle.member_turns.specs.Lower.durable_build.contracts.durable.DurableBuild.TheInside as DurableInside
 use Rattle.member_turns.specs.Lower.durable_build.contracts.store.Last as Last
-use Rattle.member_turns.specs.Lower.site_state.contracts.ask.Ask as Ask
-use Rattle.member_turns.specs.Lower.site_state.contracts.ask.Entry as Entry
-use Rattle.member_turns.specs.Lower.site_state.contracts.ask.Reply as Reply
-use Rattle.member_turns.specs.Lower.site_state.contracts.site.SiteStateStepped.TheImpl as TheImpl
+use Rattle.member_turns.specs.Lower.locked_build.contracts.ask.Ask as Ask
+use Rattle.member_turns.specs.Lower.locked_build.contracts.ask.Entry as Entry
+use Rattle.member_turns.specs.Lower.locked_build.contracts.ask.Reply as Reply
+use Rattle.member_turns.specs.Lower.locked_build.contracts.site.SiteStateStepped.TheImpl as TheImpl
 use Rattle.member_turns.specs.Lower.saved_thread.declared.thread.SavedThread as SavedThread
 use Rattle.agent_worker.specs.contracts.member.Member as Member
 use Rattle.atomic_table.proofs.shared.Shared.TheSendSync as shared_laws
@@ -67,9 +67,9 @@ use Rattle.program_lock.specs.contracts.program.Program as Program
 use Rattle.std.specs.contracts.option.Option as Option
 use Rattle.std.specs.contracts.snapshot.Snapshot as Snapshot
 use Rattle.member_turns.specs.contracts.seat.Seat as Seat
-use Rattle.member_turns.specs.Lower.site_state.contracts.indexed.IndexedHistory as IndexedHistory
-use Rattle.member_turns.specs.Lower.site_state.contracts.indexed.IndexedHistory.TheInside as HistoryInside
-use Rattle.member_turns.specs.Lower.site_state.contracts.site.SiteState as SiteState
+use Rattle.member_turns.specs.Lower.locked_build.contracts.indexed.IndexedHistory as IndexedHistory
+use Rattle.member_turns.specs.Lower.locked_build.contracts.indexed.IndexedHistory.TheInside as HistoryInside
+use Rattle.member_turns.specs.Lower.locked_build.contracts.site.SiteState as SiteState
 
 pub text_send : IsSend Text.the_row
 text_send = search (sendable, crosses) depth 40

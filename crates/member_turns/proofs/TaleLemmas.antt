@@ -6,14 +6,14 @@ use Rattle.model_run.specs.declared.event.Event.TheVariants.{Granted}
 use Rattle.model_run.specs.declared.taken.Taken.{Taken}
 use Rattle.model_run.specs.declared.taken.Taken.TheVariants.{Accepted, NotOpen, WrongPlace, Finished}
 use Rattle.settle_laws.specs.Stances.{Stance}
-use Rattle.site_state.specs.Lower.build_core.Builds.{Parts}
+use Rattle.locked_build.specs.Lower.build_core.Builds.{Parts}
 use Rattle.journal_core.specs.declared.faults.TakeFault.{TakeFault}
 use Rattle.journal_core.specs.declared.faults.TakeFault.TheVariants.{Memory, Disk, Full, Stopped}
 use Rattle.agent_worker.specs.Gate.{Told, told_at, told_as, is_told, added_if, Claimed as ClaimedTask}
-use Rattle.site_state.specs.declared.ask.Entry.{Entry}
-use Rattle.site_state.specs.declared.ask.Entry.TheVariants.{Took, Claimed, Line, Failed}
-use Rattle.site_state.specs.Histories.{lines}
-use Rattle.site_state.specs.Grants.{noted, Grants, granted, refused, none_due, not_found, TakeSays}
+use Rattle.locked_build.specs.declared.ask.Entry.{Entry}
+use Rattle.locked_build.specs.declared.ask.Entry.TheVariants.{Took, Claimed, Line, Failed}
+use Rattle.locked_build.specs.Histories.{lines}
+use Rattle.locked_build.specs.Grants.{noted, Grants, granted, refused, none_due, not_found, TakeSays}
 use Rattle.member_turns.specs.Tales.{is_grant, asked_for, failed_of, told_of, claimed_of}
 
 pub told-append : (xs ys : List Entry) → told_of (xs ++ ys) ≡ told_of xs ++ told_of ys

@@ -16,9 +16,9 @@ use Rattle.program_lock.proofs.NumberLemmas.{among_itself, among_right, has-appe
 use Rattle.settle_laws.specs.Stances.{Stance}
 use Rattle.member_turns.specs.Lower.build_core.Builds.{Parts}
 use Rattle.agent_worker.specs.declared.member.Member.{Member}
-use Rattle.member_turns.specs.Lower.site_state.declared.ask.Ask.{Ask}
-use Rattle.member_turns.specs.Lower.site_state.declared.ask.Entry.{Entry}
-use Rattle.member_turns.specs.Lower.site_state.declared.ask.Reply.{Reply}
+use Rattle.member_turns.specs.Lower.locked_build.declared.ask.Ask.{Ask}
+use Rattle.member_turns.specs.Lower.locked_build.declared.ask.Entry.{Entry}
+use Rattle.member_turns.specs.Lower.locked_build.declared.ask.Reply.{Reply}
 use Rattle.member_turns.specs.Saying.{AreAnswered, WereAnswered}
 use Rattle.member_turns.proofs.CallLemmas.{site_says}
 use Rattle.member_turns.proofs.TrailLemmas.{none_first, under-first, under-second, entries_of-append, answered_sooner}

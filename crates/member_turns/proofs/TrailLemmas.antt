@@ -7,9 +7,9 @@ use Rattle.program_lock.specs.History.{has, entries, keep_if, numbered, under, e
 use Rattle.program_lock.proofs.HistoryLemmas.{entries-append, under-append, none_append}
 use Rattle.program_lock.proofs.NumberLemmas.{has-append}
 use Rattle.agent_worker.specs.declared.gate.GateCall.{GateCall}
-use Rattle.site_state.specs.declared.ask.Ask.{Ask}
-use Rattle.site_state.specs.declared.ask.Entry.{Entry}
-use Rattle.site_state.specs.declared.ask.Reply.{Reply}
+use Rattle.locked_build.specs.declared.ask.Ask.{Ask}
+use Rattle.locked_build.specs.declared.ask.Entry.{Entry}
+use Rattle.locked_build.specs.declared.ask.Reply.{Reply}
 use Rattle.member_turns.specs.Asking.{WasCalled}
 use Rattle.member_turns.specs.Saying.{AnswersCall, AreAnswered, WereAnswered}
 

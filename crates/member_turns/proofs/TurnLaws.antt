@@ -20,7 +20,7 @@ use Rattle.agent_worker.specs.Acts.{Act, Called, Reported, WasDone, made_dir, wi
 use Rattle.agent_worker.specs.Gate.{Told, told_at, told_as, is_told, added_if, Claimed as ClaimedTask, claimed_in, claimed_as}
 use Rattle.agent_worker.specs.Serving.{IsServe, exited}
 use Rattle.agent_worker.specs.Working.{Deed, Claims, Serves, Pauses, Halts, IsWork, Works, WorkLaunches, work_told, work_claims, telling, on_host}
-use Rattle.site_state.specs.declared.ask.Entry.{Entry}
+use Rattle.locked_build.specs.declared.ask.Entry.{Entry}
 use Rattle.member_turns.specs.Tales.{tells_of}
 use Rattle.member_turns.specs.Turning.{IsCausedIn, IsCausedBy, removed_in, removed, exit_in, exits_of, tasks_of, IsPart, LaunchesClaimed, ExecutorTurn}
 use Rattle.member_turns.proofs.ClaimLaws.{tasks-append}

@@ -4,7 +4,7 @@ use Rattle.std.specs.List.{AllZip, AllByRecursion as AllAre}
 use Rattle.program_lock.specs.Merge.{IsMergeOf}
 use Rattle.agent_worker.specs.declared.member.Member.{Member}
 use Rattle.agent_worker.specs.declared.member.Member.TheVariants.{Executor, Operator}
-use Rattle.member_turns.specs.Lower.site_state.declared.ask.Entry.{Entry}
+use Rattle.member_turns.specs.Lower.locked_build.declared.ask.Entry.{Entry}
 use Rattle.member_turns.specs.Tales.{claimed_of}
 use Rattle.member_turns.specs.Turning.{tasks_of}
 use Rattle.member_turns.proofs.PartLemmas.{all_append, all_first, all_map}

@@ -4,9 +4,9 @@ use Rattle.std.specs.List.{AllZip, AllByRecursion as AllAre}
 use Rattle.program_lock.specs.Legal.{Answers}
 use Rattle.program_lock.specs.Merge.{IsMergeOf}
 use Rattle.agent_worker.specs.declared.member.Member.{Member}
-use Rattle.member_turns.specs.Lower.site_state.declared.ask.Ask.{Ask}
-use Rattle.member_turns.specs.Lower.site_state.declared.ask.Entry.{Entry}
-use Rattle.member_turns.specs.Lower.site_state.declared.ask.Reply.{Reply}
+use Rattle.member_turns.specs.Lower.locked_build.declared.ask.Ask.{Ask}
+use Rattle.member_turns.specs.Lower.locked_build.declared.ask.Entry.{Entry}
+use Rattle.member_turns.specs.Lower.locked_build.declared.ask.Reply.{Reply}
 use Rattle.member_turns.proofs.PartLemmas.{all_append}
 use Rattle.member_turns.specs.Rounds.{Round, AreTurnsOf, RoundsFrom, turns_of}
 use Rattle.member_turns.specs.Turns.{Turn, MadeOf}

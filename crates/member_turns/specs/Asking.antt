@@ -4,10 +4,10 @@ use Rattle.program_lock.specs.declared.view.Known.{Known}
 use Rattle.program_lock.specs.Legal.{Answers}
 use Rattle.program_lock.specs.History.{entries, entries_of, numbered, GoesOnWithout}
 use Rattle.agent_worker.specs.declared.gate.GateCall.{GateCall}
-use Rattle.site_state.specs.declared.ask.Ask.{Ask}
-use Rattle.site_state.specs.declared.ask.Entry.{Entry}
-use Rattle.site_state.specs.declared.ask.Reply.{Reply}
-use Rattle.site_state.specs.declared.ask.Reply.TheVariants as reply
+use Rattle.locked_build.specs.declared.ask.Ask.{Ask}
+use Rattle.locked_build.specs.declared.ask.Entry.{Entry}
+use Rattle.locked_build.specs.declared.ask.Reply.{Reply}
+use Rattle.locked_build.specs.declared.ask.Reply.TheVariants as reply
 use Rattle.member_turns.specs.Saying.{AnswersCall}
 
 -- A call through a pass, which knew v before it and knows w behind it: it was answered so at a history that goes on from all that the

@@ -1,7 +1,7 @@
 -- Definitions of the crates below, passed on to the crates above: these name this crate alone for them.
-pub use Rattle.site_state.specs as site_state
-pub use Rattle.site_state.specs.Lower.build_core
-pub use Rattle.site_state.specs.Lower.cps_frames
-pub use Rattle.site_state.specs.Lower.durable_build
-pub use Rattle.site_state.specs.Lower.saved_thread
-pub use Rattle.site_state.specs.Lower.script_thread
+pub use Rattle.locked_build.specs as locked_build
+pub use Rattle.locked_build.specs.Lower.build_core
+pub use Rattle.locked_build.specs.Lower.cps_frames
+pub use Rattle.locked_build.specs.Lower.durable_build
+pub use Rattle.locked_build.specs.Lower.saved_thread
+pub use Rattle.locked_build.specs.Lower.script_thread

@@ -4,12 +4,12 @@ use Rattle.std.specs.List.{AllByRecursion as AllAre}
 use Rattle.program_lock.specs.Legal.{Answers}
 use Rattle.agent_worker.specs.declared.gate.GateCall.{GateCall}
 use Rattle.agent_worker.specs.declared.member.Member.{Member}
-use Rattle.member_turns.specs.Lower.site_state.declared.ask.Ask.{Ask}
-use Rattle.member_turns.specs.Lower.site_state.declared.ask.Ask.TheVariants.{Look}
-use Rattle.member_turns.specs.Lower.site_state.declared.ask.Entry.{Entry}
-use Rattle.member_turns.specs.Lower.site_state.declared.ask.Progress.{Progress}
-use Rattle.member_turns.specs.Lower.site_state.declared.ask.Reply.{Reply}
-use Rattle.member_turns.specs.Lower.site_state.declared.ask.Reply.TheVariants as reply
+use Rattle.member_turns.specs.Lower.locked_build.declared.ask.Ask.{Ask}
+use Rattle.member_turns.specs.Lower.locked_build.declared.ask.Ask.TheVariants.{Look}
+use Rattle.member_turns.specs.Lower.locked_build.declared.ask.Entry.{Entry}
+use Rattle.member_turns.specs.Lower.locked_build.declared.ask.Progress.{Progress}
+use Rattle.member_turns.specs.Lower.locked_build.declared.ask.Reply.{Reply}
+use Rattle.member_turns.specs.Lower.locked_build.declared.ask.Reply.TheVariants as reply
 use Rattle.member_turns.specs.Saying.{AnswersCall}
 use Rattle.member_turns.specs.Ending.{goes_on}
 use Rattle.member_turns.specs.Turns.{Turn, MadeOf}

@@ -7,11 +7,11 @@ use Rattle.program_lock.specs.Legal.{Answers}
 use Rattle.journal_core.specs.declared.faults.TakeFault.TheVariants.{Memory}
 use Rattle.agent_worker.specs.declared.gate.GateCall.{GateCall}
 use Rattle.agent_worker.specs.declared.gate.GateCall.TheVariants.{Claim, Report, Inputs, Answer, Halt}
-use Rattle.site_state.specs.declared.ask.Ask.{Ask}
-use Rattle.site_state.specs.declared.ask.Ask.TheVariants as ask
-use Rattle.site_state.specs.declared.ask.Entry.{Entry}
-use Rattle.site_state.specs.declared.ask.Reply.{Reply}
-use Rattle.site_state.specs.declared.ask.Reply.TheVariants as reply
+use Rattle.locked_build.specs.declared.ask.Ask.{Ask}
+use Rattle.locked_build.specs.declared.ask.Ask.TheVariants as ask
+use Rattle.locked_build.specs.declared.ask.Entry.{Entry}
+use Rattle.locked_build.specs.declared.ask.Reply.{Reply}
+use Rattle.locked_build.specs.declared.ask.Reply.TheVariants as reply
 use Rattle.member_turns.specs.Tales.{is_of_task}
 
 -- The call was answered so at this history, and these are its entries: it is the state's reply to the ask of its kind. What is no event of

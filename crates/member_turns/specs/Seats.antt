@@ -7,7 +7,7 @@ use Rattle.program_lock.specs.declared.program.PassOf.{PassOf}
 use Rattle.program_lock.specs.declared.view.Known.{Known}
 use Rattle.program_lock.specs.History.{AreApart, NoneUnder}
 use Rattle.program_lock.specs.Passes.{known}
-use Rattle.member_turns.specs.Lower.site_state.declared.ask.Entry.{Entry}
+use Rattle.member_turns.specs.Lower.locked_build.declared.ask.Entry.{Entry}
 
 -- It has seen all that it had seen, and more, of which nothing stands under the numbers that it had.
 pub record SeesMore {B : Type 0} (v w : Known Entry B) : Type 0 where

@@ -11,9 +11,9 @@ use Rattle.agent_worker.specs.declared.member.Member.TheVariants.{Executor, Oper
 use Rattle.agent_worker.specs.declared.worked.Worked.{Worked}
 use Rattle.agent_worker.specs.Gate.{GateTells}
 use Rattle.agent_worker.specs.Working.{on_host}
-use Rattle.site_state.specs.declared.ask.Ask.{Ask}
-use Rattle.site_state.specs.declared.ask.Entry.{Entry}
-use Rattle.site_state.specs.declared.ask.Reply.{Reply}
+use Rattle.locked_build.specs.declared.ask.Ask.{Ask}
+use Rattle.locked_build.specs.declared.ask.Entry.{Entry}
+use Rattle.locked_build.specs.declared.ask.Reply.{Reply}
 use Rattle.member_turns.specs.Saying.{WereAnswered}
 use Rattle.member_turns.specs.Tales.{tells_of}
 use Rattle.member_turns.specs.Turning.{ExecutorTurn}

@@ -6,9 +6,9 @@ use Rattle.program_lock.specs.History.{entries_of}
 use Rattle.program_lock.specs.Legal.{Answers}
 use Rattle.program_lock.specs.Passes.{known, own_entries}
 use Rattle.agent_worker.specs.declared.member.Member.{Member}
-use Rattle.member_turns.specs.Lower.site_state.declared.ask.Ask.{Ask}
-use Rattle.member_turns.specs.Lower.site_state.declared.ask.Entry.{Entry}
-use Rattle.member_turns.specs.Lower.site_state.declared.ask.Reply.{Reply}
+use Rattle.member_turns.specs.Lower.locked_build.declared.ask.Ask.{Ask}
+use Rattle.member_turns.specs.Lower.locked_build.declared.ask.Entry.{Entry}
+use Rattle.member_turns.specs.Lower.locked_build.declared.ask.Reply.{Reply}
 use Rattle.member_turns.specs.Saying.{WereAnswered}
 use Rattle.member_turns.specs.Turns.{Turn}
 

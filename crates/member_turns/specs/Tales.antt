@@ -5,9 +5,9 @@ use Rattle.model_run.specs.declared.event.Event.TheVariants.{Start, Granted, Out
 use Rattle.agent_worker.specs.declared.gate.GateCall.{GateCall}
 use Rattle.agent_worker.specs.declared.gate.Said.{Said}
 use Rattle.agent_worker.specs.Gate.{Told, told_at, Claimed as ClaimedTask, GateTells}
-use Rattle.site_state.specs.declared.ask.Entry.{Entry}
-use Rattle.site_state.specs.declared.ask.Entry.TheVariants.{Took, Claimed, Line, Failed}
-use Rattle.site_state.specs.Histories.{lines}
+use Rattle.locked_build.specs.declared.ask.Entry.{Entry}
+use Rattle.locked_build.specs.declared.ask.Entry.TheVariants.{Took, Claimed, Line, Failed}
+use Rattle.locked_build.specs.Histories.{lines}
 
 -- a grant: the build makes it behind another event, and nobody asks for it
 abbrev pub is_grant : Event → Bool

@@ -13,7 +13,7 @@ use Rattle.agent_worker.specs.Acts.{Act, Called, Reported}
 use Rattle.agent_worker.specs.Causes.{IsCaused}
 use Rattle.agent_worker.specs.Gate.{Told, Claimed as ClaimedTask, Becomes}
 use Rattle.agent_worker.specs.Working.{Deed, Claims, Serves, Pauses, Halts, IsWork, AreOf, WorkEnds, WorksOnHost, AllDelivered, OnHost, work_calls, work_told, work_reports, work_claims}
-use Rattle.site_state.specs.declared.ask.Entry.{Entry}
+use Rattle.locked_build.specs.declared.ask.Entry.{Entry}
 use Rattle.member_turns.specs.Tales.{told_of, claimed_of}
 
 -- the event was reported among these acts, and what was done before it is its cause

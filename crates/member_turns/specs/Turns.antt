@@ -12,7 +12,7 @@ use Rattle.agent_worker.specs.Gate.{GateTells, Decides, told_at}
 use Rattle.agent_worker.specs.MemberWork.{WorksAs}
 use Rattle.agent_worker.specs.Operating.{Operates, given_in}
 use Rattle.agent_worker.specs.Working.{telling, on_host}
-use Rattle.member_turns.specs.Lower.site_state.declared.ask.Entry.{Entry}
+use Rattle.member_turns.specs.Lower.locked_build.declared.ask.Entry.{Entry}
 use Rattle.member_turns.specs.Tales.{claimed_of, is_grant, tells_of, told_of}
 use Rattle.member_turns.specs.Turning.{tasks_of, IsPart, IsCausedBy, ExecutorTurn}
 use Rattle.member_turns.specs.Served.{Executed}

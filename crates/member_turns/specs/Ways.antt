@@ -3,7 +3,7 @@ use Rattle.std.specs.Prelude.{◌≡◌, List, [], ◌∷◌}
 use Rattle.std.specs.List.{AllByRecursion as AllAre}
 use Rattle.program_lock.specs.Merge.{IsMergeOf}
 use Rattle.agent_worker.specs.declared.member.Member.{Member}
-use Rattle.member_turns.specs.Lower.site_state.declared.ask.Entry.{Entry}
+use Rattle.member_turns.specs.Lower.locked_build.declared.ask.Entry.{Entry}
 use Rattle.member_turns.specs.Turns.{Turn, MadeOf}
 
 module _ {H A : Type 0} where

@@ -1,8 +1,8 @@
 //! The asks of a gate, each through a pass.
 ghost use Rattle.agent_worker.specs.declared.gate.GateCall.TheVariants as gate_call;
-ghost use Rattle.site_state.specs.Says.{Says};
+ghost use Rattle.locked_build.specs.Says.{Says};
 ghost use Rattle.program_lock.specs.Passes.{known, IsPassOf};
-ghost use Rattle.site_state.specs.declared.ask.Reply.TheVariants as says;
+ghost use Rattle.locked_build.specs.declared.ask.Reply.TheVariants as says;
 ghost use Rattle.std.specs.Prelude.{◌≡◌};
 ghost use Rattle.member_turns.specs.Asking.{WasCalled, IsTaken, IsClaimed, IsInputs, IsHeard};
 ghost use Rattle.member_turns.specs.Tales.{is_of_task};
@@ -10,11 +10,11 @@ ghost use Rattle.member_turns.specs.Tales.{is_of_task};
 use agent_worker::{Claim, Heard, Inputs};
 use journal_core::TakeFault;
 use jp_disk::Disk;
+use locked_build::saved_thread::SavedThread;
+use locked_build::{Ask, Reply, SiteState};
 use model_run::{Event, Taken};
 use model_text::Bytes;
 use program_lock::{Pass, Program};
-use site_state::saved_thread::SavedThread;
-use site_state::{Ask, Reply, SiteState};
 use std::alloc::{AllocError, Global};
 use std::sync::Wait;
 

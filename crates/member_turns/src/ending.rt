@@ -2,7 +2,7 @@
 ghost use Rattle.std.specs.Prelude.{◌≡◌};
 ghost use Rattle.member_turns.specs.Ending.{can_read, goes_by};
 
-use crate::site_state::Progress;
+use crate::locked_build::Progress;
 use agent_worker::Member;
 
 /// Whether it is an operator whose answers are neither at their end nor failed.

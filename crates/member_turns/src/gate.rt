@@ -2,7 +2,7 @@
 ghost use Rattle.std.specs.Prelude.{◌≡◌, [], false, length};
 ghost use Rattle.member_turns.specs.Called.{calls_of};
 ghost use Rattle.member_turns.specs.Saying.{WereAnswered};
-ghost use Rattle.site_state.specs.Says.{Says};
+ghost use Rattle.locked_build.specs.Says.{Says};
 ghost use Rattle.program_lock.specs.Passes.{known, IsPassOf};
 
 use crate::asks::{ask_answer, ask_claim, ask_halt, ask_inputs, ask_take};
@@ -11,10 +11,10 @@ use crate::place::Place;
 use agent_worker::{Claim, ClaimSaid, Gate, Heard, Inputs, Said};
 use journal_core::TakeFault;
 use jp_disk::Disk;
+use locked_build::SiteState;
+use locked_build::saved_thread::SavedThread;
 use model_run::{Event, Taken};
 use program_lock::{Pass, Program};
-use site_state::SiteState;
-use site_state::saved_thread::SavedThread;
 use std::alloc::Global;
 use std::marker::PhantomData;
 use std::snapshot::Snapshot;

@@ -35,9 +35,9 @@ mod turn;
 
 pub use gate::SiteGate;
 pub use life::live_in_threads;
+pub use locked_build;
+pub use locked_build::saved_thread;
 pub use place::Place;
 pub use round::take_round_in_threads;
 pub use seat::Seat;
-pub use site_state;
-pub use site_state::saved_thread;
 pub use turn::work_through;

@@ -2,19 +2,19 @@
 ghost use Rattle.std.specs.Prelude.{◌≡◌, ◌≤◌, ◌<◌, [], length, map, IfOk, IfErr, Some};
 ghost use Rattle.program_lock.specs.Passes.{known, IsPassOf};
 ghost use Rattle.program_lock.specs.Views.{all_parts};
-ghost use Rattle.member_turns.specs.Lower.site_state.Says.{Says};
+ghost use Rattle.member_turns.specs.Lower.locked_build.Says.{Says};
 ghost use Rattle.member_turns.specs.Lives.{Life};
 ghost use Rattle.member_turns.specs.Passing.{TakesRounds};
 ghost use Rattle.member_turns.specs.Turns.{DidTurn};
 ghost use Rattle.member_turns.specs.Ready.{AreReady};
 
 use crate::ending::goes_on;
+use crate::locked_build::{Progress, SiteState};
 use crate::looking::{look, pause};
 use crate::round::take_round_in_threads;
 use crate::saved_thread::SavedThread;
 use crate::seat::Seat;
 use crate::seating::{can_answer, seated, unseat};
-use crate::site_state::{Progress, SiteState};
 use agent_worker::Member;
 use jp_disk::Disk;
 use jp_io::Source;

@@ -2,13 +2,13 @@
 ghost use Rattle.std.specs.Prelude.{◌≡◌};
 ghost use Rattle.program_lock.specs.Calls.{Steps};
 ghost use Rattle.program_lock.specs.Passes.{known, IsPassOf};
-ghost use Rattle.member_turns.specs.Lower.site_state.Says.{Says};
-ghost use Rattle.member_turns.specs.Lower.site_state.declared.ask.Ask.TheVariants as asks;
-ghost use Rattle.member_turns.specs.Lower.site_state.declared.ask.Reply.TheVariants as says;
+ghost use Rattle.member_turns.specs.Lower.locked_build.Says.{Says};
+ghost use Rattle.member_turns.specs.Lower.locked_build.declared.ask.Ask.TheVariants as asks;
+ghost use Rattle.member_turns.specs.Lower.locked_build.declared.ask.Reply.TheVariants as says;
 ghost use Rattle.member_turns.specs.Passing.{IsProgress};
 
+use crate::locked_build::{Ask, Progress, Reply, SiteState};
 use crate::saved_thread::SavedThread;
-use crate::site_state::{Ask, Progress, Reply, SiteState};
 use jp_disk::Disk;
 use program_lock::{Pass, Program};
 use std::sync::Wait;

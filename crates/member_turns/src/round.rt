@@ -4,16 +4,16 @@ ghost use Rattle.std.specs.List.{AllZip, AllByRecursion as AllAre};
 ghost use Rattle.program_lock.specs.Calls.{Splits, Joins};
 ghost use Rattle.program_lock.specs.Passes.{known};
 ghost use Rattle.program_lock.specs.Views.{all_parts};
-ghost use Rattle.member_turns.specs.Lower.site_state.Says.{Says};
+ghost use Rattle.member_turns.specs.Lower.locked_build.Says.{Says};
 ghost use Rattle.member_turns.specs.Passing.{TakesRound};
 ghost use Rattle.member_turns.specs.Turns.{DidTurn};
 ghost use Rattle.member_turns.specs.Ready.{AreReady};
 ghost use Rattle.member_turns.specs.Seats.{HandsOut, TakesIn};
 ghost use Rattle.member_turns.specs.Serving.{Serves};
 
+use crate::locked_build::SiteState;
 use crate::saved_thread::SavedThread;
 use crate::seat::Seat;
-use crate::site_state::SiteState;
 use jp_disk::Disk;
 use jp_io::Source;
 use program_lock::{Memory, Pass, work_in_threads};

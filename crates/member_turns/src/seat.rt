@@ -2,9 +2,9 @@
 ghost use Rattle.std.specs.Prelude.{◌≡◌, ◌<◌, Some};
 ghost use Rattle.program_lock.specs.Passes.{IsPassOf};
 
+use crate::locked_build::SiteState;
 use crate::member_turns::work_through;
 use crate::saved_thread::SavedThread;
-use crate::site_state::SiteState;
 use agent_worker::Member;
 use jp_disk::Disk;
 use jp_io::Source;
@@ -32,7 +32,7 @@ pub struct Seat<'a, W: Wait, D: Disk, R: SavedThread + Drop, H, A> {
 impl<'a, W: Wait + Clock + AllocGlobal, D: Disk, R: SavedThread + Drop, H: Host, A: Source> Worker
     for Seat<'a, W, D, R, H, A> {
     ghost use Rattle.std.specs.Prelude.{◌≡◌};
-    ghost use Rattle.member_turns.specs.Lower.site_state.Says.{Says};
+    ghost use Rattle.member_turns.specs.Lower.locked_build.Says.{Says};
     ghost use Rattle.member_turns.specs.Turns.{DidTurn};
     ghost use Rattle.member_turns.specs.Serving.{Serves};
 

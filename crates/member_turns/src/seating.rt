@@ -4,9 +4,9 @@ ghost use Rattle.member_turns.specs.Ending.{can_answer};
 ghost use Rattle.member_turns.specs.Ready.{AreReady};
 
 use crate::ending::can_read;
+use crate::locked_build::SiteState;
 use crate::saved_thread::SavedThread;
 use crate::seat::Seat;
-use crate::site_state::SiteState;
 use agent_worker::Member;
 use jp_disk::Disk;
 use program_lock::{Memory, Program};

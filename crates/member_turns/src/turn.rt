@@ -1,6 +1,6 @@
 //! A turn of one member.
 ghost use Rattle.std.specs.Prelude.{◌≡◌, ◌<◌, length};
-ghost use Rattle.site_state.specs.Says.{Says};
+ghost use Rattle.locked_build.specs.Says.{Says};
 ghost use Rattle.program_lock.specs.Passes.{known, IsPassOf};
 ghost use Rattle.agent_worker.specs.MemberWork.{WorksAs};
 ghost use Rattle.agent_worker.specs.Working.{telling};
@@ -11,9 +11,9 @@ use crate::place::Place;
 use agent_worker::{Member, Worked, work};
 use jp_disk::Disk;
 use jp_io::Source;
+use locked_build::SiteState;
+use locked_build::saved_thread::SavedThread;
 use program_lock::{Pass, Program};
-use site_state::SiteState;
-use site_state::saved_thread::SavedThread;
 use std::alloc::{AllocGlobal, Global};
 use std::marker::Brand;
 use std::sync::Wait;

@@ -20,16 +20,16 @@ use Rattle.model_run.specs.World.{world_in}
 use Rattle.build_store.specs.Lower.durable_build.Settings.{IsProper}
 use Rattle.settle_laws.specs.Stances.{Stance}
 use Rattle.task_host.specs.declared.order.Order.{Order}
-use Rattle.member_turns.specs.Lower.site_state.declared.ask.Ask.{Ask}
-use Rattle.member_turns.specs.Lower.site_state.declared.ask.Ask.TheVariants as ask
-use Rattle.member_turns.specs.Lower.site_state.declared.ask.Entry.{Entry}
-use Rattle.member_turns.specs.Lower.site_state.declared.ask.Entry.TheVariants.{Took, Claimed, Line, Failed}
-use Rattle.member_turns.specs.Lower.site_state.declared.ask.Reply.{Reply}
-use Rattle.member_turns.specs.Lower.site_state.declared.ask.Reply.TheVariants as reply
-use Rattle.member_turns.specs.Lower.site_state.Claims.{first_free, is_free, order_as, within_u32}
-use Rattle.member_turns.specs.Lower.site_state.Histories.{kept_fault, tooks}
-use Rattle.member_turns.specs.Lower.site_state.Says.{Answers, SaysAt, Says}
-use Rattle.member_turns.proofs.Lower.site_state.HistoryLaws.{kept_fault-append, no_fault, tooks-append}
+use Rattle.member_turns.specs.Lower.locked_build.declared.ask.Ask.{Ask}
+use Rattle.member_turns.specs.Lower.locked_build.declared.ask.Ask.TheVariants as ask
+use Rattle.member_turns.specs.Lower.locked_build.declared.ask.Entry.{Entry}
+use Rattle.member_turns.specs.Lower.locked_build.declared.ask.Entry.TheVariants.{Took, Claimed, Line, Failed}
+use Rattle.member_turns.specs.Lower.locked_build.declared.ask.Reply.{Reply}
+use Rattle.member_turns.specs.Lower.locked_build.declared.ask.Reply.TheVariants as reply
+use Rattle.member_turns.specs.Lower.locked_build.Claims.{first_free, is_free, order_as, within_u32}
+use Rattle.member_turns.specs.Lower.locked_build.Histories.{kept_fault, tooks}
+use Rattle.member_turns.specs.Lower.locked_build.Says.{Answers, SaysAt, Says}
+use Rattle.member_turns.proofs.Lower.locked_build.HistoryLaws.{kept_fault-append, no_fault, tooks-append}
 use Rattle.member_turns.specs.Coming.{EachIs}
 use Rattle.member_turns.specs.Orders.{AllAnswered, AnsweredIn}
 use Rattle.member_turns.specs.Turns.{IsIn, Turn}

@@ -17,16 +17,16 @@ use Rattle.build_store.specs.Lower.durable_build.Standing.{Kept}
 use Rattle.site_run.specs.declared.resting.Rest.{Rest}
 use Rattle.site_run.specs.declared.resting.Rest.TheVariants.{Ended, Waits, AnswersFailed}
 use Rattle.settle_laws.specs.Stances.{Stance}
-use Rattle.member_turns.specs.Lower.site_state.declared.ask.Ask.{Ask}
+use Rattle.member_turns.specs.Lower.locked_build.declared.ask.Ask.{Ask}
 use Rattle.model_run.specs.declared.event.Event.{Event}
 use Rattle.build_store.specs.Lives.{TellsFault}
-use Rattle.member_turns.specs.Lower.site_state.declared.ask.Entry.{Entry}
-use Rattle.member_turns.specs.Lower.site_state.declared.ask.Entry.TheVariants.{Took, Claimed, Line, Failed}
-use Rattle.member_turns.specs.Lower.site_state.declared.ask.Progress.{Progress}
-use Rattle.member_turns.specs.Lower.site_state.declared.ask.Reply.{Reply}
-use Rattle.member_turns.specs.Lower.site_state.Facts.{Facts, IsFull, IsFullAt, IsSite}
-use Rattle.member_turns.specs.Lower.site_state.Grants.{OpenRefuses}
-use Rattle.member_turns.specs.Lower.site_state.Histories.{kept_fault}
+use Rattle.member_turns.specs.Lower.locked_build.declared.ask.Entry.{Entry}
+use Rattle.member_turns.specs.Lower.locked_build.declared.ask.Entry.TheVariants.{Took, Claimed, Line, Failed}
+use Rattle.member_turns.specs.Lower.locked_build.declared.ask.Progress.{Progress}
+use Rattle.member_turns.specs.Lower.locked_build.declared.ask.Reply.{Reply}
+use Rattle.member_turns.specs.Lower.locked_build.Facts.{Facts, IsFull, IsFullAt, IsSite}
+use Rattle.member_turns.specs.Lower.locked_build.Grants.{OpenRefuses}
+use Rattle.member_turns.specs.Lower.locked_build.Histories.{kept_fault}
 use Rattle.member_turns.specs.Lives.{Life, LifeOf}
 use Rattle.member_turns.specs.Ways.{Way}
 use Rattle.member_turns.specs.Turns.{DidTurn}

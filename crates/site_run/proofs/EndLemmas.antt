@@ -14,9 +14,9 @@ use Rattle.model_run.specs.World as W
 use Rattle.site_run.specs.declared.resting.Rest.TheVariants.{Waits, AnswersFailed}
 use Rattle.build_store.specs.Lower.durable_build.Settings.{IsProper}
 use Rattle.settle_laws.specs.Stances.{Stance}
-use Rattle.member_turns.specs.Lower.site_state.declared.ask.Progress.{Progress}
-use Rattle.member_turns.specs.Lower.site_state.Claims.{within_u32}
-use Rattle.member_turns.specs.Lower.site_state.Showing.{IsSettled}
+use Rattle.member_turns.specs.Lower.locked_build.declared.ask.Progress.{Progress}
+use Rattle.member_turns.specs.Lower.locked_build.Claims.{within_u32}
+use Rattle.member_turns.specs.Lower.locked_build.Showing.{IsSettled}
 use Rattle.member_turns.specs.Ending.{can_answer, goes_on}
 use Rattle.site_run.specs.Ending.{any_failed, AllReadOut, RestsWith, rest_of}
 use Rattle.site_run.specs.Going.{Comes, by_grant, by_report, by_line, GoesBy, begins, takes, passes}

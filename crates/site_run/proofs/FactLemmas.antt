@@ -27,14 +27,14 @@ use Rattle.std.specs.List.{AllByRecursion as AllAre}
 use Rattle.build_store.specs.Lower.durable_build.Standing.{IsWhole, Kept, Keeps}
 use Rattle.build_store.proofs.Lower.durable_build.OpenLemmas.{begun_all}
 use Rattle.site_run.specs.declared.resting.Rest.{Rest}
-use Rattle.member_turns.specs.Lower.site_state.declared.ask.Entry.{Entry}
-use Rattle.member_turns.specs.Lower.site_state.declared.ask.Entry.TheVariants.{Took, Claimed, Line, Failed}
-use Rattle.member_turns.specs.Lower.site_state.declared.ask.Progress.{Progress}
-use Rattle.member_turns.specs.Lower.site_state.Facts.{Facts, GoOn, Grown, HasFront, IsFullAt, IsMeant, IsSite, IsSizedAt}
-use Rattle.member_turns.specs.Lower.site_state.Histories.{tooks, kept_fault}
-use Rattle.member_turns.specs.Lower.site_state.Showing.{IsShown}
-use Rattle.member_turns.proofs.Lower.site_state.FactLaws.{all_append, on_so_far, whole_so_far}
-use Rattle.member_turns.proofs.Lower.site_state.HistoryLaws.{kept_fault-append, no_fault, none_pending, pending-append, tooks-append}
+use Rattle.member_turns.specs.Lower.locked_build.declared.ask.Entry.{Entry}
+use Rattle.member_turns.specs.Lower.locked_build.declared.ask.Entry.TheVariants.{Took, Claimed, Line, Failed}
+use Rattle.member_turns.specs.Lower.locked_build.declared.ask.Progress.{Progress}
+use Rattle.member_turns.specs.Lower.locked_build.Facts.{Facts, GoOn, Grown, HasFront, IsFullAt, IsMeant, IsSite, IsSizedAt}
+use Rattle.member_turns.specs.Lower.locked_build.Histories.{tooks, kept_fault}
+use Rattle.member_turns.specs.Lower.locked_build.Showing.{IsShown}
+use Rattle.member_turns.proofs.Lower.locked_build.FactLaws.{all_append, on_so_far, whole_so_far}
+use Rattle.member_turns.proofs.Lower.locked_build.HistoryLaws.{kept_fault-append, no_fault, none_pending, pending-append, tooks-append}
 use Rattle.site_run.specs.Ending.{ended_as}
 use Rattle.site_run.specs.Lives.{KeepsOn}
 use Rattle.site_run.proofs.StoreLemmas.{due_append, events-append, follows_append, no_payloads, no_records}

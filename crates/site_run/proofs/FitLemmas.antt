@@ -22,11 +22,11 @@ use Rattle.model_run.specs.State.{Setting}
 use Rattle.model_run.specs.Terms.{term}
 use Rattle.model_run.specs.World.{world_in}
 use Rattle.settle_laws.specs.Stances.{Stance}
-use Rattle.member_turns.specs.Lower.site_state.declared.ask.Entry.{Entry}
-use Rattle.member_turns.specs.Lower.site_state.declared.ask.Entry.TheVariants.{Took, Claimed, Line, Failed}
-use Rattle.member_turns.specs.Lower.site_state.declared.ask.Progress.{Progress}
-use Rattle.member_turns.specs.Lower.site_state.Histories.{tooks}
-use Rattle.member_turns.specs.Lower.site_state.Says.{Says}
+use Rattle.member_turns.specs.Lower.locked_build.declared.ask.Entry.{Entry}
+use Rattle.member_turns.specs.Lower.locked_build.declared.ask.Entry.TheVariants.{Took, Claimed, Line, Failed}
+use Rattle.member_turns.specs.Lower.locked_build.declared.ask.Progress.{Progress}
+use Rattle.member_turns.specs.Lower.locked_build.Histories.{tooks}
+use Rattle.member_turns.specs.Lower.locked_build.Says.{Says}
 use Rattle.member_turns.specs.Tales.{asked_for, claimed_of, failed_of, is_grant, told_of}
 use Rattle.member_turns.specs.Turning.{tasks_of}
 use Rattle.member_turns.proofs.LaunchLaws.{launches_differ}

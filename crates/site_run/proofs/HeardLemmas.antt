@@ -29,12 +29,12 @@ use Rattle.build_store.specs.Lower.build_core.Builds.{Parts}
 use Rattle.settle_laws.specs.Stances.{Stance}
 use Rattle.task_host.specs.declared.call.Call.{Call}
 use Rattle.task_host.specs.declared.order.Stream.{Stream}
-use Rattle.member_turns.specs.Lower.site_state.declared.ask.Ask.{Ask as AskState}
-use Rattle.member_turns.specs.Lower.site_state.declared.ask.Entry.{Entry}
-use Rattle.member_turns.specs.Lower.site_state.declared.ask.Progress.{Progress}
-use Rattle.member_turns.specs.Lower.site_state.declared.ask.Reply.{Reply}
-use Rattle.member_turns.specs.Lower.site_state.Histories.{kept_fault, lines}
-use Rattle.member_turns.specs.Lower.site_state.Says.{Says}
+use Rattle.member_turns.specs.Lower.locked_build.declared.ask.Ask.{Ask as AskState}
+use Rattle.member_turns.specs.Lower.locked_build.declared.ask.Entry.{Entry}
+use Rattle.member_turns.specs.Lower.locked_build.declared.ask.Progress.{Progress}
+use Rattle.member_turns.specs.Lower.locked_build.declared.ask.Reply.{Reply}
+use Rattle.member_turns.specs.Lower.locked_build.Histories.{kept_fault, lines}
+use Rattle.member_turns.specs.Lower.locked_build.Says.{Says}
 use Rattle.member_turns.specs.Tales.{tells_of}
 use Rattle.member_turns.proofs.TaleLemmas.{lines-append}
 use Rattle.member_turns.specs.Lives.{EndsWith, Life}

@@ -3,4 +3,4 @@ pub use Rattle.build_store.proofs as build_store
 pub use Rattle.build_store.proofs.Lower.durable_build
 pub use Rattle.build_store.proofs.Lower.store_laws
 pub use Rattle.member_turns.proofs as member_turns
-pub use Rattle.member_turns.proofs.Lower.site_state
+pub use Rattle.member_turns.proofs.Lower.locked_build

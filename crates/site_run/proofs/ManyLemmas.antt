@@ -23,8 +23,8 @@ use Rattle.build_store.specs.Lower.durable_build.Settings.{IsProper}
 use Rattle.settle_laws.specs.Stances.{Stance}
 use Rattle.build_store.specs.Lives.{Fails, IsOf, Lasts, MayRisk}
 use Rattle.build_store.specs.Saved.{IsTold, Stores}
-use Rattle.member_turns.specs.Lower.site_state.declared.ask.Entry.{Entry}
-use Rattle.member_turns.specs.Lower.site_state.Histories.{tooks}
+use Rattle.member_turns.specs.Lower.locked_build.declared.ask.Entry.{Entry}
+use Rattle.member_turns.specs.Lower.locked_build.Histories.{tooks}
 use Rattle.member_turns.specs.Turns.{Turn}
 use Rattle.site_run.specs.Lives.{Ends, EndsBehind, OpeningBreaks}
 use Rattle.site_run.specs.ManyLives.{Lives, OneLife, led, more, one, refused}

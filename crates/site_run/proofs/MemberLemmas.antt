@@ -18,9 +18,9 @@ use Rattle.agent_worker.specs.Gate.{Becomes, Told, Claimed as ClaimedTask}
 use Rattle.task_host.specs.declared.call.Call.TheVariants as call
 use Rattle.agent_worker.specs.Acts.{Act, Called, Reported, with_calls}
 use Rattle.agent_worker.specs.Working.{Deed, Claims, Serves, Pauses, Halts, AreOf, on_host, work_calls}
-use Rattle.member_turns.specs.Lower.site_state.declared.ask.Ask.{Ask}
-use Rattle.member_turns.specs.Lower.site_state.declared.ask.Entry.{Entry}
-use Rattle.member_turns.specs.Lower.site_state.declared.ask.Reply.{Reply}
+use Rattle.member_turns.specs.Lower.locked_build.declared.ask.Ask.{Ask}
+use Rattle.member_turns.specs.Lower.locked_build.declared.ask.Entry.{Entry}
+use Rattle.member_turns.specs.Lower.locked_build.declared.ask.Reply.{Reply}
 use Rattle.member_turns.specs.Tales.{claimed_of, told_of, tells_of}
 use Rattle.member_turns.specs.Turning.{tasks_of}
 use Rattle.member_turns.specs.Served.{Executed}

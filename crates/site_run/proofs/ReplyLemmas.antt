@@ -29,19 +29,19 @@ use Rattle.build_store.proofs.Lower.durable_build.Sizes.{due_adds}
 use Rattle.build_store.specs.Lives.{image_after}
 use Rattle.settle_laws.specs.Stances.{Stance}
 use Rattle.build_store.proofs.Lower.store_laws.Stories.{world-more}
-use Rattle.member_turns.specs.Lower.site_state.declared.ask.Ask.{Ask}
-use Rattle.member_turns.specs.Lower.site_state.declared.ask.Ask.TheVariants as ask
-use Rattle.member_turns.specs.Lower.site_state.declared.ask.Entry.{Entry}
-use Rattle.member_turns.specs.Lower.site_state.declared.ask.Entry.TheVariants.{Took, Claimed, Line, Failed}
-use Rattle.member_turns.specs.Lower.site_state.declared.ask.Progress.{Progress}
-use Rattle.member_turns.specs.Lower.site_state.declared.ask.Reply.{Reply}
-use Rattle.member_turns.specs.Lower.site_state.declared.ask.Reply.TheVariants as reply
-use Rattle.member_turns.specs.Lower.site_state.Claims.{ClaimSays, busy_of, within_u32}
-use Rattle.member_turns.specs.Lower.site_state.Grants.{Grants, MayFail, RecordAdds, TakeSays, none_due, granted, refused, not_found}
-use Rattle.member_turns.specs.Lower.site_state.Hearing.{AnswerSays}
-use Rattle.member_turns.specs.Lower.site_state.Histories.{kept_fault, tooks}
-use Rattle.member_turns.specs.Lower.site_state.Says.{Answers, SaysAt, Says}
-use Rattle.member_turns.specs.Lower.site_state.Showing.{IsShown}
+use Rattle.member_turns.specs.Lower.locked_build.declared.ask.Ask.{Ask}
+use Rattle.member_turns.specs.Lower.locked_build.declared.ask.Ask.TheVariants as ask
+use Rattle.member_turns.specs.Lower.locked_build.declared.ask.Entry.{Entry}
+use Rattle.member_turns.specs.Lower.locked_build.declared.ask.Entry.TheVariants.{Took, Claimed, Line, Failed}
+use Rattle.member_turns.specs.Lower.locked_build.declared.ask.Progress.{Progress}
+use Rattle.member_turns.specs.Lower.locked_build.declared.ask.Reply.{Reply}
+use Rattle.member_turns.specs.Lower.locked_build.declared.ask.Reply.TheVariants as reply
+use Rattle.member_turns.specs.Lower.locked_build.Claims.{ClaimSays, busy_of, within_u32}
+use Rattle.member_turns.specs.Lower.locked_build.Grants.{Grants, MayFail, RecordAdds, TakeSays, none_due, granted, refused, not_found}
+use Rattle.member_turns.specs.Lower.locked_build.Hearing.{AnswerSays}
+use Rattle.member_turns.specs.Lower.locked_build.Histories.{kept_fault, tooks}
+use Rattle.member_turns.specs.Lower.locked_build.Says.{Answers, SaysAt, Says}
+use Rattle.member_turns.specs.Lower.locked_build.Showing.{IsShown}
 use Rattle.member_turns.specs.Coming.{EachIs}
 use Rattle.site_run.specs.Replies as its
 use Rattle.site_run.specs.Telling.{ClaimedInTime}

@@ -31,11 +31,11 @@ use Rattle.build_store.proofs.Lower.durable_build.OpenLemmas.{begun_all}
 use Rattle.build_store.proofs.Lower.durable_build.Sizes.{due_adds}
 use Rattle.build_store.specs.Saved.{IsTold, IsFront, Saves, Stores, Survives}
 use Rattle.build_store.specs.Lives.{IsFull as IsFullOf, IsOf, Lasts, Fails, MayRisk, TellsStore, image_after}
-use Rattle.member_turns.specs.Lower.site_state.declared.ask.Entry.{Entry}
-use Rattle.member_turns.specs.Lower.site_state.declared.ask.Entry.TheVariants.{Took, Claimed, Line, Failed}
-use Rattle.member_turns.specs.Lower.site_state.Facts.{Facts, Grown, HasFront, IsFull, IsFullAt, IsMeant, IsSized, IsSizedAt}
-use Rattle.member_turns.specs.Lower.site_state.Histories.{tooks, kept_fault, pending, at_risk}
-use Rattle.member_turns.proofs.Lower.site_state.HistoryLaws.{tooks-append, no_fault, none_pending, pending-append}
+use Rattle.member_turns.specs.Lower.locked_build.declared.ask.Entry.{Entry}
+use Rattle.member_turns.specs.Lower.locked_build.declared.ask.Entry.TheVariants.{Took, Claimed, Line, Failed}
+use Rattle.member_turns.specs.Lower.locked_build.Facts.{Facts, Grown, HasFront, IsFull, IsFullAt, IsMeant, IsSized, IsSizedAt}
+use Rattle.member_turns.specs.Lower.locked_build.Histories.{tooks, kept_fault, pending, at_risk}
+use Rattle.member_turns.proofs.Lower.locked_build.HistoryLaws.{tooks-append, no_fault, none_pending, pending-append}
 use Rattle.site_run.proofs.WalkLemmas.{IsFaultOf, ShowsAll, shows_shown}
 use Rattle.jp_disk.specs.View.{DiskView}
 

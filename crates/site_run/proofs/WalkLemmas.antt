@@ -40,21 +40,21 @@ use Rattle.site_run.proofs.Decisions.{decided, grant_accepted}
 use Rattle.settle_laws.specs.Stances.{Stance}
 use Rattle.build_store.specs.Lower.store_laws.Store.{grant_of}
 use Rattle.build_store.proofs.Lower.store_laws.Stories.{world-more}
-use Rattle.member_turns.specs.Lower.site_state.declared.ask.Ask.{Ask}
-use Rattle.member_turns.specs.Lower.site_state.declared.ask.Ask.TheVariants as ask
-use Rattle.member_turns.specs.Lower.site_state.declared.ask.Reply.{Reply}
-use Rattle.member_turns.specs.Lower.site_state.declared.ask.Reply.TheVariants as reply
-use Rattle.member_turns.specs.Lower.site_state.declared.ask.Entry.{Entry}
-use Rattle.member_turns.specs.Lower.site_state.declared.ask.Entry.TheVariants.{Took, Claimed, Line, Failed}
-use Rattle.member_turns.specs.Lower.site_state.Claims.{ClaimSays, first_free, is_free, is_task_of}
-use Rattle.member_turns.specs.Lower.site_state.Grants.{Grants, TakeSays, none_due, granted, refused, not_found}
-use Rattle.member_turns.specs.Lower.site_state.Hearing as hearing
-use Rattle.member_turns.specs.Lower.site_state.Hearing.{AnswerSays, IsSkipped}
-use Rattle.member_turns.specs.Lower.site_state.Histories.{tooks, kept_fault, lines, is_claimed}
-use Rattle.member_turns.specs.Lower.site_state.Says.{Answers, SaysAt, Says}
-use Rattle.member_turns.specs.Lower.site_state.Showing.{answer_of, due, IsNext, IsSettled, IsShown}
-use Rattle.member_turns.proofs.Lower.site_state.HistoryLaws.{tooks-append, kept_fault-append, no_fault}
-use Rattle.member_turns.proofs.Lower.site_state.WorldLaws.{same_standing, same_answer, same_due}
+use Rattle.member_turns.specs.Lower.locked_build.declared.ask.Ask.{Ask}
+use Rattle.member_turns.specs.Lower.locked_build.declared.ask.Ask.TheVariants as ask
+use Rattle.member_turns.specs.Lower.locked_build.declared.ask.Reply.{Reply}
+use Rattle.member_turns.specs.Lower.locked_build.declared.ask.Reply.TheVariants as reply
+use Rattle.member_turns.specs.Lower.locked_build.declared.ask.Entry.{Entry}
+use Rattle.member_turns.specs.Lower.locked_build.declared.ask.Entry.TheVariants.{Took, Claimed, Line, Failed}
+use Rattle.member_turns.specs.Lower.locked_build.Claims.{ClaimSays, first_free, is_free, is_task_of}
+use Rattle.member_turns.specs.Lower.locked_build.Grants.{Grants, TakeSays, none_due, granted, refused, not_found}
+use Rattle.member_turns.specs.Lower.locked_build.Hearing as hearing
+use Rattle.member_turns.specs.Lower.locked_build.Hearing.{AnswerSays, IsSkipped}
+use Rattle.member_turns.specs.Lower.locked_build.Histories.{tooks, kept_fault, lines, is_claimed}
+use Rattle.member_turns.specs.Lower.locked_build.Says.{Answers, SaysAt, Says}
+use Rattle.member_turns.specs.Lower.locked_build.Showing.{answer_of, due, IsNext, IsSettled, IsShown}
+use Rattle.member_turns.proofs.Lower.locked_build.HistoryLaws.{tooks-append, kept_fault-append, no_fault}
+use Rattle.member_turns.proofs.Lower.locked_build.WorldLaws.{same_standing, same_answer, same_due}
 use Rattle.member_turns.specs.Tales.{is_grant, claimed_of}
 use Rattle.member_turns.specs.Coming.{BehindItsLine, Came, EachIs, FailedSo, is_decision}
 use Rattle.member_turns.proofs.PartLemmas.{all_append, all_map}

@@ -28,16 +28,16 @@ use Rattle.model_run.specs.World as W
 use Rattle.site_run.specs.declared.resting.Rest.{Rest}
 use Rattle.settle_laws.specs.Stances.{Stance}
 use Rattle.build_store.specs.Lives.{IsNext as ComesNext, Lasts, Fails}
-use Rattle.member_turns.specs.Lower.site_state.declared.ask.Ask.TheVariants.{Look}
-use Rattle.member_turns.specs.Lower.site_state.declared.ask.Entry.{Entry}
-use Rattle.member_turns.specs.Lower.site_state.declared.ask.Entry.TheVariants.{Failed}
-use Rattle.member_turns.specs.Lower.site_state.declared.ask.Progress.{Progress}
-use Rattle.member_turns.specs.Lower.site_state.declared.ask.Reply.TheVariants as reply
-use Rattle.member_turns.specs.Lower.site_state.Facts.{Facts, IsSite}
-use Rattle.member_turns.specs.Lower.site_state.Grants.{Grants, OpenRefuses, granted, none_due, not_found, refused}
-use Rattle.member_turns.specs.Lower.site_state.Histories.{tooks, kept_fault, lines}
-use Rattle.member_turns.specs.Lower.site_state.Says.{Answers as AnswersOf, SaysAt, Says}
-use Rattle.member_turns.proofs.Lower.site_state.HistoryLaws.{kept_fault-append, no_fault, tooks-append}
+use Rattle.member_turns.specs.Lower.locked_build.declared.ask.Ask.TheVariants.{Look}
+use Rattle.member_turns.specs.Lower.locked_build.declared.ask.Entry.{Entry}
+use Rattle.member_turns.specs.Lower.locked_build.declared.ask.Entry.TheVariants.{Failed}
+use Rattle.member_turns.specs.Lower.locked_build.declared.ask.Progress.{Progress}
+use Rattle.member_turns.specs.Lower.locked_build.declared.ask.Reply.TheVariants as reply
+use Rattle.member_turns.specs.Lower.locked_build.Facts.{Facts, IsSite}
+use Rattle.member_turns.specs.Lower.locked_build.Grants.{Grants, OpenRefuses, granted, none_due, not_found, refused}
+use Rattle.member_turns.specs.Lower.locked_build.Histories.{tooks, kept_fault, lines}
+use Rattle.member_turns.specs.Lower.locked_build.Says.{Answers as AnswersOf, SaysAt, Says}
+use Rattle.member_turns.proofs.Lower.locked_build.HistoryLaws.{kept_fault-append, no_fault, tooks-append}
 use Rattle.member_turns.specs.Tales.{is_grant, told_of}
 use Rattle.member_turns.proofs.TaleLemmas.{grants_silent, told-append}
 use Rattle.member_turns.specs.Coming.{Came, EachIs}

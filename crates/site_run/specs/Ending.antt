@@ -10,7 +10,7 @@ use Rattle.model_run.specs.State.{Setting}
 use Rattle.model_run.specs.World.{Build, next_grant}
 use Rattle.site_run.specs.declared.resting.Rest.{Rest}
 use Rattle.site_run.specs.declared.resting.Rest.TheVariants.{Ended, Waits, AnswersFailed}
-use Rattle.member_turns.specs.Lower.site_state.declared.ask.Progress.{Progress}
+use Rattle.member_turns.specs.Lower.locked_build.declared.ask.Progress.{Progress}
 
 module _ {H A : Type 0} where
   -- an operator whose answers could not be read

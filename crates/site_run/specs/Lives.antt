@@ -15,11 +15,11 @@ use Rattle.model_run.specs.World.{answer_to, world_in}
 use Rattle.settle_laws.specs.Stances.{Stance}
 use Rattle.site_run.specs.declared.resting.Rest.{Rest}
 use Rattle.build_store.specs.Lives.{Lasts, Fails}
-use Rattle.member_turns.specs.Lower.site_state.declared.ask.Ask.{Ask}
-use Rattle.member_turns.specs.Lower.site_state.declared.ask.Entry.{Entry}
-use Rattle.member_turns.specs.Lower.site_state.declared.ask.Progress.{Progress}
-use Rattle.member_turns.specs.Lower.site_state.declared.ask.Reply.{Reply}
-use Rattle.member_turns.specs.Lower.site_state.Histories.{kept_fault, lines, tooks}
+use Rattle.member_turns.specs.Lower.locked_build.declared.ask.Ask.{Ask}
+use Rattle.member_turns.specs.Lower.locked_build.declared.ask.Entry.{Entry}
+use Rattle.member_turns.specs.Lower.locked_build.declared.ask.Progress.{Progress}
+use Rattle.member_turns.specs.Lower.locked_build.declared.ask.Reply.{Reply}
+use Rattle.member_turns.specs.Lower.locked_build.Histories.{kept_fault, lines, tooks}
 use Rattle.member_turns.specs.Lives.{Life, LifeOf}
 use Rattle.member_turns.specs.Rounds.{turns_of}
 use Rattle.member_turns.specs.Turns.{Turn, Explains, HoldsOfOne}
@@ -34,8 +34,8 @@ use Rattle.launch_laws.specs.Fitting as fitting
 use Rattle.launch_laws.specs.Fitting.{AreApart, ExecutorHost, all_launches}
 use Rattle.std.specs.List.{AllByRecursion as AllAre, IsDistinct}
 use Rattle.member_turns.specs.Tales.{is_grant}
-use Rattle.member_turns.specs.Lower.site_state.Facts.{Facts, HasFront}
-use Rattle.member_turns.specs.Lower.site_state.Grants.{Grants}
+use Rattle.member_turns.specs.Lower.locked_build.Facts.{Facts, HasFront}
+use Rattle.member_turns.specs.Lower.locked_build.Grants.{Grants}
 use Rattle.jp_disk.specs.View.{DiskView}
 use Rattle.task_host.specs.View.{HostView}
 use Rattle.jp_io.specs.View.{SourceView}

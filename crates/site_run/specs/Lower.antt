@@ -8,4 +8,4 @@ pub use Rattle.build_store.specs.Lower.durable_build
 pub use Rattle.build_store.specs.Lower.record_form
 pub use Rattle.build_store.specs.Lower.store_laws
 pub use Rattle.member_turns.specs as member_turns
-pub use Rattle.member_turns.specs.Lower.site_state
+pub use Rattle.member_turns.specs.Lower.locked_build

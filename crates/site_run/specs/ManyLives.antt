@@ -12,7 +12,7 @@ use Rattle.site_run.specs.declared.resting.Rest.{Rest}
 use Rattle.settle_laws.specs.Stances.{Stance}
 use Rattle.build_store.specs.Lives.{Lasts}
 use Rattle.build_store.specs.Saved.{Stores}
-use Rattle.member_turns.specs.Lower.site_state.declared.ask.Entry.{Entry}
+use Rattle.member_turns.specs.Lower.locked_build.declared.ask.Entry.{Entry}
 use Rattle.member_turns.specs.Turns.{Turn}
 use Rattle.site_run.specs.Lives.{Ends, OpeningBreaks}
 use Rattle.site_run.specs.Serving.{AreHonest, AreServed, hosts_of}

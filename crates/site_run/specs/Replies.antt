@@ -18,17 +18,17 @@ use Rattle.build_store.specs.Lower.delta_records.declared.weights.Weights.{Weigh
 use Rattle.build_store.specs.Lower.durable_build.Taking.{DueAdds}
 use Rattle.program_lock.specs.Legal.{Answers}
 use Rattle.build_store.specs.Lives.{image_after}
-use Rattle.member_turns.specs.Lower.site_state.declared.ask.Ask.{Ask}
-use Rattle.member_turns.specs.Lower.site_state.declared.ask.Ask.TheVariants as ask
-use Rattle.member_turns.specs.Lower.site_state.declared.ask.Entry.{Entry}
-use Rattle.member_turns.specs.Lower.site_state.declared.ask.Entry.TheVariants.{Took, Line, Failed}
-use Rattle.member_turns.specs.Lower.site_state.declared.ask.Progress.{Progress}
-use Rattle.member_turns.specs.Lower.site_state.declared.ask.Reply.{Reply}
-use Rattle.member_turns.specs.Lower.site_state.declared.ask.Reply.TheVariants as reply
-use Rattle.member_turns.specs.Lower.site_state.Claims.{ClaimSays, busy_of, within_u32}
-use Rattle.member_turns.specs.Lower.site_state.Grants.{noted}
-use Rattle.member_turns.specs.Lower.site_state.Histories.{kept_fault, tooks}
-use Rattle.member_turns.specs.Lower.site_state.Says.{stopped_reply}
+use Rattle.member_turns.specs.Lower.locked_build.declared.ask.Ask.{Ask}
+use Rattle.member_turns.specs.Lower.locked_build.declared.ask.Ask.TheVariants as ask
+use Rattle.member_turns.specs.Lower.locked_build.declared.ask.Entry.{Entry}
+use Rattle.member_turns.specs.Lower.locked_build.declared.ask.Entry.TheVariants.{Took, Line, Failed}
+use Rattle.member_turns.specs.Lower.locked_build.declared.ask.Progress.{Progress}
+use Rattle.member_turns.specs.Lower.locked_build.declared.ask.Reply.{Reply}
+use Rattle.member_turns.specs.Lower.locked_build.declared.ask.Reply.TheVariants as reply
+use Rattle.member_turns.specs.Lower.locked_build.Claims.{ClaimSays, busy_of, within_u32}
+use Rattle.member_turns.specs.Lower.locked_build.Grants.{noted}
+use Rattle.member_turns.specs.Lower.locked_build.Histories.{kept_fault, tooks}
+use Rattle.member_turns.specs.Lower.locked_build.Says.{stopped_reply}
 use Rattle.site_run.specs.Going.{Decides, IsPassedOver}
 
 module _ (setting : Setting) where

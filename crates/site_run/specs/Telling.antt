@@ -14,10 +14,10 @@ use Rattle.model_run.specs.Fitting.{Some_of}
 use Rattle.model_run.specs.Requests.{IsTaskOf}
 use Rattle.model_run.specs.State.{Setting}
 use Rattle.model_run.specs.World.{world_in}
-use Rattle.member_turns.specs.Lower.site_state.declared.ask.Entry.{Entry}
-use Rattle.member_turns.specs.Lower.site_state.declared.ask.Entry.TheVariants.{Took, Claimed, Line, Failed}
-use Rattle.member_turns.specs.Lower.site_state.Claims.{order_as}
-use Rattle.member_turns.specs.Lower.site_state.Histories.{lines, tooks}
+use Rattle.member_turns.specs.Lower.locked_build.declared.ask.Entry.{Entry}
+use Rattle.member_turns.specs.Lower.locked_build.declared.ask.Entry.TheVariants.{Took, Claimed, Line, Failed}
+use Rattle.member_turns.specs.Lower.locked_build.Claims.{order_as}
+use Rattle.member_turns.specs.Lower.locked_build.Histories.{lines, tooks}
 use Rattle.site_run.specs.Going.{heard_in}
 use Rattle.jp_io.specs.View.{SourceView}
 

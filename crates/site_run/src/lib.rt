@@ -23,5 +23,5 @@ mod resting;
 pub use build_store;
 pub use build_store::{build_core, durable_build, saved_thread};
 pub use going::{Lived, go_on};
-pub use member_turns::site_state;
+pub use member_turns::locked_build;
 pub use resting::Rest;

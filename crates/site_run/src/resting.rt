@@ -3,7 +3,7 @@ ghost use Rattle.std.specs.Prelude.{◌≡◌};
 ghost use Rattle.site_run.specs.Ending.{any_failed, has_failed, rest_of};
 
 use agent_worker::Member;
-use member_turns::site_state::Progress;
+use member_turns::locked_build::Progress;
 
 /// Why a life rests.
 #[derive(Clone, Copy, Debug, PartialEq, Eq)]

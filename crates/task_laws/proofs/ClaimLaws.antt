@@ -19,15 +19,15 @@ use Rattle.settle_laws.specs.Stances.{Stance}
 use Rattle.site_run.proofs.Lower.member_turns.ClaimLaws.{free_order}
 use Rattle.site_run.proofs.StoreLemmas.{lasts_on}
 use Rattle.site_run.proofs.WalkLemmas.{ShowsAll, found_task, requests_are, shows_shown}
-use Rattle.site_run.specs.Lower.site_state.Claims.{ClaimSays}
-use Rattle.site_run.specs.Lower.site_state.Facts.{Facts, IsSite}
-use Rattle.site_run.specs.Lower.site_state.Histories.{Quiet, kept_fault, tooks}
-use Rattle.site_run.specs.Lower.site_state.Says.{Answers, Says, SaysAt}
-use Rattle.site_run.specs.Lower.site_state.Showing.{IsShown}
-use Rattle.site_run.specs.Lower.site_state.declared.ask.Ask.TheVariants as ask
-use Rattle.site_run.specs.Lower.site_state.declared.ask.Entry.{Entry}
-use Rattle.site_run.specs.Lower.site_state.declared.ask.Reply.TheVariants as reply
-use Rattle.site_run.proofs.Lower.site_state.HistoryLaws.{kept_fault-append, tooks-append}
+use Rattle.site_run.specs.Lower.locked_build.Claims.{ClaimSays}
+use Rattle.site_run.specs.Lower.locked_build.Facts.{Facts, IsSite}
+use Rattle.site_run.specs.Lower.locked_build.Histories.{Quiet, kept_fault, tooks}
+use Rattle.site_run.specs.Lower.locked_build.Says.{Answers, Says, SaysAt}
+use Rattle.site_run.specs.Lower.locked_build.Showing.{IsShown}
+use Rattle.site_run.specs.Lower.locked_build.declared.ask.Ask.TheVariants as ask
+use Rattle.site_run.specs.Lower.locked_build.declared.ask.Entry.{Entry}
+use Rattle.site_run.specs.Lower.locked_build.declared.ask.Reply.TheVariants as reply
+use Rattle.site_run.proofs.Lower.locked_build.HistoryLaws.{kept_fault-append, tooks-append}
 use Rattle.task_host.specs.declared.order.Order.{Order}
 use Rattle.task_laws.specs.Tasks.{HasOpenTask}
 use Rattle.jp_disk.specs.View.{DiskView}

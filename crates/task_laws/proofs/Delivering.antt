@@ -49,13 +49,13 @@ use Rattle.site_run.specs.Telling.{ClaimedInTime}
 use Rattle.site_run.proofs.FitLemmas.{made_says, told_taken}
 use Rattle.site_run.proofs.MemberLemmas.{SaysSo, Steps, rounds_steps, steps_of, steps_then}
 use Rattle.site_run.proofs.WalkLemmas.{of_tree, small}
-use Rattle.site_run.specs.Lower.site_state.Histories.{tooks}
-use Rattle.site_run.specs.Lower.site_state.declared.ask.Ask.{Ask}
-use Rattle.site_run.specs.Lower.site_state.declared.ask.Entry.{Entry}
-use Rattle.site_run.specs.Lower.site_state.declared.ask.Entry.TheVariants.{Took, Claimed, Line, Failed}
-use Rattle.site_run.specs.Lower.site_state.declared.ask.Progress.{Progress}
-use Rattle.site_run.specs.Lower.site_state.declared.ask.Reply.{Reply}
-use Rattle.site_run.proofs.Lower.site_state.HistoryLaws.{tooks-append}
+use Rattle.site_run.specs.Lower.locked_build.Histories.{tooks}
+use Rattle.site_run.specs.Lower.locked_build.declared.ask.Ask.{Ask}
+use Rattle.site_run.specs.Lower.locked_build.declared.ask.Entry.{Entry}
+use Rattle.site_run.specs.Lower.locked_build.declared.ask.Entry.TheVariants.{Took, Claimed, Line, Failed}
+use Rattle.site_run.specs.Lower.locked_build.declared.ask.Progress.{Progress}
+use Rattle.site_run.specs.Lower.locked_build.declared.ask.Reply.{Reply}
+use Rattle.site_run.proofs.Lower.locked_build.HistoryLaws.{tooks-append}
 use Rattle.world_laws.proofs.Places.{some_behind}
 use Rattle.task_laws.specs.Members.{AllDelivered, AreShort}
 use Rattle.task_laws.proofs.Serves.{caused_by}

@@ -17,10 +17,10 @@ use Rattle.site_run.specs.Lower.member_turns.Coming.{EachIs}
 use Rattle.site_run.specs.Lower.member_turns.Turns.{Turn}
 use Rattle.site_run.specs.Lives.{Ends, EndsBehind}
 use Rattle.site_run.specs.Telling.{ClaimedInTime}
-use Rattle.site_run.specs.Lower.site_state.Histories.{tooks}
-use Rattle.site_run.specs.Lower.site_state.declared.ask.Entry.{Entry}
-use Rattle.site_run.specs.Lower.site_state.declared.ask.Entry.TheVariants.{Took, Claimed, Line, Failed}
-use Rattle.site_run.proofs.Lower.site_state.HistoryLaws.{tooks-append}
+use Rattle.site_run.specs.Lower.locked_build.Histories.{tooks}
+use Rattle.site_run.specs.Lower.locked_build.declared.ask.Entry.{Entry}
+use Rattle.site_run.specs.Lower.locked_build.declared.ask.Entry.TheVariants.{Took, Claimed, Line, Failed}
+use Rattle.site_run.proofs.Lower.locked_build.HistoryLaws.{tooks-append}
 use Rattle.task_host.specs.declared.call.Call.{Call}
 use Rattle.task_host.specs.declared.order.Stream.{Stream}
 use Rattle.task_laws.specs.Tasks.{AllClaimed, HadOpenTask}

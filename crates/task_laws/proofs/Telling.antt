@@ -20,7 +20,7 @@ use Rattle.site_run.specs.Lower.member_turns.Served.{Executed}
 use Rattle.site_run.proofs.Lower.member_turns.PartLemmas.{all_append, all_map}
 use Rattle.site_run.specs.Lower.member_turns.Turns.{Turn, DidTurn, Work}
 use Rattle.site_run.proofs.MemberLemmas.{Steps}
-use Rattle.site_run.specs.Lower.site_state.declared.ask.Entry.{Entry}
+use Rattle.site_run.specs.Lower.locked_build.declared.ask.Entry.{Entry}
 use Rattle.world_laws.proofs.Places.{some_front, some_behind}
 use Rattle.task_host.specs.View.{HostView}
 use Rattle.jp_io.specs.View.{SourceView}

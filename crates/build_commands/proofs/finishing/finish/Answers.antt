@@ -14,7 +14,7 @@ use Rattle.build_commands.proofs.FinishLemmas.{finished_wanting}
 use Rattle.build_commands.proofs.KeepLemmas.{nothing_kept}
 use Rattle.build_commands.proofs.LaunchLemmas.{none_launched}
 use Rattle.site_run.specs.Lower.member_turns.Lives.{LifeOf, any_reply}
-use Rattle.site_run.specs.Lower.site_state.declared.ask.Entry.{Entry}
+use Rattle.site_run.specs.Lower.locked_build.declared.ask.Entry.{Entry}
 use Rattle.site_run.proofs.CloseLemmas.{no_turns}
 use Rattle.build_commands.proofs.LivingLemmas.{hosts_all, no_events, one_answer, stay_same, still_served}
 use Rattle.build_commands.proofs.finishing.finish.Goals as goal

@@ -7,9 +7,9 @@ use Rattle.agent_worker.specs.declared.member.Member.{Member}
 use Rattle.agent_worker.specs.Gate.{Told}
 use Rattle.site_run.specs.Lower.build_core.Builds.{Parts, StandsFor, setting_in}
 use Rattle.site_run.specs.Lower.build_images.Images.{image_in}
-use Rattle.site_run.specs.Lower.site_state.declared.ask.Entry.{Entry}
-use Rattle.site_run.specs.Lower.site_state.Histories.{lines, tooks}
-use Rattle.site_run.specs.Lower.site_state.Says.{Says}
+use Rattle.site_run.specs.Lower.locked_build.declared.ask.Entry.{Entry}
+use Rattle.site_run.specs.Lower.locked_build.Histories.{lines, tooks}
+use Rattle.site_run.specs.Lower.locked_build.Says.{Says}
 use Rattle.site_run.specs.Lower.member_turns.Lives.{LifeOf, any_reply}
 use Rattle.site_run.proofs.Lower.member_turns.OverLemmas.{life_over}
 use Rattle.site_run.specs.Lower.member_turns.Rounds.{turns_of}

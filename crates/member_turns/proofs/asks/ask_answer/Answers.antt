@@ -1,6 +1,6 @@
 use Rattle.std.proofs.Common.{subst, List, ℕ}
 use Rattle.program_lock.specs.Passes.{known}
-use Rattle.site_state.specs.declared.ask.Ask.TheVariants as asks
+use Rattle.locked_build.specs.declared.ask.Ask.TheVariants as asks
 use Rattle.agent_worker.specs.declared.gate.GateCall.TheVariants as gate_call
 use Rattle.member_turns.specs.Asking.{WasCalled}
 use Rattle.member_turns.proofs.AskLemmas.{asked_step, answer_replies}

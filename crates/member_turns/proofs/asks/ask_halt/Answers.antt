@@ -1,5 +1,5 @@
 use Rattle.program_lock.specs.Passes.{known}
-use Rattle.site_state.specs.declared.ask.Ask.TheVariants as asks
+use Rattle.locked_build.specs.declared.ask.Ask.TheVariants as asks
 use Rattle.member_turns.proofs.AskLemmas.{asked_step, halt_replies}
 use Rattle.member_turns.proofs.CallLemmas.{halt_step}
 use Rattle.member_turns.proofs.asks.ask_halt.Goals as goal

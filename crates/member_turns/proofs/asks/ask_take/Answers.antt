@@ -1,6 +1,6 @@
 use Rattle.std.proofs.Common.{rules}
 use Rattle.program_lock.specs.Passes.{known}
-use Rattle.site_state.specs.declared.ask.Ask.TheVariants as asks
+use Rattle.locked_build.specs.declared.ask.Ask.TheVariants as asks
 use Rattle.member_turns.proofs.AskLemmas.{asked_step, take_replies}
 use Rattle.member_turns.proofs.CallLemmas.{take_step, no_take}
 use Rattle.member_turns.proofs.asks.ask_take.Goals as goal

@@ -1,5 +1,5 @@
 use Rattle.std.proofs.Common.{◌≡◌, sym, ap}
-use Rattle.member_turns.specs.Lower.site_state.Says.{Says}
+use Rattle.member_turns.specs.Lower.locked_build.Says.{Says}
 use Rattle.member_turns.specs.Lives.{Life}
 use Rattle.member_turns.proofs.LivingLemmas.{ok_written, err_written}
 use Rattle.member_turns.proofs.SeatLemmas.{zip_length}

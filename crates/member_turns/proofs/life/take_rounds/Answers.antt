@@ -1,6 +1,6 @@
 use Rattle.std.proofs.Common.{rules, ◌≤◌, ◌∙◌, ℕ, refl, sym, subst, map}
 use Rattle.program_lock.specs.Passes.{known}
-use Rattle.member_turns.specs.Lower.site_state.Says.{Says}
+use Rattle.member_turns.specs.Lower.locked_build.Says.{Says}
 use Rattle.member_turns.specs.Passing.{TakesRounds}
 use Rattle.member_turns.specs.Turns.{DidTurn}
 use Rattle.member_turns.proofs.LookLemmas.{saw_progress}

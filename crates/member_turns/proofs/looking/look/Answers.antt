@@ -1,8 +1,8 @@
 use Rattle.std.proofs.Common.{subst}
 use Rattle.program_lock.specs.Calls.{Steps}
 use Rattle.program_lock.specs.Passes.{known}
-use Rattle.member_turns.specs.Lower.site_state.Says.{Says}
-use Rattle.member_turns.specs.Lower.site_state.declared.ask.Ask.TheVariants as asks
+use Rattle.member_turns.specs.Lower.locked_build.Says.{Says}
+use Rattle.member_turns.specs.Lower.locked_build.declared.ask.Ask.TheVariants as asks
 use Rattle.member_turns.proofs.looking.look.Goals as goal
 
 pub returns-clause-said : goal.returns-clause-said

@@ -1,8 +1,8 @@
 use Rattle.std.proofs.Common.{◌≡◌, ◌∙◌, sym, ap, subst}
 use Rattle.device_faults.specs.Faults.{CountsFault}
 use Rattle.journal_core.specs.declared.faults.TakeFault.TheVariants.{Disk}
-use Rattle.member_turns.specs.Lower.site_state.Facts.{Facts}
-use Rattle.member_turns.specs.Lower.site_state.Histories.{kept_fault}
+use Rattle.member_turns.specs.Lower.locked_build.Facts.{Facts}
+use Rattle.member_turns.specs.Lower.locked_build.Histories.{kept_fault}
 use Rattle.site_run.proofs.CloseLemmas.{disk_counts, err_tells, failed_so, known_from, opening_counts, opening_tells, same_start}
 use Rattle.site_run.proofs.FactLemmas.{facts_all, rests_keep}
 use Rattle.site_run.proofs.FitLemmas.{life_serves}

@@ -1,5 +1,5 @@
 use Rattle.std.proofs.Common.{◌∙◌, Err, sym, ap}
-use Rattle.member_turns.specs.Lower.site_state.Histories.{kept_fault}
+use Rattle.member_turns.specs.Lower.locked_build.Histories.{kept_fault}
 use Rattle.site_run.specs.Ending.{ended_as}
 use Rattle.site_run.proofs.CloseLemmas.{nothing_done}
 use Rattle.site_run.proofs.going.live_on.Goals as goal
