@@ -6,10 +6,10 @@ use Rattle.model_syntax.specs.declared.tree.Tree.{Tree}
 use Rattle.model_run.specs.declared.event.Event.{Event}
 use Rattle.model_run.specs.declared.site.Site.{Site}
 use Rattle.run_command.specs.Files.{Builds}
-use Rattle.site_run.specs.Lower.build_store.declared.beginning.BeginFault.{BeginFault}
-use Rattle.site_run.specs.Lower.build_store.declared.beginning.BeginFault.TheVariants as begin
-use Rattle.site_run.specs.Lower.durable_build.Settings.{script_setting}
-use Rattle.site_run.specs.Lower.store_laws.Store.{Mean}
+use Rattle.build_life.specs.Lower.build_store.declared.beginning.BeginFault.{BeginFault}
+use Rattle.build_life.specs.Lower.build_store.declared.beginning.BeginFault.TheVariants as begin
+use Rattle.build_life.specs.Lower.durable_build.Settings.{script_setting}
+use Rattle.build_life.specs.Lower.store_laws.Store.{Mean}
 use Rattle.build_commands.specs.declared.refusal.Refusal.{Refusal}
 use Rattle.build_commands.specs.declared.refusal.Refusal.TheVariants.{DiskFailed, HasBuild, OutOfMemory}
 use Rattle.build_commands.specs.Beginning.{BeginSays, has_build, disk_failed, full, no_memory}

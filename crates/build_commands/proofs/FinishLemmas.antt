@@ -16,22 +16,22 @@ use Rattle.model_run.specs.declared.taken.Taken.TheVariants.{Accepted, Finished 
 use Rattle.model_run.specs.Taking.{answered, answered_first}
 use Rattle.model_run.specs.World.{Build, answer_to, standing, world_in}
 use Rattle.settle_laws.specs.Stances.{Stance}
-use Rattle.site_run.specs.Lower.build_core.Builds.{Parts, StandsFor}
-use Rattle.site_run.specs.Lower.build_images.Images.{image_in}
+use Rattle.build_life.specs.Lower.build_core.Builds.{Parts, StandsFor}
+use Rattle.build_life.specs.Lower.build_images.Images.{image_in}
 use Rattle.image_form.specs.declared.image.Image.{Image}
-use Rattle.site_run.specs.Lower.durable_build.Standing.{Kept}
-use Rattle.site_run.specs.declared.resting.Rest.{Rest}
-use Rattle.site_run.specs.declared.resting.Rest.TheVariants.{Ended, Waits, AnswersFailed}
-use Rattle.site_run.specs.Lower.build_store.Lives.{image_after, IsFull as IsFullOf, IsNext, Lasts, TellsFault}
-use Rattle.site_run.specs.Lower.build_store.Saved.{Stores, Survives}
-use Rattle.site_run.proofs.Lower.build_store.LifeLemmas.{saved_image}
-use Rattle.site_run.specs.Lower.locked_build.declared.ask.Entry.{Entry}
-use Rattle.site_run.specs.Lower.locked_build.Histories.{lines}
-use Rattle.site_run.specs.Lower.member_turns.Lives.{LifeOf, any_reply}
-use Rattle.site_run.specs.Lower.member_turns.Turns.{Turn}
-use Rattle.site_run.specs.Ending.{RestsWith}
-use Rattle.site_run.specs.Lives.{BreaksBehind, EndsBehind}
-use Rattle.site_run.specs.Serving.{AreServed}
+use Rattle.build_life.specs.Lower.durable_build.Standing.{Kept}
+use Rattle.build_life.specs.declared.resting.Rest.{Rest}
+use Rattle.build_life.specs.declared.resting.Rest.TheVariants.{Ended, Waits, AnswersFailed}
+use Rattle.build_life.specs.Lower.build_store.Lives.{image_after, IsFull as IsFullOf, IsNext, Lasts, TellsFault}
+use Rattle.build_life.specs.Lower.build_store.Saved.{Stores, Survives}
+use Rattle.build_life.proofs.Lower.build_store.LifeLemmas.{saved_image}
+use Rattle.build_life.specs.Lower.locked_build.declared.ask.Entry.{Entry}
+use Rattle.build_life.specs.Lower.locked_build.Histories.{lines}
+use Rattle.build_life.specs.Lower.member_turns.Lives.{LifeOf, any_reply}
+use Rattle.build_life.specs.Lower.member_turns.Turns.{Turn}
+use Rattle.build_life.specs.Ending.{RestsWith}
+use Rattle.build_life.specs.Lives.{BreaksBehind, EndsBehind}
+use Rattle.build_life.specs.Serving.{AreServed}
 use Rattle.build_commands.specs.declared.refusal.Refusal.{Refusal}
 use Rattle.build_commands.specs.declared.refusal.Refusal.TheVariants.{DiskFailed, OutOfMemory}
 use Rattle.build_commands.specs.Refusals.{SaysTake, refusal_status, refusal_text}

@@ -5,11 +5,11 @@ use Rattle.std.specs.List.{AllByRecursion as AllAre}
 use Rattle.jp_disk.proofs.MomentLemmas.{starts}
 use Rattle.journal_core.specs.Records.{Has}
 use Rattle.journal_core.proofs.StepLemmas.{stores_has}
-use Rattle.site_run.specs.Lower.record_form.declared.record.EventRecord.{EventRecord}
+use Rattle.build_life.specs.Lower.record_form.declared.record.EventRecord.{EventRecord}
 use Rattle.image_form.specs.declared.image.Image.{Image}
-use Rattle.site_run.specs.Lower.store_laws.Store.{Told as TellsRecords, events_of, last_image}
-use Rattle.site_run.proofs.Lower.store_laws.Payloads.{image_behind_more, image_of_last, told_append, told_last}
-use Rattle.site_run.proofs.Lower.durable_build.TakeLemmas.{stands_last}
+use Rattle.build_life.specs.Lower.store_laws.Store.{Told as TellsRecords, events_of, last_image}
+use Rattle.build_life.proofs.Lower.store_laws.Payloads.{image_behind_more, image_of_last, told_append, told_last}
+use Rattle.build_life.proofs.Lower.durable_build.TakeLemmas.{stands_last}
 use Rattle.program_lock.specs.declared.program.Memory.{Memory as NoMemory}
 use Rattle.journal_core.specs.declared.faults.TakeFault.{TakeFault}
 use Rattle.journal_core.specs.declared.faults.TakeFault.TheVariants as take
@@ -20,27 +20,27 @@ use Rattle.model_run.specs.declared.result.BuildResult.TheVariants.{Success, Uns
 use Rattle.model_run.specs.State.{Setting}
 use Rattle.model_run.specs.World.{Build}
 use Rattle.settle_laws.specs.Stances.{Stance}
-use Rattle.site_run.specs.Lower.build_core.Builds.{Parts, StandsFor, setting_in}
-use Rattle.site_run.specs.Lower.build_core.Phases.{has_begun}
-use Rattle.site_run.specs.Lower.build_images.Images.{image_in}
-use Rattle.site_run.specs.Lower.delta_records.declared.weights.Weights.{Weights}
-use Rattle.site_run.specs.Lower.durable_build.Kinds.{weights_of}
-use Rattle.site_run.specs.Lower.durable_build.Standing.{Closing, IsWhole, Keeps, Kept, StandsBy}
-use Rattle.site_run.specs.declared.resting.Rest.{Rest}
-use Rattle.site_run.specs.declared.resting.Rest.TheVariants.{Ended, Waits, AnswersFailed}
+use Rattle.build_life.specs.Lower.build_core.Builds.{Parts, StandsFor, setting_in}
+use Rattle.build_life.specs.Lower.build_core.Phases.{has_begun}
+use Rattle.build_life.specs.Lower.build_images.Images.{image_in}
+use Rattle.build_life.specs.Lower.delta_records.declared.weights.Weights.{Weights}
+use Rattle.build_life.specs.Lower.durable_build.Kinds.{weights_of}
+use Rattle.build_life.specs.Lower.durable_build.Standing.{Closing, IsWhole, Keeps, Kept, StandsBy}
+use Rattle.build_life.specs.declared.resting.Rest.{Rest}
+use Rattle.build_life.specs.declared.resting.Rest.TheVariants.{Ended, Waits, AnswersFailed}
 use Rattle.run_command.specs.Statuses.{HasLog, result_status}
-use Rattle.site_run.specs.Lower.locked_build.declared.ask.Entry.{Entry}
-use Rattle.site_run.specs.Lower.locked_build.declared.ask.Entry.TheVariants.{Took, Claimed, Line, Failed}
-use Rattle.site_run.specs.Lower.locked_build.declared.ask.Progress.{Progress}
-use Rattle.site_run.specs.Lower.locked_build.Facts.{Facts, Grown, HasFront, IsFull, IsFullAt}
-use Rattle.site_run.specs.Lower.locked_build.Grants.{Grants, OpenRefuses, granted, none_due, not_found, refused}
-use Rattle.site_run.specs.Lower.locked_build.Histories.{kept_fault, pending, tooks}
-use Rattle.site_run.proofs.Lower.locked_build.HistoryLaws.{kept_fault-append, no_fault, pending-append, tooks-append}
-use Rattle.site_run.specs.Lower.member_turns.Tales.{asked_for, is_grant, told_of}
-use Rattle.site_run.proofs.Lower.member_turns.TaleLemmas.{grants_silent}
-use Rattle.site_run.specs.Ending.{ended_as}
-use Rattle.site_run.proofs.StoreLemmas.{no_payloads, no_records, told_take}
-use Rattle.site_run.proofs.WalkLemmas.{all_behind}
+use Rattle.build_life.specs.Lower.locked_build.declared.ask.Entry.{Entry}
+use Rattle.build_life.specs.Lower.locked_build.declared.ask.Entry.TheVariants.{Took, Claimed, Line, Failed}
+use Rattle.build_life.specs.Lower.locked_build.declared.ask.Progress.{Progress}
+use Rattle.build_life.specs.Lower.locked_build.Facts.{Facts, Grown, HasFront, IsFull, IsFullAt}
+use Rattle.build_life.specs.Lower.locked_build.Grants.{Grants, OpenRefuses, granted, none_due, not_found, refused}
+use Rattle.build_life.specs.Lower.locked_build.Histories.{kept_fault, pending, tooks}
+use Rattle.build_life.proofs.Lower.locked_build.HistoryLaws.{kept_fault-append, no_fault, pending-append, tooks-append}
+use Rattle.build_life.specs.Lower.member_turns.Tales.{asked_for, is_grant, told_of}
+use Rattle.build_life.proofs.Lower.member_turns.TaleLemmas.{grants_silent}
+use Rattle.build_life.specs.Ending.{ended_as}
+use Rattle.build_life.proofs.StoreLemmas.{no_payloads, no_records, told_take}
+use Rattle.build_life.proofs.WalkLemmas.{all_behind}
 use Rattle.build_commands.specs.declared.refusal.Refusal.{Refusal}
 use Rattle.build_commands.specs.declared.end_text.EndText.{EndText}
 use Rattle.build_commands.specs.declared.end_text.EndText.TheVariants as end

@@ -13,13 +13,13 @@ use Rattle.task_host.specs.declared.order.Stream.{Stream}
 use Rattle.agent_worker.specs.declared.member.Member.{Member}
 use Rattle.agent_worker.specs.declared.member.Member.TheVariants.{Executor, Operator}
 use Rattle.model_run.specs.declared.site.Executor.{Executor as SiteExecutor}
-use Rattle.site_run.specs.Lower.locked_build.declared.ask.Ask.{Ask}
-use Rattle.site_run.specs.Lower.locked_build.declared.ask.Entry.{Entry}
-use Rattle.site_run.specs.Lower.locked_build.declared.ask.Progress.{Progress}
-use Rattle.site_run.specs.Lower.locked_build.declared.ask.Reply.{Reply}
-use Rattle.site_run.specs.Lower.member_turns.Lives.{EndsWith, Life}
-use Rattle.site_run.specs.Lower.member_turns.Rounds.{AreTurnsOf, Round, RoundsFrom, turns_of}
-use Rattle.site_run.specs.Lower.member_turns.Turns.{DidTurn, Launches, Turn, launches_of}
+use Rattle.build_life.specs.Lower.locked_build.declared.ask.Ask.{Ask}
+use Rattle.build_life.specs.Lower.locked_build.declared.ask.Entry.{Entry}
+use Rattle.build_life.specs.Lower.locked_build.declared.ask.Progress.{Progress}
+use Rattle.build_life.specs.Lower.locked_build.declared.ask.Reply.{Reply}
+use Rattle.build_life.specs.Lower.member_turns.Lives.{EndsWith, Life}
+use Rattle.build_life.specs.Lower.member_turns.Rounds.{AreTurnsOf, Round, RoundsFrom, turns_of}
+use Rattle.build_life.specs.Lower.member_turns.Turns.{DidTurn, Launches, Turn, launches_of}
 use Rattle.agent_worker.specs.Crews.{hosts_in, members_of, others_of}
 use Rattle.build_commands.specs.Launching.{LaunchedOnce, all_launched_since, launched_since}
 use Rattle.build_commands.proofs.LivingLemmas.{hosts_all}

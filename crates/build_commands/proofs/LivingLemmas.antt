@@ -12,28 +12,28 @@ use Rattle.journal_core.specs.declared.faults.TakeFault.{TakeFault}
 use Rattle.agent_worker.specs.declared.member.Member.{Member}
 use Rattle.agent_worker.specs.declared.member.Member.TheVariants.{Executor, Operator}
 use Rattle.agent_worker.specs.Gate.{Told, Claimed as ClaimedTask}
-use Rattle.site_run.specs.Lower.durable_build.Standing.{Kept}
+use Rattle.build_life.specs.Lower.durable_build.Standing.{Kept}
 use Rattle.model_syntax.specs.TreeNodes.{tree_node}
 use Rattle.model_run.specs.declared.event.Event.{Event}
 use Rattle.model_run.specs.declared.site.Executor.{Executor as SiteExecutor}
 use Rattle.model_run.specs.State.{Setting}
 use Rattle.model_run.specs.World.{world_in}
-use Rattle.site_run.specs.declared.resting.Rest.{Rest}
-use Rattle.site_run.specs.Lower.durable_build.Settings.{IsProper}
+use Rattle.build_life.specs.declared.resting.Rest.{Rest}
+use Rattle.build_life.specs.Lower.durable_build.Settings.{IsProper}
 use Rattle.settle_laws.specs.Stances.{Stance}
 use Rattle.launch_laws.proofs.LifeLaws.{all_fit_more}
-use Rattle.site_run.specs.Lower.locked_build.declared.ask.Entry.{Entry}
-use Rattle.site_run.specs.Lower.member_turns.Turns.{Turn}
-use Rattle.site_run.specs.Lower.member_turns.Waiting.{operators}
-use Rattle.site_run.specs.Ending.{AllReadOut, any_failed}
-use Rattle.site_run.specs.Going.{begins}
-use Rattle.site_run.specs.Lives.{Ends, OpeningBreaks}
-use Rattle.site_run.specs.Replies.{replies}
-use Rattle.site_run.specs.Serving.{AreServed, ReadOn, hosts_of}
-use Rattle.site_run.specs.Telling.{AreHeard}
-use Rattle.site_run.proofs.CloseLemmas.{no_turns}
-use Rattle.site_run.proofs.MemberLemmas.{all_came, all_served}
-use Rattle.site_run.proofs.WalkLemmas.{of_tree, small}
+use Rattle.build_life.specs.Lower.locked_build.declared.ask.Entry.{Entry}
+use Rattle.build_life.specs.Lower.member_turns.Turns.{Turn}
+use Rattle.build_life.specs.Lower.member_turns.Waiting.{operators}
+use Rattle.build_life.specs.Ending.{AllReadOut, any_failed}
+use Rattle.build_life.specs.Going.{begins}
+use Rattle.build_life.specs.Lives.{Ends, OpeningBreaks}
+use Rattle.build_life.specs.Replies.{replies}
+use Rattle.build_life.specs.Serving.{AreServed, ReadOn, hosts_of}
+use Rattle.build_life.specs.Telling.{AreHeard}
+use Rattle.build_life.proofs.CloseLemmas.{no_turns}
+use Rattle.build_life.proofs.MemberLemmas.{all_came, all_served}
+use Rattle.build_life.proofs.WalkLemmas.{of_tree, small}
 use Rattle.agent_worker.specs.Crews.{answers_in, hosts_in, IsCrew, members_of, others_of}
 use Rattle.build_commands.specs.Living.{HeardOf, HostsStay, TakesBy}
 use Rattle.jp_disk.specs.View.{DiskView}

@@ -2,15 +2,15 @@
 use Rattle.std.proofs.Common.{◌≡◌, ℕ, List, [], ◌∷◌, None, refl, sym, ap, ◌∙◌, subst}
 use Rattle.device_faults.specs.Faults.{Rose}
 use Rattle.journal_core.specs.Records.{Walked}
-use Rattle.site_run.specs.Lower.record_form.declared.record.EventRecord.{EventRecord}
+use Rattle.build_life.specs.Lower.record_form.declared.record.EventRecord.{EventRecord}
 use Rattle.model_run.specs.declared.event.Event.{Event}
 use Rattle.model_run.specs.State.{Setting}
-use Rattle.site_run.specs.Lower.build_images.Images.{world_image}
-use Rattle.site_run.specs.Lower.store_laws.Store.{IsConsistent, Told, events_of}
-use Rattle.site_run.specs.Lower.durable_build.declared.faults.StoreFault.{StoreFault}
-use Rattle.site_run.specs.Lower.durable_build.declared.faults.StoreFault.TheVariants as fault
-use Rattle.site_run.specs.Lower.durable_build.Opening.{OpenFails}
-use Rattle.site_run.specs.Lower.build_store.Saved.{Stores}
+use Rattle.build_life.specs.Lower.build_images.Images.{world_image}
+use Rattle.build_life.specs.Lower.store_laws.Store.{IsConsistent, Told, events_of}
+use Rattle.build_life.specs.Lower.durable_build.declared.faults.StoreFault.{StoreFault}
+use Rattle.build_life.specs.Lower.durable_build.declared.faults.StoreFault.TheVariants as fault
+use Rattle.build_life.specs.Lower.durable_build.Opening.{OpenFails}
+use Rattle.build_life.specs.Lower.build_store.Saved.{Stores}
 use Rattle.build_commands.specs.declared.refusal.Refusal.{Refusal}
 use Rattle.build_commands.specs.declared.refusal.Refusal.TheVariants.{DiskFailed, NoBuild, OutOfMemory}
 use Rattle.build_commands.specs.Refusals.{TellsFault, refusal_status, refusal_text}

@@ -3,9 +3,9 @@ use Rattle.std.proofs.Common.{◌≡◌, ◌⊎◌, ◌<◌, ◌∙◌, ℕ, Lis
 use Rattle.device_faults.specs.Faults.{Rose}
 use Rattle.journal_core.specs.Records.{Has}
 use Rattle.model_run.specs.World.{Build}
-use Rattle.site_run.specs.Lower.durable_build.declared.faults.StoreFault.{StoreFault}
-use Rattle.site_run.specs.Lower.durable_build.declared.faults.StoreFault.TheVariants as fault
-use Rattle.site_run.specs.Lower.durable_build.Opening.{OpenFails}
+use Rattle.build_life.specs.Lower.durable_build.declared.faults.StoreFault.{StoreFault}
+use Rattle.build_life.specs.Lower.durable_build.declared.faults.StoreFault.TheVariants as fault
+use Rattle.build_life.specs.Lower.durable_build.Opening.{OpenFails}
 use Rattle.build_commands.specs.declared.refusal.Refusal.{Refusal}
 use Rattle.build_commands.specs.declared.refusal.Refusal.TheVariants as variant
 use Rattle.build_commands.specs.declared.refusal.Refusal.TheVariants.{ReadFailed, AgentsRefused, TooLong, ScriptRefused, DiskFailed, OutOfMemory, NoBuild, Damaged, Full}

@@ -1,22 +1,22 @@
 -- What a store tells that was opened.
 use Rattle.std.proofs.Common.{◌≡◌, ◌<◌, ℕ, true, false, List, [], ◌∷◌, length, Option, Some, None, ◌⊎◌, inl, inr, refl, sym, ap, ◌∙◌, subst, arith}
 use Rattle.journal_core.specs.Records.{Has, Walked}
-use Rattle.site_run.specs.Lower.record_form.declared.record.EventRecord.{EventRecord}
+use Rattle.build_life.specs.Lower.record_form.declared.record.EventRecord.{EventRecord}
 use Rattle.image_form.specs.declared.image.Image.{Image}
 use Rattle.model_run.specs.State.{Common, Setting}
 use Rattle.model_run.specs.World.{Build, world_in}
 use Rattle.settle_laws.specs.Stances.{Stance}
-use Rattle.site_run.specs.Lower.build_core.Builds.{Parts, StandsFor, setting_in}
-use Rattle.site_run.specs.Lower.build_core.Phases.{has_begun, shown}
-use Rattle.site_run.specs.Lower.build_core.declared.phase.Phase.{Phase}
-use Rattle.site_run.specs.Lower.build_core.declared.phase.Phase.TheVariants.{Unbegun, Running, Ended, Stopped}
-use Rattle.site_run.specs.Lower.build_images.Images.{image_in, world_image}
-use Rattle.site_run.specs.Lower.store_laws.Store.{IsStory, Starts, Told, events_of, record_at}
-use Rattle.site_run.proofs.Lower.store_laws.Tellings.{one_record, one_setting}
-use Rattle.site_run.specs.Lower.durable_build.declared.faults.StoreFault.TheVariants.{Damaged}
-use Rattle.site_run.specs.Lower.durable_build.Standing.{Breaks, IsDamagedAt, IsUnsound, IsWhole, Kept, Closing, Opening, StandsBy, StandsForStory, last_place}
-use Rattle.site_run.proofs.Lower.durable_build.KindLemmas.{breaks_unclosed}
-use Rattle.site_run.specs.Lower.durable_build.Opening.{OpenFails, Opened}
+use Rattle.build_life.specs.Lower.build_core.Builds.{Parts, StandsFor, setting_in}
+use Rattle.build_life.specs.Lower.build_core.Phases.{has_begun, shown}
+use Rattle.build_life.specs.Lower.build_core.declared.phase.Phase.{Phase}
+use Rattle.build_life.specs.Lower.build_core.declared.phase.Phase.TheVariants.{Unbegun, Running, Ended, Stopped}
+use Rattle.build_life.specs.Lower.build_images.Images.{image_in, world_image}
+use Rattle.build_life.specs.Lower.store_laws.Store.{IsStory, Starts, Told, events_of, record_at}
+use Rattle.build_life.proofs.Lower.store_laws.Tellings.{one_record, one_setting}
+use Rattle.build_life.specs.Lower.durable_build.declared.faults.StoreFault.TheVariants.{Damaged}
+use Rattle.build_life.specs.Lower.durable_build.Standing.{Breaks, IsDamagedAt, IsUnsound, IsWhole, Kept, Closing, Opening, StandsBy, StandsForStory, last_place}
+use Rattle.build_life.proofs.Lower.durable_build.KindLemmas.{breaks_unclosed}
+use Rattle.build_life.specs.Lower.durable_build.Opening.{OpenFails, Opened}
 use Rattle.build_commands.specs.Reporting.{StartsBy}
 use Rattle.build_commands.specs.Showing.{HasBuild, ShowsBuild}
 use Rattle.jp_disk.specs.View.{DiskView}

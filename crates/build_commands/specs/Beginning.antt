@@ -8,16 +8,16 @@ use Rattle.journal_core.specs.declared.faults.TakeFault.TheVariants.{Disk, Full}
 use Rattle.model_syntax.specs.declared.tree.Tree.{Tree}
 use Rattle.model_run.specs.declared.event.Event.TheVariants.{Start as StartEvent}
 use Rattle.model_run.specs.declared.site.Site.{Site}
-use Rattle.site_run.specs.Lower.durable_build.Settings.{script_setting}
+use Rattle.build_life.specs.Lower.durable_build.Settings.{script_setting}
 use Rattle.settle_laws.specs.Stances.{Stance}
-use Rattle.site_run.specs.Lower.build_store.declared.beginning.BeginFault.{BeginFault}
-use Rattle.site_run.specs.Lower.build_store.declared.beginning.BeginFault.TheVariants.{HasBuild, Take}
-use Rattle.site_run.specs.Lower.build_store.Lives.{BeginRefuses, TellsStart}
-use Rattle.site_run.specs.Lower.build_store.Saved.{Survives}
+use Rattle.build_life.specs.Lower.build_store.declared.beginning.BeginFault.{BeginFault}
+use Rattle.build_life.specs.Lower.build_store.declared.beginning.BeginFault.TheVariants.{HasBuild, Take}
+use Rattle.build_life.specs.Lower.build_store.Lives.{BeginRefuses, TellsStart}
+use Rattle.build_life.specs.Lower.build_store.Saved.{Survives}
 use Rattle.run_command.specs.Inputs.{Input}
 use Rattle.task_host.specs.declared.call.Call.{Call}
 use Rattle.task_host.specs.declared.order.Stream.{Stream}
-use Rattle.site_run.specs.Lower.locked_build.declared.ask.Entry.{Entry}
+use Rattle.build_life.specs.Lower.locked_build.declared.ask.Entry.{Entry}
 use Rattle.build_commands.specs.declared.end_text.EndText.{EndText}
 use Rattle.build_commands.specs.Launching.{LaunchedOnce}
 use Rattle.build_commands.specs.Living.{Finished, HostsStay}

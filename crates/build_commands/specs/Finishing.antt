@@ -9,12 +9,12 @@ use Rattle.model_run.specs.State.{Setting}
 use Rattle.model_run.specs.World.{Build, world_in}
 use Rattle.run_command.specs.Statuses.{world_status, HasLog}
 use Rattle.run_command.specs.Texts.{read_failed_text}
-use Rattle.site_run.specs.declared.resting.Rest.{Rest}
-use Rattle.site_run.specs.declared.resting.Rest.TheVariants.{AnswersFailed}
-use Rattle.site_run.specs.Lower.delta_records.declared.weights.Weights.{Weights}
-use Rattle.site_run.specs.Lower.durable_build.Taking.{DueAdds}
-use Rattle.site_run.specs.Lower.build_store.Lives.{image_after, IsNext}
-use Rattle.site_run.specs.Lower.build_store.Saved.{Stores, Survives, journal_length, journal_weights}
+use Rattle.build_life.specs.declared.resting.Rest.{Rest}
+use Rattle.build_life.specs.declared.resting.Rest.TheVariants.{AnswersFailed}
+use Rattle.build_life.specs.Lower.delta_records.declared.weights.Weights.{Weights}
+use Rattle.build_life.specs.Lower.durable_build.Taking.{DueAdds}
+use Rattle.build_life.specs.Lower.build_store.Lives.{image_after, IsNext}
+use Rattle.build_life.specs.Lower.build_store.Saved.{Stores, Survives, journal_length, journal_weights}
 use Rattle.build_commands.specs.declared.refusal.Refusal.{Refusal}
 use Rattle.build_commands.specs.declared.end_text.EndText.{EndText}
 use Rattle.build_commands.specs.declared.end_text.EndText.TheVariants.{Log}

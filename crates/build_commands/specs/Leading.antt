@@ -3,7 +3,7 @@ use Rattle.std.specs.Prelude.{◌≡◌, ℕ, ℤ, List, [], Option}
 use Rattle.task_host.specs.declared.call.Call.{Call}
 use Rattle.task_host.specs.declared.order.Stream.{Stream}
 use Rattle.model_run.specs.State.{Setting}
-use Rattle.site_run.specs.Lower.locked_build.declared.ask.Entry.{Entry}
+use Rattle.build_life.specs.Lower.locked_build.declared.ask.Entry.{Entry}
 use Rattle.build_commands.specs.Living.{IsRefused, Lived}
 use Rattle.build_commands.specs.Reporting.{IsTooLong}
 use Rattle.task_host.specs.View.{HostView}

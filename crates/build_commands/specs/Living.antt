@@ -13,18 +13,18 @@ use Rattle.model_run.specs.State.{Setting}
 use Rattle.model_run.specs.World.{answer_to, world_in}
 use Rattle.launch_laws.specs.Fitting as fitting
 use Rattle.launch_laws.specs.Fitting.{ExecutorHost}
-use Rattle.site_run.specs.declared.resting.Rest.TheVariants.{AnswersFailed, Waits}
-use Rattle.site_run.specs.Lower.locked_build.declared.ask.Entry.{Entry}
-use Rattle.site_run.specs.Lower.locked_build.Histories.{lines, tooks}
-use Rattle.site_run.specs.Lower.member_turns.Tales.{is_grant}
-use Rattle.site_run.specs.Lower.member_turns.Lives.{LifeOf, any_reply}
-use Rattle.site_run.specs.Lower.member_turns.Turns.{Explains, HoldsOfOne, Turn}
-use Rattle.site_run.specs.Lower.member_turns.Coming.{EachIs}
-use Rattle.site_run.specs.Ending.{RestsWith}
-use Rattle.site_run.specs.Going.{Comes, GoesBy, heard_in}
-use Rattle.site_run.specs.Replies.{replies}
-use Rattle.site_run.specs.Telling.{ClaimedInTime, HeardInTime, IsOrderOf, orders_in}
-use Rattle.site_run.specs.Serving.{AllFit, AreHonest, AreServed, HostStays}
+use Rattle.build_life.specs.declared.resting.Rest.TheVariants.{AnswersFailed, Waits}
+use Rattle.build_life.specs.Lower.locked_build.declared.ask.Entry.{Entry}
+use Rattle.build_life.specs.Lower.locked_build.Histories.{lines, tooks}
+use Rattle.build_life.specs.Lower.member_turns.Tales.{is_grant}
+use Rattle.build_life.specs.Lower.member_turns.Lives.{LifeOf, any_reply}
+use Rattle.build_life.specs.Lower.member_turns.Turns.{Explains, HoldsOfOne, Turn}
+use Rattle.build_life.specs.Lower.member_turns.Coming.{EachIs}
+use Rattle.build_life.specs.Ending.{RestsWith}
+use Rattle.build_life.specs.Going.{Comes, GoesBy, heard_in}
+use Rattle.build_life.specs.Replies.{replies}
+use Rattle.build_life.specs.Telling.{ClaimedInTime, HeardInTime, IsOrderOf, orders_in}
+use Rattle.build_life.specs.Serving.{AllFit, AreHonest, AreServed, HostStays}
 use Rattle.agent_worker.specs.Crews.{answers_in, hosts_in, members_of, others_of}
 use Rattle.build_commands.specs.declared.end_text.EndText.{EndText}
 use Rattle.build_commands.specs.Finishing.{Finishes}

@@ -6,10 +6,10 @@ use Rattle.build_commands.specs.Texts.{damaged_text, disk_failed_text, full_text
 use Rattle.journal_core.specs.declared.faults.TakeFault.{TakeFault}
 use Rattle.journal_core.specs.declared.faults.TakeFault.TheVariants as take
 use Rattle.run_command.specs.Texts.{read_failed_text, too_long_text}
-use Rattle.site_run.specs.Lower.durable_build.declared.faults.StoreFault.{StoreFault}
-use Rattle.site_run.specs.Lower.durable_build.declared.faults.StoreFault.TheVariants as fault
-use Rattle.site_run.specs.Lower.build_store.declared.beginning.BeginFault.{BeginFault}
-use Rattle.site_run.specs.Lower.build_store.declared.beginning.BeginFault.TheVariants as begin
+use Rattle.build_life.specs.Lower.durable_build.declared.faults.StoreFault.{StoreFault}
+use Rattle.build_life.specs.Lower.durable_build.declared.faults.StoreFault.TheVariants as fault
+use Rattle.build_life.specs.Lower.build_store.declared.beginning.BeginFault.{BeginFault}
+use Rattle.build_life.specs.Lower.build_store.declared.beginning.BeginFault.TheVariants as begin
 
 abbrev pub refusal_status : Refusal → ℕ
 refusal_status ReadFailed = 6

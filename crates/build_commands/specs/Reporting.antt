@@ -6,20 +6,20 @@ use Rattle.device_faults.specs.Faults.{Rose}
 use Rattle.jp_disk.specs.Runs.{AtEachMoment}
 use Rattle.journal_core.specs.Records.{Has, framed}
 use Rattle.image_form.specs.declared.image.Image.{Image}
-use Rattle.site_run.specs.Lower.record_form.declared.record.EventRecord.{EventRecord}
+use Rattle.build_life.specs.Lower.record_form.declared.record.EventRecord.{EventRecord}
 use Rattle.model_run.specs.declared.event.Event.{Event}
 use Rattle.model_run.specs.State.{Setting}
-use Rattle.site_run.specs.Lower.store_laws.Store.{Told, events_of, last_image}
+use Rattle.build_life.specs.Lower.store_laws.Store.{Told, events_of, last_image}
 use Rattle.journal_core.specs.declared.faults.TakeFault.TheVariants.{Full}
-use Rattle.site_run.specs.Lower.delta_records.declared.weights.Weights.{Weights}
-use Rattle.site_run.specs.Lower.durable_build.Kinds.{weights_of}
-use Rattle.site_run.specs.Lower.durable_build.Standing.{Closing, IsWhole, Opening}
-use Rattle.site_run.specs.Lower.durable_build.Taking.{DueAdds}
-use Rattle.site_run.specs.Lower.locked_build.declared.ask.Entry.{Entry}
-use Rattle.site_run.specs.Lower.locked_build.declared.ask.Entry.TheVariants.{Failed}
-use Rattle.site_run.specs.Lower.locked_build.Facts.{HasFront}
-use Rattle.site_run.specs.Lower.locked_build.Histories.{pending, tooks}
-use Rattle.site_run.specs.Lower.member_turns.Tales.{is_grant}
+use Rattle.build_life.specs.Lower.delta_records.declared.weights.Weights.{Weights}
+use Rattle.build_life.specs.Lower.durable_build.Kinds.{weights_of}
+use Rattle.build_life.specs.Lower.durable_build.Standing.{Closing, IsWhole, Opening}
+use Rattle.build_life.specs.Lower.durable_build.Taking.{DueAdds}
+use Rattle.build_life.specs.Lower.locked_build.declared.ask.Entry.{Entry}
+use Rattle.build_life.specs.Lower.locked_build.declared.ask.Entry.TheVariants.{Failed}
+use Rattle.build_life.specs.Lower.locked_build.Facts.{HasFront}
+use Rattle.build_life.specs.Lower.locked_build.Histories.{pending, tooks}
+use Rattle.build_life.specs.Lower.member_turns.Tales.{is_grant}
 use Rattle.run_command.specs.Statuses.{HasLog, status_of}
 use Rattle.run_command.specs.Texts.{read_failed_text}
 use Rattle.build_commands.specs.Texts.{disk_failed_text, full_text, out_of_memory_text}

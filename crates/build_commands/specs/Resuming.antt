@@ -6,7 +6,7 @@ use Rattle.model_run.specs.declared.event.Event.{Event}
 use Rattle.model_run.specs.State.{Setting}
 use Rattle.task_host.specs.declared.call.Call.{Call}
 use Rattle.task_host.specs.declared.order.Stream.{Stream}
-use Rattle.site_run.specs.Lower.locked_build.declared.ask.Entry.{Entry}
+use Rattle.build_life.specs.Lower.locked_build.declared.ask.Entry.{Entry}
 use Rattle.build_commands.specs.declared.end_text.EndText.TheVariants.{Log}
 use Rattle.build_commands.specs.Launching.{LaunchedOnce}
 use Rattle.build_commands.specs.Leading.{IsLed}

@@ -2,15 +2,15 @@
 use Rattle.std.specs.Prelude.{◌≡◌, ◌⊎◌, ◌<◌, ℕ, List, [], ◌∷◌, Option, Some, IfSome}
 use Rattle.device_faults.specs.Faults.{Rose}
 use Rattle.journal_core.specs.Records.{Has}
-use Rattle.site_run.specs.Lower.record_form.declared.record.EventRecord.{EventRecord}
+use Rattle.build_life.specs.Lower.record_form.declared.record.EventRecord.{EventRecord}
 use Rattle.image_form.specs.declared.image.Image.{Image}
 use Rattle.model_run.specs.State.{Setting}
 use Rattle.model_run.specs.World.{Build, world_in}
-use Rattle.site_run.specs.Lower.build_images.Images.{world_image}
-use Rattle.site_run.specs.Lower.store_laws.Store.{IsStory, Tells, events_of}
-use Rattle.site_run.specs.Lower.durable_build.declared.faults.StoreFault.TheVariants.{Damaged}
-use Rattle.site_run.specs.Lower.durable_build.Opening.{OpenFails}
-use Rattle.site_run.specs.Lower.durable_build.Standing.{Closing}
+use Rattle.build_life.specs.Lower.build_images.Images.{world_image}
+use Rattle.build_life.specs.Lower.store_laws.Store.{IsStory, Tells, events_of}
+use Rattle.build_life.specs.Lower.durable_build.declared.faults.StoreFault.TheVariants.{Damaged}
+use Rattle.build_life.specs.Lower.durable_build.Opening.{OpenFails}
+use Rattle.build_life.specs.Lower.durable_build.Standing.{Closing}
 use Rattle.build_commands.specs.Texts.{out_of_memory_text, disk_failed_text, no_build_text, damaged_text}
 use Rattle.build_commands.specs.Writing as writing
 use Rattle.build_commands.specs.Writing.{Writes}

@@ -1,6 +1,6 @@
 //! How a command ends.
 
-use site_run::locked_build::History;
+use build_life::locked_build::History;
 
 /// How a command over the store of a build has ended that lets no build go on.
 #[derive(Drop)]

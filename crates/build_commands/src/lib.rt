@@ -22,6 +22,7 @@ mod resuming;
 mod running;
 mod show;
 
+pub use build_life::saved_thread;
 pub use checking::check;
 pub use done::{Done, Ended};
 pub use end_text::EndText;
@@ -32,4 +33,3 @@ pub use refusal::{Refusal, tell, tell_text};
 pub use resuming::resume;
 pub use running::run;
 pub use show::{graph, log};
-pub use site_run::saved_thread;

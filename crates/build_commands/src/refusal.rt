@@ -4,10 +4,10 @@ ghost use Rattle.build_commands.specs.Refusals.{SaysBegin, SaysTake, TellsFault,
 ghost use Rattle.build_commands.specs.Writing as writing;
 ghost use Rattle.build_commands.specs.Writing.{Writes};
 
+use build_life::build_store::BeginFault;
+use build_life::durable_build::{StoreFault, TakeFault};
 use jp_io::{Sink, write_all};
 use model_text::Text;
-use site_run::build_store::BeginFault;
-use site_run::durable_build::{StoreFault, TakeFault};
 use std::alloc::Global;
 
 /// Why a command does not write what it is for.

@@ -3,17 +3,17 @@
 ghost use Rattle.std.specs.Prelude.{◌≡◌, ◌≤◌, ℕ, List, Some, length};
 ghost use Rattle.model_run.specs.declared.event.Event.{Event as AnEvent};
 ghost use Rattle.model_run.specs.State.{Setting};
-ghost use Rattle.site_run.specs.Lower.build_store.Saved.{Stores};
+ghost use Rattle.build_life.specs.Lower.build_store.Saved.{Stores};
 ghost use Rattle.build_commands.specs.Resuming.{Reopens, Resumes};
 
 use crate::done::Ended;
 use crate::end_text::EndText;
 use crate::finishing::finish;
 use crate::refusal::{Refusal, tell};
+use build_life::build_store::reopen;
+use build_life::saved_thread::SavedThread;
 use jp_disk::Disk;
 use jp_io::{Sink, Source};
-use site_run::build_store::reopen;
-use site_run::saved_thread::SavedThread;
 use std::sync::Wait;
 use std::thread::Threads;
 use std::time::Clock;

@@ -1,18 +1,18 @@
 //! The commands that show the build of a store.
 ghost use Rattle.std.specs.Prelude.{◌≡◌, ◌⊎◌, List, ℕ, Some};
 ghost use Rattle.jp_disk.specs.Runs.{AtEachMoment};
-ghost use Rattle.site_run.specs.Lower.build_core.Builds.{StandsFor, nodes_of};
+ghost use Rattle.build_life.specs.Lower.build_core.Builds.{StandsFor, nodes_of};
 ghost use Rattle.model_run.specs.GraphText.{graph_text};
 ghost use Rattle.build_commands.specs.Showing.{Causes, Shows, ShowsLast, TellsOf};
 ghost use Rattle.build_commands.specs.Writing.{Writes};
 
 use crate::done::Done;
 use crate::refusal::{Refusal, tell, tell_text};
+use build_life::build_core::Build;
+use build_life::durable_build::DurableBuild;
+use build_life::saved_thread::SavedThread;
 use jp_disk::Disk;
 use jp_io::Sink;
-use site_run::build_core::Build;
-use site_run::durable_build::DurableBuild;
-use site_run::saved_thread::SavedThread;
 use std::alloc::{AllocError, Global};
 
 /// Writes the log of the build of a store. It changes no byte of it.

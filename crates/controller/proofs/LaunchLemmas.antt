@@ -36,7 +36,7 @@ use Rattle.model_run.specs.World.{world_in}
 use Rattle.settle_laws.specs.Stances.{Stance}
 use Rattle.build_commands.specs.Lower.build_store.Saved.{Stores}
 use Rattle.build_commands.proofs.Lower.build_store.BeginLemmas.{mean_proper}
-use Rattle.build_commands.proofs.Lower.site_run.ManyLemmas.{HasNow, all_once}
+use Rattle.build_commands.proofs.Lower.build_life.ManyLemmas.{HasNow, all_once}
 use Rattle.build_commands.specs.Finishing.{ComesNext}
 use Rattle.build_commands.specs.Launching.{LaunchedOnce}
 use Rattle.build_commands.specs.Living.{HostsStay}

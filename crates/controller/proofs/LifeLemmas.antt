@@ -7,10 +7,10 @@ use Rattle.jp_disk.proofs.MomentLemmas.{if_told}
 use Rattle.model_run.specs.declared.event.Event.{Event}
 use Rattle.model_run.specs.State.{Setting}
 use Rattle.model_run.specs.World.{world_in}
-use Rattle.build_commands.specs.Lower.site_run.declared.resting.Rest.TheVariants as why
+use Rattle.build_commands.specs.Lower.build_life.declared.resting.Rest.TheVariants as why
 use Rattle.build_commands.specs.Lower.build_store.Saved.{Stores, Survives}
-use Rattle.build_commands.specs.Lower.site_run.Ending.{RestsWith}
-use Rattle.build_commands.specs.Lower.site_run.Going as life
+use Rattle.build_commands.specs.Lower.build_life.Ending.{RestsWith}
+use Rattle.build_commands.specs.Lower.build_life.Going as life
 use Rattle.build_commands.specs.Lower.run_command.Statuses.{HasRun, world_status}
 use Rattle.build_commands.proofs.Lower.run_command.StatusLemmas.{going_status}
 use Rattle.build_commands.specs.Finishing.{ComesNext, Made, Rests, Breaks, Finishes}

@@ -15,8 +15,8 @@ use Rattle.model_run.specs.World.{answer_to, world_in}
 use Rattle.build_commands.specs.Lower.durable_build.Settings.{IsProper}
 use Rattle.settle_laws.specs.Stances.{Stance}
 use Rattle.build_commands.specs.Lower.build_store.Saved.{Stores}
-use Rattle.build_commands.specs.Lower.site_run.Serving.{AreHonest, AreServed, hosts_of}
-use Rattle.build_commands.proofs.Lower.site_run.ManyLemmas.{HasNow, all_once, has_fits}
+use Rattle.build_commands.specs.Lower.build_life.Serving.{AreHonest, AreServed, hosts_of}
+use Rattle.build_commands.proofs.Lower.build_life.ManyLemmas.{HasNow, all_once, has_fits}
 use Rattle.agent_worker.specs.Crews.{hosts_in, members_of, others_of}
 use Rattle.build_commands.proofs.LivingLemmas.{operator_alone}
 use Rattle.controller.specs.Call.{Call, Devices, Takes}

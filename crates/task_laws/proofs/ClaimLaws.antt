@@ -4,8 +4,8 @@ use Rattle.std.specs.Prelude.{IsSome}
 use Rattle.std.proofs.Math.Logic.{∥∥₁_elim, ∥∥₁_map, ∥∥₁_prop}
 use Rattle.journal_core.specs.declared.faults.TakeFault.{TakeFault}
 use Rattle.agent_worker.specs.declared.gate.Claim.TheVariants as claim
-use Rattle.site_run.specs.Lower.build_core.Builds.{Parts}
-use Rattle.site_run.specs.Lower.durable_build.Standing.{Kept}
+use Rattle.build_life.specs.Lower.build_core.Builds.{Parts}
+use Rattle.build_life.specs.Lower.durable_build.Standing.{Kept}
 use Rattle.journal_core.proofs.StepLemmas.{stores_has}
 use Rattle.model_run.specs.declared.event.Event.{Event}
 use Rattle.model_run.specs.declared.request.OpenRequest.{OpenRequest}
@@ -13,21 +13,21 @@ use Rattle.model_run.specs.Requests.{IsTaskOf, RunsOn}
 use Rattle.model_run.specs.Fitting.{Some_of}
 use Rattle.model_run.specs.State.{Setting}
 use Rattle.model_run.specs.World.{world_in}
-use Rattle.site_run.specs.Lower.build_store.Lives.{Lasts}
-use Rattle.site_run.specs.Lower.build_store.Saved.{IsTold, Stores}
+use Rattle.build_life.specs.Lower.build_store.Lives.{Lasts}
+use Rattle.build_life.specs.Lower.build_store.Saved.{IsTold, Stores}
 use Rattle.settle_laws.specs.Stances.{Stance}
-use Rattle.site_run.proofs.Lower.member_turns.ClaimLaws.{free_order}
-use Rattle.site_run.proofs.StoreLemmas.{lasts_on}
-use Rattle.site_run.proofs.WalkLemmas.{ShowsAll, found_task, requests_are, shows_shown}
-use Rattle.site_run.specs.Lower.locked_build.Claims.{ClaimSays}
-use Rattle.site_run.specs.Lower.locked_build.Facts.{Facts, IsSite}
-use Rattle.site_run.specs.Lower.locked_build.Histories.{Quiet, kept_fault, tooks}
-use Rattle.site_run.specs.Lower.locked_build.Says.{Answers, Says, SaysAt}
-use Rattle.site_run.specs.Lower.locked_build.Showing.{IsShown}
-use Rattle.site_run.specs.Lower.locked_build.declared.ask.Ask.TheVariants as ask
-use Rattle.site_run.specs.Lower.locked_build.declared.ask.Entry.{Entry}
-use Rattle.site_run.specs.Lower.locked_build.declared.ask.Reply.TheVariants as reply
-use Rattle.site_run.proofs.Lower.locked_build.HistoryLaws.{kept_fault-append, tooks-append}
+use Rattle.build_life.proofs.Lower.member_turns.ClaimLaws.{free_order}
+use Rattle.build_life.proofs.StoreLemmas.{lasts_on}
+use Rattle.build_life.proofs.WalkLemmas.{ShowsAll, found_task, requests_are, shows_shown}
+use Rattle.build_life.specs.Lower.locked_build.Claims.{ClaimSays}
+use Rattle.build_life.specs.Lower.locked_build.Facts.{Facts, IsSite}
+use Rattle.build_life.specs.Lower.locked_build.Histories.{Quiet, kept_fault, tooks}
+use Rattle.build_life.specs.Lower.locked_build.Says.{Answers, Says, SaysAt}
+use Rattle.build_life.specs.Lower.locked_build.Showing.{IsShown}
+use Rattle.build_life.specs.Lower.locked_build.declared.ask.Ask.TheVariants as ask
+use Rattle.build_life.specs.Lower.locked_build.declared.ask.Entry.{Entry}
+use Rattle.build_life.specs.Lower.locked_build.declared.ask.Reply.TheVariants as reply
+use Rattle.build_life.proofs.Lower.locked_build.HistoryLaws.{kept_fault-append, tooks-append}
 use Rattle.task_host.specs.declared.order.Order.{Order}
 use Rattle.task_laws.specs.Tasks.{HasOpenTask}
 use Rattle.jp_disk.specs.View.{DiskView}

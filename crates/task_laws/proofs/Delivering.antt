@@ -12,8 +12,8 @@ use Rattle.agent_worker.specs.declared.gate.GateCall.{GateCall}
 use Rattle.agent_worker.specs.Acts.{named}
 use Rattle.agent_worker.specs.Gate.{GateTells, Told, Claimed as ClaimedTask, told_at}
 use Rattle.agent_worker.specs.Working.{on_host}
-use Rattle.site_run.specs.Lower.durable_build.Standing.{Kept}
-use Rattle.site_run.proofs.Lower.durable_build.OpenLemmas.{begun_all}
+use Rattle.build_life.specs.Lower.durable_build.Standing.{Kept}
+use Rattle.build_life.proofs.Lower.durable_build.OpenLemmas.{begun_all}
 use Rattle.launch_laws.specs.Fitting.{AreApart, WasTask}
 use Rattle.launch_laws.specs.ManyTurns.{InLife}
 use Rattle.launch_laws.specs.Outputs.{AreOutputs, Delivered}
@@ -31,31 +31,31 @@ use Rattle.model_run.specs.Requests.{IsTaskOf}
 use Rattle.model_run.specs.State.{Setting}
 use Rattle.model_run.specs.Terms.{term}
 use Rattle.model_run.specs.World.{world_in}
-use Rattle.site_run.specs.declared.resting.Rest.{Rest}
-use Rattle.site_run.specs.Lower.durable_build.Settings.{IsProper}
+use Rattle.build_life.specs.declared.resting.Rest.{Rest}
+use Rattle.build_life.specs.Lower.durable_build.Settings.{IsProper}
 use Rattle.settle_laws.specs.Stances.{Stance}
 use Rattle.journal_core.specs.declared.faults.TakeFault.{TakeFault}
-use Rattle.site_run.specs.Lower.member_turns.Tales.{claimed_of, is_grant, tells_of, told_of}
-use Rattle.site_run.proofs.Lower.member_turns.PartLemmas.{all_map}
-use Rattle.site_run.specs.Lower.member_turns.Coming.{EachIs}
-use Rattle.site_run.specs.Lower.member_turns.Lives.{EndsWith, Life}
-use Rattle.site_run.specs.Lower.member_turns.Rounds.{turns_of}
-use Rattle.site_run.specs.Lower.member_turns.Turns.{ComesFrom, DidTurn, Explains, HoldsOfOne, IsExplained, IsIn, MadeOf, Turn}
-use Rattle.site_run.proofs.Lower.member_turns.MadeLemmas.{made_behind, made_join}
-use Rattle.site_run.specs.Lives.{Ends}
-use Rattle.site_run.specs.Replies.{replies}
-use Rattle.site_run.specs.Serving.{AreHonest, hosts_of}
-use Rattle.site_run.specs.Telling.{ClaimedInTime}
-use Rattle.site_run.proofs.FitLemmas.{made_says, told_taken}
-use Rattle.site_run.proofs.MemberLemmas.{SaysSo, Steps, rounds_steps, steps_of, steps_then}
-use Rattle.site_run.proofs.WalkLemmas.{of_tree, small}
-use Rattle.site_run.specs.Lower.locked_build.Histories.{tooks}
-use Rattle.site_run.specs.Lower.locked_build.declared.ask.Ask.{Ask}
-use Rattle.site_run.specs.Lower.locked_build.declared.ask.Entry.{Entry}
-use Rattle.site_run.specs.Lower.locked_build.declared.ask.Entry.TheVariants.{Took, Claimed, Line, Failed}
-use Rattle.site_run.specs.Lower.locked_build.declared.ask.Progress.{Progress}
-use Rattle.site_run.specs.Lower.locked_build.declared.ask.Reply.{Reply}
-use Rattle.site_run.proofs.Lower.locked_build.HistoryLaws.{tooks-append}
+use Rattle.build_life.specs.Lower.member_turns.Tales.{claimed_of, is_grant, tells_of, told_of}
+use Rattle.build_life.proofs.Lower.member_turns.PartLemmas.{all_map}
+use Rattle.build_life.specs.Lower.member_turns.Coming.{EachIs}
+use Rattle.build_life.specs.Lower.member_turns.Lives.{EndsWith, Life}
+use Rattle.build_life.specs.Lower.member_turns.Rounds.{turns_of}
+use Rattle.build_life.specs.Lower.member_turns.Turns.{ComesFrom, DidTurn, Explains, HoldsOfOne, IsExplained, IsIn, MadeOf, Turn}
+use Rattle.build_life.proofs.Lower.member_turns.MadeLemmas.{made_behind, made_join}
+use Rattle.build_life.specs.Lives.{Ends}
+use Rattle.build_life.specs.Replies.{replies}
+use Rattle.build_life.specs.Serving.{AreHonest, hosts_of}
+use Rattle.build_life.specs.Telling.{ClaimedInTime}
+use Rattle.build_life.proofs.FitLemmas.{made_says, told_taken}
+use Rattle.build_life.proofs.MemberLemmas.{SaysSo, Steps, rounds_steps, steps_of, steps_then}
+use Rattle.build_life.proofs.WalkLemmas.{of_tree, small}
+use Rattle.build_life.specs.Lower.locked_build.Histories.{tooks}
+use Rattle.build_life.specs.Lower.locked_build.declared.ask.Ask.{Ask}
+use Rattle.build_life.specs.Lower.locked_build.declared.ask.Entry.{Entry}
+use Rattle.build_life.specs.Lower.locked_build.declared.ask.Entry.TheVariants.{Took, Claimed, Line, Failed}
+use Rattle.build_life.specs.Lower.locked_build.declared.ask.Progress.{Progress}
+use Rattle.build_life.specs.Lower.locked_build.declared.ask.Reply.{Reply}
+use Rattle.build_life.proofs.Lower.locked_build.HistoryLaws.{tooks-append}
 use Rattle.world_laws.proofs.Places.{some_behind}
 use Rattle.task_laws.specs.Members.{AllDelivered, AreShort}
 use Rattle.task_laws.proofs.Serves.{caused_by}

@@ -3,24 +3,24 @@ use Rattle.std.proofs.Common.{◌≡◌, ◌⊎◌, ◌∙◌, inl, inr, ℕ, �
 use Rattle.std.specs.Prelude.{IsSome, IsSomeAnd}
 use Rattle.journal_core.specs.declared.faults.TakeFault.{TakeFault}
 use Rattle.agent_worker.specs.declared.member.Member.{Member}
-use Rattle.site_run.specs.Lower.durable_build.Standing.{Kept}
-use Rattle.site_run.proofs.Lower.durable_build.OpenLemmas.{begun_all}
+use Rattle.build_life.specs.Lower.durable_build.Standing.{Kept}
+use Rattle.build_life.proofs.Lower.durable_build.OpenLemmas.{begun_all}
 use Rattle.journal_core.proofs.StepLemmas.{stores_has}
 use Rattle.model_run.specs.declared.event.Event.{Event}
 use Rattle.model_run.specs.Requests.{IsTaskOf}
 use Rattle.model_run.specs.State.{Setting}
 use Rattle.model_run.specs.World.{world_in}
-use Rattle.site_run.specs.Lower.build_store.Saved.{IsTold, Stores}
-use Rattle.site_run.specs.declared.resting.Rest.{Rest}
+use Rattle.build_life.specs.Lower.build_store.Saved.{IsTold, Stores}
+use Rattle.build_life.specs.declared.resting.Rest.{Rest}
 use Rattle.settle_laws.specs.Stances.{Stance}
-use Rattle.site_run.specs.Lower.member_turns.Coming.{EachIs}
-use Rattle.site_run.specs.Lower.member_turns.Turns.{Turn}
-use Rattle.site_run.specs.Lives.{Ends, EndsBehind}
-use Rattle.site_run.specs.Telling.{ClaimedInTime}
-use Rattle.site_run.specs.Lower.locked_build.Histories.{tooks}
-use Rattle.site_run.specs.Lower.locked_build.declared.ask.Entry.{Entry}
-use Rattle.site_run.specs.Lower.locked_build.declared.ask.Entry.TheVariants.{Took, Claimed, Line, Failed}
-use Rattle.site_run.proofs.Lower.locked_build.HistoryLaws.{tooks-append}
+use Rattle.build_life.specs.Lower.member_turns.Coming.{EachIs}
+use Rattle.build_life.specs.Lower.member_turns.Turns.{Turn}
+use Rattle.build_life.specs.Lives.{Ends, EndsBehind}
+use Rattle.build_life.specs.Telling.{ClaimedInTime}
+use Rattle.build_life.specs.Lower.locked_build.Histories.{tooks}
+use Rattle.build_life.specs.Lower.locked_build.declared.ask.Entry.{Entry}
+use Rattle.build_life.specs.Lower.locked_build.declared.ask.Entry.TheVariants.{Took, Claimed, Line, Failed}
+use Rattle.build_life.proofs.Lower.locked_build.HistoryLaws.{tooks-append}
 use Rattle.task_host.specs.declared.call.Call.{Call}
 use Rattle.task_host.specs.declared.order.Stream.{Stream}
 use Rattle.task_laws.specs.Tasks.{AllClaimed, HadOpenTask}

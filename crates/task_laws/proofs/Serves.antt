@@ -8,7 +8,7 @@ use Rattle.model_run.specs.declared.event.Event.{Event}
 use Rattle.model_run.specs.declared.event.Event.TheVariants.{Output}
 use Rattle.model_run.specs.declared.event.Stream.{Stream}
 use Rattle.model_run.specs.Fitting.{Some_of}
-use Rattle.site_run.specs.Lower.member_turns.Turning.{IsCausedIn, IsCausedBy}
+use Rattle.build_life.specs.Lower.member_turns.Turning.{IsCausedIn, IsCausedBy}
 use Rattle.task_host.specs.declared.order.Order.{Order}
 use Rattle.world_laws.proofs.Places.{some_front, some_behind}
 

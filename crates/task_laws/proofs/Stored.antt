@@ -2,9 +2,9 @@
 use Rattle.std.proofs.Common.{◌≡◌, ◌+◌, ℕ, true, false, List, [], ◌∷◌, ◌++◌, length, sym, subst}
 use Rattle.std.proofs.lemmas.List.Sums.{fold-append}
 use Rattle.agent_worker.specs.Acts.{named}
-use Rattle.site_run.specs.Lower.build_images.Images.{world_image}
-use Rattle.site_run.proofs.Lower.durable_build.Begun.{starts_first}
-use Rattle.site_run.proofs.Lower.durable_build.OpenLemmas.{begun_all, is_start}
+use Rattle.build_life.specs.Lower.build_images.Images.{world_image}
+use Rattle.build_life.proofs.Lower.durable_build.Begun.{starts_first}
+use Rattle.build_life.proofs.Lower.durable_build.OpenLemmas.{begun_all, is_start}
 use Rattle.launch_laws.specs.Fitting.{WasTask}
 use Rattle.launch_laws.specs.ManyTurns.{AllTaken}
 use Rattle.launch_laws.specs.Outputs.{Delivered}
@@ -18,10 +18,10 @@ use Rattle.model_run.specs.Terms.{term}
 use Rattle.model_run.specs.World.{Build, after_one, unbegun, world_in}
 use Rattle.task_laws.specs.Streams.{output_of}
 use Rattle.task_laws.proofs.Orders.{delivered_together}
-use Rattle.site_run.specs.Lower.record_form.declared.record.EventRecord.{EventRecord}
-use Rattle.site_run.specs.Lower.build_store.Saved.{Stores}
-use Rattle.site_run.proofs.FactLemmas.{none_first}
-use Rattle.site_run.specs.Lower.store_laws.Store.{FirstStarts, Follows, Starts, events_of}
+use Rattle.build_life.specs.Lower.record_form.declared.record.EventRecord.{EventRecord}
+use Rattle.build_life.specs.Lower.build_store.Saved.{Stores}
+use Rattle.build_life.proofs.FactLemmas.{none_first}
+use Rattle.build_life.specs.Lower.store_laws.Store.{FirstStarts, Follows, Starts, events_of}
 use Rattle.task_host.specs.declared.order.Stream.{Stream}
 use Rattle.task_laws.specs.Members.{StandsTogether}
 

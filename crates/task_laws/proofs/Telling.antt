@@ -15,12 +15,12 @@ use Rattle.launch_laws.specs.Fitting.{Among}
 use Rattle.launch_laws.specs.ManyTurns.{Turns, none as no_turn, more as another_turn}
 use Rattle.launch_laws.proofs.Lists.{NoTwice}
 use Rattle.model_run.specs.Fitting.{Some_of}
-use Rattle.site_run.specs.Lower.member_turns.Tales.{claimed_of, told_of, tells_of}
-use Rattle.site_run.specs.Lower.member_turns.Served.{Executed}
-use Rattle.site_run.proofs.Lower.member_turns.PartLemmas.{all_append, all_map}
-use Rattle.site_run.specs.Lower.member_turns.Turns.{Turn, DidTurn, Work}
-use Rattle.site_run.proofs.MemberLemmas.{Steps}
-use Rattle.site_run.specs.Lower.locked_build.declared.ask.Entry.{Entry}
+use Rattle.build_life.specs.Lower.member_turns.Tales.{claimed_of, told_of, tells_of}
+use Rattle.build_life.specs.Lower.member_turns.Served.{Executed}
+use Rattle.build_life.proofs.Lower.member_turns.PartLemmas.{all_append, all_map}
+use Rattle.build_life.specs.Lower.member_turns.Turns.{Turn, DidTurn, Work}
+use Rattle.build_life.proofs.MemberLemmas.{Steps}
+use Rattle.build_life.specs.Lower.locked_build.declared.ask.Entry.{Entry}
 use Rattle.world_laws.proofs.Places.{some_front, some_behind}
 use Rattle.task_host.specs.View.{HostView}
 use Rattle.jp_io.specs.View.{SourceView}

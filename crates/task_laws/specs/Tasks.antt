@@ -5,9 +5,9 @@ use Rattle.model_run.specs.declared.event.Event.{Event}
 use Rattle.model_run.specs.Requests.{IsTaskOf}
 use Rattle.model_run.specs.State.{Setting}
 use Rattle.model_run.specs.World.{world_in}
-use Rattle.site_run.specs.Lower.build_store.Saved.{Stores}
-use Rattle.site_run.specs.Lower.locked_build.declared.ask.Entry.{Entry}
-use Rattle.site_run.specs.Lower.locked_build.declared.ask.Entry.TheVariants.{Took, Claimed, Line, Failed}
+use Rattle.build_life.specs.Lower.build_store.Saved.{Stores}
+use Rattle.build_life.specs.Lower.locked_build.declared.ask.Entry.{Entry}
+use Rattle.build_life.specs.Lower.locked_build.declared.ask.Entry.TheVariants.{Took, Claimed, Line, Failed}
 
 -- The file is a consistent store, and in the world of all its events this is an open task of the executor.
 pub record HasOpenTask (setting : Setting) (executor task : ℕ) (file : List ℕ) : Type 0 where

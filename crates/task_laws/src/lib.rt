@@ -13,6 +13,6 @@
 //! of the life.
 //!
 //! The crate has no code. `specs/` says what is proved. `proofs/` proves it over the definitions of `model_run`, over what is known
-//! of a state behind the lock (`IsSite` of `locked_build`) and of a life (`Ends` of `site_run`), and with `life_delivers` of
+//! of a state behind the lock (`IsSite` of `locked_build`) and of a life (`Ends` of `build_life`), and with `life_delivers` of
 //! `launch_laws`.
 #![tactic(auto)]

@@ -1,6 +1,6 @@
 use Rattle.std.proofs.Common.{◌≡◌, ◌∙◌, ℕ, List, [], ◌∷◌, max, sym, ap, subst, reverse, arith}
 use Rattle.agent_worker.specs.declared.member.Member.{Member}
-use Rattle.site_run.specs.Lower.build_core.Builds.{Parts, setting_in}
+use Rattle.build_life.specs.Lower.build_core.Builds.{Parts, setting_in}
 use Rattle.model_run.specs.declared.site.Executor.{Executor as SiteExecutor}
 use Rattle.model_run.specs.declared.site.Site.{Site}
 use Rattle.model_run.specs.State.{Setting}
@@ -13,9 +13,9 @@ use Rattle.build_commands.specs.Reporting as report
 use Rattle.build_commands.proofs.FinishLemmas.{finished_wanting}
 use Rattle.build_commands.proofs.KeepLemmas.{nothing_kept}
 use Rattle.build_commands.proofs.LaunchLemmas.{none_launched}
-use Rattle.site_run.specs.Lower.member_turns.Lives.{LifeOf, any_reply}
-use Rattle.site_run.specs.Lower.locked_build.declared.ask.Entry.{Entry}
-use Rattle.site_run.proofs.CloseLemmas.{no_turns}
+use Rattle.build_life.specs.Lower.member_turns.Lives.{LifeOf, any_reply}
+use Rattle.build_life.specs.Lower.locked_build.declared.ask.Entry.{Entry}
+use Rattle.build_life.proofs.CloseLemmas.{no_turns}
 use Rattle.build_commands.proofs.LivingLemmas.{hosts_all, no_events, one_answer, stay_same, still_served}
 use Rattle.build_commands.proofs.finishing.finish.Goals as goal
 

@@ -5,19 +5,19 @@ use Rattle.std.proofs.Math.Logic.{∥∥₁_map}
 use Rattle.device_faults.specs.Faults.{Rose}
 use Rattle.agent_worker.specs.declared.member.Member.{Member}
 use Rattle.agent_worker.specs.Gate.{Told}
-use Rattle.site_run.specs.Lower.build_core.Builds.{Parts, StandsFor, setting_in}
-use Rattle.site_run.specs.Lower.build_images.Images.{image_in}
-use Rattle.site_run.specs.Lower.locked_build.declared.ask.Entry.{Entry}
-use Rattle.site_run.specs.Lower.locked_build.Histories.{lines, tooks}
-use Rattle.site_run.specs.Lower.locked_build.Says.{Says}
-use Rattle.site_run.specs.Lower.member_turns.Lives.{LifeOf, any_reply}
-use Rattle.site_run.proofs.Lower.member_turns.OverLemmas.{life_over}
-use Rattle.site_run.specs.Lower.member_turns.Rounds.{turns_of}
-use Rattle.site_run.specs.Lower.member_turns.Turns.{Explains, HoldsOfOne}
-use Rattle.site_run.specs.Lower.member_turns.Waiting.{operators}
-use Rattle.site_run.specs.Serving.{AreServed}
-use Rattle.site_run.specs.Telling.{AreHeard}
-use Rattle.site_run.proofs.CloseLemmas.{no_turns}
+use Rattle.build_life.specs.Lower.build_core.Builds.{Parts, StandsFor, setting_in}
+use Rattle.build_life.specs.Lower.build_images.Images.{image_in}
+use Rattle.build_life.specs.Lower.locked_build.declared.ask.Entry.{Entry}
+use Rattle.build_life.specs.Lower.locked_build.Histories.{lines, tooks}
+use Rattle.build_life.specs.Lower.locked_build.Says.{Says}
+use Rattle.build_life.specs.Lower.member_turns.Lives.{LifeOf, any_reply}
+use Rattle.build_life.proofs.Lower.member_turns.OverLemmas.{life_over}
+use Rattle.build_life.specs.Lower.member_turns.Rounds.{turns_of}
+use Rattle.build_life.specs.Lower.member_turns.Turns.{Explains, HoldsOfOne}
+use Rattle.build_life.specs.Lower.member_turns.Waiting.{operators}
+use Rattle.build_life.specs.Serving.{AreServed}
+use Rattle.build_life.specs.Telling.{AreHeard}
+use Rattle.build_life.proofs.CloseLemmas.{no_turns}
 use Rattle.agent_worker.specs.Crews.{answers_in, hosts_in, IsCrew, members_of, others_of}
 use Rattle.build_commands.specs.Finishing.{TellsEnd}
 use Rattle.build_commands.specs.Launching.{LaunchedOnce}

@@ -1,8 +1,8 @@
 use Rattle.std.proofs.Common.{◌≡◌, ◌∙◌, ℕ, List, inl, inr, ap, sym, subst, length}
 use Rattle.model_run.specs.declared.flow.FlowNode.{FlowNode}
 use Rattle.model_run.specs.declared.result.BuildResult.{BuildResult}
-use Rattle.site_run.specs.Lower.build_core.Builds.{StandsFor}
-use Rattle.site_run.specs.Lower.build_images.Images.{image_in}
+use Rattle.build_life.specs.Lower.build_core.Builds.{StandsFor}
+use Rattle.build_life.specs.Lower.build_images.Images.{image_in}
 use Rattle.generated_build.specs.Summary.{summary_text}
 use Rattle.build_commands.specs.declared.end_text.EndText.{EndText}
 use Rattle.build_commands.specs.declared.end_text.EndText.TheVariants.{Log, Numbers}

@@ -1,10 +1,10 @@
 use Rattle.std.proofs.Common.{◌∙◌, ℕ, List, refl, sym, ap, subst}
-use Rattle.site_run.specs.Lower.build_core.Builds.{setting_in}
+use Rattle.build_life.specs.Lower.build_core.Builds.{setting_in}
 use Rattle.jp_disk.specs.Runs.{AtEachMoment}
-use Rattle.site_run.specs.Lower.durable_build.Opening.{OpenFails}
-use Rattle.site_run.specs.Lower.durable_build.Standing.{Keeps, Kept}
-use Rattle.site_run.specs.Lower.build_store.Lives.{Stands}
-use Rattle.site_run.proofs.Lower.build_store.LifeLemmas.{lasts_here}
+use Rattle.build_life.specs.Lower.durable_build.Opening.{OpenFails}
+use Rattle.build_life.specs.Lower.durable_build.Standing.{Keeps, Kept}
+use Rattle.build_life.specs.Lower.build_store.Lives.{Stands}
+use Rattle.build_life.proofs.Lower.build_store.LifeLemmas.{lasts_here}
 use Rattle.build_commands.specs.Reporting.{Reports}
 use Rattle.build_commands.specs.Resuming.{Reopens, Resumes, goes_on, refused, unopened, went_on}
 use Rattle.build_commands.specs.Showing.{HasBuild}

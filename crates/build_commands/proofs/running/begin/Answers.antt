@@ -1,11 +1,11 @@
 use Rattle.std.proofs.Common.{◌∙◌, [], ◌∷◌, ℕ, refl, sym, ap, subst}
 use Rattle.std.specs.Prelude.{IsSome}
-use Rattle.site_run.specs.Lower.durable_build.Standing.{Kept}
+use Rattle.build_life.specs.Lower.durable_build.Standing.{Kept}
 use Rattle.model_run.specs.declared.event.Event.TheVariants.{Start as StartEvent}
-use Rattle.site_run.specs.Lower.durable_build.Settings.{script_setting}
-use Rattle.site_run.specs.Lower.build_store.Lives.{Goes}
-use Rattle.site_run.specs.Lower.build_store.Saved.{Saves}
-use Rattle.site_run.proofs.Lower.build_store.LifeLemmas.{lasts_here}
+use Rattle.build_life.specs.Lower.durable_build.Settings.{script_setting}
+use Rattle.build_life.specs.Lower.build_store.Lives.{Goes}
+use Rattle.build_life.specs.Lower.build_store.Saved.{Saves}
+use Rattle.build_life.proofs.Lower.build_store.LifeLemmas.{lasts_here}
 use Rattle.build_commands.specs.Beginning.{Begins, BeginsOver, begun, unbegun}
 use Rattle.build_commands.specs.Reporting.{Reports}
 use Rattle.build_commands.proofs.BeginLemmas.{begin_says, counts_first, known_file, meant}

@@ -1,11 +1,11 @@
 use Rattle.std.proofs.Common.{ap, sym, ◌∙◌, subst, List, ℕ}
-use Rattle.site_run.specs.Lower.build_core.Builds.{Parts, StandsFor}
+use Rattle.build_life.specs.Lower.build_core.Builds.{Parts, StandsFor}
 use Rattle.model_run.specs.GraphText.{graph_text}
 use Rattle.model_run.specs.World.{Build}
-use Rattle.site_run.specs.Lower.durable_build.Opening.{OpenFails}
+use Rattle.build_life.specs.Lower.durable_build.Opening.{OpenFails}
 use Rattle.image_form.specs.declared.image.Image.{Image}
-use Rattle.site_run.specs.Lower.build_core.Builds.{nodes_of}
-use Rattle.site_run.specs.Lower.cps_frames.Standing.{common_of}
+use Rattle.build_life.specs.Lower.build_core.Builds.{nodes_of}
+use Rattle.build_life.specs.Lower.cps_frames.Standing.{common_of}
 use Rattle.build_commands.specs.Showing.{ShowsBuild}
 use Rattle.build_commands.specs.Writing.{Writes}
 use Rattle.build_commands.proofs.StoreLemmas.{last_is, shown_nodes, shows_build}

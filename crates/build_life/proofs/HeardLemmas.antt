@@ -9,7 +9,7 @@ use Rattle.std.proofs.Math.Seq.{take-nil}
 use Rattle.program_lock.specs.declared.program.Memory.{Memory as NoMemory}
 use Rattle.program_lock.specs.Legal.{Answers as AnswersOf}
 use Rattle.program_lock.specs.Merge.{IsMergeOf}
-use Rattle.site_run.specs.declared.resting.Rest.{Rest}
+use Rattle.build_life.specs.declared.resting.Rest.{Rest}
 use Rattle.journal_core.specs.declared.faults.TakeFault.{TakeFault}
 use Rattle.agent_worker.specs.declared.gate.GateCall.{GateCall}
 use Rattle.agent_worker.specs.declared.gate.GateCall.TheVariants as gate_call
@@ -43,14 +43,14 @@ use Rattle.member_turns.specs.Orders.{AllAnswered}
 use Rattle.member_turns.specs.Turns.{Turn, DidTurn, MadeOf, Work}
 use Rattle.member_turns.specs.Waiting.{operators}
 use Rattle.member_turns.proofs.WaitLemmas.{few_nows, few_olds}
-use Rattle.site_run.specs.Ending.{ended_as}
-use Rattle.site_run.specs.Going.{heard_in}
-use Rattle.site_run.specs.Telling.{AreHeard}
-use Rattle.site_run.proofs.CallLemmas.{in_last, no_halt, no_refusal}
-use Rattle.site_run.proofs.FactLemmas.{rest_calm}
-use Rattle.site_run.proofs.FitLemmas.{steps_all}
-use Rattle.site_run.proofs.WalkLemmas.{all_behind, all_front}
-use Rattle.site_run.proofs.MemberLemmas.{Steps, said_failed}
+use Rattle.build_life.specs.Ending.{ended_as}
+use Rattle.build_life.specs.Going.{heard_in}
+use Rattle.build_life.specs.Telling.{AreHeard}
+use Rattle.build_life.proofs.CallLemmas.{in_last, no_halt, no_refusal}
+use Rattle.build_life.proofs.FactLemmas.{rest_calm}
+use Rattle.build_life.proofs.FitLemmas.{steps_all}
+use Rattle.build_life.proofs.WalkLemmas.{all_behind, all_front}
+use Rattle.build_life.proofs.MemberLemmas.{Steps, said_failed}
 use Rattle.task_host.specs.View.{HostView}
 use Rattle.jp_io.specs.View.{SourceView}
 

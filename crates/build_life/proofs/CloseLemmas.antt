@@ -14,8 +14,8 @@ use Rattle.journal_core.specs.declared.faults.TakeFault.TheVariants as take
 use Rattle.agent_worker.specs.declared.member.Member.{Member}
 use Rattle.image_form.specs.declared.image.Image.{Image}
 use Rattle.build_store.specs.Lower.durable_build.Standing.{Kept}
-use Rattle.site_run.specs.declared.resting.Rest.{Rest}
-use Rattle.site_run.specs.declared.resting.Rest.TheVariants.{Ended, Waits, AnswersFailed}
+use Rattle.build_life.specs.declared.resting.Rest.{Rest}
+use Rattle.build_life.specs.declared.resting.Rest.TheVariants.{Ended, Waits, AnswersFailed}
 use Rattle.settle_laws.specs.Stances.{Stance}
 use Rattle.member_turns.specs.Lower.locked_build.declared.ask.Ask.{Ask}
 use Rattle.model_run.specs.declared.event.Event.{Event}
@@ -30,7 +30,7 @@ use Rattle.member_turns.specs.Lower.locked_build.Histories.{kept_fault}
 use Rattle.member_turns.specs.Lives.{Life, LifeOf}
 use Rattle.member_turns.specs.Ways.{Way}
 use Rattle.member_turns.specs.Turns.{DidTurn}
-use Rattle.site_run.specs.Ending.{any_failed, ended_as, rest_of}
+use Rattle.build_life.specs.Ending.{any_failed, ended_as, rest_of}
 use Rattle.jp_disk.specs.View.{DiskView}
 use Rattle.task_host.specs.View.{HostView}
 use Rattle.jp_io.specs.View.{SourceView}

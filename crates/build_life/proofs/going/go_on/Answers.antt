@@ -3,13 +3,13 @@ use Rattle.device_faults.specs.Faults.{CountsFault}
 use Rattle.journal_core.specs.declared.faults.TakeFault.TheVariants.{Disk}
 use Rattle.member_turns.specs.Lower.locked_build.Facts.{Facts}
 use Rattle.member_turns.specs.Lower.locked_build.Histories.{kept_fault}
-use Rattle.site_run.proofs.CloseLemmas.{disk_counts, err_tells, failed_so, known_from, opening_counts, opening_tells, same_start}
-use Rattle.site_run.proofs.FactLemmas.{facts_all, rests_keep}
-use Rattle.site_run.proofs.FitLemmas.{life_serves}
-use Rattle.site_run.proofs.HeardLemmas.{life_heard}
-use Rattle.site_run.proofs.WholeLemmas.{life_ends, opening_refused}
+use Rattle.build_life.proofs.CloseLemmas.{disk_counts, err_tells, failed_so, known_from, opening_counts, opening_tells, same_start}
+use Rattle.build_life.proofs.FactLemmas.{facts_all, rests_keep}
+use Rattle.build_life.proofs.FitLemmas.{life_serves}
+use Rattle.build_life.proofs.HeardLemmas.{life_heard}
+use Rattle.build_life.proofs.WholeLemmas.{life_ends, opening_refused}
 use Rattle.member_turns.proofs.SeatLemmas.{zip_length}
-use Rattle.site_run.proofs.going.go_on.Goals as goal
+use Rattle.build_life.proofs.going.go_on.Goals as goal
 
 pub returns-in-Ok-clause-lives : goal.returns-in-Ok-clause-lives
 returns-in-Ok-clause-lives g c =

@@ -8,8 +8,8 @@ use Rattle.agent_worker.specs.declared.member.Member.TheVariants.{Executor, Oper
 use Rattle.build_requests.specs.Waiting.{open_tasks, waiting_inputs}
 use Rattle.model_run.specs.State.{Setting}
 use Rattle.model_run.specs.World.{Build, next_grant}
-use Rattle.site_run.specs.declared.resting.Rest.{Rest}
-use Rattle.site_run.specs.declared.resting.Rest.TheVariants.{Ended, Waits, AnswersFailed}
+use Rattle.build_life.specs.declared.resting.Rest.{Rest}
+use Rattle.build_life.specs.declared.resting.Rest.TheVariants.{Ended, Waits, AnswersFailed}
 use Rattle.member_turns.specs.Lower.locked_build.declared.ask.Progress.{Progress}
 
 module _ {H A : Type 0} where

@@ -18,7 +18,7 @@ use Rattle.model_run.specs.declared.event.Event.{Event}
 use Rattle.model_run.specs.declared.taken.Taken.TheVariants.{Accepted}
 use Rattle.model_run.specs.State.{Setting}
 use Rattle.model_run.specs.World.{answer_to, world_in}
-use Rattle.site_run.specs.declared.resting.Rest.{Rest}
+use Rattle.build_life.specs.declared.resting.Rest.{Rest}
 use Rattle.build_store.specs.Lower.durable_build.Settings.{IsProper}
 use Rattle.settle_laws.specs.Stances.{Stance}
 use Rattle.build_store.specs.Lives.{Fails, IsOf, Lasts, MayRisk}
@@ -26,12 +26,12 @@ use Rattle.build_store.specs.Saved.{IsTold, Stores}
 use Rattle.member_turns.specs.Lower.locked_build.declared.ask.Entry.{Entry}
 use Rattle.member_turns.specs.Lower.locked_build.Histories.{tooks}
 use Rattle.member_turns.specs.Turns.{Turn}
-use Rattle.site_run.specs.Lives.{Ends, EndsBehind, OpeningBreaks}
-use Rattle.site_run.specs.ManyLives.{Lives, OneLife, led, more, one, refused}
-use Rattle.site_run.specs.Serving.{AllFit, AreHonest, AreServed, hosts_of}
-use Rattle.site_run.proofs.FactLemmas.{none_first}
-use Rattle.site_run.proofs.OneStore.{one_store}
-use Rattle.site_run.proofs.WalkLemmas.{of_tree, small}
+use Rattle.build_life.specs.Lives.{Ends, EndsBehind, OpeningBreaks}
+use Rattle.build_life.specs.ManyLives.{Lives, OneLife, led, more, one, refused}
+use Rattle.build_life.specs.Serving.{AllFit, AreHonest, AreServed, hosts_of}
+use Rattle.build_life.proofs.FactLemmas.{none_first}
+use Rattle.build_life.proofs.OneStore.{one_store}
+use Rattle.build_life.proofs.WalkLemmas.{of_tree, small}
 use Rattle.jp_disk.specs.View.{DiskView}
 use Rattle.task_host.specs.View.{HostView}
 use Rattle.jp_io.specs.View.{SourceView}

@@ -8,14 +8,14 @@ use Rattle.agent_worker.specs.declared.member.Member.{Member}
 use Rattle.build_store.specs.Lower.durable_build.Standing.{Kept}
 use Rattle.model_run.specs.declared.event.Event.{Event}
 use Rattle.model_run.specs.State.{Setting}
-use Rattle.site_run.specs.declared.resting.Rest.{Rest}
+use Rattle.build_life.specs.declared.resting.Rest.{Rest}
 use Rattle.settle_laws.specs.Stances.{Stance}
 use Rattle.build_store.specs.Lives.{Lasts}
 use Rattle.build_store.specs.Saved.{Stores}
 use Rattle.member_turns.specs.Lower.locked_build.declared.ask.Entry.{Entry}
 use Rattle.member_turns.specs.Turns.{Turn}
-use Rattle.site_run.specs.Lives.{Ends, OpeningBreaks}
-use Rattle.site_run.specs.Serving.{AreHonest, AreServed, hosts_of}
+use Rattle.build_life.specs.Lives.{Ends, OpeningBreaks}
+use Rattle.build_life.specs.Serving.{AreHonest, AreServed, hosts_of}
 use Rattle.jp_disk.specs.View.{DiskView}
 use Rattle.task_host.specs.View.{HostView}
 use Rattle.jp_io.specs.View.{SourceView}

@@ -39,10 +39,10 @@ use Rattle.launch_laws.specs.Fitting.{AreApart, ExecutorHost, Fits, all_launches
 use Rattle.launch_laws.specs.ManyTurns.{AllTaken, InLife}
 use Rattle.launch_laws.proofs.Lists.{NoTwice, all_differ, none_twice}
 use Rattle.launch_laws.proofs.LifeLaws.{life_fits, no_task_twice}
-use Rattle.site_run.specs.Serving.{AreHonest, AllFit, AreServed, hosts_of}
+use Rattle.build_life.specs.Serving.{AreHonest, AllFit, AreServed, hosts_of}
 use Rattle.member_turns.proofs.MadeLemmas.{made_behind, made_join}
-use Rattle.site_run.proofs.WalkLemmas.{all_behind, all_front}
-use Rattle.site_run.proofs.MemberLemmas.{Steps, steps_of, steps_then, rounds_steps, claims_of_all, SaysSo, AllCame, all_came, all_served}
+use Rattle.build_life.proofs.WalkLemmas.{all_behind, all_front}
+use Rattle.build_life.proofs.MemberLemmas.{Steps, steps_of, steps_then, rounds_steps, claims_of_all, SaysSo, AllCame, all_came, all_served}
 use Rattle.task_host.specs.View.{HostView}
 use Rattle.jp_io.specs.View.{SourceView}
 

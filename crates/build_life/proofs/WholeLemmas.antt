@@ -25,7 +25,7 @@ use Rattle.model_run.specs.declared.event.Event.TheVariants.{Start, Granted, Out
 use Rattle.model_run.specs.Fitting.{Some_of}
 use Rattle.model_run.specs.State.{Setting}
 use Rattle.model_run.specs.World as W
-use Rattle.site_run.specs.declared.resting.Rest.{Rest}
+use Rattle.build_life.specs.declared.resting.Rest.{Rest}
 use Rattle.settle_laws.specs.Stances.{Stance}
 use Rattle.build_store.specs.Lives.{IsNext as ComesNext, Lasts, Fails}
 use Rattle.member_turns.specs.Lower.locked_build.declared.ask.Ask.TheVariants.{Look}
@@ -43,22 +43,22 @@ use Rattle.member_turns.proofs.TaleLemmas.{grants_silent, told-append}
 use Rattle.member_turns.specs.Coming.{Came, EachIs}
 use Rattle.member_turns.specs.Orders.{AllAnswered}
 use Rattle.member_turns.specs.Waiting.{Waited, operators}
-use Rattle.site_run.specs.Replies.{replies}
-use Rattle.site_run.specs.Telling.{ClaimedInTime, HeardInTime, IsOrderOf, orders_in}
-use Rattle.site_run.proofs.ReplyLemmas.{claimed_in_time, replies_so}
+use Rattle.build_life.specs.Replies.{replies}
+use Rattle.build_life.specs.Telling.{ClaimedInTime, HeardInTime, IsOrderOf, orders_in}
+use Rattle.build_life.proofs.ReplyLemmas.{claimed_in_time, replies_so}
 use Rattle.member_turns.proofs.OverLemmas.{life_over}
-use Rattle.site_run.proofs.CallLemmas.{heard_in_time, turns_ordered}
+use Rattle.build_life.proofs.CallLemmas.{heard_in_time, turns_ordered}
 use Rattle.member_turns.specs.Lives.{Life, LifeOf, EndsWith}
 use Rattle.member_turns.specs.Rounds.{turns_of}
 use Rattle.member_turns.specs.Turns.{Turn}
-use Rattle.site_run.specs.Ending.{RestsWith, ended_as, rest_of}
-use Rattle.site_run.specs.Going.{Comes, by_grant, by_report, by_line, GoesBy, begins}
-use Rattle.site_run.specs.Lives.{BreaksBehind, EndsBehind, Ends, IsReported, IsRefused, OpeningBreaks}
-use Rattle.site_run.specs.Serving.{AreHonest, AllFit, AreServed, hosts_of}
-use Rattle.site_run.proofs.WalkLemmas.{all_behind, ShowsAll, shows_shown, grants_go, grants_stop, legal_at, At, StoppedBy, IsFaultOf, IsGrantOr, of_tree, small}
-use Rattle.site_run.proofs.StoreLemmas.{lasts_on, fails_on, wants, wants_on}
-use Rattle.site_run.proofs.EndLemmas.{rests_so, goes_then, goes_taken}
-use Rattle.site_run.proofs.FitLemmas.{told_taken, life_serves, once_fit, came_all, fit_life}
+use Rattle.build_life.specs.Ending.{RestsWith, ended_as, rest_of}
+use Rattle.build_life.specs.Going.{Comes, by_grant, by_report, by_line, GoesBy, begins}
+use Rattle.build_life.specs.Lives.{BreaksBehind, EndsBehind, Ends, IsReported, IsRefused, OpeningBreaks}
+use Rattle.build_life.specs.Serving.{AreHonest, AllFit, AreServed, hosts_of}
+use Rattle.build_life.proofs.WalkLemmas.{all_behind, ShowsAll, shows_shown, grants_go, grants_stop, legal_at, At, StoppedBy, IsFaultOf, IsGrantOr, of_tree, small}
+use Rattle.build_life.proofs.StoreLemmas.{lasts_on, fails_on, wants, wants_on}
+use Rattle.build_life.proofs.EndLemmas.{rests_so, goes_then, goes_taken}
+use Rattle.build_life.proofs.FitLemmas.{told_taken, life_serves, once_fit, came_all, fit_life}
 use Rattle.model_syntax.specs.TreeNodes.{tree_node}
 use Rattle.jp_disk.specs.View.{DiskLaws, DiskView}
 use Rattle.task_host.specs.View.{HostView}

@@ -26,7 +26,7 @@ use Rattle.build_store.specs.Lower.durable_build.Kinds.{weights_of}
 use Rattle.std.specs.List.{AllByRecursion as AllAre}
 use Rattle.build_store.specs.Lower.durable_build.Standing.{IsWhole, Kept, Keeps}
 use Rattle.build_store.proofs.Lower.durable_build.OpenLemmas.{begun_all}
-use Rattle.site_run.specs.declared.resting.Rest.{Rest}
+use Rattle.build_life.specs.declared.resting.Rest.{Rest}
 use Rattle.member_turns.specs.Lower.locked_build.declared.ask.Entry.{Entry}
 use Rattle.member_turns.specs.Lower.locked_build.declared.ask.Entry.TheVariants.{Took, Claimed, Line, Failed}
 use Rattle.member_turns.specs.Lower.locked_build.declared.ask.Progress.{Progress}
@@ -35,9 +35,9 @@ use Rattle.member_turns.specs.Lower.locked_build.Histories.{tooks, kept_fault}
 use Rattle.member_turns.specs.Lower.locked_build.Showing.{IsShown}
 use Rattle.member_turns.proofs.Lower.locked_build.FactLaws.{all_append, on_so_far, whole_so_far}
 use Rattle.member_turns.proofs.Lower.locked_build.HistoryLaws.{kept_fault-append, no_fault, none_pending, pending-append, tooks-append}
-use Rattle.site_run.specs.Ending.{ended_as}
-use Rattle.site_run.specs.Lives.{KeepsOn}
-use Rattle.site_run.proofs.StoreLemmas.{due_append, events-append, follows_append, no_payloads, no_records}
+use Rattle.build_life.specs.Ending.{ended_as}
+use Rattle.build_life.specs.Lives.{KeepsOn}
+use Rattle.build_life.proofs.StoreLemmas.{due_append, events-append, follows_append, no_payloads, no_records}
 use Rattle.jp_disk.specs.View.{DiskView}
 
 -- fronts of records

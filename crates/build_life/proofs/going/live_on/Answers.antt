@@ -1,8 +1,8 @@
 use Rattle.std.proofs.Common.{◌∙◌, Err, sym, ap}
 use Rattle.member_turns.specs.Lower.locked_build.Histories.{kept_fault}
-use Rattle.site_run.specs.Ending.{ended_as}
-use Rattle.site_run.proofs.CloseLemmas.{nothing_done}
-use Rattle.site_run.proofs.going.live_on.Goals as goal
+use Rattle.build_life.specs.Ending.{ended_as}
+use Rattle.build_life.proofs.CloseLemmas.{nothing_done}
+use Rattle.build_life.proofs.going.live_on.Goals as goal
 
 pub returns-in-Ok : goal.returns-in-Ok
 returns-in-Ok g c = record { lives = (_, c.in-Ok.ensures.lives, c.ended_of.ensures ∙ ap (ended_as (kept_fault c.in-Ok.site.history.items) c.in-Ok.how) c.deref.ensures.value) }

@@ -29,7 +29,7 @@ use Rattle.member_turns.specs.Lower.locked_build.Claims.{ClaimSays, busy_of, wit
 use Rattle.member_turns.specs.Lower.locked_build.Grants.{noted}
 use Rattle.member_turns.specs.Lower.locked_build.Histories.{kept_fault, tooks}
 use Rattle.member_turns.specs.Lower.locked_build.Says.{stopped_reply}
-use Rattle.site_run.specs.Going.{Decides, IsPassedOver}
+use Rattle.build_life.specs.Going.{Decides, IsPassedOver}
 
 module _ (setting : Setting) where
   -- An event that was not taken with this fault: it is accepted, but for want of memory; `Full` says what was too much: the length of a journal, and what the record

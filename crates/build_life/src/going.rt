@@ -14,9 +14,9 @@ ghost use Rattle.member_turns.specs.Lower.locked_build.Grants.{OpenRefuses};
 ghost use Rattle.member_turns.specs.Lower.locked_build.Histories.{kept_fault};
 ghost use Rattle.member_turns.specs.Lower.locked_build.Says.{Says};
 ghost use Rattle.member_turns.specs.Lives.{Life};
-ghost use Rattle.site_run.specs.Ending.{any_failed, ended_as};
-ghost use Rattle.site_run.specs.Lives.{KeepsOn, LivesOn, OpeningBreaks};
-ghost use Rattle.site_run.specs.Serving.{AreServed};
+ghost use Rattle.build_life.specs.Ending.{any_failed, ended_as};
+ghost use Rattle.build_life.specs.Lives.{KeepsOn, LivesOn, OpeningBreaks};
+ghost use Rattle.build_life.specs.Serving.{AreServed};
 
 use crate::resting::{Rest, rest_of};
 use agent_worker::Member;

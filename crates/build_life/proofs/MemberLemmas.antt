@@ -35,7 +35,7 @@ use Rattle.launch_laws.proofs.Lists.{NoTwice, among_either, twice_append, twice_
 use Rattle.agent_worker.specs.Operating.{has_ended, read_in}
 use Rattle.std.specs.Io.KnownBytes.{IsAtEnd}
 use Rattle.std.proofs.KnownBytes.{Consumes-nil, Consumes-trans}
-use Rattle.site_run.specs.Serving.{AreServed, HostStays, ReadOn}
+use Rattle.build_life.specs.Serving.{AreServed, HostStays, ReadOn}
 use Rattle.world_laws.proofs.Places.{some_front, some_behind}
 use Rattle.task_host.specs.View.{HostView}
 use Rattle.jp_io.specs.View.{SourceView}

@@ -11,16 +11,16 @@ use Rattle.launch_laws.specs.ManyTurns.{AllTaken, IsTaken}
 use Rattle.model_run.specs.declared.event.Event.{Event}
 use Rattle.model_run.specs.State.{Setting}
 use Rattle.model_run.specs.World as W
-use Rattle.site_run.specs.declared.resting.Rest.TheVariants.{Waits, AnswersFailed}
+use Rattle.build_life.specs.declared.resting.Rest.TheVariants.{Waits, AnswersFailed}
 use Rattle.build_store.specs.Lower.durable_build.Settings.{IsProper}
 use Rattle.settle_laws.specs.Stances.{Stance}
 use Rattle.member_turns.specs.Lower.locked_build.declared.ask.Progress.{Progress}
 use Rattle.member_turns.specs.Lower.locked_build.Claims.{within_u32}
 use Rattle.member_turns.specs.Lower.locked_build.Showing.{IsSettled}
 use Rattle.member_turns.specs.Ending.{can_answer, goes_on}
-use Rattle.site_run.specs.Ending.{any_failed, AllReadOut, RestsWith, rest_of}
-use Rattle.site_run.specs.Going.{Comes, by_grant, by_report, by_line, GoesBy, begins, takes, passes}
-use Rattle.site_run.proofs.WalkLemmas.{ShowsAll, requests_are, settled_none}
+use Rattle.build_life.specs.Ending.{any_failed, AllReadOut, RestsWith, rest_of}
+use Rattle.build_life.specs.Going.{Comes, by_grant, by_report, by_line, GoesBy, begins, takes, passes}
+use Rattle.build_life.proofs.WalkLemmas.{ShowsAll, requests_are, settled_none}
 
 either_false : (a b : Bool) → (a || b) ≡ false → (a ≡ false) × (b ≡ false)
 either_false true b is = absurd (cc)

@@ -18,7 +18,7 @@ use Rattle.member_turns.specs.Lower.locked_build.declared.ask.Entry.{Entry}
 use Rattle.member_turns.specs.Lower.locked_build.declared.ask.Entry.TheVariants.{Took, Claimed, Line, Failed}
 use Rattle.member_turns.specs.Lower.locked_build.Claims.{order_as}
 use Rattle.member_turns.specs.Lower.locked_build.Histories.{lines, tooks}
-use Rattle.site_run.specs.Going.{heard_in}
+use Rattle.build_life.specs.Going.{heard_in}
 use Rattle.jp_io.specs.View.{SourceView}
 
 -- the orders that the claims among these calls gave

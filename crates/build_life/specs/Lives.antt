@@ -13,7 +13,7 @@ use Rattle.model_run.specs.declared.taken.Taken.TheVariants.{Accepted}
 use Rattle.model_run.specs.State.{Setting}
 use Rattle.model_run.specs.World.{answer_to, world_in}
 use Rattle.settle_laws.specs.Stances.{Stance}
-use Rattle.site_run.specs.declared.resting.Rest.{Rest}
+use Rattle.build_life.specs.declared.resting.Rest.{Rest}
 use Rattle.build_store.specs.Lives.{Lasts, Fails}
 use Rattle.member_turns.specs.Lower.locked_build.declared.ask.Ask.{Ask}
 use Rattle.member_turns.specs.Lower.locked_build.declared.ask.Entry.{Entry}
@@ -23,13 +23,13 @@ use Rattle.member_turns.specs.Lower.locked_build.Histories.{kept_fault, lines, t
 use Rattle.member_turns.specs.Lives.{Life, LifeOf}
 use Rattle.member_turns.specs.Rounds.{turns_of}
 use Rattle.member_turns.specs.Turns.{Turn, Explains, HoldsOfOne}
-use Rattle.site_run.specs.Ending.{RestsWith, ended_as}
-use Rattle.site_run.specs.Going.{Comes, GoesBy}
-use Rattle.site_run.specs.Replies.{replies}
-use Rattle.site_run.specs.Telling.{AreHeard, ClaimedInTime, HeardInTime, IsOrderOf, orders_in}
+use Rattle.build_life.specs.Ending.{RestsWith, ended_as}
+use Rattle.build_life.specs.Going.{Comes, GoesBy}
+use Rattle.build_life.specs.Replies.{replies}
+use Rattle.build_life.specs.Telling.{AreHeard, ClaimedInTime, HeardInTime, IsOrderOf, orders_in}
 use Rattle.member_turns.specs.Coming.{EachIs}
 use Rattle.member_turns.specs.Waiting.{operators}
-use Rattle.site_run.specs.Serving.{AreHonest, AllFit, hosts_of}
+use Rattle.build_life.specs.Serving.{AreHonest, AllFit, hosts_of}
 use Rattle.launch_laws.specs.Fitting as fitting
 use Rattle.launch_laws.specs.Fitting.{AreApart, ExecutorHost, all_launches}
 use Rattle.std.specs.List.{AllByRecursion as AllAre, IsDistinct}

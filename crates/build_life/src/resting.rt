@@ -1,6 +1,6 @@
 //! Why a life rests.
 ghost use Rattle.std.specs.Prelude.{◌≡◌};
-ghost use Rattle.site_run.specs.Ending.{any_failed, has_failed, rest_of};
+ghost use Rattle.build_life.specs.Ending.{any_failed, has_failed, rest_of};
 
 use agent_worker::Member;
 use member_turns::locked_build::Progress;

@@ -36,7 +36,7 @@ use Rattle.model_run.specs.Taking.{Standing}
 use Rattle.model_run.specs.World as W
 use Rattle.program_lock.specs.Legal.{IsRun, IsLegal}
 use Rattle.build_store.specs.Lower.durable_build.Settings.{IsProper}
-use Rattle.site_run.proofs.Decisions.{decided, grant_accepted}
+use Rattle.build_life.proofs.Decisions.{decided, grant_accepted}
 use Rattle.settle_laws.specs.Stances.{Stance}
 use Rattle.build_store.specs.Lower.store_laws.Store.{grant_of}
 use Rattle.build_store.proofs.Lower.store_laws.Stories.{world-more}
@@ -60,7 +60,7 @@ use Rattle.member_turns.specs.Coming.{BehindItsLine, Came, EachIs, FailedSo, is_
 use Rattle.member_turns.proofs.PartLemmas.{all_append, all_map}
 use Rattle.member_turns.proofs.TaleLemmas.{claimed-append, lines-append, grants_silent}
 use Rattle.build_store.specs.Lives.{IsNext as ComesNext}
-use Rattle.site_run.specs.Going.{Decides, IsPassedOver, no_answer, nothing_open, Comes, by_grant, by_report, by_line, GoesBy, begins, takes, passes}
+use Rattle.build_life.specs.Going.{Decides, IsPassedOver, no_answer, nothing_open, Comes, by_grant, by_report, by_line, GoesBy, begins, takes, passes}
 
 pub all_front : {A : Type 0} (P : A → Type 0) (xs ys : List A) → AllAre P (xs ++ ys) → AllAre P xs
 all_front P [] ys all = tt

@@ -34,8 +34,8 @@ use Rattle.member_turns.specs.Coming.{EachIs}
 use Rattle.member_turns.specs.Orders.{AllAnswered, AnsweredIn}
 use Rattle.member_turns.specs.Turns.{IsIn, Turn}
 use Rattle.member_turns.specs.Waiting.{Waited}
-use Rattle.site_run.specs.Telling.{HeardInTime, IsOrderOf, orders_in}
-use Rattle.site_run.proofs.WalkLemmas.{ShowsAll, kept_first, requests_are, shows_shown}
+use Rattle.build_life.specs.Telling.{HeardInTime, IsOrderOf, orders_in}
+use Rattle.build_life.proofs.WalkLemmas.{ShowsAll, kept_first, requests_are, shows_shown}
 
 -- what is known of each is known of all
 pub all_known : {X : Type 0} (P : X → Type 0) (xs : List X) → AllAre (λ x. ∥ P x ∥₁) xs → ∥ AllAre P xs ∥₁

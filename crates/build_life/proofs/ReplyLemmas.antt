@@ -43,9 +43,9 @@ use Rattle.member_turns.specs.Lower.locked_build.Histories.{kept_fault, tooks}
 use Rattle.member_turns.specs.Lower.locked_build.Says.{Answers, SaysAt, Says}
 use Rattle.member_turns.specs.Lower.locked_build.Showing.{IsShown}
 use Rattle.member_turns.specs.Coming.{EachIs}
-use Rattle.site_run.specs.Replies as its
-use Rattle.site_run.specs.Telling.{ClaimedInTime}
-use Rattle.site_run.proofs.WalkLemmas.{ShowsAll, accepted_is, answer_is, due_is, found_task, line_decides, line_passed, requests_are, settled_none, shows_next, shows_shown}
+use Rattle.build_life.specs.Replies as its
+use Rattle.build_life.specs.Telling.{ClaimedInTime}
+use Rattle.build_life.proofs.WalkLemmas.{ShowsAll, accepted_is, answer_is, due_is, found_task, line_decides, line_passed, requests_are, settled_none, shows_next, shows_shown}
 
 module _ {T : Type 0} (stance : T → Stance) (setting : Setting) (proper : IsProper setting) where
   -- what the record of an event adds, by the images of the builds of the events before it and with it

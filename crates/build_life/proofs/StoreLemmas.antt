@@ -36,7 +36,7 @@ use Rattle.member_turns.specs.Lower.locked_build.declared.ask.Entry.TheVariants.
 use Rattle.member_turns.specs.Lower.locked_build.Facts.{Facts, Grown, HasFront, IsFull, IsFullAt, IsMeant, IsSized, IsSizedAt}
 use Rattle.member_turns.specs.Lower.locked_build.Histories.{tooks, kept_fault, pending, at_risk}
 use Rattle.member_turns.proofs.Lower.locked_build.HistoryLaws.{tooks-append, no_fault, none_pending, pending-append}
-use Rattle.site_run.proofs.WalkLemmas.{IsFaultOf, ShowsAll, shows_shown}
+use Rattle.build_life.proofs.WalkLemmas.{IsFaultOf, ShowsAll, shows_shown}
 use Rattle.jp_disk.specs.View.{DiskView}
 
 -- records, their events and payloads
