@@ -5,7 +5,7 @@ use Rattle.journal_core.specs.declared.faults.TakeFault.TheVariants as take
 use Rattle.model_syntax.specs.declared.tree.Tree.{Tree}
 use Rattle.model_run.specs.declared.event.Event.{Event}
 use Rattle.model_run.specs.declared.site.Site.{Site}
-use Rattle.run_command.specs.Files.{Builds}
+use Rattle.build_commands.specs.Files.{Builds}
 use Rattle.build_life.specs.Lower.build_store.declared.beginning.BeginFault.{BeginFault}
 use Rattle.build_life.specs.Lower.build_store.declared.beginning.BeginFault.TheVariants as begin
 use Rattle.build_life.specs.Lower.durable_build.Settings.{script_setting}

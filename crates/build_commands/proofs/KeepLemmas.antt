@@ -28,7 +28,7 @@ use Rattle.build_life.specs.Lower.durable_build.Kinds.{weights_of}
 use Rattle.build_life.specs.Lower.durable_build.Standing.{Closing, IsWhole, Keeps, Kept, StandsBy}
 use Rattle.build_life.specs.declared.resting.Rest.{Rest}
 use Rattle.build_life.specs.declared.resting.Rest.TheVariants.{Ended, Waits, AnswersFailed}
-use Rattle.run_command.specs.Statuses.{HasLog, result_status}
+use Rattle.build_commands.specs.Statuses.{HasLog, result_status}
 use Rattle.build_life.specs.Lower.locked_build.declared.ask.Entry.{Entry}
 use Rattle.build_life.specs.Lower.locked_build.declared.ask.Entry.TheVariants.{Took, Claimed, Line, Failed}
 use Rattle.build_life.specs.Lower.locked_build.declared.ask.Progress.{Progress}

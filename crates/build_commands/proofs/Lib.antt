@@ -1,3 +1,5 @@
+pub mod StatusLemmas
+pub mod FileLemmas
 pub mod Lower
 mod RefusalLemmas
 pub mod StoreLemmas

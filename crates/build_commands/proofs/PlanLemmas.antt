@@ -8,10 +8,10 @@ use Rattle.model_syntax.proofs.FirstFaultLaws.{faultless_or_fault}
 use Rattle.model_run.specs.declared.agents.AgentsKind.{AgentsKind}
 use Rattle.model_run.specs.declared.site.Site.{Site}
 use Rattle.model_run.specs.AgentsFile.{agents_file, Refused}
-use Rattle.run_command.specs.Files.{HasSite, IsRefused, by_fault, by_length, script_limit, agents_limit, Builds, ReadWhole}
-use Rattle.run_command.specs.Inputs.{Input}
-use Rattle.run_command.specs.Texts.{agents_line, fault_line}
-use Rattle.run_command.proofs.FileLemmas.{Left, left_of, long_file, site_fits}
+use Rattle.build_commands.specs.Files.{HasSite, IsRefused, by_fault, by_length, script_limit, agents_limit, Builds, ReadWhole}
+use Rattle.build_commands.specs.Inputs.{Input}
+use Rattle.build_commands.specs.Lines.{agents_line, fault_line}
+use Rattle.build_commands.proofs.FileLemmas.{Left, left_of, long_file, site_fits}
 use Rattle.build_commands.specs.declared.plan.Plan.{Plan}
 use Rattle.build_commands.specs.declared.refusal.Refusal.{Refusal}
 use Rattle.build_commands.specs.Plans.{Faults, of_agents, too_long, of_script, no_memory, Judged, Give, RefusesFiles, judged, Plans}

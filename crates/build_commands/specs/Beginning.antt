@@ -14,7 +14,7 @@ use Rattle.build_life.specs.Lower.build_store.declared.beginning.BeginFault.{Beg
 use Rattle.build_life.specs.Lower.build_store.declared.beginning.BeginFault.TheVariants.{HasBuild, Take}
 use Rattle.build_life.specs.Lower.build_store.Lives.{BeginRefuses, TellsStart}
 use Rattle.build_life.specs.Lower.build_store.Saved.{Survives}
-use Rattle.run_command.specs.Inputs.{Input}
+use Rattle.build_commands.specs.Inputs.{Input}
 use Rattle.task_host.specs.declared.call.Call.{Call}
 use Rattle.task_host.specs.declared.order.Stream.{Stream}
 use Rattle.build_life.specs.Lower.locked_build.declared.ask.Entry.{Entry}

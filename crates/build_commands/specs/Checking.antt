@@ -2,7 +2,7 @@
 use Rattle.std.specs.Prelude.{ℕ, List, Option}
 use Rattle.model_syntax.specs.declared.tree.Tree.{Tree}
 use Rattle.model_run.specs.declared.site.Site.{Site}
-use Rattle.run_command.specs.Inputs.{Input}
+use Rattle.build_commands.specs.Inputs.{Input}
 use Rattle.build_commands.specs.Plans.{Give, RefusesFiles}
 use Rattle.build_commands.specs.Texts.{ok_text}
 use Rattle.build_commands.specs.Writing.{Writes, Tells}

@@ -7,8 +7,8 @@ use Rattle.model_run.specs.declared.event.Event.{Event}
 use Rattle.image_form.specs.declared.image.Image.{Image}
 use Rattle.model_run.specs.State.{Setting}
 use Rattle.model_run.specs.World.{Build, world_in}
-use Rattle.run_command.specs.Statuses.{world_status, HasLog}
-use Rattle.run_command.specs.Texts.{read_failed_text}
+use Rattle.build_commands.specs.Statuses.{world_status, HasLog}
+use Rattle.build_commands.specs.Lines.{read_failed_text}
 use Rattle.build_life.specs.declared.resting.Rest.{Rest}
 use Rattle.build_life.specs.declared.resting.Rest.TheVariants.{AnswersFailed}
 use Rattle.build_life.specs.Lower.delta_records.declared.weights.Weights.{Weights}

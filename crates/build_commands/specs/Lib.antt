@@ -1,3 +1,7 @@
+pub mod Lines
+pub mod Statuses
+pub mod Inputs
+pub mod Files
 pub mod Lower
 pub mod Texts
 pub mod Writing

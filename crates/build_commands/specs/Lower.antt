@@ -1,5 +1,4 @@
 -- Definitions of the crates below, passed on to the crates above: these name this crate alone for them.
-pub use Rattle.run_command.specs as run_command
 pub use Rattle.build_life.specs as build_life
 pub use Rattle.build_life.specs.Lower.delta_records
 pub use Rattle.build_life.specs.Lower.durable_build

@@ -7,9 +7,9 @@ use Rattle.model_syntax.specs.FirstFault.{FirstFault}
 use Rattle.model_run.specs.declared.agents.AgentsKind.{AgentsKind}
 use Rattle.model_run.specs.declared.site.Site.{Site}
 use Rattle.model_run.specs.AgentsFile.{agents_file, Refused}
-use Rattle.run_command.specs.Files.{HasSite, script_limit, Builds}
-use Rattle.run_command.specs.Inputs.{Input, IsCalm, HasFailed}
-use Rattle.run_command.specs.Texts.{read_failed_text, too_long_text, agents_line, fault_line}
+use Rattle.build_commands.specs.Files.{HasSite, script_limit, Builds}
+use Rattle.build_commands.specs.Inputs.{Input, IsCalm, HasFailed}
+use Rattle.build_commands.specs.Lines.{read_failed_text, too_long_text, agents_line, fault_line}
 use Rattle.build_commands.specs.declared.plan.Plan.{Plan}
 use Rattle.build_commands.specs.declared.refusal.Refusal.{Refusal}
 use Rattle.build_commands.specs.Refusals.{refusal_status, refusal_text}

@@ -5,7 +5,7 @@ use Rattle.build_commands.specs.declared.refusal.Refusal.TheVariants.{ReadFailed
 use Rattle.build_commands.specs.Texts.{damaged_text, disk_failed_text, full_text, has_build_text, no_build_text, out_of_memory_text}
 use Rattle.journal_core.specs.declared.faults.TakeFault.{TakeFault}
 use Rattle.journal_core.specs.declared.faults.TakeFault.TheVariants as take
-use Rattle.run_command.specs.Texts.{read_failed_text, too_long_text}
+use Rattle.build_commands.specs.Lines.{read_failed_text, too_long_text}
 use Rattle.build_life.specs.Lower.durable_build.declared.faults.StoreFault.{StoreFault}
 use Rattle.build_life.specs.Lower.durable_build.declared.faults.StoreFault.TheVariants as fault
 use Rattle.build_life.specs.Lower.build_store.declared.beginning.BeginFault.{BeginFault}

@@ -20,8 +20,8 @@ use Rattle.build_life.specs.Lower.locked_build.declared.ask.Entry.TheVariants.{F
 use Rattle.build_life.specs.Lower.locked_build.Facts.{HasFront}
 use Rattle.build_life.specs.Lower.locked_build.Histories.{pending, tooks}
 use Rattle.build_life.specs.Lower.member_turns.Tales.{is_grant}
-use Rattle.run_command.specs.Statuses.{HasLog, status_of}
-use Rattle.run_command.specs.Texts.{read_failed_text}
+use Rattle.build_commands.specs.Statuses.{HasLog, status_of}
+use Rattle.build_commands.specs.Lines.{read_failed_text}
 use Rattle.build_commands.specs.Texts.{disk_failed_text, full_text, out_of_memory_text}
 use Rattle.build_commands.specs.Writing.{Writes, Tells}
 use Rattle.jp_disk.specs.View.{DiskView}

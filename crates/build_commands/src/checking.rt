@@ -1,8 +1,8 @@
 //! The command that looks for faults.
 ghost use Rattle.std.specs.Prelude.{◌+◌};
 ghost use Rattle.jp_io.specs.Whole.{TakesAtMost};
-ghost use Rattle.run_command.specs.Files.{script_limit, agents_limit};
-ghost use Rattle.run_command.specs.Inputs.{taken_from};
+ghost use Rattle.build_commands.specs.Files.{script_limit, agents_limit};
+ghost use Rattle.build_commands.specs.Inputs.{taken_from};
 ghost use Rattle.build_commands.specs.Checking.{Checks};
 
 use crate::plan::read_plan;

@@ -17,6 +17,7 @@ ghost use Rattle.build_commands.specs.Launching.{LaunchedOnce};
 ghost use Rattle.build_commands.specs.Leading.{IsLed};
 ghost use Rattle.build_commands.specs.Living.{Finished, HostsStay};
 
+use crate::build_status;
 use crate::done::Ended;
 use crate::end_text::EndText;
 use crate::refusal::{Refusal, tell, tell_text};
@@ -28,7 +29,6 @@ use build_life::{Lived, Rest, go_on};
 use generated_build::summary;
 use jp_disk::Disk;
 use jp_io::{Sink, Source};
-use run_command::build_status;
 use std::alloc::{AllocError, Global};
 use std::sync::Wait;
 use std::thread::Threads;

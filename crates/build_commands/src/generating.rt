@@ -6,6 +6,7 @@ ghost use Rattle.build_commands.specs.declared.end_text.EndText.TheVariants.{Num
 ghost use Rattle.build_commands.specs.Beginning.{Runs};
 ghost use Rattle.build_commands.specs.Plans.{Plans, whole};
 
+use crate::Files;
 use crate::done::Ended;
 use crate::end_text::EndText;
 use crate::plan::{Plan, judge};
@@ -15,7 +16,6 @@ use build_life::saved_thread::SavedThread;
 use generated_build::{GeneratedFiles, generated_files};
 use jp_disk::Disk;
 use jp_io::{Sink, Source};
-use run_command::Files;
 use std::alloc::{AllocError, Global};
 use std::sync::Wait;
 use std::thread::Threads;

@@ -2,20 +2,20 @@
 ghost use Rattle.std.specs.Prelude.{◌≡◌, ◌+◌};
 ghost use Rattle.jp_io.specs.Whole.{TakesAtMost};
 ghost use Rattle.model_run.specs.AgentsFile.{agents_file, Means};
-ghost use Rattle.run_command.specs.Files.{script_limit, agents_limit};
-ghost use Rattle.run_command.specs.Inputs.{taken_from};
-ghost use Rattle.run_command.specs.Texts.{agents_line, fault_line};
+ghost use Rattle.build_commands.specs.Files.{script_limit, agents_limit};
+ghost use Rattle.build_commands.specs.Inputs.{taken_from};
+ghost use Rattle.build_commands.specs.Lines.{agents_line, fault_line};
 ghost use Rattle.build_commands.specs.Plans.{Judged, Plans};
 ghost use Rattle.build_commands.specs.Refusals.{Says};
 
 use crate::refusal::Refusal;
+use crate::{Files, agents_text, read_files};
 use agents_file::{AgentsRefusal, read_agents};
 use groovy_parse::parse;
 use jp_io::{ReadFault, Source};
 use model_run::{AgentsKind, Site};
 use model_syntax::{ScriptFault, ScriptRefusal, Tree};
 use model_text::{Bytes, Text};
-use run_command::{Files, agents_text, read_files};
 use std::alloc::{AllocError, Global};
 
 /// A script and an agents file without a fault.

@@ -2,8 +2,8 @@
 
 ghost use Rattle.std.specs.Prelude.{◌+◌, ◌≤◌, IfOk, length};
 ghost use Rattle.jp_io.specs.Whole.{TakesAtMost};
-ghost use Rattle.run_command.specs.Files.{agents_limit, script_limit, Builds};
-ghost use Rattle.run_command.specs.Inputs.{Input, taken_from};
+ghost use Rattle.build_commands.specs.Files.{agents_limit, script_limit, Builds};
+ghost use Rattle.build_commands.specs.Inputs.{Input, taken_from};
 ghost use Rattle.build_commands.specs.declared.end_text.EndText.TheVariants.{Log};
 ghost use Rattle.build_commands.specs.Beginning.{Begins, Runs};
 ghost use Rattle.build_commands.specs.Plans.{Plans};

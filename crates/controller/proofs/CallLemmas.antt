@@ -16,10 +16,10 @@ use Rattle.model_run.specs.State.{Setting}
 use Rattle.model_run.specs.World.{Build}
 use Rattle.build_commands.specs.Lower.store_laws.Store.{Mean}
 use Rattle.build_commands.specs.Lower.durable_build.Settings.{script_setting}
-use Rattle.build_commands.specs.Lower.run_command.Files.{HasFault, HasSite, IsRefused, by_fault, by_length, OfFiles, Builds}
-use Rattle.build_commands.specs.Lower.run_command.Statuses.{HasRun, result_status, world_status, HasLog}
-use Rattle.build_commands.specs.Lower.run_command.Inputs.{Input}
-use Rattle.build_commands.proofs.Lower.run_command.StatusLemmas.{ended_status, going_status}
+use Rattle.build_commands.specs.Files.{HasFault, HasSite, IsRefused, by_fault, by_length, OfFiles, Builds}
+use Rattle.build_commands.specs.Statuses.{HasRun, result_status, world_status, HasLog}
+use Rattle.build_commands.specs.Inputs.{Input}
+use Rattle.build_commands.proofs.StatusLemmas.{ended_status, going_status}
 use Rattle.build_commands.specs.declared.end_text.EndText.{EndText}
 use Rattle.build_commands.specs.Living.{Finished}
 use Rattle.build_commands.specs.Plans.{Hold}

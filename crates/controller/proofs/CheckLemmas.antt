@@ -2,9 +2,9 @@
 use Rattle.std.proofs.Common.{◌≡◌, ◌⊎◌, ℕ, List, inl, inr, refl, ⊎_elim, arith}
 use Rattle.device_faults.specs.Faults.{Rose}
 use Rattle.model_run.specs.declared.result.BuildResult.TheVariants.{Success}
-use Rattle.build_commands.specs.Lower.run_command.Files.{HasFault, HasSite, IsRefused, OfFiles}
-use Rattle.build_commands.specs.Lower.run_command.Statuses.{HasRun}
-use Rattle.build_commands.specs.Lower.run_command.Inputs.{HasFailed}
+use Rattle.build_commands.specs.Files.{HasFault, HasSite, IsRefused, OfFiles}
+use Rattle.build_commands.specs.Statuses.{HasRun}
+use Rattle.build_commands.specs.Inputs.{HasFailed}
 use Rattle.build_commands.specs.Checking.{Checks}
 use Rattle.build_commands.specs.Checking as checking
 use Rattle.build_commands.specs.Plans.{AreCalm, Faults, RefusesFiles}

@@ -7,7 +7,7 @@ use Rattle.command_words.specs.Words.{IsCommand}
 use Rattle.image_form.specs.declared.image.Image.{Image}
 use Rattle.model_run.specs.GraphText.{graph_text}
 use Rattle.model_run.specs.World.{Build}
-use Rattle.build_commands.specs.Lower.run_command.Statuses.{HasRun}
+use Rattle.build_commands.specs.Statuses.{HasRun}
 use Rattle.settle_laws.specs.Stances.{Stance}
 use Rattle.build_commands.specs.declared.end_text.EndText.TheVariants as end
 use Rattle.controller.specs.Call.{Call, Devices, Is, IsUnled, Tells, made, usage_text}

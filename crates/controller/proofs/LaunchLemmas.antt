@@ -18,7 +18,7 @@ use Rattle.build_commands.specs.Lower.durable_build.Settings.{IsProper, script_s
 use Rattle.build_commands.specs.Lower.build_store.declared.beginning.BeginFault.{BeginFault}
 use Rattle.build_commands.specs.Lower.build_store.declared.beginning.BeginFault.TheVariants as fault
 use Rattle.build_commands.specs.Lower.build_store.Lives.{BeginRefuses}
-use Rattle.build_commands.specs.Lower.run_command.Files.{Builds}
+use Rattle.build_commands.specs.Files.{Builds}
 use Rattle.build_commands.specs.declared.end_text.EndText.{EndText}
 use Rattle.build_commands.specs.declared.end_text.EndText.TheVariants as end
 use Rattle.build_commands.specs.Beginning as begin

@@ -11,8 +11,8 @@ use Rattle.build_commands.specs.Lower.build_life.declared.resting.Rest.TheVarian
 use Rattle.build_commands.specs.Lower.build_store.Saved.{Stores, Survives}
 use Rattle.build_commands.specs.Lower.build_life.Ending.{RestsWith}
 use Rattle.build_commands.specs.Lower.build_life.Going as life
-use Rattle.build_commands.specs.Lower.run_command.Statuses.{HasRun, world_status}
-use Rattle.build_commands.proofs.Lower.run_command.StatusLemmas.{going_status}
+use Rattle.build_commands.specs.Statuses.{HasRun, world_status}
+use Rattle.build_commands.proofs.StatusLemmas.{going_status}
 use Rattle.build_commands.specs.Finishing.{ComesNext, Made, Rests, Breaks, Finishes}
 use Rattle.build_commands.specs.Finishing as finish
 use Rattle.build_commands.specs.declared.end_text.EndText.{EndText}

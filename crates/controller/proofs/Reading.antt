@@ -26,7 +26,7 @@ use Rattle.build_commands.specs.Lower.member_turns.Turns.{DidTurn}
 use Rattle.build_commands.proofs.Lower.member_turns.WayLaws.{LaunchesMore, MemberLaunches, launches_same, ways_launch}
 use Rattle.build_commands.specs.Lower.build_life.Telling.{ClaimedInTime}
 use Rattle.agent_worker.specs.Crews.{hosts_in, members_of, others_of}
-use Rattle.build_commands.specs.Lower.run_command.Statuses.{HasRun, world_status}
+use Rattle.build_commands.specs.Statuses.{HasRun, world_status}
 use Rattle.build_commands.specs.declared.end_text.EndText.TheVariants as end
 use Rattle.build_commands.specs.Living.{HostsStay}
 use Rattle.build_commands.specs.Reporting.{IsBroken, KeepsRecords, LeavesStore, ShowsEnd, StartsBy, TellTaken}

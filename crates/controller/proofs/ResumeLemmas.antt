@@ -7,8 +7,8 @@ use Rattle.jp_disk.specs.Runs.{AtEachMoment}
 use Rattle.jp_disk.proofs.MomentLemmas.{if_told}
 use Rattle.model_run.specs.declared.event.Event.{Event}
 use Rattle.model_run.specs.State.{Setting}
-use Rattle.build_commands.specs.Lower.run_command.Statuses.{HasRun}
-use Rattle.build_commands.specs.Lower.run_command.Inputs.{HasFailed}
+use Rattle.build_commands.specs.Statuses.{HasRun}
+use Rattle.build_commands.specs.Inputs.{HasFailed}
 use Rattle.build_commands.specs.declared.end_text.EndText.TheVariants as end
 use Rattle.build_commands.specs.Reporting.{LeavesStore}
 use Rattle.build_commands.specs.Resuming.{IsUntouched, NotOpened, Resumes, Reopens}

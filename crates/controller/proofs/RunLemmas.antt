@@ -28,9 +28,9 @@ use Rattle.build_commands.specs.Lower.durable_build.Kinds.{weights_of}
 use Rattle.build_commands.proofs.Lower.durable_build.Sizes.{start_adds}
 use Rattle.build_commands.specs.Lower.build_store.Lives.{BeginRefuses, StartFails, MayRisk, image_after, TellsStart}
 use Rattle.build_commands.specs.Lower.build_store.Saved.{Stores, Survives}
-use Rattle.build_commands.specs.Lower.run_command.Files.{HasFault, HasSite, IsRefused, by_fault, by_length, OfFiles, Builds}
-use Rattle.build_commands.specs.Lower.run_command.Statuses.{HasLog, HasRun}
-use Rattle.build_commands.specs.Lower.run_command.Inputs.{HasFailed}
+use Rattle.build_commands.specs.Files.{HasFault, HasSite, IsRefused, by_fault, by_length, OfFiles, Builds}
+use Rattle.build_commands.specs.Statuses.{HasLog, HasRun}
+use Rattle.build_commands.specs.Inputs.{HasFailed}
 use Rattle.build_commands.specs.declared.end_text.EndText.{EndText}
 use Rattle.build_commands.specs.Beginning.{BeginSays, BeginsOver}
 use Rattle.build_commands.specs.Beginning as begin

@@ -7,7 +7,7 @@ use Rattle.model_run.specs.declared.result.BuildResult.TheVariants.{Success}
 use Rattle.model_run.specs.State.{Setting}
 use Rattle.model_run.specs.World.{Build, world_in}
 use Rattle.build_commands.specs.Lower.build_store.Saved.{Stores}
-use Rattle.build_commands.specs.Lower.run_command.Statuses.{HasRun}
+use Rattle.build_commands.specs.Statuses.{HasRun}
 use Rattle.build_commands.specs.Showing.{ShowsBuild, Decides, NotTold}
 use Rattle.build_commands.specs.Showing as showing
 use Rattle.build_commands.specs.Writing as writing

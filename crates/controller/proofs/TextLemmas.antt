@@ -6,9 +6,9 @@ use Rattle.model_run.specs.State.{Setting}
 use Rattle.model_run.specs.World.{Build}
 use Rattle.build_commands.specs.Lower.build_store.Lives.{TellsStart}
 use Rattle.build_commands.specs.Lower.build_store.declared.beginning.BeginFault.{BeginFault}
-use Rattle.build_commands.specs.Lower.run_command.Statuses.{HasRun, HasLog}
-use Rattle.build_commands.specs.Lower.run_command.Inputs.{Input}
-use Rattle.build_commands.specs.Lower.run_command.Texts as texts
+use Rattle.build_commands.specs.Statuses.{HasRun, HasLog}
+use Rattle.build_commands.specs.Inputs.{Input}
+use Rattle.build_commands.specs.Lines as texts
 use Rattle.build_commands.specs.Beginning.{BeginSays}
 use Rattle.build_commands.specs.Beginning as begin
 use Rattle.build_commands.specs.Plans.{Faults, RefusesFiles}

@@ -10,7 +10,7 @@ use Rattle.model_run.specs.World.{next_grant, world_in}
 use Rattle.build_commands.specs.Lower.build_store.Saved.{Stores}
 use Rattle.build_commands.specs.Lower.locked_build.declared.ask.Entry.{Entry}
 use Rattle.build_commands.specs.Lower.locked_build.Histories.{lines}
-use Rattle.build_commands.specs.Lower.run_command.Inputs.{Input, HasFailed, taken_from}
+use Rattle.build_commands.specs.Inputs.{Input, HasFailed, taken_from}
 use Rattle.generated_build.specs.Files.{agents_of_any, script_of}
 use Rattle.build_commands.specs.Living.{ComesBy, HeardOf, IsRefused, Lived, LivedBy}
 use Rattle.build_commands.specs.Plans.{Hold, whole}

@@ -16,9 +16,9 @@ use Rattle.build_commands.specs.Lower.delta_records.declared.payload.Payload.The
 use Rattle.build_commands.specs.Lower.durable_build.Taking.{added}
 use Rattle.build_commands.specs.Lower.build_store.Lives.{image_after}
 use Rattle.build_commands.specs.Lower.build_store.Saved.{Stores}
-use Rattle.build_commands.specs.Lower.run_command.Files.{HasSite, IsRefused, OfFiles}
-use Rattle.build_commands.specs.Lower.run_command.Inputs.{HasFailed}
-use Rattle.build_commands.specs.Lower.run_command.Statuses.{HasLog, HasRun, world_status}
+use Rattle.build_commands.specs.Files.{HasSite, IsRefused, OfFiles}
+use Rattle.build_commands.specs.Inputs.{HasFailed}
+use Rattle.build_commands.specs.Statuses.{HasLog, HasRun, world_status}
 use Rattle.build_commands.specs.Finishing.{ComesNext, IsFull}
 use Rattle.build_commands.specs.Plans.{AreCalm}
 use Rattle.build_commands.specs.Resuming.{IsUntouched}

@@ -15,7 +15,7 @@ use Rattle.model_run.specs.State.{Setting}
 use Rattle.model_run.specs.World.{world_in}
 use Rattle.build_commands.specs.Lower.store_laws.Store.{Mean}
 use Rattle.build_commands.specs.Lower.build_store.Saved.{Stores, Survives}
-use Rattle.build_commands.specs.Lower.run_command.Statuses.{HasRun, world_status}
+use Rattle.build_commands.specs.Statuses.{HasRun, world_status}
 use Rattle.build_commands.specs.declared.end_text.EndText.{EndText}
 use Rattle.build_commands.specs.declared.end_text.EndText.TheVariants as end
 use Rattle.build_commands.specs.EndTexts.{world_text}

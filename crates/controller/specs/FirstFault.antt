@@ -2,7 +2,7 @@
 use Rattle.std.specs.Prelude.{◌≡◌, ◌⊎◌, ℕ, List}
 use Rattle.command_words.specs.declared.command.Command.{Command}
 use Rattle.command_words.specs.declared.command.Command.TheVariants.{Run, Check, Generate}
-use Rattle.build_commands.specs.Lower.run_command.Files.{HasFault, IsRefused, OfFiles}
+use Rattle.build_commands.specs.Files.{HasFault, IsRefused, OfFiles}
 use Rattle.build_commands.specs.Plans.{AreCalm, Faults}
 use Rattle.controller.specs.Call.{AreRead, Call, Is, Tells, WithFiles, made}
 

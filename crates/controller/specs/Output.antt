@@ -16,9 +16,9 @@ use Rattle.journal_core.specs.Records.{Has}
 use Rattle.build_commands.specs.Lower.durable_build.declared.faults.StoreFault.TheVariants.{Damaged}
 use Rattle.build_commands.specs.Lower.durable_build.Opening.{OpenFails}
 use Rattle.build_commands.specs.Lower.build_store.Saved.{Stores}
-use Rattle.build_commands.specs.Lower.run_command.Files.{HasSite, IsRefused}
-use Rattle.build_commands.specs.Lower.run_command.Statuses.{HasRun, world_status}
-use Rattle.build_commands.specs.Lower.run_command.Texts as run
+use Rattle.build_commands.specs.Files.{HasSite, IsRefused}
+use Rattle.build_commands.specs.Statuses.{HasRun, world_status}
+use Rattle.build_commands.specs.Lines as run
 use Rattle.build_commands.specs.declared.end_text.EndText.{EndText}
 use Rattle.build_commands.specs.declared.end_text.EndText.TheVariants as end
 use Rattle.build_commands.specs.EndTexts.{world_text}

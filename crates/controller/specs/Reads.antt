@@ -4,8 +4,8 @@ use Rattle.jp_io.specs.Whole.{TakesAtMost}
 use Rattle.command_words.specs.declared.command.Command.{Command}
 use Rattle.command_words.specs.declared.command.Command.TheVariants.{Run, Resume, Log, Graph, Check, Generate}
 use Rattle.command_words.specs.Words.{IsCommand}
-use Rattle.build_commands.specs.Lower.run_command.Files.{script_limit, agents_limit}
-use Rattle.build_commands.specs.Lower.run_command.Inputs.{IsUnread}
+use Rattle.build_commands.specs.Files.{script_limit, agents_limit}
+use Rattle.build_commands.specs.Inputs.{IsUnread}
 use Rattle.controller.specs.Call.{Call, Is, IsUnled}
 
 -- neither script nor agents file

@@ -1,6 +1,6 @@
 //! The call that the program makes.
 ghost use Rattle.std.specs.Prelude.{◌≡◌, ◌≤◌, length, map, string_bytes};
-ghost use Rattle.build_commands.specs.Lower.run_command.Inputs.{taken_from};
+ghost use Rattle.build_commands.specs.Inputs.{taken_from};
 ghost use Rattle.build_commands.specs.Writing as writing;
 ghost use Rattle.controller.specs.Call.{call_of, devices, usage_text};
 ghost use Rattle.controller.specs.Commands.{Does};

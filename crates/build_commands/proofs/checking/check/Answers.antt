@@ -1,5 +1,5 @@
 use Rattle.std.proofs.Common.{ℕ, sym, subst}
-use Rattle.run_command.specs.Inputs.{taken_from}
+use Rattle.build_commands.specs.Inputs.{taken_from}
 use Rattle.build_commands.specs.Checking.{sound, refused}
 use Rattle.build_commands.specs.Plans.{RefusesFiles}
 use Rattle.build_commands.specs.Refusals.{refusal_text}

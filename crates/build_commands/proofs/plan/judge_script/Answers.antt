@@ -1,7 +1,7 @@
 use Rattle.std.proofs.Common.{◌≡◌, ◌<◌, ℕ, List, length, ap, sym, subst, Err}
 use Rattle.model_syntax.specs.FirstFault.{FirstFault, IsFaultless}
-use Rattle.run_command.specs.Files.{script_limit}
-use Rattle.run_command.proofs.FileLemmas.{not_past}
+use Rattle.build_commands.specs.Files.{script_limit}
+use Rattle.build_commands.proofs.FileLemmas.{not_past}
 use Rattle.build_commands.specs.Plans.{too_long, no_memory}
 use Rattle.build_commands.proofs.PlanLemmas.{script_told}
 use Rattle.build_commands.proofs.plan.judge_script.Goals as goal

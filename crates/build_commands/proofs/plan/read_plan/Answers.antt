@@ -1,5 +1,5 @@
 use Rattle.std.proofs.Common.{ap, Err}
-use Rattle.run_command.specs.Inputs.{taken_from}
+use Rattle.build_commands.specs.Inputs.{taken_from}
 use Rattle.build_commands.specs.Plans.{unread, no_room}
 use Rattle.build_commands.proofs.PlanLemmas.{plans}
 use Rattle.build_commands.proofs.plan.read_plan.Goals as goal

@@ -1,4 +1,4 @@
-use Rattle.run_command.specs.Inputs.{taken_from}
+use Rattle.build_commands.specs.Inputs.{taken_from}
 use Rattle.build_commands.proofs.PlanLemmas.{plan_builds}
 use Rattle.build_commands.proofs.running.run.Goals as goal
 

@@ -10,8 +10,8 @@ use Rattle.std.specs.Io.KnownBytes.{Consumes, IsAtEnd}
 use Rattle.model_run.specs.declared.agents.AgentsKind.TheVariants as kind
 use Rattle.model_run.specs.declared.site.Site.{Site}
 use Rattle.model_run.specs.AgentsFile.{agents_file, Means, Refused as BadFile, of_json}
-use Rattle.run_command.specs.Files.{agents_limit, ReadWhole}
-use Rattle.run_command.specs.Inputs.{Input}
+use Rattle.build_commands.specs.Files.{agents_limit, ReadWhole}
+use Rattle.build_commands.specs.Inputs.{Input}
 
 -- a bound that is not passed
 pub not_past : (n m : ℕ) → (n < m → ⊥) → m ≤ n

@@ -1,6 +1,6 @@
 //! The line that tells a fault of the agents file.
 ghost use Rattle.std.specs.Prelude.{◌≡◌, IfOk};
-ghost use Rattle.run_command.specs.Texts.{agents_line};
+ghost use Rattle.build_commands.specs.Lines.{agents_line};
 
 use model_run::AgentsKind;
 use model_text::Text;

@@ -3,8 +3,8 @@ ghost use Rattle.std.specs.Prelude.{◌≡◌, ◌⊎◌, ℕ, ◌+◌, ◌<◌,
 ghost use Rattle.std.specs.Io.KnownBytes.{Consumes, IsAtEnd};
 ghost use Rattle.jp_io.specs.declared.whole.ReadFault.TheVariants.{Memory, Failed};
 ghost use Rattle.jp_io.specs.Whole.{TakesAtMost};
-ghost use Rattle.run_command.specs.Files.{agents_limit, script_limit, ReadWhole};
-ghost use Rattle.run_command.specs.Inputs.{taken_from, HasFailed, IsCalm};
+ghost use Rattle.build_commands.specs.Files.{agents_limit, script_limit, ReadWhole};
+ghost use Rattle.build_commands.specs.Inputs.{taken_from, HasFailed, IsCalm};
 
 use agents_file::FILE_LIMIT;
 use groovy_parse::SCRIPT_LIMIT;

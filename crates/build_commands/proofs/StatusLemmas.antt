@@ -2,7 +2,7 @@
 use Rattle.std.proofs.Common.{◌≡◌, Bool, true, false, ap}
 use Rattle.std.specs.Prelude.{if◌then◌else◌}
 use Rattle.model_run.specs.World.{Build}
-use Rattle.run_command.specs.Statuses.{result_status, world_status}
+use Rattle.build_commands.specs.Statuses.{result_status, world_status}
 
 -- the status of a world that has ended or not
 pub ended_status : (w : Build) → w.ended ≡ true → world_status w ≡ result_status w.shared.result

@@ -1,7 +1,7 @@
 use Rattle.std.proofs.Common.{Bool, inl, inr, refl, sym, ap, ◌∙◌}
-use Rattle.run_command.specs.Statuses.{result_status, status_of}
-use Rattle.run_command.proofs.StatusLemmas.{ended_status, going_status}
-use Rattle.run_command.proofs.status.build_status.Goals as goal
+use Rattle.build_commands.specs.Statuses.{result_status, status_of}
+use Rattle.build_commands.proofs.StatusLemmas.{ended_status, going_status}
+use Rattle.build_commands.proofs.status.build_status.Goals as goal
 
 pub returns-then-has_ended-clause-here : goal.returns-then-has_ended-clause-here
 returns-then-has_ended-clause-here g c =

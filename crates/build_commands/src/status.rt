@@ -3,7 +3,7 @@ ghost use Rattle.std.specs.Prelude.{◌≡◌};
 ghost use Rattle.build_core.specs.Builds.{StandsFor};
 ghost use Rattle.build_core.specs.Phases.{has_ended};
 ghost use Rattle.model_run.specs.World.{Build as WorldBuild};
-ghost use Rattle.run_command.specs.Statuses.{HasLog, result_status, status_of, world_status};
+ghost use Rattle.build_commands.specs.Statuses.{HasLog, result_status, status_of, world_status};
 
 use build_core::Build;
 use model_run::BuildResult;

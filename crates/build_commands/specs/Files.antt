@@ -7,7 +7,7 @@ use Rattle.model_syntax.specs.FirstFault.{FirstFault, IsFaultless}
 use Rattle.model_run.specs.declared.agents.AgentsKind.{AgentsKind}
 use Rattle.model_run.specs.declared.site.Site.{Site}
 use Rattle.model_run.specs.AgentsFile.{agents_file, Means, Refused}
-use Rattle.run_command.specs.Inputs.{Input, IsCalm}
+use Rattle.build_commands.specs.Inputs.{Input, IsCalm}
 
 -- the most bytes of a script, and of an agents file
 abbrev pub script_limit : ℕ

@@ -1,2 +1,0 @@
-pub mod StatusLemmas
-pub mod FileLemmas

@@ -1,4 +1,0 @@
-pub mod Texts
-pub mod Statuses
-pub mod Inputs
-pub mod Files
