@@ -3,8 +3,8 @@ ghost use Rattle.std.specs.Prelude.{◌≡◌, ◌<◌, Some};
 ghost use Rattle.program_lock.specs.Passes.{IsPassOf};
 
 use crate::locked_build::SiteState;
-use crate::member_turns::work_through;
 use crate::saved_thread::SavedThread;
+use crate::turn::work_through;
 use agent_worker::Member;
 use jp_disk::Disk;
 use jp_io::Source;
