@@ -249,20 +249,6 @@ impl<D: Disk, R: SavedThread + Drop> DurableBuild<D, R> {
         &self.agents
     }
 
-    /// Whether a fault has stopped it, or [`DurableBuild::stop`].
-    pub fn is_stopped(&self) -> bool
-        ensures { result ≡ self.now.stopped }
-    {
-        self.stopped
-    }
-
-    /// Stops it, as a fault of [`DurableBuild::take`] does: each later `take` answers `Stopped`. It changes nothing else.
-    pub fn stop(&mut self)
-        ensures { self.new ≡ record self.old { stopped = true } }
-    {
-        self.stopped = true;
-    }
-
     /// The disk. It needs no memory.
     pub fn close(self) -> D
         ensures { result ≡ self.journal.disk }
