@@ -169,8 +169,8 @@ impl<D: Disk, R: SavedThread + Drop> DurableBuild<D, R> {
     ///
     /// # Errors
     ///
-    /// After each of them every later call answers `Stopped`, and what the build is then is open. `Stopped` comes nowhere else,
-    /// but behind [`DurableBuild::stop`]. `Full` exactly where an accepted event's record does not fit into the journal, with the
+    /// After each of them every later call answers `Stopped`, and what the build is then is open. `Stopped` comes nowhere
+    /// else. `Full` exactly where an accepted event's record does not fit into the journal, with the
     /// journal's length and what the record adds, 5 and its bytes (`u64::MAX` where it adds more); nothing was spelled for it.
     /// Of an event only the script and the agents file of a `Start` were copied then, which the build is to keep.
     /// `Disk` only of an accepted event whose record fits, and only where the disk's count of faults rose, which it does at no
@@ -233,20 +233,6 @@ impl<D: Disk, R: SavedThread + Drop> DurableBuild<D, R> {
         ensures { result ≡ self.now.records }
     {
         self.records
-    }
-
-    /// The bytes of the script; none before its `Start`.
-    pub fn script(&self) -> &Bytes
-        ensures { result.now ≡ self.now.script }
-    {
-        &self.script
-    }
-
-    /// The bytes of the agents file; none before its `Start`.
-    pub fn agents(&self) -> &Bytes
-        ensures { result.now ≡ self.now.agents }
-    {
-        &self.agents
     }
 
     /// The disk. It needs no memory.
