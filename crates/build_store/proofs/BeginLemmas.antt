@@ -1,6 +1,6 @@
 -- How a life begins.
-use Rattle.std.proofs.Common.{◌≡◌, ◌⊎◌, ◌<◌, ◌+◌, ℕ, Bool, true, false, List, ◌∷◌, Option, Some, None, Ok, Err, inl, inr, refl, sym, ap, ◌∙◌, subst, length, arith}
-use Rattle.std.specs.Prelude.{nat_lt, if◌then◌else◌, codes}
+use Rattle.std.proofs.Common.{◌≡◌, ◌⊎◌, ◌<◌, ◌+◌, ℕ, Bool, true, false, List, ◌∷◌, Option, Some, None, Ok, Err, inl, inr, refl, sym, ap, ◌∙◌, subst, length, arith, Result}
+use Rattle.std.specs.Prelude.{nat_lt, if◌then◌else◌, codes, IfOk, MatchResult}
 use Rattle.std.specs.Str.{is_utf8}
 use Rattle.serde_json.specs.Data.{Data}
 use Rattle.serde_json.specs.Read.{read}
@@ -37,7 +37,8 @@ use Rattle.durable_build.specs.Lower.store_laws.Store.{AllDue, IsStory, Mean, St
 use Rattle.durable_build.proofs.Lower.store_laws.Tellings.{one_record, one_setting}
 use Rattle.durable_build.specs.Standing.{Kept, Keeps, Opening, image_before}
 use Rattle.durable_build.specs.Kinds.{weights_of}
-use Rattle.durable_build.specs.Opening.{Opened}
+use Rattle.durable_build.specs.Opening.{OpenFails, Opened}
+use Rattle.durable_build.specs.declared.faults.StoreFault.{StoreFault}
 use Rattle.durable_build.proofs.Begun.{starts_first}
 use Rattle.durable_build.proofs.Sizes.{due_adds}
 use Rattle.durable_build.proofs.OpenLemmas.{begun_all, is_start}
@@ -238,3 +239,15 @@ reopened {D} {T} disk stance setting events file k o running stores =
           };
           saves = saves;
         }
+
+-- what opening a store answers, by what the build over the disk answers
+module _ {D T : Type 0} (disk : DiskView D) (stance : T → Stance) (file : List ℕ) where
+  pub reopens : (r : Result (Kept D T) (StoreFault × D)) → MatchResult r (λ k. Opened disk stance file k × (disk.reads k.journal.disk ≡ Some file)) (λ e. OpenFails file e.0 × (disk.reads e.1 ≡ Some file))
+      → IfOk r (λ k. k.stopped ≡ false)
+      → MatchResult r (λ k. (disk.reads k.journal.disk ≡ Some file) × ((setting : Setting) (events : List Event) → Stores setting events file → Stands disk stance setting events k)) (λ e. OpenFails file e.0 × (disk.reads e.1 ≡ Some file))
+  reopens (Ok k) opened running = (opened.1, λ setting events stores. reopened disk stance setting events file k opened.0 running stores)
+  reopens (Err e) opened running = opened
+
+  pub opens_so : (r : Result (Kept D T) (StoreFault × D)) → MatchResult r (λ k. Opened disk stance file k × (disk.reads k.journal.disk ≡ Some file)) (λ e. OpenFails file e.0 × (disk.reads e.1 ≡ Some file)) → IfOk r (Opened disk stance file)
+  opens_so (Ok k) opened = opened.0
+  opens_so (Err e) opened = tt
