@@ -1,6 +1,6 @@
 -- What a store has while a life goes on over it.
 use Rattle.std.specs.Prelude.{IsSome}
-use Rattle.std.proofs.Common.{◌≡◌, ℕ, List, Option, None, sym, subst, append-nil}
+use Rattle.std.proofs.Common.{◌≡◌, ℕ, List, Option, None, sym, subst, append-nil, []}
 use Rattle.jp_disk.proofs.MomentLemmas.{starts}
 use Rattle.journal_core.proofs.StepLemmas.{stores_has}
 use Rattle.model_run.specs.declared.event.Event.{Event}

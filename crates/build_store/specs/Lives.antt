@@ -1,5 +1,5 @@
 -- What holds of a life over a store, and of an event that was not taken (this product's own).
-use Rattle.std.specs.Prelude.{◌≡◌, ◌⊎◌, ◌+◌, ◌<◌, ◌^◌, ℕ, true, false, List, ◌∷◌, ◌++◌, Option, Some, None, IfSome, IsSome, IsSomeAnd}
+use Rattle.std.specs.Prelude.{◌≡◌, ◌⊎◌, ◌+◌, ◌<◌, ◌^◌, ℕ, true, false, List, ◌∷◌, ◌++◌, Option, Some, None, IfSome, IsSome, IsSomeAnd, []}
 use Rattle.jp_disk.specs.Images.{IsOnlyImage}
 use Rattle.jp_disk.specs.Runs.{AtEachMoment}
 use Rattle.journal_core.specs.Answers.{IsStarted}

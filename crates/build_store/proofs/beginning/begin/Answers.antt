@@ -1,4 +1,4 @@
-use Rattle.std.proofs.Common.{◌≡◌, ◌∙◌, inl, sym, ap, subst}
+use Rattle.std.proofs.Common.{◌≡◌, ◌∙◌, inl, sym, ap, subst, []}
 use Rattle.jp_disk.proofs.MomentLemmas.{starts}
 use Rattle.journal_core.specs.Answers.{CreateRefuses}
 use Rattle.journal_core.specs.declared.faults.CreateFault.{CreateFault}
