@@ -1,5 +1,6 @@
--- Rounds of members who work in threads.
-use Rattle.std.proofs.Common.{◌≡◌, List, [], Result, Err, refl, sym, subst, append-nil}
+-- Rounds of members who work in threads, and what a vector has behind a call on its slice.
+use Rattle.std.proofs.Common.{◌≡◌, ◌∙◌, ℕ, List, [], ◌++◌, length, take, drop, Result, Err, refl, sym, ap, subst, append-nil}
+use Rattle.std.proofs.Math.Seq.{take-append_seam}
 use Rattle.program_lock.specs.declared.program.Memory.{Memory}
 use Rattle.program_lock.specs.declared.view.Known.{Known}
 use Rattle.program_lock.specs.History.{entries_of}
@@ -33,3 +34,8 @@ module _ {H A B T : Type 0} (Did : Turn H A → Type 0) (stance : T → Stance) 
   pub taken_of : (old members new now : List (Member H A)) (v w : Known Entry B) (how : Result Progress Memory) → old ≡ members → new ≡ now → TakesRounds Did answers old new v w how → TakesRounds Did answers members now v w how
   taken_of old members new now v w how was is r =
       subst (λ (ms : List (Member H A)). TakesRounds Did answers ms now v w how) was (subst (λ (ms : List (Member H A)). TakesRounds Did answers old ms v w how) is r)
+
+module _ {M : Type 0} where
+  -- a vector has what its slice had at the end
+  pub whole_slice : (n : ℕ) (old now : List M) → n ≡ length now → take n (now ++ drop (length now) old) ≡ now
+  whole_slice n old now is = ap (λ (m : ℕ). take m (now ++ drop (length now) old)) is ∙ take-append_seam now (drop (length now) old)
