@@ -224,8 +224,8 @@ fn an_executor_serves_pauses_while_others_work_and_rests(rt: HostRuntime) -> Res
     let Member::Executor { number: _, host } = &member else {
         return Err(Fail::from("no executor"));
     };
-    // `make_dir`, `start`, a look, two reads of each stream, `remove`, and a pause where others are at work
-    assert_eq!(rt; host.calls().map(|calls| calls.len()), Some(9));
+    // `make_dir`, `start`, a look, two reads of each stream, `remove`, a pause where others are at work, and seven where nobody is
+    assert_eq!(rt; host.calls().map(|calls| calls.len()), Some(16));
     Ok(())
 }
 
