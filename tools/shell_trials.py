@@ -273,6 +273,13 @@ class Tasks(Shell):
         self.build(f"parallel(a: {{ node('m') {{ {step_a} }} }}, b: {{ node('m2') {{ {step_b} }} }})", agents=("m", "m2"))
         self.ends("run", 0, "Finished: SUCCESS")
 
+    def test_shell_steps_of_branches_behind_other_steps_run_at_the_same_time(self):
+        wait = "i=0; until test -e ROOM/{}; do i=$((i+1)); test $i -lt 200 || exit 9; sleep 0.1; done"
+        step_a, step_b = (f"sh {script('touch ROOM/' + own, wait.format(other))}" for own, other in (("a", "b"), ("b", "a")))
+        branches = f"parallel(a: {{ node('m') {{ {step_a} }} }}, b: {{ node('m2') {{ {step_b} }} }})"
+        self.build(f"node('m') {{ sh 'true' }}\nnode('m') {{ sh 'sleep 0.3'; sh 'true' }}\n{branches}", agents=("m", "m2"))
+        self.ends("run", 0, "Finished: SUCCESS")
+
     def test_two_builds_that_share_an_agent_run_at_the_same_time(self):
         controllers = []
         for own, other in (("a", "b"), ("b", "a")):
