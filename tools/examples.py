@@ -34,6 +34,7 @@ import sys
 import tempfile
 
 from build import PROGRAM, TOP
+from build_view import tree_of
 from store_records import Store
 
 BUILT = f"{TOP}/crates/{PROGRAM}/out/{PROGRAM}"
@@ -100,7 +101,7 @@ def steps_of(graph):
     def inside(body):
         return [body.label, *((it.name, [inside(inner) for inner in getattr(it, "bodies", [])]) for it in body.items)]
 
-    return inside(PICTURES.built(list(PICTURES.nodes_of(graph)))[0])
+    return inside(tree_of(graph).script)
 
 
 def loaded(path):
@@ -125,9 +126,6 @@ def write_stand_ins(agents):
     for name, content in FILES.items():
         with open(f"{agents}/m/workspace/using/{name}", "w", encoding="utf-8") as file:
             file.write(content)
-
-
-PICTURES = loaded(f"{TOP}/tools/graph")
 
 
 # --- the examples
