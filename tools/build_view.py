@@ -675,11 +675,13 @@ def is_waiting_node(view, block):
 
 
 class Fault(NamedTuple):
-    """What failed: the stages and branches around it from outside, the step where that is known, and what was thrown."""
+    """What failed: the stages and branches around it from outside, the step where that is known, what was thrown, and whether a
+    `catchError` caught it."""
 
     boxes: list
     step: Optional[Thing]
     message: str
+    is_caught: bool
 
 
 def faults_of(view, marks):
@@ -691,7 +693,8 @@ def faults_of(view, marks):
             continue
         seen.add(inside)
         boxes = [it for it in boxes_around(inside) if is_stage_or_branch(it)]
-        found.append(Fault(boxes, None if isinstance(inside, Body) else inside, message))
+        is_caught = any(it.name == "catchError" for it in boxes_around(body))
+        found.append(Fault(boxes, None if isinstance(inside, Body) else inside, message, is_caught))
     return found
 
 
