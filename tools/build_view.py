@@ -277,7 +277,8 @@ class View:
         self.requests, self.askers, self.heads = {}, {}, {}
         # The size of the log and the number of nodes after each record; and the status of a build that has ended.
         self.counts, self.status = [], None
-        self.script, self.agents = b"", b""
+        # The agents file, and what `labels_of` tells.
+        self.agents, self.labels = b"", {}
         self.writer, self.spans = (self.tree.script, Part.PRINTED), []
 
     def take(self, record):
@@ -375,7 +376,7 @@ class View:
     def settle(self, event, asker):
         """Keeps how a step ended, and what a build was begun with."""
         if event.kind == START:
-            self.script, self.agents = event.content, event.agents
+            self.agents, self.labels = event.agents, labels_of(event.content.decode(errors="replace"))
         elif event.kind in (EXITED, LOST):
             asker.code = event.value
         elif event.kind == DECIDED:
@@ -406,6 +407,10 @@ class View:
         self.askers[request.number], asker.request = asker, request
         if isinstance(asker, Step):
             asker.is_open = True
+
+    def words_of(self, task):
+        """What a task is called: its label, or the first line of its script."""
+        return printable(self.labels.get(task.text) or first_line(task.text))
 
     def has_ended(self):
         return not self.tree.script.is_open
@@ -786,6 +791,24 @@ def printable(line, keeps_colors=False):
 def picture_of(found):
     code = ord(found[0])
     return chr(0x2400 + code) if code < 32 else "\u2421" if code == 127 else "\ufffd"
+
+
+# A text of the script in which nothing is put in, the arguments with names of one call of `sh`, and one of them.
+TEXT = r"""'''(?:\\.|[^\\])*?'''|\"\"\"(?:\\.|[^\\$])*?\"\"\"|'(?:\\.|[^\\'\n])*'|"(?:\\.|[^\\"$\n])*\""""
+SHELL_CALL = re.compile(rf"\bsh\b\s*\(?\s*((?:\w+\s*:\s*(?:{TEXT}|\w+)\s*,?\s*)+)", re.S)
+ARGUMENT = re.compile(rf"(\w+)\s*:\s*({TEXT})", re.S)
+ESCAPES = {"n": "\n", "t": "\t", "r": "\r", "b": "\b", "f": "\f"}
+
+
+def unquoted(text):
+    inside = text[3:-3] if text[:3] in ("'''", '"""') else text[1:-1]
+    return re.sub(r"\\(.)", lambda it: ESCAPES.get(it[1], it[1]), inside, flags=re.S)
+
+
+def labels_of(script):
+    """The labels of shell steps by their scripts, where the build's script has both as texts; the store keeps no label."""
+    calls = [dict(ARGUMENT.findall(found[1])) for found in SHELL_CALL.finditer(script)]
+    return {unquoted(it["script"]): unquoted(it["label"]) for it in calls if "script" in it and "label" in it}
 
 
 def first_line(text):
