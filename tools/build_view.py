@@ -197,7 +197,8 @@ class View:
 
     def words_of(self, task):
         """What a task is called: its label, or the first line of its script."""
-        return printable(self.labels.get(task.text) or first_line(task.text))
+        label = self.labels.get(task.text)
+        return printable(label.replace("\n", " ")) if label else first_line(task.text)
 
     def has_ended(self):
         return not self.tree.script.is_open

@@ -10,15 +10,28 @@ SHAPELESS = re.compile("[\x00-\x08\x0b-\x1f\x7f-\x9f\u2028-\u202e\u2066-\u2069\u
 def printable(line, keeps_colors=False):
     """A line as it may be shown: what it wrote last where it wrote over itself by CR, without commands to a terminal, and with
     signs for what has no shape."""
+    if SHAPELESS.search(line) is None:
+        return line
     line = next((it for it in reversed(line.split("\r")) if it), "")
     colors = iter(COLOR.findall(line) if keeps_colors else ())
     parts = [SHAPELESS.sub(picture_of, SEQUENCE.sub("", it)) for it in (COLOR.split(line) if keeps_colors else [line])]
     return parts[0] + "".join(next(colors) + part for part in parts[1:])
 
 
+def printable_lines(text):
+    """The lines of a text as they may be shown."""
+    return text if SHAPELESS.search(text) is None else "\n".join(map(printable, text.split("\n")))
+
+
+def one_line(text):
+    """A name as it may be shown within a line."""
+    return printable(text.replace("\n", " "))
+
+
 def picture_of(found):
     code = ord(found[0])
     return chr(0x2400 + code) if code < 32 else "\u2421" if code == 127 else "\ufffd"
+
 
 def first_line(text):
     """The first line of a script that has something, and is no `#!` line."""
