@@ -1,63 +1,35 @@
-"""A build as its store, or its flow graph and its log, tell it: its stages, branches and steps, their states, lines and times.
+"""A build as its store, or its flow graph and its log, tell it: what of the log is whose, the states, and what failed.
 
-The tools that show a build share this module. A store tells most: which step wrote which bytes of the log, with which code a shell
-step ended, who answered. A graph's text and a log tell less: lines that branches wrote side by side go to the step whose line stands
-above them, and which of several shell steps failed is a guess. A line of `println` goes to the step above it, in either way. What is
-told of failures is a guess where a script catches what it throws; nothing is proved of this module.
+The tools that show a build share this module. A store tells most: which step wrote which bytes of the log, with which code a
+shell step ended, who answered. A graph's text and a log tell less: lines that branches wrote side by side go to the step whose
+line stands above them, and which of several shell steps failed is a guess. A line of `println` goes to the step above it, in
+either way. What is told of failures is a guess where a script catches what it throws; nothing is proved of this module.
 """
-import bisect
 import enum
-import os
 import re
 import subprocess
-
 from typing import NamedTuple, Optional
 
-from store_changes import DECIDED, EXITED, INPUT, LOG_STREAM, LOST, OUTPUT, START, Node, changes_of
+from build_tree import Answer, Block, Body, State, Step, Thing, Tree, body_around, boxes_around, is_stage_or_branch, nodes_of
+from plain_words import first_line, printable
+from store_changes import DECIDED, EXITED, INPUT, LOG_STREAM, LOST, OUTPUT, START, changes_of
 from store_records import STATUSES, NoRecord, NotARecord, Store
 
-LINE = re.compile(r"(\d+) (start|end|atom|block|body|end-body|end-block)(?: (?!<- [\d ]+$)(.*?))?(?: <- ([\d ]+))?")
 RESULTS = ("SUCCESS", "UNSTABLE", "FAILURE", "NOT_BUILT", "ABORTED")
 FINISHED = re.compile(rf"^Finished: ({'|'.join(RESULTS)})\n?\Z", re.M)
 EXIT_CODE = re.compile(r"^ERROR: script returned exit code (-?\d+)$", re.M)
 NO_NODE = "MissingContextVariableException"
-BRANCH = "Branch: "
 NEWLINE = 10
-
-
-class BadText(Exception):
-    """A line that no graph's text has."""
+STATE_OF_RESULT = {"SUCCESS": State.SUCCEEDED, "UNSTABLE": State.UNSTABLE, "FAILURE": State.FAILED, "ABORTED": State.ABORTED}
+# A text of the script in which nothing is put in, the arguments with names of one call of `sh`, and one of them.
+TEXT = r"""'''(?:\\.|[^\\])*?'''|\"\"\"(?:\\.|[^\\$])*?\"\"\"|'(?:\\.|[^\\'\n])*'|"(?:\\.|[^\\"$\n])*\""""
+SHELL_CALL = re.compile(rf"\bsh\b\s*\(?\s*((?:\w+\s*:\s*(?:{TEXT}|\w+)\s*,?\s*)+)", re.S)
+ARGUMENT = re.compile(rf"(\w+)\s*:\s*({TEXT})", re.S)
+ESCAPES = {"n": "\n", "t": "\t", "r": "\r", "b": "\b", "f": "\f"}
 
 
 class NoText(Exception):
     """The program tells no graph or no log of a folder, for this reason."""
-
-
-class State(enum.Enum):
-    """How a step, a body or a build stands; the value is the word for it."""
-
-    SUCCEEDED = "succeeded"
-    UNSTABLE = "unstable"
-    FAILED = "failed"
-    ABORTED = "aborted"
-    RUNNING = "running"
-    WAITING = "waiting"
-
-    @property
-    def sign(self):
-        """What tells the state where there is no room for the word."""
-        return SIGNS[self]
-
-
-SIGNS = {
-    State.SUCCEEDED: "\u2713",
-    State.UNSTABLE: "!",
-    State.FAILED: "\u2717",
-    State.ABORTED: "\u2298",
-    State.RUNNING: "\u25b8",
-    State.WAITING: "?",
-}
-STATE_OF_RESULT = {"SUCCESS": State.SUCCEEDED, "UNSTABLE": State.UNSTABLE, "FAILURE": State.FAILED, "ABORTED": State.ABORTED}
 
 
 class Part(enum.Enum):
@@ -79,193 +51,7 @@ class Span(NamedTuple):
     end: int
 
 
-class Answer(NamedTuple):
-    """What somebody said to an input."""
-
-    proceeds: bool
-    name: str
-
-
-# --- what a build is made of; `began` and `ended` are numbers of records
-
-
-class Thing:
-    """A step, a step with bodies, or a body."""
-
-    def __init__(self, number, name, home):
-        self.number, self.name, self.home, self.end_number = number, name, home, None
-        self.state, self.began, self.ended = State.SUCCEEDED, None, None
-        self.head, self.tail, self.pieces = None, None, []
-        # What a step waits for, or waited for.
-        self.request = None
-
-    def extent(self):
-        """From the first byte of the log that is this thing's to behind the last one."""
-        places = [it for it in (self.head, self.tail, *self.pieces) if it is not None]
-        return (min(it[0] for it in places), max(it[1] for it in places)) if places else None
-
-
-class Step(Thing):
-    """A step without a body; its home is the body in which it stands."""
-
-    def __init__(self, number, name, home=None):
-        super().__init__(number, name, home)
-        self.code, self.answer, self.is_open = None, None, False
-
-
-class Block(Thing):
-    """A step with bodies."""
-
-    def __init__(self, number, name, home=None):
-        super().__init__(number, name, home)
-        self.bodies, self.is_open = [], True
-
-    def is_parallel(self):
-        return self.name == "parallel"
-
-
-class Body(Thing):
-    """A body of a step, which is its home, or without one the script itself."""
-
-    def __init__(self, number=None, label="", home=None):
-        super().__init__(number, home.name if home else "", home)
-        self.label, self.items, self.is_open = label, [], True
-        # What the script printed itself, each with the number of items in front of it.
-        self.printed = []
-
-    def is_branch(self):
-        return self.home is not None and self.home.is_parallel()
-
-    def title(self):
-        """The name of a branch or a stage."""
-        return self.label[len(BRANCH):] if self.is_branch() and self.label.startswith(BRANCH) else self.label
-
-
-def body_around(thing):
-    """The body in which a thing stands, which a body is itself."""
-    return thing if isinstance(thing, Body) else thing.home
-
-
-def boxes_around(thing):
-    """The bodies around a thing and it itself, from outside."""
-    body, found = body_around(thing), []
-    while body is not None:
-        found.append(body)
-        body = body.home.home if body.home else None
-    return found[::-1]
-
-
-def branches_around(thing):
-    """The names of the branches that run beside others in which a thing stands, from outside."""
-    return [it.title() for it in boxes_around(thing) if it.is_branch() and len(it.home.bodies) > 1]
-
-
-def is_stage_or_branch(body):
-    return body.is_branch() or body.name == "stage"
-
-
-class Tree:
-    """The things of a flow graph, to which its nodes are added in their order."""
-
-    def __init__(self):
-        self.script, self.made, self.home, self.nodes, self.step_count = Body(), {}, {}, [], 0
-
-    def add(self, node):
-        """Adds a node, and answers the thing that it begins or ends."""
-        try:
-            thing = self.placed(node)
-        except (KeyError, IndexError, ValueError, AttributeError):
-            raise BadText(f"node {node.number} does not follow from those before it") from None
-        self.nodes.append(node)
-        return thing
-
-    def placed(self, node):
-        number, kind = node.number, node.kind
-        if kind == "start":
-            self.script.number = number
-            self.made[number] = self.home[number] = self.script
-        elif kind in ("atom", "block"):
-            body = self.behind(node.parents[0])
-            thing = self.made[number] = (Step if kind == "atom" else Block)(number, node.name, body)
-            self.home[number] = body
-            body.items.append(thing)
-            self.step_count += kind == "atom"
-        elif kind == "body":
-            before = self.made[node.parents[0]]
-            block = before if isinstance(before, Block) else self.home[node.parents[0]]
-            body = self.made[number] = Body(number, node.name, block)
-            self.home[number] = block
-            block.bodies.append(body)
-        elif kind == "end":
-            return self.closed(self.script, number)
-        else:
-            # Behind the end of a body stands its block or another body of that; behind that of a block what holds the block.
-            self.home[number] = self.home[node.begun]
-            begun = self.closed(self.made[node.begun], number)
-            self.made[number] = begun if kind == "end-block" else None
-            return begun
-        return self.made[number]
-
-    def closed(self, thing, number):
-        thing.is_open, thing.end_number = False, number
-        return thing
-
-    def body_of(self, node):
-        """The body in which a node that comes next stands, or whose end it is."""
-        if node.kind == "end" or not node.parents:
-            return self.script
-        if node.begun is None:
-            return self.behind(node.parents[0])
-        return body_around(self.made[node.begun])
-
-    def behind(self, parent):
-        """The body in which something stands right behind this node."""
-        here = self.made[parent]
-        return here if isinstance(here, Body) else self.home[parent]
-
-    def of_nodes(self):
-        """The things that the nodes begin or end, in the nodes' order."""
-        return [self.script if it.kind == "end" else self.made[it.begun if it.begun is not None else it.number] for it in self.nodes]
-
-    def steps(self):
-        """The steps without a body, in the order in which they began."""
-        return [self.made[node.number] for node in self.nodes if node.kind == "atom"]
-
-    def log_line(self, node):
-        """The line that a node has in the log."""
-        if node.kind == "body":
-            words = "{" + (f" ({node.name})" if node.name else "")
-        elif node.kind == "end-block":
-            words = f"// {self.made[node.begun].name}"
-        else:
-            words = {"start": "Start of Pipeline", "end": "End of Pipeline", "end-body": "}"}.get(node.kind, node.name)
-        return f"[Pipeline] {words}\n".encode()
-
-
 # --- reading
-
-
-def unescaped(label):
-    return re.sub(r"\\(.)", lambda it: {"n": "\n", "r": "\r"}.get(it[1], it[1]), label)
-
-
-def nodes_of(text):
-    """The nodes of a graph's text, in order."""
-    for at, line in enumerate(text.removesuffix("\n").split("\n"), 1):
-        found = LINE.fullmatch(line)
-        if found is None:
-            raise BadText(f"line {at} is of no graph's text: {line}")
-        number, kind, name, parents = found.groups()
-        is_end = kind.startswith("end-")
-        begun = int((name or "").removeprefix("of ") or -1) if is_end else None
-        yield Node(int(number), kind, "" if is_end else unescaped(name or ""), begun, tuple(map(int, (parents or "").split())))
-
-
-def tree_of(text):
-    tree = Tree()
-    for node in nodes_of(text):
-        tree.add(node)
-    return tree
 
 
 class View:
@@ -277,8 +63,8 @@ class View:
         self.requests, self.askers, self.heads = {}, {}, {}
         # The size of the log and the number of nodes after each record; and the status of a build that has ended.
         self.counts, self.status = [], None
-        # The agents file, and what `labels_of` tells.
-        self.agents, self.labels = b"", {}
+        # What the build was begun with, and the labels of its shell steps by their scripts.
+        self.script, self.agents, self.labels = b"", b"", {}
         self.writer, self.spans = (self.tree.script, Part.PRINTED), []
 
     def take(self, record):
@@ -325,7 +111,7 @@ class View:
     def attribute(self, start, owned, nodes, writer, waiting=()):
         """Says of each byte from `start` on whose it is: so many bytes are the first writer's, and then each node has a line.
 
-        What stands behind the line of a node that writes nothing was printed by the thread that comes next, in the body of its node.
+        What stands behind the line of a node that writes nothing was printed by the thread that comes next, where its node stands.
         """
         at = start + owned
         for node in nodes:
@@ -376,7 +162,8 @@ class View:
     def settle(self, event, asker):
         """Keeps how a step ended, and what a build was begun with."""
         if event.kind == START:
-            self.agents, self.labels = event.agents, labels_of(event.content.decode(errors="replace"))
+            self.script, self.agents = event.content, event.agents
+            self.labels = labels_of(event.content.decode(errors="replace"))
         elif event.kind in (EXITED, LOST):
             asker.code = event.value
         elif event.kind == DECIDED:
@@ -410,7 +197,8 @@ class View:
 
     def words_of(self, task):
         """What a task is called: its label, or the first line of its script."""
-        return printable(self.labels.get(task.text) or first_line(task.text))
+        label = self.labels.get(task.text)
+        return printable(label.replace("\n", " ")) if label else first_line(task.text)
 
     def has_ended(self):
         return not self.tree.script.is_open
@@ -468,6 +256,31 @@ def of_folder(folder, program):
     except (NoRecord, NotARecord):
         graph = told(program, "graph", folder).decode(errors="replace")
         return of_texts(graph, told(program, "log", folder))
+
+
+def unquoted(text):
+    inside = text[3:-3] if text[:3] in ("'''", '"""') else text[1:-1]
+    return re.sub(r"\\(.)", lambda it: ESCAPES.get(it[1], it[1]), inside, flags=re.S)
+
+
+def labels_of(script):
+    """The labels of shell steps by their scripts, where the build's script has both as texts; the store keeps no label."""
+    calls = [dict(ARGUMENT.findall(found[1])) for found in SHELL_CALL.finditer(script)]
+    return {unquoted(it["script"]): unquoted(it["label"]) for it in calls if "script" in it and "label" in it}
+
+
+def line_numbers(log, places):
+    """Of places in the log the numbers of their lines, from 1."""
+    numbers, line, before = {}, 1, 0
+    for place in sorted(set(places)):
+        line += log.count(b"\n", before, place)
+        numbers[place], before = line, place
+    return numbers
+
+
+def control_folder(request):
+    """The control folder of a task, as docs/HOSTS.md tells."""
+    return f"{request.workspace}@tmp/durable-{request.number:08x}"
 
 
 # --- states
@@ -639,7 +452,7 @@ class Marks:
             block.state = State.UNSTABLE if block.name == "catchError" else failed[0]
 
     def mark_around(self, body):
-        """What went on after something that failed or is unstable in it is unstable; tries that were tried again count for nothing."""
+        """What went on after something marked in it is unstable; tries that were tried again count for nothing."""
         for item in body.items:
             if isinstance(item, Block):
                 for inner in item.bodies:
@@ -701,134 +514,3 @@ def faults_of(view, marks):
         is_caught = any(it.name == "catchError" for it in boxes_around(body))
         found.append(Fault(boxes, None if isinstance(inside, Body) else inside, message, is_caught))
     return found
-
-
-# --- times
-
-
-class Times:
-    """When the records of a store came, as `watch` kept it in the file `program.times` beside the store.
-
-    Each line of it has the words `since` or `at`, seconds since 1970, and so many records, bytes of the log and flow nodes as the store
-    had then. What came between a line and a next one with `at` came at the time of that; of what stood there at a line with `since`
-    no time is known. A line that does not agree with the store is of another build, and so are those behind it.
-    """
-
-    def __init__(self):
-        self.ends, self.when = [], []
-
-    @staticmethod
-    def read(path, counts):
-        times = Times()
-        try:
-            with open(path, encoding="ascii") as file:
-                lines = file.read().splitlines()
-        except (OSError, UnicodeDecodeError):
-            return times
-        for line in lines:
-            found = re.fullmatch(r"(since|at) (\d+\.\d+) (\d+) (\d+) (\d+)", line)
-            if found is None:
-                break
-            records, *counted = map(int, found.groups()[2:])
-            if records > len(counts) or tuple(counted) != (counts[records - 1] if records else (0, 0)):
-                break
-            times.add(records, float(found[2]) if found[1] == "at" else None)
-        return times
-
-    def add(self, records, when):
-        """So many records have come; those behind the ones that were known before came then, where that is known."""
-        if records > (self.ends[-1] if self.ends else 0):
-            self.ends.append(records)
-            self.when.append(when)
-
-    def of_record(self, record):
-        """When the record with this number, from 0, came; nothing where that is not known."""
-        place = bisect.bisect_right(self.ends, record) if record is not None else len(self.ends)
-        return self.when[place] if place < len(self.ends) else None
-
-    def began(self, thing):
-        return self.of_record(thing.began)
-
-    def ended(self, thing):
-        return self.of_record(thing.ended)
-
-
-def times_line(word, now, counts):
-    log, nodes = counts[-1] if counts else (0, 0)
-    return f"{word} {now:.3f} {len(counts)} {log} {nodes}\n"
-
-
-def times_of_folder(folder, view):
-    return Times.read(f"{folder}/program.times", view.counts)
-
-
-# --- lines and words
-
-
-def line_numbers(log, places):
-    """Of places in the log the numbers of their lines, from 1."""
-    numbers, line, before = {}, 1, 0
-    for place in sorted(set(places)):
-        line += log.count(b"\n", before, place)
-        numbers[place], before = line, place
-    return numbers
-
-
-# Sequences that a terminal takes for commands, those of colors among them, and what else has no shape.
-SEQUENCE = re.compile("\x1b(?:\\[[0-?]*[ -/]*[@-~]|\\][^\x07\x1b]*(?:\x07|\x1b\\\\)?|[ -/]*[0-~])")
-COLOR = re.compile("\x1b\\[[0-9;:]*m")
-SHAPELESS = re.compile("[\x00-\x08\x0b-\x1f\x7f-\x9f\u2028-\u202e\u2066-\u2069\ufeff\ufffe\uffff]")
-
-
-def printable(line, keeps_colors=False):
-    """A line as it may be shown: of what it wrote over by CR the last, without commands to a terminal, and signs for what has no shape."""
-    line = next((it for it in reversed(line.split("\r")) if it), "")
-    colors = iter(COLOR.findall(line) if keeps_colors else ())
-    parts = [SHAPELESS.sub(picture_of, SEQUENCE.sub("", it)) for it in (COLOR.split(line) if keeps_colors else [line])]
-    return parts[0] + "".join(next(colors) + part for part in parts[1:])
-
-
-def picture_of(found):
-    code = ord(found[0])
-    return chr(0x2400 + code) if code < 32 else "\u2421" if code == 127 else "\ufffd"
-
-
-# A text of the script in which nothing is put in, the arguments with names of one call of `sh`, and one of them.
-TEXT = r"""'''(?:\\.|[^\\])*?'''|\"\"\"(?:\\.|[^\\$])*?\"\"\"|'(?:\\.|[^\\'\n])*'|"(?:\\.|[^\\"$\n])*\""""
-SHELL_CALL = re.compile(rf"\bsh\b\s*\(?\s*((?:\w+\s*:\s*(?:{TEXT}|\w+)\s*,?\s*)+)", re.S)
-ARGUMENT = re.compile(rf"(\w+)\s*:\s*({TEXT})", re.S)
-ESCAPES = {"n": "\n", "t": "\t", "r": "\r", "b": "\b", "f": "\f"}
-
-
-def unquoted(text):
-    inside = text[3:-3] if text[:3] in ("'''", '"""') else text[1:-1]
-    return re.sub(r"\\(.)", lambda it: ESCAPES.get(it[1], it[1]), inside, flags=re.S)
-
-
-def labels_of(script):
-    """The labels of shell steps by their scripts, where the build's script has both as texts; the store keeps no label."""
-    calls = [dict(ARGUMENT.findall(found[1])) for found in SHELL_CALL.finditer(script)]
-    return {unquoted(it["script"]): unquoted(it["label"]) for it in calls if "script" in it and "label" in it}
-
-
-def first_line(text):
-    """The first line of a script that has something, and is no `#!` line."""
-    lines = [line.strip() for line in text.split("\n")]
-    return printable(next((line for line in lines if line and not line.startswith("#!")), lines[0]))
-
-
-def duration(seconds):
-    """A span of time for people."""
-    if seconds < 9.95:
-        return f"{max(seconds, 0):.1f} s"
-    seconds = round(seconds)
-    if seconds < 60:
-        return f"{seconds} s"
-    if seconds < 3600:
-        return f"{seconds // 60} min {seconds % 60} s"
-    return f"{seconds // 3600} h {seconds % 3600 // 60} min"
-
-
-def control_folder(request):
-    """The control folder of a task, as docs/HOSTS.md tells."""
-    return f"{request.workspace}@tmp/durable-{request.number:08x}"

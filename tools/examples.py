@@ -34,7 +34,7 @@ import sys
 import tempfile
 
 from build import PROGRAM, TOP
-from build_view import tree_of
+from build_tree import tree_of
 from store_records import Store
 
 BUILT = f"{TOP}/crates/{PROGRAM}/out/{PROGRAM}"

@@ -1,5 +1,5 @@
-"""All that a record of a build's store tells of the build, in the form of docs/FORMATS.md: its event, and its flow nodes, requests and
-threads, or those that are new. Variables and values are gone over.
+"""All that a record of a build's store tells of the build, in the form of docs/FORMATS.md: its event, and its flow nodes,
+requests and threads, or those that are new. Variables and values are gone over.
 """
 import struct
 from typing import Dict, List, NamedTuple, Optional, Tuple
@@ -29,8 +29,8 @@ thread_rest = row(wait, context, number, rows(frame))
 
 
 class Event(NamedTuple):
-    """What a build accepted of a request: of an output the stream and the bytes, of an end the code, of an answer whether it lets the
-    build proceed and the name; or its start, with the script and the agents file."""
+    """What a build accepted of a request: of an output the stream and the bytes, of an end the code, of an answer whether it lets
+    the build proceed and the name; or its start, with the script and the agents file."""
 
     kind: int
     request: Optional[int] = None
@@ -50,7 +50,7 @@ class Node(NamedTuple):
 
 
 class Request(NamedTuple):
-    """What a thread waits for: an executor with the label `text`, a task with this script, or an answer to the input with this id."""
+    """What a thread waits for: an executor with the label `text`, a task with this script, an answer to the input with this id."""
 
     number: int
     thread: int
@@ -122,7 +122,9 @@ class Reader:
             return Event(kind, request, stream, self.content())
         if kind == DECIDED:
             return Event(kind, request, self.byte(), self.content())
-        return Event(kind, request, self.number() if kind == GRANTED else self.unpacked(I32) if kind == EXITED else LOST_CODES[self.byte()])
+        if kind == LOST:
+            return Event(kind, request, LOST_CODES[self.byte()])
+        return Event(kind, request, self.number() if kind == GRANTED else self.unpacked(I32))
 
     def node(self, place):
         kind, name = NODE_KINDS[self.byte()], self.text()

@@ -1,4 +1,4 @@
-"""A terminal as tools write to it: lines that stay, above lines at the bottom that are rewritten; colors; and what is typed there."""
+"""A terminal as tools write to it: lines that stay, above lines at the bottom that are rewritten; and what is typed there."""
 import codecs
 import contextlib
 import os
