@@ -3,7 +3,7 @@ from .expressions import BUILT_IN, Expressions, Stuck
 from .nodes import (Annotated, Annotation, Assert, Block, Break, Case, Catch, ClassDefinition, Continue, Declaration, Declarator, DoWhile,
                     Evaluate, ForIn, ForSteps, Function, Identifier, If, Import, Labeled, Modifier, Package, Parameter, Return, Script,
                     Switch, Synchronized, Throw, Try, Type, Unreadable, While)
-from .tokens import tokens_of
+from .tokens import Note, tokens_of
 
 MODIFIERS = frozenset("final static public private protected abstract synchronized transient volatile native strictfp default".split())
 
@@ -11,7 +11,7 @@ MODIFIERS = frozenset("final static public private protected abstract synchroniz
 class Reader(Expressions):
     def __init__(self, source, tokens):
         super().__init__(source, tokens)
-        self.faults = []
+        self.faults, self.notes = [], []
 
     # --- rows of statements
 
@@ -47,17 +47,14 @@ class Reader(Expressions):
         try:
             statements.append(self.statement())
             first = self.at
-            if not (self.is_kind("newline", "end") or self.sees(";", "}") or self.ends_a_statement()):
+            if self.is_kind("name", "text", "open") or self.is_kind("word") and not self.sees("in", "as", "instanceof", "case", "default"):
+                self.notes.append(Note("missing separator", self.begin(), self.ahead().end))
+            elif not (self.is_kind("newline", "end") or self.sees(";", "}", "case", "default")):
                 raise self.stuck()
         except Stuck as stuck:
             statements.append(self.fault(first, stuck.at))
         except RecursionError:
             statements.append(self.fault(first, first))
-
-    def ends_a_statement(self):
-        """Whether the statement before needs no end: it is a block, a definition or a statement with a body."""
-        return self.at > 0 and self.tokens[self.at - 1].value == "}" and self.tokens[self.at - 1].kind == "sign" and \
-            (self.is_kind("word") or self.sees("case", "default", "@"))
 
     def fault(self, first, stuck):
         """Goes on behind what could not be read: at the next newline or `;`, or the `}` that closes the block."""
@@ -477,4 +474,5 @@ def read(source):
     """The tree of a source, whatever it has."""
     tokens, notes = tokens_of(source)
     reader = Reader(source, tokens)
-    return Script(source, reader.script(), notes, reader.faults)
+    statements = reader.script()
+    return Script(source, statements, notes + reader.notes, reader.faults)

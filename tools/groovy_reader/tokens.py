@@ -7,7 +7,8 @@ operators that it does not have. `newline` tokens stand where a newline may end 
 import re
 from collections import namedtuple
 
-# `kind` is name, word, number, text, sign, newline, or of a text with expressions: open, part, ${, $, close; at last end.
+# `kind` is name, word, number, text, sign, newline, or of a text with expressions: open, part, ${, $, close; unknown for a character
+# with which nothing of Groovy begins; at last end.
 # `value` is the name, the word, the sign, the number as it is written, or the characters that a text stands for.
 # `quote` is the opening of a text. `spaced` says whether a blank, a comment or a newline stands directly before.
 Token = namedtuple("Token", "kind value begin end quote spaced")
@@ -124,7 +125,7 @@ class Lexer:
     def newline(self):
         begin = self.at
         if self.open and self.open[-1] == "${" and len(self.texts()[-1][0]) == 1:
-            self.note("newline in a text", begin, begin + 1)
+            self.note("newline in a text", self.texts()[-1][1], self.texts()[-1][1] + 1)
         self.at += 1
         inside = self.open and self.open[-1] != "{"
         if not inside and self.tokens and self.tokens[-1].kind != "newline":
@@ -136,6 +137,7 @@ class Lexer:
         if sign is None:
             self.at += 1
             self.note("unknown character", begin, self.at)
+            self.add("unknown", self.source[begin], begin)
             return
         self.at += len(sign)
         if sign in ("(", "[", "{"):
