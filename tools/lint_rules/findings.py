@@ -32,7 +32,7 @@ class Finding:
         return self.stage != WARNING
 
     def sentence(self):
-        return f"{self.what}; write {self.instead}" if self.instead else self.what
+        return f"{self.what}; in its place: {self.instead}" if self.instead else self.what
 
 
 class File:
@@ -67,7 +67,7 @@ class File:
         severity = "error" if finding.stops() else "warning"
         head = f"{self.name}:{line}:{column}: {severity}: {finding.what} [{finding.key}]"
         rows = [head] + [f"    {row}" for row in self.marked(finding).split("\n")]
-        return "\n".join(rows + ([f"    write: {finding.instead}"] if finding.instead else []))
+        return "\n".join(rows + ([f"    in its place: {finding.instead}"] if finding.instead else []))
 
     # --- for editors
 

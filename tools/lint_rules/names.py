@@ -262,7 +262,7 @@ class Walk:
 
     def for_in(self, node, kind):
         self.declare(node.name, kind)
-        self.block(node.body, True)
+        self.only_if(truth(node.collection) is not False, self.block, node.body, True)
 
     def do_forsteps(self, node):
         self.inside(self.for_steps, node)
@@ -383,7 +383,7 @@ class Walk:
     def of_new(self, node):
         for argument in node.arguments:
             self.value(argument.value)
-        return THROWABLE if node.type.name in ("Exception", "RuntimeException", "Error") else None
+        return THROWABLE if node.type.name in ("Exception", "RuntimeException", "Error") else BROKEN
 
     def of_name(self, node):
         variable = self.scope.find(node.name)

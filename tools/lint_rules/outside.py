@@ -5,11 +5,13 @@ from groovy_reader import (Annotated, Annotation, Assert, Assignment, Binary, Bl
                            Property, Switch, Synchronized, Text, Try, Type, Unreadable)
 from groovy_reader.tokens import WORDS
 
-from .findings import REFUSED, WARNING, Finding
+from .findings import EXCEPTION, REFUSED, WARNING, Finding
 
 CLASSES = ("Exception", "RuntimeException", "Error")
 CAUGHT = ("Exception", "Throwable")
 LARGEST = 2147483647
+# Characters of a part that is repeated in what to write.
+LONGEST_PART = 60
 OPERATORS = ("||", "&&", "==", "!=", "<", "<=", ">", ">=", "..", "+", "-", "*", "%")
 CHANGES = ("=", "+=", "-=", "*=", "%=")
 BITS = {"&", "|", "^", "<<", ">>", ">>>"}
@@ -21,6 +23,12 @@ SIGNS = {
     "=~": ("regular-expression", "a regular expression"), "==~": ("regular-expression", "a regular expression"),
     "..<": ("exclusive-range", "the range `..<`"), "<<": ("left-shift", "the operator `<<`"),
 }
+# The classes that the language throws, by the names that a catch may give them, as `toString()` begins with them.
+THROWN = """hudson.AbortException org.jenkinsci.plugins.workflow.steps.FlowInterruptedException java.lang.ArithmeticException
+    groovy.lang.MissingPropertyException groovy.lang.MissingMethodException java.lang.NullPointerException java.lang.IllegalArgumentException
+    java.lang.IndexOutOfBoundsException java.lang.NumberFormatException java.util.NoSuchElementException
+    org.jenkinsci.plugins.workflow.steps.MissingContextVariableException java.lang.RuntimeException""".split()
+FULL = {**{it: it for it in THROWN}, **{it.rsplit(".", 1)[1]: it for it in THROWN}}
 NOTES = {
     "bad escape": ("bad-escape", "this escape is none of the language", REFUSED),
     "dollar": ("dollar", "a `$` that begins no expression", REFUSED),
@@ -52,14 +60,27 @@ class Outside:
             self.node(statement, None)
         return self.found
 
-    def tell(self, node, key, what, end=None, stage=REFUSED):
-        self.found.append(Finding(node.begin, node.end if end is None else end, stage, key, what, INSTEAD.get(key)))
+    def tell(self, node, key, what, end=None, stage=REFUSED, instead=None):
+        self.found.append(Finding(node.begin, node.end if end is None else end, stage, key, what, instead or INSTEAD.get(key)))
+
+    def put(self, form, *parts):
+        """A form with the source of these nodes in its places, in backquotes; None where one is too long for a line."""
+        written = [it if isinstance(it, str) else self.script.written(it) for it in parts]
+        return None if any("\n" in it or len(it) > LONGEST_PART for it in written) else "`" + form.format(*written) + "`"
+
+    def operand(self, node):
+        """The source of what a dot may follow."""
+        written = self.script.written(node)
+        return f"({written})" if isinstance(node, (Binary, Choice, Prefix, Cast, Assignment, New)) else written
 
     def of_note(self, note):
         if note.kind == "letters of a name":
-            has_dollar = "$" in self.script.source[note.begin : note.end]
-            key, what = ("dollar-in-a-name", "a `$` in a name") if has_dollar else ("letters-of-a-name", "a letter in a name that is none of ASCII")
-            self.tell(note, key, what)
+            written = self.script.source[note.begin : note.end]
+            is_key = self.script.source[note.end :].lstrip().startswith(":")
+            if "$" in written:
+                self.tell(note, "dollar-in-a-name", "a `$` in a name", instead=f"`'{written}'`, as a text" if is_key else None)
+            else:
+                self.tell(note, "letters-of-a-name", "a letter in a name that is none of ASCII")
             return
         key, what, stage = NOTES[note.kind]
         if key == "carriage-return" and any(it.key == key for it in self.found):
@@ -91,7 +112,14 @@ class Outside:
     def of_modifier(self, node, around):
         is_parameter = type(around).__name__ == "Parameter"
         if node.word != "def" or is_parameter and not self.is_plain_parameter(around):
-            self.tell(node, "modifier", f"`{node.word}` is not in the language")
+            has_more = is_parameter or getattr(around, "keyword", "") or getattr(around, "type", None) is not None
+            instead = f"`{self.name_of(around)}` without `{node.word}`" if has_more else f"`def` in place of `{node.word}`"
+            self.tell(node, "modifier", f"`{node.word}` is not in the language", instead=instead)
+
+    @staticmethod
+    def name_of(node):
+        """What a declaration, a function or a parameter declares."""
+        return node.names[0].name.name if isinstance(node, Declaration) else getattr(node.name, "name", "it")
 
     @staticmethod
     def is_plain_parameter(parameter):
@@ -102,23 +130,26 @@ class Outside:
             self.tell(node, "function-in-a-block", f"the function `{node.name.name}` inside braces", node.name.end)
         if isinstance(node.name, Identifier) and not node.keyword:
             what = f"a function that begins with the type `{node.type.name}`" if node.type else "a function that begins without `def`"
-            self.tell(node, "function-type", what, node.name.end)
+            self.tell(node, "function-type", what, node.name.end, instead=f"`def {node.name.name}(..)`")
         elif node.type is not None:
-            self.tell(node.type, "function-type", "a type behind `def`")
+            self.tell(node.type, "function-type", "a type behind `def`", instead="`def` alone")
         for parameter in node.parameters:
             self.parameter(parameter, "parameter-default")
 
     def parameter(self, parameter, key):
         if parameter.default is not None:
-            self.tell(parameter, key, f"a default of the parameter `{parameter.name.name}`")
+            name = parameter.name.name
+            value = self.put("{} ?: {}", name, self.operand(parameter.default))
+            instead = value and f"`{name}` alone, {value} in the body, and `null` at a call that leaves it out"
+            self.tell(parameter, key, f"a default of the parameter `{name}`", instead=instead)
         elif parameter.is_open:
-            self.tell(parameter, key, f"the parameter `{parameter.name.name}` takes any number of arguments")
+            self.tell(parameter, key, f"the parameter `{parameter.name.name}` takes any number of arguments", instead="a list as one argument")
         elif parameter.type is not None and not parameter.type.name.isidentifier():
             self.type(parameter.type)
 
     def type(self, kind):
         is_dotted = "<" not in kind.name and "[" not in kind.name
-        self.tell(kind, "dotted-type" if is_dotted else "generic-type", f"the type `{kind.name}`")
+        self.tell(kind, "dotted-type" if is_dotted else "generic-type", f"the type `{kind.name}`", instead="`def`")
 
     def of_closure(self, node, around):
         parameters = node.parameters or []
@@ -133,7 +164,8 @@ class Outside:
     def of_declaration(self, node, around):
         if node.is_tuple or len(node.names) > 1:
             key = "loop-head" if isinstance(around, ForSteps) else "several-names"
-            self.tell(node, key, "several names in one declaration" if key == "several-names" else "several variables in the head of `for`")
+            what = "several names in one declaration" if key == "several-names" else "several variables in the head of `for`"
+            self.tell(node, key, what, instead=self.one_by_one(node) if key == "several-names" else "all but one in front of the loop")
         if node.type is None:
             return
         if node.keyword:
@@ -143,7 +175,19 @@ class Outside:
         elif node.names[0].value is None and not node.modifiers and len(node.names) == 1:
             name = node.names[0].name.name
             self.tell(node, "declared-type", f"a declaration without a value by a type: it is read as the call `{node.type.name}({name})`",
-                      stage="exception")
+                      stage=EXCEPTION, instead=f"`def {name}`")
+
+    def one_by_one(self, node):
+        """Several names as declarations of their own."""
+        front = "def " if node.keyword or node.type or node.modifiers else ""
+        if not node.is_tuple:
+            parts = [self.put("def {}", it) if it.value is not None else f"`def {it.name.name}`" for it in node.names]
+            return None if None in parts else "; ".join(parts).replace("`; `", "; ")
+        if isinstance(node.value, ListLiteral) and len(node.value.items) == len(node.names) and front:
+            parts = [self.put("def {} = {}", it.name, item.value) for it, item in zip(node.names, node.value.items)]
+            return None if None in parts else "; ".join(parts).replace("`; `", "; ")
+        names = "; ".join(f"{front}{it.name.name} = parts[{at}]" for at, it in enumerate(node.names))
+        return self.put("def parts = {}; {}", node.value, names) if node.value is not None else None
 
     # --- statements
 
@@ -154,7 +198,8 @@ class Outside:
         self.tell(node, "do", "`do` is not in the language", node.begin + len("do"))
 
     def of_assert(self, node, around):
-        self.tell(node, "assert", "`assert` is not in the language", node.begin + len("assert"))
+        instead = self.put("if (!({})) {{ error '..' }}", node.test)
+        self.tell(node, "assert", "`assert` is not in the language", node.begin + len("assert"), instead=instead)
 
     def of_labeled(self, node, around):
         self.tell(node.label, "label", f"the label `{node.label.name}`")
@@ -207,7 +252,10 @@ class Outside:
         named = [kind.name for kind in node.types]
         head = self.script.source[node.begin : node.name.begin]
         if len(named) > 1 or named and named[0] not in CAUGHT:
-            self.tell(node.types[0], "catch-class", f"a catch of {' | '.join(f'`{it}`' for it in named)}", node.types[-1].end)
+            what = f"a catch of {' | '.join(f'`{it}`' for it in named)}"
+            tests = " || ".join(f"{node.name.name}.toString().startsWith('{FULL[it]}')" for it in named if it in FULL)
+            instead = f"`catch ({node.name.name})`" + (f", with a test of `{tests}`" if tests else "")
+            self.tell(node.types[0], "catch-class", what, node.types[-1].end, instead=instead)
         elif "final" in head or "def" in head:
             self.tell(node, "catch-class", "a catch with more than a class and a name", node.name.end)
 
@@ -216,18 +264,34 @@ class Outside:
     def of_binary(self, node, around):
         at = slice(node.sign_at, node.sign_at + len(node.sign))
         place = Node(at.start, at.stop)
-        if isinstance(around, Evaluate) and node.sign in ("<<", ">>"):
-            self.tell(node, "left-shift", f"the operator `{node.sign}`")
-        elif node.sign in SIGNS:
+        if node.sign in SIGNS:
             key, what = SIGNS[node.sign]
             whole = key in ("in", "cast", "left-shift", "division")
-            self.tell(node if whole else place, key, what)
+            self.tell(node if whole else place, key, what, instead=self.operation(node))
         elif node.sign not in OPERATORS:
             self.tell(place, "bits", f"the operator `{node.sign}`")
         elif node.sign in ("==", "!=") and self.has_operand(node, ("==", "!=")):
             self.tell(place, "comparison-chain", "a comparison of a comparison")
         elif node.sign in ("<", "<=", ">", ">=") and self.has_operand(node, ("<", "<=", ">", ">=")):
             self.tell(place, "comparison-chain", "a comparison of a comparison")
+
+    def operation(self, node):
+        """What to write for an operator that the language does not have, where that is one expression."""
+        left, right = self.operand(node.left), self.operand(node.right)
+        if node.sign == "as":
+            forms = {"String": '"${{{}}}"', "int": "{}.toInteger()", "Integer": "{}.toInteger()", "boolean": "{} ? true : false",
+                     "Boolean": "{} ? true : false"}
+            form = forms.get(node.right.name, "{}")
+            return self.put(form, self.script.written(node.left) if "$" in form else left)
+        forms = {"/": ("{0}.intdiv({1})",), "in": ("{1}.contains({0})",), "!in": ("!{1}.contains({0})",), "<<": ("{0}.add({1})",),
+                 "===": ("{0} == {1}",), "!==": ("{0} != {1}",), "<=>": ("{0} < {1} ? -1 : {0} > {1} ? 1 : 0",)}
+        plain = {"/": self.script.written(node.right), "<<": self.script.written(node.right), "in": self.script.written(node.left),
+                 "!in": self.script.written(node.left)}
+        if node.sign in ("/", "<<"):
+            right = plain[node.sign]
+        elif node.sign in ("in", "!in"):
+            left = plain[node.sign]
+        return self.put(forms[node.sign][0], left, right) if node.sign in forms else None
 
     @staticmethod
     def has_operand(node, signs):
@@ -236,9 +300,13 @@ class Outside:
     def of_assignment(self, node, around):
         if node.sign not in CHANGES:
             key = {"/=": "divide-and-assign", "?=": "elvis-and-assign"}.get(node.sign, "change")
-            self.tell(Node(node.sign_at, node.sign_at + len(node.sign)), key, f"the operator `{node.sign}`")
+            forms = {"/=": "{0} = {0}.intdiv({1})", "?=": "{0} = {0} ?: {1}", "<<=": "{0}.add({1})"}
+            instead = self.put(forms[node.sign], node.target, node.value) if node.sign in forms else None
+            self.tell(Node(node.sign_at, node.sign_at + len(node.sign)), key, f"the operator `{node.sign}`", instead=instead)
         if not isinstance(around, (Evaluate, ForSteps)):
-            self.tell(node, "nested-assignment", "an assignment inside an expression")
+            written = self.put("{}", node)
+            self.tell(node, "nested-assignment", "an assignment inside an expression",
+                      instead=written and f"{written} as a statement in front, and `{self.script.written(node.target)}` here")
 
     def of_postfix(self, node, around):
         if not isinstance(around, (Evaluate, ForSteps)):
@@ -246,19 +314,26 @@ class Outside:
 
     def of_prefix(self, node, around):
         if node.sign in ("++", "--"):
-            self.tell(node, "step-in-front", f"`{node.sign}` in front of what it changes")
+            self.tell(node, "step-in-front", f"`{node.sign}` in front of what it changes", instead=self.put("{}" + node.sign, node.operand))
         elif node.sign == "~":
             self.tell(node, "regular-expression", "a regular expression")
 
     def of_cast(self, node, around):
-        self.tell(node, "cast-in-front", f"a cast to `{node.type.name}`")
+        forms = {"String": '"${{{}}}"', "int": "{}.toInteger()", "Integer": "{}.toInteger()"}
+        form = forms.get(node.type.name, "{}")
+        instead = self.put(form, node.operand if "$" in form else self.operand(node.operand))
+        self.tell(node, "cast-in-front", f"a cast to `{node.type.name}`", instead=instead)
 
     def of_new(self, node, around):
         if node.is_array:
-            self.tell(node, "new-array", f"an array of `{node.type.name}`")
+            self.tell(node, "new-array", f"an array of `{node.type.name}`", instead="a list: `[]`")
         elif node.type.name not in CLASSES or node.has_body:
             key = "Date" if node.type.name in ("Date", "java.util.Date") else "new-class"
-            self.tell(node, key, f"`new {node.type.name}`: the classes are Exception, RuntimeException and Error", node.type.end)
+            simple = node.type.name.rsplit(".", 1)[-1]
+            is_thrown = simple.endswith(("Exception", "Error")) and len(node.arguments) == 1
+            instead = self.put("new Exception({})", node.arguments[0]) if is_thrown else "a map: `[:]`" if key != "Date" else None
+            what = f"`new {node.type.name}`: the classes are Exception, RuntimeException and Error"
+            self.tell(node, key, what, node.type.end, instead=instead)
         elif len(node.arguments) > 1:
             self.tell(node, "new-class", f"`new {node.type.name}` with more than one argument")
 
@@ -275,7 +350,10 @@ class Outside:
         is_plain = written.isdigit() and (written == "0" or written[0] != "0") and int(written) <= LARGEST
         if not is_plain:
             what = "a number that is not whole" if "." in written else f"the number `{written}`"
-            self.tell(node, "number" if "." in written else "number-form", what)
+            digits = written.rstrip("gGlLiI").replace("_", "")
+            is_small = digits.isdigit() and (digits == "0" or digits[0] != "0") and int(digits) <= LARGEST
+            instead = f"`{digits}`" if is_small else f"a text: `'{written}'`"
+            self.tell(node, "number" if "." in written else "number-form", what, instead=instead)
 
     def of_text(self, node, around):
         is_pattern = isinstance(around, Prefix) or isinstance(around, Binary) and around.sign in ("=~", "==~")
@@ -288,17 +366,17 @@ class Outside:
 
     def of_embedded(self, node, around):
         if node.is_lazy:
-            self.tell(node, "lazy-expression", "an expression that is evaluated later")
+            self.tell(node, "lazy-expression", "an expression that is evaluated later", instead=self.put("${{{}}}", node.value))
 
     def of_constant(self, node, around):
         if node.word in ("this", "super"):
-            self.tell(node, "this", f"`{node.word}` is not in the language")
+            self.tell(node, "this", f"`{node.word}` is not in the language", instead=f"what stands behind `{node.word}.`")
         elif node.word in WORDS and node.word not in ("true", "false", "null"):
             self.tell(node, "word-as-name", f"the word `{node.word}` as a name")
 
     def of_property(self, node, around):
         if node.dot == "*.":
-            self.tell(node, "spread", "the operator `*.`")
+            self.tell(node, "spread", "the operator `*.`", instead=self.put("{}.collect {{ it.{} }}", self.operand(node.on), node.name))
         elif node.dot == ".&":
             self.tell(node, "method-pointer", "a method as a value")
         elif node.dot not in (".", "?.", " "):
@@ -306,7 +384,8 @@ class Outside:
         elif not isinstance(node.name, Identifier):
             self.tell(node.name, "word-as-name", "a name behind a dot that is no plain name")
         elif node.name.name in WORDS:
-            self.tell(node.name, "word-as-name", f"the word `{node.name.name}` behind a dot")
+            instead = self.put("{}['{}']", self.operand(node.on), node.name) if node.name.name != "class" else "nothing: a value has no class"
+            self.tell(node.name, "word-as-name", f"the word `{node.name.name}` behind a dot", instead=instead)
         between = self.script.source[node.on.end : node.name.begin]
         if "." in between and "\n" in between[between.index(".") :]:
             at = node.on.end + between.index(".")
@@ -317,7 +396,10 @@ class Outside:
         if len(items) != 1 or items[0].key is not None or items[0].is_spread:
             self.tell(node, "range-index", "an index that is not one value")
         elif isinstance(items[0].value, Binary) and items[0].value.sign in ("..", "..<"):
-            self.tell(node, "range-index", "a range as an index", stage="exception")
+            first, last = items[0].value.left, items[0].value.right
+            counts = isinstance(first, Number) and isinstance(last, Number) and items[0].value.sign == ".."
+            form = self.put("{}.substring({}, {})", self.operand(node.on), first, str(int(last.written) + 1)) if counts else None
+            self.tell(node, "range-index", "a range as an index", stage=EXCEPTION, instead=form)
 
     def of_listliteral(self, node, around):
         self.spread(node.items)
@@ -335,7 +417,7 @@ class Outside:
 
     def key(self, key):
         if isinstance(key, Identifier) and key.name in WORDS:
-            self.tell(key, "word-as-name", f"the word `{key.name}` as a key")
+            self.tell(key, "word-as-name", f"the word `{key.name}` as a key", instead=f"`'{key.name}':`")
 
     def of_call(self, node, around):
         self.spread(node.arguments)
@@ -358,14 +440,19 @@ class Outside:
         if isinstance(node.what, Property) and node.what.dot == " " or isinstance(node.what, Call):
             self.tell(node, "command-chain", "a chain of calls without parentheses")
         elif isinstance(node.what, Property):
-            self.tell(node, "command-of-a-method", "a call of a method without parentheses")
+            self.tell(node, "command-of-a-method", "a call of a method without parentheses", instead=self.with_parentheses(node))
         first = node.arguments[0]
         if first.key is None and isinstance(first.value, (Prefix, New)) and not isinstance(first.value, Group):
-            self.tell(first, "command-argument", "an argument that needs parentheses around it")
+            self.tell(first, "command-argument", "an argument that needs parentheses around it", instead=self.with_parentheses(node))
         is_whole = isinstance(around, Evaluate) or type(around).__name__ in ("Declarator", "Assignment", "Return", "Declaration")
         is_chain = isinstance(around, Property) and around.dot == " "
         if not is_whole and not is_chain:
-            self.tell(node, "command-in-an-expression", "a call without parentheses inside an expression")
+            self.tell(node, "command-in-an-expression", "a call without parentheses inside an expression", instead=self.with_parentheses(node))
+
+    def with_parentheses(self, node):
+        """A call without parentheses with them."""
+        inside = self.script.source[node.arguments[0].begin : node.arguments[-1].end]
+        return self.put("{}({})", node.what, inside)
 
     def of_unreadable(self, node, around):
         """What the reader could not read is told by the exact grammar."""
