@@ -315,7 +315,6 @@ class Expressions(Tokens):
 
     def key(self):
         """The key of an entry or a named argument, with its `:`; None where no key stands there."""
-        back = self.at
         if self.is_kind("name", "word") and self.sees(":", by=1):
             key = self.identifier("name", "word")
         elif self.is_kind("text", "number") and self.sees(":", by=1) or self.is_computed_key():

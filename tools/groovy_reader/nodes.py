@@ -440,12 +440,6 @@ class Labeled(Node):
 
 
 @dataclass
-class Synchronized(Node):
-    lock: Node
-    body: Block
-
-
-@dataclass
 class Script:
     """A source with its statements and what was wrong on the way.
 

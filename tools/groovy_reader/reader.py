@@ -1,8 +1,8 @@
 """Reads the statements of a script, and goes on behind what it cannot read."""
-from .expressions import BUILT_IN, Expressions, Stuck
+from .expressions import Expressions, Stuck
 from .nodes import (Annotated, Annotation, Assert, Block, Break, Case, Catch, ClassDefinition, Continue, Declaration, Declarator, DoWhile,
-                    Evaluate, ForIn, ForSteps, Function, Identifier, If, Import, Labeled, Modifier, Package, Parameter, Return, Script,
-                    Switch, Synchronized, Throw, Try, Type, Unreadable, While)
+                    Evaluate, ForIn, ForSteps, Function, If, Import, Labeled, Modifier, Package, Parameter, Return, Script, Switch,
+                    Throw, Try, Unreadable, While)
 from .tokens import Note, tokens_of
 
 MODIFIERS = frozenset("final static public private protected abstract synchronized transient volatile native strictfp default".split())

@@ -112,8 +112,8 @@ class Executors:
         sharing = [it for it in branches if self.has_shell(it.body, ())]
         if len(sharing) > 1:
             self.tell(Node(node.what.begin, node.what.end), WARNING, "branches-share-an-executor",
-                      f"{len(sharing)} branches share the executor of the node around them: their shell steps run one after the other, and one that "
-                      "waits for the step of another branch waits for ever", "a `node` in each branch, and none around them")
+                      f"{len(sharing)} branches share the executor of the node around them: their shell steps run one after the other, "
+                      "and one that waits for the step of another branch waits for ever", "a `node` in each branch, and none around them")
 
     def has_shell(self, node, inside):
         """Whether a shell step runs in a branch without a node of its own."""

@@ -63,7 +63,8 @@ def decoded(content):
         return content.decode("utf-8"), None
     except UnicodeDecodeError as bad:
         at = len(content[: bad.start].decode("utf-8"))
-        return content.decode("utf-8", errors="replace"), [Finding(at, at + 1, REFUSED, "not-UTF-8", "this byte is no UTF-8", "the file as UTF-8")]
+        told = Finding(at, at + 1, REFUSED, "not-UTF-8", "this byte is no UTF-8", "the file as UTF-8")
+        return content.decode("utf-8", errors="replace"), [told]
 
 
 def findings_of(source, agents=None):
