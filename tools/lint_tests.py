@@ -249,7 +249,7 @@ class LintPrinted(unittest.TestCase):
         return ran.stdout.decode(), ran.returncode
 
     def test_place_line_and_mark(self):
-        told, status = self.lint("def x = 1\n\tif (x in [1]) { echo 'ü' }\n")
+        told, status = self.lint("def x = 1\n\tif (x in [1]) { echo 'ü' }\n", agents=ONE_EXECUTOR)
         self.assertEqual(4, status)
         self.assertEqual(
             f"{self.room}/Jenkinsfile:2:6: error: the operator `in` [in]\n"
@@ -258,7 +258,8 @@ class LintPrinted(unittest.TestCase):
             "    in its place: `[1].contains(x)`\n", told)
 
     def test_statuses(self):
-        self.assertEqual(("", 0), self.lint("echo 'a'\n"))
+        self.assertEqual(1, self.lint("echo 'a'\n")[1])
+        self.assertEqual(("", 0), self.lint("echo 'a'\n", agents=b'{"job": "a", "agents": []}'))
         self.assertEqual(1, self.lint("try { undo() } catch (Throwable e) { }\n")[1])
         self.assertEqual(4, self.lint("echo 'a\n")[1])
         self.assertEqual(4, self.lint("echo 'a'\n", agents=b"[]")[1])
@@ -275,9 +276,9 @@ class LintPrinted(unittest.TestCase):
         self.assertIn(b"/Jenkinsfile:2:7: error: this byte is no UTF-8 [not-UTF-8]", ran.stdout)
 
     def test_diagnostics_of_the_language_servers(self):
-        told, status = self.lint("echo '\U0001d11e', 1 as int\n", "--json")
+        told, status = self.lint("echo '\U0001d11e', 1 as int\n", "--json", agents=ONE_EXECUTOR)
         self.assertEqual(4, status)
-        [file] = json.loads(told)
+        _, file = json.loads(told)
         self.assertEqual(f"file://{self.room}/Jenkinsfile", file["uri"])
         self.assertEqual({"code", "message", "range", "severity", "source"}, set(file["diagnostics"][0]))
         cast = next(it for it in file["diagnostics"] if it["code"] == "cast")
@@ -288,7 +289,7 @@ class LintPrinted(unittest.TestCase):
     def test_lines_of_the_page_for_editors(self):
         page = read("docs/LINT.md").decode()
         [pattern] = re.findall(r'"regexp": "(.*)"', page)
-        line = self.lint("def x = 1 as int\n")[0].splitlines()[0]
+        line = self.lint("def x = 1 as int\n", agents=ONE_EXECUTOR)[0].splitlines()[0]
         found = re.fullmatch(json.loads(f'"{pattern}"'), line)
         self.assertEqual((f"{self.room}/Jenkinsfile", "1", "9", "error"), found.groups()[:4])
 

@@ -49,11 +49,20 @@ class Calls(Values):
         if name == "pipeline" and node.trailing:
             self.declarative(node)
             return None
-        self.arguments(node)
-        if self.is_bound(name):
+        if self.is_bound(name) and self.learnt is not None:
+            self.arguments(node)
             return None
         self.unknown_step(node)
+        self.arguments_of_unknown(node)
         return BROKEN
+
+    def arguments_of_unknown(self, node):
+        """The arguments of a step that nothing has; steps that describe something for it alone are not told."""
+        was = self.in_unknown
+        for argument in node.arguments:
+            self.in_unknown = not isinstance(argument.value, Closure)
+            self.value(argument.value)
+        self.in_unknown = was
 
     def call_of_function(self, node, function):
         self.calls.append((self.function, self.takes, function.name.name, self.on_executor))
@@ -127,7 +136,8 @@ class Calls(Values):
         elif kind is not None and kinds.counts_of(kind, name) == set():
             owner = f"{'String' if kind == TEXT else 'List'}.{name}"
             key = owner if has_row(METHOD, owner) else name if has_row(METHOD, name) else "method"
-            self.tell(place, stage, key, f"a {kind} has no method `{name}`", None if key == owner else self.similar(name, kind))
+            instead = self.with_a_counter(node) if name == "eachWithIndex" else None if key == owner else self.similar(name, kind)
+            self.tell(place, stage, key, f"a {kind} has no method `{name}`", instead)
         elif kind is None and not kinds.is_a_name(name):
             self.tell(place, stage, name if has_row(METHOD, name) else "method", f"no value has a method `{name}`", self.similar(name))
         elif kind is not None and (counts := kinds.counts_of(kind, name)) is not None and count not in counts:
@@ -136,6 +146,14 @@ class Calls(Values):
             self.tell(place, stage, "arguments", f"no method `{name}` takes {counted(count, 'argument')}")
         else:
             self.method_arguments(node, kind, name, others)
+
+    def with_a_counter(self, node):
+        """What to write for `list.eachWithIndex { item, index -> .. }`; None where the list is no plain name."""
+        closure = node.arguments[-1].value if node.arguments else None
+        if not isinstance(node.what.on, Name) or not isinstance(closure, Closure) or len(closure.parameters or []) != 2:
+            return None
+        items, (item, index) = node.what.on.name, (it.name.name for it in closure.parameters)
+        return f"`for (int {index} = 0; {index} < {items}.size(); {index}++) {{ def {item} = {items}[{index}]; .. }}`"
 
     def method_arguments(self, node, kind, name, others):
         """The arguments of a method that is there."""

@@ -49,6 +49,10 @@ class Context:
         # of functions, each with the function around it and what takes its throwables.
         self.bound, self.written, self.calls = set(), set(), []
         self.declared_anywhere = {}
+        # Those of the names whose value begins with a name that nothing has.
+        self.broken_names = set()
+        # Whether the walk is among the arguments of a step that nothing has, which has to be written anew as a whole.
+        self.in_unknown = False
         self.scope, self.in_loop, self.takes, self.function, self.on_executor = Scope(), False, NOTHING, None, OUTSIDE
         self.found = []
         # The kinds of expressions, by the identity of their nodes.

@@ -15,6 +15,8 @@ PACKAGES = ("java", "javax", "groovy", "hudson", "jenkins", "org", "com", "net",
 # Names as variables of the environment have them, and those that a shell step has.
 VARIABLE = re.compile(r"[A-Z][A-Z0-9]*(_[A-Z0-9]+)+|[A-Z]{4,}")
 OF_STEPS = ("JOB_NAME", "BUILD_NUMBER", "NODE_NAME", "EXECUTOR_NUMBER", "WORKSPACE")
+# The results that a `catchError` gives in place of an assignment, besides UNSTABLE.
+WORSE = ("FAILURE", "NOT_BUILT", "ABORTED")
 # The sections of a Declarative Pipeline whose bodies are statements of a script, and those that hold further sections.
 CODE = frozenset("steps script always changed fixed regression aborted failure success unstable unsuccessful cleanup".split())
 SECTIONS = frozenset("pipeline stages stage parallel matrix post".split())
@@ -39,14 +41,24 @@ class Walk(Calls):
         elif declared is not None:
             self.of_another_scope(node, name, declared)
         else:
-            key = self.key_of(name, whole)
-            what = f"nothing has the name `{name}`"
-            if key == "name" and VARIABLE.fullmatch(name):
-                key = "env.BUILD_NUMBER" if name in OF_STEPS else "env"
-                what += ": a variable of the environment is no name of a script"
-            elif name[:1].isupper() and key == "name":
-                key, what = "class-name", f"no class `{name}` is there"
-            self.tell(place if key != "name" else node, EXCEPTION, key, what, self.similar_name(name) if key == "name" else None)
+            self.of_nothing(node, whole, place)
+
+    def of_nothing(self, node, whole, place):
+        """A name that the script declares nowhere."""
+        name, key = node.name, self.key_of(node.name, whole)
+        what, instead = f"nothing has the name `{name}`", None
+        if name == "scm" and self.in_unknown:
+            return
+        if key == "name" and VARIABLE.fullmatch(name):
+            key, instead = "env.BUILD_NUMBER" if name in OF_STEPS else "env", variable_of_a_step(name)
+            what += ": a variable of the environment is no name of a script"
+        elif key in ("env", "env.BUILD_NUMBER") and self.script.written(whole.name) != "BRANCH_NAME":
+            instead = variable_of_a_step(self.script.written(whole.name))
+        elif key == "name" and name[:1].isupper():
+            key, what = "class-name", f"no class `{name}` is there"
+        elif key == "name":
+            instead = self.similar_name(name) or ("a function of the script" if isinstance(whole, Call) else None)
+        self.tell(node if key == "name" else place, EXCEPTION, key, what, instead)
 
     def key_of(self, name, whole):
         """The row that tells of a name, or of what is read of it."""
@@ -71,14 +83,15 @@ class Walk(Calls):
             result = node.value.value if isinstance(node.value, Text) else ""
             is_result = self.script.written(node.target.name) == "result"
             key = "currentBuild.result" if result == "UNSTABLE" else "currentBuild.result.NOT_BUILT"
-            self.tell(node, EXCEPTION, key if is_result else "currentBuild.read", "nothing has the name `currentBuild`")
+            instead = f"`catchError(buildResult: '{result}') {{ error 'why' }}`" if is_result and result in WORSE else None
+            self.tell(node, EXCEPTION, key if is_result else "currentBuild.read", "nothing has the name `currentBuild`", instead)
         else:
             self.unknown_name(name, node.target)
 
     def of_another_scope(self, node, name, declared):
         line = self.script.place(declared)[0]
         if self.function is not None:
-            what = f"a function does not see the variable `{name}` that the script declares at line {line}"
+            what = f"a function does not see the variable `{name}` that is declared at line {line}"
             self.tell(node, EXCEPTION, "another-scope", what, f"`{name}` there without `def`, or pass it as an argument")
         elif declared > node.begin:
             self.tell(node, EXCEPTION, "another-scope", f"`{name}` is declared at line {line}, behind this place", "the declaration first")
@@ -88,12 +101,15 @@ class Walk(Calls):
 
     def unknown_step(self, node):
         name = node.what.name
-        key = name if has_row(STEP, name) else "step-unknown"
-        takes_a_map = "class-name" if name[:1].isupper() and key == "step-unknown" else key
-        self.tell(node.what, ERROR, takes_a_map, f"no step and no function has the name `{name}`", self.similar_call(name))
+        if self.in_unknown or self.learnt is None:
+            return
+        key = name if has_row(STEP, name) else "class-name" if name[:1].isupper() else "step-unknown"
+        self.tell(node.what, ERROR, key, f"no step and no function has the name `{name}`", self.similar_call(key, name))
 
-    def similar_call(self, name):
-        return None if has_row(STEP, name) else suggested(name, [*STEPS, *self.functions])
+    def similar_call(self, key, name):
+        if key != "step-unknown":
+            return None
+        return suggested(name, [*STEPS, *self.functions]) or "a shell step, or a function of the script"
 
     def similar_name(self, name):
         return suggested(name, [*self.learnt.declared_anywhere, *self.learnt.bound])
@@ -128,6 +144,11 @@ class Walk(Calls):
                 self.inside(self.statements, call.arguments[-1].value.body.statements)
             else:
                 self.statement(statement)
+
+
+def variable_of_a_step(name):
+    """What to write for a variable of the environment, as a value."""
+    return f"its value, of a step in a `node`: `sh(script: 'echo ${name}', returnStdout: true).trim()`"
 
 
 def suggested(name, names):

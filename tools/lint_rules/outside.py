@@ -133,7 +133,7 @@ class Outside(Expressions):
         if node.type is None:
             return
         if node.keyword:
-            self.tell(node.type, "modifier", "a type behind `def`")
+            self.tell(node.type, "modifier", "a type behind `def`", instead="`def` alone")
         elif not node.type.name.isidentifier():
             self.type(node.type)
         elif node.names[0].value is None and not node.modifiers and len(node.names) == 1:
@@ -204,7 +204,7 @@ class Outside(Expressions):
         if node.type is not None and not node.type.name.isidentifier():
             self.type(node.type)
         elif node.type is not None and node.keyword:
-            self.tell(node.type, "modifier", "a type behind `def`")
+            self.tell(node.type, "modifier", "a type behind `def`", instead="`def` alone")
         elif node.sign == ":" and node.type is None and not node.keyword:
             self.tell(node.name, "loop-head", "a `for` with `:` and a name alone")
 

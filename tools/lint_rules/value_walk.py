@@ -64,7 +64,9 @@ class Values(Statements):
 
     def of_closure(self, node):
         """A closure that is kept: where it is called the text does not tell."""
+        was, self.in_unknown = self.in_unknown, False
         self.on(UNTOLD, self.given_closure, node)
+        self.in_unknown = was
         return CLOSURE
 
     def given_closure(self, node):
@@ -105,7 +107,7 @@ class Values(Statements):
         if not self.is_bound(node.name):
             self.unknown_name(node, node)
             return BROKEN
-        return None
+        return BROKEN if node.name in self.broken_names else None
 
     def of_choice(self, node):
         self.value(node.test)
@@ -168,6 +170,8 @@ class Values(Statements):
             given = self.joined(node, node.sign[0], kind, given)
         if isinstance(node.target, Name):
             self.write(node.target.name)
+            if self.is_broken(node.value):
+                self.broken_names.add(node.target.name)
         return given
 
     def is_unknown_root(self, target):
