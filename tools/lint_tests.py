@@ -139,6 +139,10 @@ node { sh 'x'; undo() }
         self.assertEqual([1, 2, 4], [File("", "if (a b) { echo 'x' }\nnode { sh 'x' 'y'\n echo 'z' }\necho('a',)\n").place(it.begin)[0]
                                      for it in found if it.stage == REFUSED])
 
+    def test_what_is_open_at_the_end_is_told(self):
+        [finding] = findings_of("node {\n    stage('a') {\n        echo 'x'\n    }\n")
+        self.assertEqual("the script ends here, and something is open: the `{` at 1:6", finding.what)
+
     def test_unknown_names_of_each_sort(self):
         self.assertEqual(["another-scope"], keys("def v = 1\ndef f() { v }\nf()"))
         self.assertEqual(["another-scope"], keys("if (1) { def v = 1 }\necho \"${v}\""))

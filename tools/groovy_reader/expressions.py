@@ -15,6 +15,17 @@ USUAL = BUILT_IN | frozenset("""String Integer Long Double Float Boolean BigDeci
     CharSequence ArrayList LinkedHashMap HashMap""".split())
 
 
+def opens(token):
+    """Whether a token opens a bracket or a text with expressions."""
+    return token.kind in ("open", "${") or token.kind == "sign" and token.value in ("(", "[", "{")
+
+
+def change_of_depth(token):
+    """How many brackets more are open behind a token."""
+    opens_one = token.kind == "${" or token.kind == "sign" and token.value in ("(", "[", "{")
+    return opens_one - (token.kind == "sign" and token.value in (")", "]", "}"))
+
+
 class Stuck(Exception):
     """No Groovy stands at a token, of which this is the number."""
 
@@ -27,7 +38,7 @@ def closings(tokens):
     """For each token that opens brackets or a text the token that closes it, where one does."""
     made, opened = {}, []
     for at, token in enumerate(tokens):
-        if token.kind in ("open", "${") or token.kind == "sign" and token.value in ("(", "[", "{"):
+        if opens(token):
             opened.append(at)
         elif opened and (token.kind == "close" or token.kind == "sign" and token.value in (")", "]", "}")):
             made[opened.pop()] = at
@@ -416,9 +427,7 @@ class Expressions(Tokens):
         """Goes over `{` up to the `}` that closes it, whatever stands between."""
         depth = 0
         while not self.is_kind("end"):
-            token = self.take(self.ahead().kind)
-            opens = token.kind == "${" or token.kind == "sign" and token.value in ("(", "[", "{")
-            depth += opens - (token.kind == "sign" and token.value in (")", "]", "}"))
+            depth += change_of_depth(self.take(self.ahead().kind))
             if depth == 0:
                 return
         raise self.stuck()

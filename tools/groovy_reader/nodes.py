@@ -444,13 +444,14 @@ class Script:
     """A source with its statements and what was wrong on the way.
 
     `notes` are faults of characters (tokens.Note); `faults` are places at which the reader found no Groovy, with the piece of source
-    that it went over (nodes of Unreadable).
+    that it went over (nodes of Unreadable). `unclosed` are the places of brackets that nothing closes.
     """
 
     source: str
     statements: List[Node]
     notes: List[Any]
     faults: List[Unreadable]
+    unclosed: List[int] = field(default_factory=list)
 
     def walk(self):
         for statement in self.statements:

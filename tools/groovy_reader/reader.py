@@ -1,5 +1,5 @@
 """Reads the statements of a script, and goes on behind what it cannot read."""
-from .expressions import Expressions, Stuck
+from .expressions import Expressions, Stuck, change_of_depth, opens
 from .nodes import (Annotated, Annotation, Assert, Block, Break, Case, Catch, ClassDefinition, Continue, Declaration, Declarator, DoWhile,
                     Evaluate, ForIn, ForSteps, Function, If, Import, Labeled, Modifier, Package, Parameter, Return, Script, Switch,
                     Throw, Try, Unreadable, While)
@@ -62,10 +62,7 @@ class Reader(Expressions):
         while not self.is_kind("end"):
             if depth == 0 and (self.is_kind("newline") or self.sees(";", "}")) and self.at > first:
                 break
-            token = self.take(self.ahead().kind)
-            opens = token.kind == "${" or token.kind == "sign" and token.value in ("(", "[", "{")
-            closes = token.kind == "sign" and token.value in (")", "]", "}")
-            depth = max(0, depth + opens - closes)
+            depth = max(0, depth + change_of_depth(self.take(self.ahead().kind)))
         begin = self.token_at(first).begin
         made = Unreadable(begin, max(self.end(), begin), self.token_at(stuck).begin)
         self.faults.append(made)
@@ -475,4 +472,5 @@ def read(source):
     tokens, notes = tokens_of(source)
     reader = Reader(source, tokens)
     statements = reader.script()
-    return Script(source, statements, notes + reader.notes, reader.faults)
+    unclosed = [token.begin for at, token in enumerate(tokens) if opens(token) and at not in reader.closings]
+    return Script(source, statements, notes + reader.notes, reader.faults, unclosed)

@@ -7,7 +7,7 @@ from .findings import REFUSED, Finding
 
 LONGEST = 1_048_576
 KINDS = {
-    "unexpected token": "this is not expected here", "unexpected end": "the script ends, and something is open",
+    "unexpected token": "this is not expected here", "unexpected end": "the script ends here, and something is open",
     "unexpected character": "nothing of the language begins with this character", "bad number": "no number of the language",
     "bad escape": "no escape of the language", "unended text": "a text without an end", "unended comment": "a comment without an end",
     "nesting over 128": "more than 128 brackets are open here",
@@ -15,12 +15,23 @@ KINDS = {
 INSTEAD = {"unexpected token": None, "nesting over 128": "names of their own for inner parts", "unexpected end": "what closes it"}
 
 
-def from_fault(source, kind, at):
+def from_fault(script, kind, at):
     """A fault of the exact grammar as a finding."""
-    end = at + 1
+    source, end, what = script.source, at + 1, KINDS.get(kind, kind)
     while end < len(source) and source[at : end + 1].isidentifier():
         end += 1
-    return Finding(at, min(end, len(source)), REFUSED, kind.replace(" ", "-"), KINDS.get(kind, kind), INSTEAD.get(kind))
+    if at >= len(source.rstrip()) and kind in ("unexpected token", "unexpected end"):
+        kind = "unexpected end"
+        what = f"{KINDS[kind]}{opened(script)}"
+    return Finding(at, min(end, len(source)), REFUSED, kind.replace(" ", "-"), what, INSTEAD.get(kind))
+
+
+def opened(script):
+    """Which bracket is open where the script ends: the innermost one."""
+    if not script.unclosed:
+        return ""
+    line, column = script.place(script.unclosed[-1])
+    return f": the `{script.source[script.unclosed[-1]]}` at {line}:{column}"
 
 
 def of_grammar(script, found):
@@ -33,9 +44,9 @@ def of_grammar(script, found):
             continue
         explained = any(piece.has(begin) and begin <= fault[1] for begin, _ in refused)
         if not explained:
-            told.append(from_fault(script.source, *fault))
+            told.append(from_fault(script, *fault))
     places = {it.begin for it in found + told}
-    return told + [from_fault(script.source, "unexpected token", it.fault) for it in script.faults if it.fault not in places]
+    return told + [from_fault(script, "unexpected token", it.fault) for it in script.faults if it.fault not in places]
 
 
 def of_whole(script, found):
@@ -43,7 +54,7 @@ def of_whole(script, found):
     fault = exact.first_fault(script.source)
     if fault is None or any(it.stage == REFUSED and it.begin <= fault[1] for it in found):
         return []
-    return [from_fault(script.source, *fault)]
+    return [from_fault(script, *fault)]
 
 
 def agents_found(content):
