@@ -140,8 +140,10 @@ node { sh 'x'; undo() }
                                      for it in found if it.stage == REFUSED])
 
     def test_what_is_open_at_the_end_is_told(self):
+        [finding] = findings_of("node {\n    sh(script: 'a'\n    echo 'x'\n}\n")
+        self.assertEqual("this is not expected here; the `(` at 2:7 is open", finding.what)
         [finding] = findings_of("node {\n    stage('a') {\n        echo 'x'\n    }\n")
-        self.assertEqual("the script ends here, and something is open: the `{` at 1:6", finding.what)
+        self.assertEqual("the script ends here; the `{` at 1:6 is open", finding.what)
 
     def test_unknown_names_of_each_sort(self):
         self.assertEqual(["another-scope"], keys("def v = 1\ndef f() { v }\nf()"))

@@ -444,14 +444,14 @@ class Script:
     """A source with its statements and what was wrong on the way.
 
     `notes` are faults of characters (tokens.Note); `faults` are places at which the reader found no Groovy, with the piece of source
-    that it went over (nodes of Unreadable). `unclosed` are the places of brackets that nothing closes.
+    that it went over (nodes of Unreadable). `brackets` has the places of each opening bracket and of what closes it, or None.
     """
 
     source: str
     statements: List[Node]
     notes: List[Any]
     faults: List[Unreadable]
-    unclosed: List[int] = field(default_factory=list)
+    brackets: List[Any] = field(default_factory=list)
 
     def walk(self):
         for statement in self.statements:
@@ -460,6 +460,10 @@ class Script:
     def written(self, node):
         """The source of a node."""
         return self.source[node.begin : node.end]
+
+    def bracket_around(self, at):
+        """The place of the innermost bracket that is open at a character; None where none is."""
+        return max((begin for begin, end in self.brackets if begin < at and (end is None or at <= end)), default=None)
 
     def place(self, at):
         """The line and the column of a character, both counted from 1; a byte order mark is no character of the first line."""

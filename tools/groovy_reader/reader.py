@@ -472,5 +472,6 @@ def read(source):
     tokens, notes = tokens_of(source)
     reader = Reader(source, tokens)
     statements = reader.script()
-    unclosed = [token.begin for at, token in enumerate(tokens) if opens(token) and at not in reader.closings]
-    return Script(source, statements, notes + reader.notes, reader.faults, unclosed)
+    ends = {at: tokens[end].begin for at, end in reader.closings.items()}
+    brackets = [(token.begin, ends.get(at)) for at, token in enumerate(tokens) if opens(token)]
+    return Script(source, statements, notes + reader.notes, reader.faults, brackets)

@@ -7,7 +7,7 @@ from .findings import REFUSED, Finding
 
 LONGEST = 1_048_576
 KINDS = {
-    "unexpected token": "this is not expected here", "unexpected end": "the script ends here, and something is open",
+    "unexpected token": "this is not expected here", "unexpected end": "the script ends here",
     "unexpected character": "nothing of the language begins with this character", "bad number": "no number of the language",
     "bad escape": "no escape of the language", "unended text": "a text without an end", "unended comment": "a comment without an end",
     "nesting over 128": "more than 128 brackets are open here",
@@ -22,16 +22,20 @@ def from_fault(script, kind, at):
         end += 1
     if at >= len(source.rstrip()) and kind in ("unexpected token", "unexpected end"):
         kind = "unexpected end"
-        what = f"{KINDS[kind]}{opened(script)}"
+        what = KINDS[kind]
+    if kind in ("unexpected token", "unexpected end"):
+        what += opened(script, at)
     return Finding(at, min(end, len(source)), REFUSED, kind.replace(" ", "-"), what, INSTEAD.get(kind))
 
 
-def opened(script):
-    """Which bracket is open where the script ends: the innermost one."""
-    if not script.unclosed:
+def opened(script, at):
+    """Which bracket is open at a place: at the end of the script the innermost one, before it a `(` or `[` of another line."""
+    begin = script.bracket_around(at)
+    is_end = at >= len(script.source.rstrip())
+    if begin is None or not is_end and (script.source[begin] not in "([" or "\n" not in script.source[begin:at]):
         return ""
-    line, column = script.place(script.unclosed[-1])
-    return f": the `{script.source[script.unclosed[-1]]}` at {line}:{column}"
+    line, column = script.place(begin)
+    return f"; the `{script.source[begin]}` at {line}:{column} is open"
 
 
 def of_grammar(script, found):
