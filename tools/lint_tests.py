@@ -11,7 +11,7 @@ import unittest
 from examples import Example, codes, examples, of_faults, read, reference, rows
 from groovy_reader import Call, Closure, Declaration, read as read_groovy
 from lint_rules.agents_file import BadFile, executors_of
-from lint_rules.differences import MORE, ROWS
+from lint_rules.differences import ROWS
 from lint_rules.exact import first_fault
 from lint_rules.findings import REFUSED, File
 from lint_rules.linting import findings_of
@@ -54,21 +54,26 @@ def trials():
 
 
 class LintDifferences(unittest.TestCase):
-    def test_the_rows_of_the_page_are_those_of_the_data(self):
-        page = [(codes(first)[0], codes(told)[0], instead) for first, told, instead in rows(read("docs/USING.md").decode(), "in Jenkins")]
-        data = [(lines_of(it.jenkins), it.told, it.instead) for it in ROWS]
-        self.assertEqual(sorted(page), sorted(data))
+    def test_each_row_of_the_page_is_in_the_data(self):
+        data, before = [(lines_of(it.jenkins), it.told, it.instead) for it in ROWS], None
+        for first, told, instead in rows(read("docs/USING.md").decode(), "in Jenkins"):
+            before = before if instead == "the same" else instead
+            with self.subTest(first):
+                self.assertIn((codes(first)[0], codes(told)[0], before), data)
 
     def test_each_row_is_told_by_its_key_and_nothing_of_what_stands_in_its_place(self):
-        for row in ROWS + MORE:
+        for row in ROWS:
             with self.subTest(row.key):
                 self.assertIn(row.key, [it.key for it in stopping(lines_of(row.jenkins))])
                 for script in codes(row.instead):
                     self.assertEqual([], stopping(lines_of(script)), script)
 
     def test_rows_that_are_on_no_page_are_told_so_and_run_in_their_place(self):
-        for row in MORE:
+        page = [codes(first)[0] for first, *_ in rows(read("docs/USING.md").decode(), "in Jenkins")]
+        for row in ROWS:
             with self.subTest(row.key):
+                if lines_of(row.jenkins) in page:
+                    continue
                 self.assertIn(row.told, self.ran(row.jenkins)[0])
                 for script in codes(row.instead):
                     self.assertRegex(self.ran(script)[0], r"(?m)^Finished: |^\+ |\[Pipeline\] sh$", script)

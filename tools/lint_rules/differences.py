@@ -1,20 +1,21 @@
 """What stands in Jenkinsfiles and is no part of this product, what is told of it, and what to write in its place.
 
-`ROWS` are the rows of the tables of docs/USING.md whose first column is `in Jenkins`, in their order; a test compares them. `MORE` are
-further ones, which have no row there. Each script is tried by tools/test.py: what is told of it, that `lint` tells it under this key,
-and that it tells nothing of what is written in its place. A mark ↵ stands for a new line.
+Each row of the tables of docs/USING.md whose first column is `in Jenkins` stands here too; a test compares them. Each script is tried by
+tools/test.py: what is told of it, that `lint` tells it under this key, and that it tells nothing of what is written in its place. A mark ↵
+stands for a new line.
 """
 from collections import namedtuple
 
 # What a row is about: the name of a step or of a parameter, another name, a method or an operator, or a form of the language.
 STEP, NAME, METHOD, FORM = "step", "name", "method", "form"
-# `key` names what a finding is about; `jenkins` is a script with it, `told` a part of what the program prints for that script, and
+# `key` names what a finding is about, and of several rows with one key the first tells what to write in general; `jenkins` is a script with it, `told` a part of what the program prints for that script, and
 # `instead` what to write, with scripts in backquotes.
 Row = namedtuple("Row", "group key jenkins told instead")
 
 ROWS = (
     Row(STEP, "checkout", "checkout scm", "No such property: scm", "`node { sh 'git clone -q https://example.com/shop.git .' }`"),
-    Row(STEP, "git", "git 'https://example.com/shop.git'", "No such DSL method 'git'", "the same"),
+    Row(STEP, "git", "git 'https://example.com/shop.git'", "No such DSL method 'git'",
+        "`node { sh 'git clone -q https://example.com/shop.git .' }`"),
     Row(STEP, "bat", "bat 'make.cmd'", "No such DSL method 'bat'", "`node { sh 'make' }`"),
     Row(STEP, "sleep", "sleep 5", "No such DSL method 'sleep'", "`node { sh 'sleep 5' }`"),
     Row(STEP, "timeout", "timeout(5) { echo 'x' }", "No such DSL method 'timeout'", "`node { sh 'timeout 300 make' }`"),
@@ -29,7 +30,7 @@ ROWS = (
         "`node { while (sh(script: 'test -e f', returnStatus: true) != 0) { sh 'sleep 5' } }`"),
     Row(STEP, "archiveArtifacts", "node { archiveArtifacts 'out/*' }", "No such DSL method 'archiveArtifacts'",
         "`node { sh 'cp -r out /srv/archive/' }`"),
-    Row(STEP, "stash", "node { stash 'bin' }", "No such DSL method 'stash'", "the same"),
+    Row(STEP, "stash", "node { stash 'bin' }", "No such DSL method 'stash'", "`node { sh 'cp -r out /srv/archive/' }`"),
     Row(STEP, "unstash", "node { unstash 'bin' }", "No such DSL method 'unstash'", "`node { sh 'cp -r /srv/archive/out .' }`"),
     Row(STEP, "junit", "node { junit 'out/*.xml' }", "No such DSL method 'junit'",
         "`node { sh 'cp -r out /srv/archive/' }`; the exit status of the tests decides"),
@@ -104,10 +105,11 @@ ROWS = (
     Row(FORM, "Date", "def d = new Date()", "unexpected token", "`node { def d = sh(script: 'date', returnStdout: true) }`"),
     Row(METHOD, "eachWithIndex", "['a'].eachWithIndex { t, i -> echo t }", "java.util.ArrayList.eachWithIndex()",
         '`def l = [\'a\']; for (int i = 0; i < l.size(); i++) { echo "${i} ${l[i]}" }`'),
-)
-MORE = (
     Row(FORM, "package", "package a", "unexpected token", "leave it out"),
+    Row(FORM, "modifier", "final name = 'shop'", "unexpected token", "`def name = 'shop'`"),
     Row(FORM, "modifier", "final def x = 1", "unexpected token", "`def x = 1`"),
+    Row(FORM, "several-names", "def a, b", "unexpected token", "`def a ↵ def b`"),
+    Row(FORM, "catch-class", "try { error 'x' } catch (hudson.AbortException e) { }", "unexpected token", "`try { error 'x' } catch (e) { }`"),
     Row(FORM, "generic-type", "Map<String, String> m = [:]", "unexpected token", "`def m = [:]`"),
     Row(FORM, "dotted-type", "java.util.List l = []", "unexpected token", "`def l = []`"),
     Row(NAME, "class-name", "println(java.io.File.separator)", "No such property: java", "a shell step, or a value of the script"),
@@ -138,6 +140,8 @@ MORE = (
     Row(FORM, "number-form", "def x = 100L", "bad number", "a whole number up to 2147483647, or a text: `def x = 100`"),
     Row(FORM, "mixed-arguments", "def f(m, x) { x }; f('x', a: 1)", "unexpected token",
         "`def f(m, x) { x }; f([a: 1], 'x')`; of a step all by their names: `node { sh(script: 'make', returnStatus: true) }`"),
+    Row(FORM, "mixed-arguments", "echo message: 'x', 'y'", "unexpected end", "`echo 'x'`"),
+    Row(FORM, "mixed-arguments", "stage name: 'Build', { echo 'x' }", "unexpected token", "`stage(name: 'Build') { echo 'x' }`"),
     Row(FORM, "spread-argument", "def f(a, b) { a }; f(*[1, 2])", "unexpected token", "`def f(a, b) { a }; def l = [1, 2]; f(l[0], l[1])`"),
     Row(FORM, "spread-map", "def m = [*: [a: 1], b: 2]", "unexpected token", "`def m = [a: 1] + [b: 2]`"),
     Row(FORM, "slashy-text", "def x = /a\\d/", "unexpected character", "`def x = 'a\\\\d'`"),
@@ -187,8 +191,8 @@ MORE = (
         "the text without its indentation: `def x = 'a'`"),
     Row(METHOD, "lastIndexOf", "def x = 'a/b'.lastIndexOf('/')", "java.lang.String.lastIndexOf()",
         "for what stands behind it `def x = 'a/b'.tokenize('/').last()`"),
-    Row(METHOD, "collectEntries", "def x = [1].collectEntries { [it, it] }", "java.util.ArrayList.collectEntries()",
-        "`def x = [:]; [1].each { x[it] = it }`"),
+    Row(METHOD, "collectEntries", "def m = ['a', 'b'].collectEntries { [it, 1] }", "java.util.ArrayList.collectEntries()",
+        "`def m = [:]; ['a', 'b'].each { m[it] = 1 }`"),
     Row(METHOD, "inject", "def x = [1, 2].inject(0) { a, b -> a + b }", "java.util.ArrayList.inject()",
         "`def x = 0; [1, 2].each { x = x + it }`"),
     Row(METHOD, "max", "def x = [1, 2].max()", "java.util.ArrayList.max()", "`def x = 0; [1, 2].each { if (it > x) { x = it } }`"),
@@ -221,7 +225,7 @@ MORE = (
     Row(STEP, "publishHTML", "publishHTML([a: 1])", "No such DSL method 'publishHTML'", "`node { sh 'cp -r out /srv/archive/' }`"),
 )
 
-BY_KEY = {row.key: row for row in ROWS + MORE}
+BY_KEY = {row.key: row for row in reversed(ROWS)}
 
 
 def has_row(group, key):
@@ -230,12 +234,5 @@ def has_row(group, key):
 
 
 def instead_of(key):
-    """What to write in place of what has this key; None where nothing is known. `the same` stands for the row before."""
-    if key not in BY_KEY:
-        return None
-    before = None
-    for row in ROWS + MORE:
-        before = before if row.instead == "the same" else row.instead
-        if row.key == key:
-            return before
-    return None
+    """What to write in place of what has this key; None where nothing is known."""
+    return BY_KEY[key].instead if key in BY_KEY else None
