@@ -196,12 +196,13 @@ class Lanes:
         shutil.rmtree(self.folder, ignore_errors=True)
 
     def end(self):
-        """Removes the lanes. What the kit keeps of a crate for its next check goes to the checkout first."""
+        """Removes the lanes. The libraries, and what the kit keeps of a crate for its next check, go to the checkout first."""
         for name, lane in self.builder.items():
-            work, to = f"{lane}/crates/{name}/out/incremental", f"{TOP}/crates/{name}/out/incremental"
-            if os.path.isdir(work):
-                shutil.rmtree(to, ignore_errors=True)
-                shutil.move(work, to)
+            for part in ("incremental", "rlib"):
+                work, to = (f"{it}/crates/{name}/out/{part}" for it in (lane, TOP))
+                if os.path.isdir(work):
+                    shutil.rmtree(to, ignore_errors=True)
+                    shutil.move(work, to)
         self.drop()
 
 
@@ -268,18 +269,21 @@ class Build:
                 self.stop()
                 raise
 
-    def program(self):
-        """Proves and links the program, over the libraries that stand in the lanes or here."""
+    def program(self, lanes):
+        """Proves and links the program in a lane, and puts it in the place of an older one once it is there."""
         self.progress.at(PROGRAM, "is proved and linked")
-        # An older program goes first, so that one that is there afterwards is the new one. Without words it tells its usage.
-        program = f"{TOP}/crates/{PROGRAM}/out/{PROGRAM}"
-        with contextlib.suppress(FileNotFoundError):
-            os.remove(program)
-        try:
-            self.kit(TOP, PROGRAM, "run", "--")
-        except Failed:
-            if not os.access(program, os.X_OK):
-                raise
+        with lanes.one(PROGRAM) as lane:
+            made, to = (f"{it}/crates/{PROGRAM}/out/{PROGRAM}" for it in (lane, TOP))
+            with contextlib.suppress(FileNotFoundError):
+                os.remove(made)
+            try:
+                # Without words it tells its usage, with a status of its own.
+                self.kit(lane, PROGRAM, "run", "--")
+            except Failed:
+                if not os.access(made, os.X_OK):
+                    raise
+            shutil.copy2(made, f"{to}.new")
+        os.replace(f"{to}.new", to)
         self.progress.end(PROGRAM)
 
     def whole(self):
@@ -289,7 +293,7 @@ class Build:
             return
         lanes = Lanes("build", self.most)
         self.libraries(lanes, there)
-        self.program()
+        self.program(lanes)
         lanes.end()
 
     def stop(self):

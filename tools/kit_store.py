@@ -49,15 +49,15 @@ def crates_of(rt, top, program):
 
 def is_given(rt, kept, crate):
     """Whether the crate stands built in its out/, now that what is kept of it was put there."""
-    if not crate.is_program and crate.is_built():
-        return True
-    if not kept.give(crate, False, kept.key(crate)):
-        return False
-    if not crate.is_program:
+    if crate.is_program:
+        return kept.give(crate, False, kept.key(crate))
+    if not crate.is_built():
+        if not kept.give(crate, False, kept.key(crate)):
+            return False
         with open(f"{crate.folder}/out/rlib/stamp", "w", encoding="utf-8") as stamp:
             stamp.write(crate.stamp())
-        # The kit's commands in other copies of the checkout find it by this.
-        rt.offer(crate, crate.stamp())
+    # The kit's commands in the lanes find it by this.
+    rt.offer(crate, crate.stamp())
     return True
 
 
