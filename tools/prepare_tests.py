@@ -136,7 +136,7 @@ class PrepareCommand(unittest.TestCase):
             file.write(script.text)
             file.flush()
             at = script.text.index("echo a") + 1
-            words = [sys.executable, f"{TOOLS}/places.py", file.name]
+            words = [sys.executable, f"{TOOLS}/original_places.py", file.name]
             ran = subprocess.run(words, input=f"Jenkinsfile:1:{at}: unknown\n", capture_output=True, text=True, check=False)
         self.assertRegex(ran.stdout, r"/Jenkinsfile:1:22: unknown\n")
 
