@@ -1,25 +1,30 @@
 #!/usr/bin/env python3
 """Proves and builds the controller: `./controller build`.
 
-Each crate of the program is proved before it is built, those that wait for no other side by side. What is at work is told on
-standard error: one line that is written anew on a terminal, and elsewhere a line per crate. What is built and has not changed is
-not done again. Of two builds at once the second waits for the first.
+What an `rt ci` or an earlier build of these sources proved on this machine is taken and not proved again. Every other crate of the
+program is proved before it is built, in as many lanes as there are processors and memory: the kit locks a crate's folder and those of
+the crates below it, so each lane works in a copy of its own, and the kit hands what one has built to the others. The crate with the
+longest way up to the program goes first. What is at work is told on standard error: one line that is written anew on a terminal, and
+elsewhere a line per crate. Of two builds at once the second waits for the first.
 """
 import concurrent.futures
 import contextlib
 import fcntl
+import hashlib
 import os
 import re
 import shutil
 import signal
 import subprocess
 import sys
+import tempfile
 import threading
 import time
 
+import kit_store
+
 TOP = os.path.dirname(os.path.dirname(os.path.realpath(__file__)))
 PROGRAM = "jenkinsd"
-LOG = f"{TOP}/crates/{PROGRAM}/out/build.log"
 # How much memory a check may take, in KiB.
 MEMORY_OF_A_CHECK = 4_000_000
 
@@ -50,6 +55,14 @@ def crates_below(program):
     return order
 
 
+def crates_above(names):
+    """These crates and all that stand on them."""
+    named, above = listed(), {*names}
+    while more := {it for it, deps in named.items() if it not in above and above.intersection(deps)}:
+        above |= more
+    return [it for it in named if it in above]
+
+
 def free_memory():
     """In KiB; where the system does not tell it, enough for one check."""
     try:
@@ -59,36 +72,33 @@ def free_memory():
         return MEMORY_OF_A_CHECK
 
 
-def is_library_built(name, crates):
-    """Whether the crate's library was built after the last change of its sources, of those of the crates below it, of the list
-    of crates and of the kit."""
-    stamp = f"{TOP}/crates/{name}/out/rlib/stamp"
-    below, found = [name], set()
-    while below:
-        it = below.pop()
-        if it not in found:
-            found.add(it)
-            below += crates[it]
-    if not os.path.isfile(stamp):
-        return False
-    built = os.path.getmtime(stamp)
-    files = (file for it in found for file in sources(it))
-    return built > kit_came() and all(built > os.path.getmtime(file) for file in [f"{TOP}/crates.txt", *files])
-
-
-def kit_came():
-    """When the kit came to this machine."""
-    kit = os.path.dirname(os.path.dirname(os.path.realpath(shutil.which("rt"))))
-    try:
-        return os.stat(f"{kit}/KIT-ID").st_ctime
-    except FileNotFoundError:
-        return 0
-
-
 def sources(name):
+    """The files of a crate that its proof reads."""
     for at, folders, files in os.walk(f"{TOP}/crates/{name}"):
-        folders[:] = [it for it in folders if it != "out"]
-        yield from (f"{at}/{file}" for file in files if file.endswith((".rt", ".antt")))
+        folders[:] = sorted(it for it in folders if it not in ("out", "must-fail"))
+        yield from (f"{at}/{file}" for file in sorted(files) if file.endswith((".rt", ".antt")))
+
+
+def ways_up(crates):
+    """How much stands on each crate, along the longest way up to the program, its own sources among it: in bytes of sources."""
+    above = {name: [it for it, deps in crates.items() if name in deps] for name in crates}
+    way = {}
+    for name in reversed(list(crates)):
+        size = sum(os.path.getsize(file) for file in sources(name))
+        way[name] = size + max((way[it] for it in above[name]), default=0)
+    return way
+
+
+def sum_of_sources(crates):
+    """A sum of what the program is made from: the kit, the list of crates, what they may do, and their sources."""
+    kit = os.path.dirname(os.path.dirname(os.path.realpath(shutil.which("rt"))))
+    files = [f"{kit}/KIT-ID", f"{TOP}/crates.txt", f"{TOP}/HANDLES", *(file for it in crates for file in sources(it))]
+    whole = hashlib.sha256()
+    for file in filter(os.path.isfile, files):
+        with open(file, "rb") as it:
+            text = it.read()
+        whole.update(f"{os.path.relpath(file, TOP)} {len(text)}\n".encode() + text)
+    return whole.hexdigest()
 
 
 class Progress:
@@ -123,13 +133,19 @@ class Progress:
             self.at_work[name] = f"{number}/{of}"
             self.show()
 
+    def taken(self, count):
+        """So many crates were proved here before."""
+        self.ended += count
+        if count:
+            self.say(f"{count} of {self.count} crates were proved on this machine before ({self.seconds()})")
+
     def end(self, name):
         with self.lock:
             self.at_work.pop(name, None)
             self.ended += 1
             if not self.on_terminal:
                 functions = self.functions.get(name, 0)
-                what = f"{functions} functions proved" if functions else "no change"
+                what = f"{functions} functions proved" if functions else "built"
                 self.say(f"{self.ended} of {self.count}: {name}: {what} ({self.seconds()})")
             self.show()
 
@@ -141,27 +157,76 @@ class Failed(Exception):
     """A crate that was not proved or not built, and why."""
 
 
+class Lanes:
+    """Copies of the sources, each with an out/ of its own, that stay until the work that they are made for is done."""
+
+    def __init__(self, work, count):
+        # Where git keeps its own, since a copy anywhere else in the checkout would be taken for a part of it.
+        has_git = os.path.isdir(f"{TOP}/.git")
+        self.folder = f"{TOP}/.git/{work}" if has_git else f"{tempfile.gettempdir()}/{work}{TOP.replace('/', '-')}"
+        self.free, self.lock = [f"{self.folder}/{it}" for it in range(count)], threading.Lock()
+        self.builder = {}
+        for lane in self.free:
+            self.copy(lane)
+
+    @staticmethod
+    def copy(lane):
+        """Gives the lane today's sources; what it has built stays."""
+        for name in listed():
+            folder = f"{lane}/crates/{name}"
+            for part in (it for it in ("src", "specs", "proofs") if os.path.isdir(f"{folder}/{it}")):
+                shutil.rmtree(f"{folder}/{part}")
+            shutil.copytree(f"{TOP}/crates/{name}", folder, ignore=shutil.ignore_patterns("out", "must-fail"), dirs_exist_ok=True)
+        for file in filter(os.path.isfile, (f"{TOP}/crates.txt", f"{TOP}/HANDLES")):
+            shutil.copy2(file, lane)
+
+    @contextlib.contextmanager
+    def one(self, name):
+        """A lane that nobody else works in, for this crate."""
+        with self.lock:
+            lane = self.free.pop()
+        try:
+            self.builder[name] = lane
+            yield lane
+        finally:
+            with self.lock:
+                self.free.append(lane)
+
+    def drop(self):
+        shutil.rmtree(self.folder, ignore_errors=True)
+
+    def end(self):
+        """Removes the lanes. The libraries, and what the kit keeps of a crate for its next check, go to the checkout first."""
+        for name, lane in self.builder.items():
+            for part in ("incremental", "rlib"):
+                work, to = (f"{it}/crates/{name}/out/{part}" for it in (lane, TOP))
+                if os.path.isdir(work):
+                    shutil.rmtree(to, ignore_errors=True)
+                    shutil.move(work, to)
+        self.drop()
+
+
 class Build:
     def __init__(self, crates, log):
         self.crates, self.log, self.progress = crates, log, Progress(len(crates))
         self.children, self.lock, self.is_stopped = set(), threading.Lock(), False
-        self.processors, self.memory = len(os.sched_getaffinity(0)), free_memory()
+        self.most = max(1, min(len(os.sched_getaffinity(0)), free_memory() // MEMORY_OF_A_CHECK))
 
-    def begin(self, name, words):
+    def begin(self, folder, name, words):
         """The kit at work in a crate's folder, unless the build is stopped."""
         with self.lock:
             if self.is_stopped:
                 raise Failed(f"{name}: stopped")
             streams = {"stdin": subprocess.DEVNULL, "stdout": subprocess.PIPE, "stderr": subprocess.STDOUT}
-            how = {"cwd": f"{TOP}/crates/{name}", "text": True, "errors": "replace", "start_new_session": True}
+            how = {"cwd": folder, "text": True, "errors": "replace", "start_new_session": True}
             child = subprocess.Popen(["rt", *words], **streams, **how)
             self.children.add(child)
         return child
 
-    def kit(self, name, *words):
-        """The kit's exit status in a crate's folder, and the first error that it tells, or its last word. All its words go to
-        the log, and the count of functions to the progress."""
-        child, why = self.begin(name, words), ""
+    def kit(self, top, name, *words):
+        """Has the kit work on a crate of the checkout at `top`. All its words go to the log, and its count of functions to the
+        progress. Failed has the first error that it tells, or its last word."""
+        child, why = self.begin(f"{top}/crates/{name}", name, words), ""
         for line in child.stdout:
             with self.lock:
                 self.log.write(f"{name}: {line}")
@@ -174,44 +239,28 @@ class Build:
         status = child.wait()
         with self.lock:
             self.children.discard(child)
-        return status, why
-
-    def one(self, name):
-        """Proves and builds one crate."""
-        is_program = name == PROGRAM
-        if not is_program and is_library_built(name, self.crates):
-            self.progress.end(name)
-            return
-        self.progress.at(name, "begins")
-        status, why = self.kit(name, "check", "--jobs", "1")
-        if not status and not is_program:
-            self.progress.at(name, "is built")
-            status, why = self.kit(name, "lib", "--jobs", "1")
-        elif not status:
-            self.progress.at(name, "is linked")
-            # An older program goes first, so that one that is there afterwards is the new one. Without words it tells its usage.
-            program = f"{TOP}/crates/{name}/out/{name}"
-            with contextlib.suppress(FileNotFoundError):
-                os.remove(program)
-            status, why = self.kit(name, "run", "--")
-            status = 0 if os.access(program, os.X_OK) else status or 1
         if status:
             raise Failed(f"{name}: {why or f'the kit ended with status {status}'}")
+
+    def library(self, lanes, name):
+        """Proves and builds a library in a lane."""
+        self.progress.at(name, "begins")
+        with lanes.one(name) as lane:
+            self.kit(lane, name, "lib", "--jobs", "1")
         self.progress.end(name)
 
-    def has_room(self, running):
-        """Whether processors and memory allow one more beside so many that are at work; one at a time always is."""
-        return not running or running < self.processors and (running + 1) * MEMORY_OF_A_CHECK <= self.memory
-
-    def whole(self):
-        left, running, done = dict(self.crates), {}, set()
-        with concurrent.futures.ThreadPoolExecutor(self.processors) as pool:
+    def libraries(self, lanes, there):
+        """Proves and builds those that are not there, each once all that it names are, the one with the longest way up first."""
+        way = ways_up(self.crates)
+        left = {it: deps for it, deps in self.crates.items() if it not in there and it != PROGRAM}
+        running, done = {}, set(there)
+        with concurrent.futures.ThreadPoolExecutor(self.most) as pool:
             try:
                 while left or running:
-                    for name in [it for it, deps in left.items() if set(deps) <= done]:
-                        if self.has_room(len(running)):
-                            del left[name]
-                            running[pool.submit(self.one, name)] = name
+                    ready = sorted((it for it, deps in left.items() if done.issuperset(deps)), key=lambda it: -way[it])
+                    for name in ready[: self.most - len(running)]:
+                        del left[name]
+                        running[pool.submit(self.library, lanes, name)] = name
                     for it in concurrent.futures.wait(running, return_when=concurrent.futures.FIRST_COMPLETED).done:
                         it.result()
                         done.add(running.pop(it))
@@ -219,6 +268,33 @@ class Build:
                 pool.shutdown(wait=False, cancel_futures=True)
                 self.stop()
                 raise
+
+    def program(self, lanes):
+        """Proves and links the program in a lane, and puts it in the place of an older one once it is there."""
+        self.progress.at(PROGRAM, "is proved and linked")
+        with lanes.one(PROGRAM) as lane:
+            made, to = (f"{it}/crates/{PROGRAM}/out/{PROGRAM}" for it in (lane, TOP))
+            with contextlib.suppress(FileNotFoundError):
+                os.remove(made)
+            try:
+                # Without words it tells its usage, with a status of its own.
+                self.kit(lane, PROGRAM, "run", "--")
+            except Failed:
+                if not os.access(made, os.X_OK):
+                    raise
+            shutil.copy2(made, f"{to}.new")
+        os.replace(f"{to}.new", to)
+        self.progress.end(PROGRAM)
+
+    def whole(self):
+        there = kit_store.taken(TOP, PROGRAM) & {*self.crates}
+        self.progress.taken(len(there))
+        if PROGRAM in there:
+            return
+        lanes = Lanes("build", self.most)
+        self.libraries(lanes, there)
+        self.program(lanes)
+        lanes.end()
 
     def stop(self):
         with self.lock:
@@ -228,9 +304,9 @@ class Build:
                     os.killpg(child.pid, signal.SIGTERM)
 
 
-def hold():
+def hold(out):
     """The lock that one build at a time holds."""
-    lock = open(f"{TOP}/crates/{PROGRAM}/out/build.lock", "w", encoding="utf-8")
+    lock = open(f"{out}/build.lock", "w", encoding="utf-8")
     try:
         fcntl.flock(lock, fcntl.LOCK_EX | fcntl.LOCK_NB)
     except BlockingIOError:
@@ -239,17 +315,34 @@ def hold():
     return lock
 
 
+def is_of(out, sum):
+    """Whether the program was built of the sources with this sum."""
+    try:
+        with open(f"{out}/built", encoding="utf-8") as it:
+            return it.read() == sum and os.access(f"{out}/{PROGRAM}", os.X_OK)
+    except FileNotFoundError:
+        return False
+
+
 def built():
     """Builds the program, and gives the exit status."""
-    os.makedirs(os.path.dirname(LOG), exist_ok=True)
-    with hold(), open(LOG, "w", encoding="utf-8") as log:
-        build = Build(crates_below(PROGRAM), log)
+    out, crates = f"{TOP}/crates/{PROGRAM}/out", crates_below(PROGRAM)
+    os.makedirs(out, exist_ok=True)
+    with hold(out), open(f"{out}/build.log", "w", encoding="utf-8") as log:
+        build, sum = Build(crates, log), sum_of_sources(crates)
+        if is_of(out, sum):
+            os.utime(f"{out}/{PROGRAM}")
+            build.progress.say("the program is built, and nothing has changed since")
+            return 0
         try:
             build.whole()
         except Failed as why:
-            build.progress.say(f"not built: {why}; the whole log is in {os.path.relpath(LOG)}")
+            build.progress.say(f"not built: {why}; the whole log is in {os.path.relpath(log.name)}")
             return 1
-        build.progress.say(f"proved and built: {build.progress.proved()} functions, {build.progress.seconds()}")
+        with open(f"{out}/built", "w", encoding="utf-8") as it:
+            it.write(sum)
+        os.utime(f"{out}/{PROGRAM}")
+        build.progress.say(f"proved and built: {build.progress.proved()} functions proved now, {build.progress.seconds()}")
     return 0
 
 

@@ -81,17 +81,22 @@ event = kinds(
     row(number, byte),
     row(number, byte, text),
 )
-image = row(rows(binding), rows(kinds(*CELLS)), rows(flow_node))
-delta = row(rows(binding), rows(row(number, kinds(*CELLS, rows(value), rows(entry)))), rows(flow_node))
+flow_nodes = rows(flow_node)
+# What stands in front of the flow nodes.
+image = row(rows(binding), rows(kinds(*CELLS)))
+delta = row(rows(binding), rows(row(number, kinds(*CELLS, rows(value), rows(entry)))))
 WHOLE, CHANGES = 1, 2
 
 
 class Record(NamedTuple):
-    """Of a record the piece of the log that it has, the piece's place in the log, and the status of a build that it ends."""
+    """Of a record the piece of the log that it has, the piece's place in the log, and the status of a build that it ends; and for
+    `store_changes.py` its payload, and where in it the flow nodes stand."""
 
     piece: memoryview
     place: int
     status: Optional[int]
+    payload: bytes
+    nodes_at: int
 
     @staticmethod
     def read(payload, size):
@@ -101,13 +106,15 @@ class Record(NamedTuple):
                 raise NotARecord
             at = event(payload, 1) + 8
             result, has_ended = payload[at], payload[at + 1]
-            at = (image if payload[0] == WHOLE else delta)(payload, at + 2)
+            nodes_at = (image if payload[0] == WHOLE else delta)(payload, at + 2)
+            at = flow_nodes(payload, nodes_at)
             end = text(payload, at)
         except (IndexError, struct.error):
             raise NotARecord from None
         if end > len(payload) or result >= len(STATUSES):
             raise NotARecord
-        return Record(memoryview(payload)[at + 4 : end], 0 if payload[0] == WHOLE else size, STATUSES[result] if has_ended else None)
+        status = STATUSES[result] if has_ended else None
+        return Record(memoryview(payload)[at + 4 : end], 0 if payload[0] == WHOLE else size, status, payload, nodes_at)
 
 
 class Store:

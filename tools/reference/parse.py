@@ -80,7 +80,7 @@ class Parser:
     def script(self):
         self.newline()
         parts = [] if self.is_kind("end") or self.sees(";") else [self.top()]
-        while self.separators() and not self.is_kind("end"):
+        while self.separators() and parts and not self.is_kind("end"):
             parts.append(self.top())
         if not self.is_kind("end"):
             raise self.fault()
@@ -98,7 +98,7 @@ class Parser:
             while not self.took(")"):
                 if parameters:
                     self.want(",")
-                if self.sees("def") or self.is_kind("name", by=1):
+                if self.sees("def") or self.is_kind("name") and self.is_kind("name", by=1):
                     self.at += 1
                 parameters.append(self.declared(self.take("name")))
             self.newline()
@@ -166,11 +166,11 @@ class Parser:
             over = self.expression()
             self.want(")")
             return ("each", name.value, over, self.body(in_loop=True))
-        first = self.simple()
+        first = self.declaration() if has_type or self.sees("def") else self.assignment()
         self.want(";")
         test = self.expression()
         self.want(";")
-        following = self.simple()
+        following = self.assignment()
         self.want(")")
         return ("steps", first, test, following, self.body(in_loop=True))
 
@@ -179,8 +179,9 @@ class Parser:
         body, catches, last = self.block(), [], None
         while self.took("catch"):
             self.want("(")
-            kind = self.ahead().value if self.is_kind("name", by=1) else "Exception"
-            if self.is_kind("name", by=1):
+            has_class = self.is_kind("name") and self.is_kind("name", by=1)
+            kind = self.ahead().value if has_class else "Exception"
+            if has_class:
                 if kind not in ("Exception", "Throwable"):
                     self.at += 1
                     raise self.fault()
@@ -197,12 +198,37 @@ class Parser:
             raise self.fault()
         return ("try", body, catches, last)
 
+    def declaration(self):
+        """A declaration with its value, as the head of a `for` has it."""
+        self.at += 1
+        name = self.declared(self.take("name"))
+        self.want("=")
+        return ("declare", name, self.whole())
+
+    def assignment(self):
+        """An assignment, as the head of a `for` has it."""
+        target = self.target(self.suffixed())
+        if not target:
+            raise self.fault()
+        return self.assigned(target) or self.wrong()
+
+    def wrong(self):
+        raise self.fault()
+
+    def assigned(self, target):
+        """What is done to a target; None where no sign of an assignment stands there."""
+        if self.took("++", "--"):
+            return ("step", target, 1 if self.tokens[self.at - 1].value == "++" else -1)
+        if self.took(*CHANGES):
+            return ("assign", target, self.tokens[self.at - 1].value, self.whole())
+        return None
+
     def simple(self):
-        if self.took("def") or self.is_kind("name") and self.is_kind("name", by=1) and self.sees("=", by=2):
-            if self.is_kind("name", by=1):
-                self.at += 1
+        if self.took("def"):
             name = self.declared(self.take("name"))
             return ("declare", name, self.whole() if self.took("=") else None)
+        if self.is_kind("name") and self.is_kind("name", by=1) and self.sees("=", by=2):
+            return self.declaration()
         if self.took("return"):
             is_bare = self.is_kind("newline", "end") or self.sees(";", "}", "else")
             return ("return", None if is_bare else self.whole())
@@ -217,11 +243,7 @@ class Parser:
             raise self.fault()
         made = self.whole()
         target = self.target(made)
-        if target and self.took("++", "--"):
-            return ("step", target, 1 if self.tokens[self.at - 1].value == "++" else -1)
-        if target and self.took(*CHANGES):
-            return ("assign", target, self.tokens[self.at - 1].value, self.whole())
-        return ("evaluate", made)
+        return target and self.assigned(target) or ("evaluate", made)
 
     @staticmethod
     def target(made):
@@ -253,6 +275,8 @@ class Parser:
         while True:
             if has_names:
                 if not self.is_named():
+                    # A name or a text could be one of a further argument: what stands behind it is the fault.
+                    self.at += self.is_kind("name", "text")
                     raise self.fault()
                 name = self.ahead().value
                 self.at += 2
@@ -325,12 +349,14 @@ class Parser:
         signs = []
         while self.took("!", "-", "+"):
             signs.append(self.tokens[self.at - 1].value)
-        made = self.primary()
-        suffixes = []
+        made = self.suffixed()
+        return ("signed", signs, made) if signs else made
+
+    def suffixed(self):
+        made, suffixes = self.primary(), []
         while self.sees(".", "?.", "["):
             suffixes.append(self.suffix())
-        made = ("suffixed", made, suffixes) if suffixes else made
-        return ("signed", signs, made) if signs else made
+        return ("suffixed", made, suffixes) if suffixes else made
 
     def suffix(self):
         if self.took("["):
@@ -463,7 +489,7 @@ class Parser:
 def parsed(source):
     """The tree of a script; else its first fault is raised."""
     tokens, lexical = tokens_of(source)
-    parser = Parser(tokens if lexical is None else tokens + [Token("end", None, lexical.at)])
+    parser = Parser(tokens if lexical is None else [it for it in tokens if it.at < lexical.at] + [Token("end", None, lexical.at)])
     try:
         tree = parser.script()
     except Fault as fault:

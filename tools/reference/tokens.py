@@ -172,7 +172,7 @@ class Lexer:
             if self.at == len(self.source) or self.source[self.at] == "\n" and len(quotes) == 1:
                 raise Fault("unended text", opening)
             if self.next_is("$") and quotes[0] == '"':
-                if re.compile(r"\$[A-Za-z{]").match(self.source, self.at):
+                if re.compile(r"\$[A-Za-z_{]").match(self.source, self.at):
                     break
                 cut = self.at + 1 == len(self.source)
                 raise Fault("unended text" if cut else "bad escape", opening if cut else self.at)
@@ -229,7 +229,7 @@ class Lexer:
             name = NAME.match(self.source, self.at)
             self.add("word" if name[0] in WORDS else "name", name[0], self.at)
             self.at = name.end()
-            if not re.compile(r"\.[A-Za-z]").match(self.source, self.at):
+            if not re.compile(r"\.[A-Za-z_]").match(self.source, self.at):
                 break
             self.add("sign", ".", self.at)
             self.at += 1

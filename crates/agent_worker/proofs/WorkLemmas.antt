@@ -16,7 +16,7 @@ use Rattle.agent_worker.specs.declared.worked.Worked.{Worked}
 use Rattle.agent_worker.specs.Gate.{Told, Claimed, Becomes, Stays, Adds, AddsClaim, claimed_in, claim_said}
 use Rattle.agent_worker.specs.Acts.{with_calls, with_told, with_reports, said_after}
 use Rattle.agent_worker.specs.Serve.{Seen, Tasks, tasks_at, ServesOrder}
-use Rattle.agent_worker.specs.Working.{Deed, Claims, Serves, Pauses, Halts, Telling, OnHost, WorkLaunches, WorksOnHost, WorksSoFar, WorkEnds, Works, MayWork, MayClaim, work_calls, work_told, work_reports, work_claims}
+use Rattle.agent_worker.specs.Working.{Deed, GivesNone, Claims, Serves, Pauses, Halts, Telling, OnHost, WorkLaunches, WorksOnHost, WorksSoFar, WorkEnds, Works, MayWork, MayClaim, work_calls, work_told, work_reports, work_claims}
 use Rattle.agent_worker.proofs.TellLemmas.{becomes, records}
 use Rattle.agent_worker.proofs.DeliverLemmas.{all-delivered}
 
@@ -90,17 +90,17 @@ pub same-host : (old_launches launches old_dirs dirs : List ℕ) (old_exited exi
 same-host old_launches launches old_dirs dirs old_exited exited old_output output a b stays =
     λ i. record { tasks = tasks_at (a i) (b i); output = λ task stream. stays.output task stream i; exited = λ task. stays.exited task i }
 
--- A pause, where others were at work.
-pub work-pauses : (number looks : ℕ) (honest : Type 0) (old now : Telling) (before : List Deed) (busy : ℕ) (calls : Option (List Call)) (host : OnHost)
-    → WorksSoFar number looks honest old now (Claims (claim.Idle busy) ∷ before) → Records now.calls calls call.Pause → host.tasks.launches ≡ now.host.tasks.launches → (honest → host ≡ now.host)
-    → WorksSoFar number looks honest old (record now { calls = calls; host = host }) (Pauses ∷ Claims (claim.Idle busy) ∷ before)
-work-pauses number looks honest old now before busy calls host so kept launches same = record {
+-- A pause, where a claim gave no task.
+pub work-pauses : (number looks : ℕ) (honest : Type 0) (old now : Telling) (before : List Deed) (given : Claim) (calls : Option (List Call)) (host : OnHost)
+    → GivesNone given → WorksSoFar number looks honest old now (Claims given ∷ before) → Records now.calls calls call.Pause → host.tasks.launches ≡ now.host.tasks.launches → (honest → host ≡ now.host)
+    → WorksSoFar number looks honest old (record now { calls = calls; host = host }) (Pauses ∷ Claims given ∷ before)
+work-pauses number looks honest old now before given calls host none so kept launches same = record {
   calls = becomes (work_calls before) (λ list. list ++ call.Pause ∷ []) old.calls now.calls calls so.calls (records now.calls calls call.Pause kept);
   told = so.told;
   reports = so.reports;
   said = so.said;
   claimed = so.claimed;
-  lawful = ((busy, before, refl), so.lawful);
+  lawful = ((given, before, none, refl), so.lawful);
   own = so.own;
   launched = work-launched before old.host.tasks.launches now.host.tasks.launches host.tasks.launches launches so.launched;
   on_host = λ is. subst (λ (x : OnHost). WorksOnHost before old.host x) (sym (same is)) (so.on_host is);

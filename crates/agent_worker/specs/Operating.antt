@@ -95,11 +95,11 @@ FoundInput past = (inputs : Inputs) × (before : List Ask) × (past ≡ Asked in
 abbrev pub ReadLine : List Ask → Type 0
 ReadLine past = (bytes : List ℕ) × (end : LineEnd) × (before : List Ask) × (past ≡ Reads bytes end ∷ before) × ((end ≡ line_end.Line) ⊎ (end ≡ line_end.End))
 
--- What is open may be asked: at first; again where others were at work and no input was open; and after a line with its
--- newline, which was heard or passed over.
+-- What is open may be asked: at first; again where no input was open; and after a line with its newline, which was heard or
+-- passed over.
 pub data MayAsk : List Ask → Type 0 where
   First : MayAsk []
-  Busy : (inputs : Inputs) (before : List Ask) → inputs.waiting ≡ 0 → 0 < inputs.busy → MayAsk (Asked inputs ∷ before)
+  Waited : (inputs : Inputs) (before : List Ask) → inputs.waiting ≡ 0 → MayAsk (Asked inputs ∷ before)
   PassedOver : (bytes : List ℕ) (before : List Ask) → MayAsk (Reads bytes line_end.Line ∷ before)
   Heeded : (line : List ℕ) (heard : Heard) (bytes : List ℕ) (before : List Ask) → MayAsk (Given line (Ok heard) ∷ Reads bytes line_end.Line ∷ before)
 

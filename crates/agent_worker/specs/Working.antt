@@ -82,12 +82,18 @@ pub data MayClaim : List Deed → Type 0 where
   Done : (order : Order) (acts : List Act) (past : List Deed) → MayClaim (Serves order acts served.Done ∷ past)
   Finished : (order : Order) (acts : List Act) (past : List Deed) → MayClaim (Serves order acts served.Finished ∷ past)
 
+-- a claim that gave no task, whether others are at work or nobody is
+abbrev pub GivesNone : Claim → Type 0
+GivesNone (claim.Idle busy) = Unit {0}
+GivesNone claim.Rest = Unit {0}
+GivesNone given = ⊥
+
 -- What may be done after this: an order is served only directly after the claim that gave it; a pause comes only where a
--- claim found others at work; a halt only where memory was wanting.
+-- claim gave no task; a halt only where memory was wanting.
 abbrev pub MayWork : ℕ → List Deed → Deed → Type 0
 MayWork looks past (Claims claim) = MayClaim past
 MayWork looks past (Serves order acts answer) = ((before : List Deed) × (past ≡ Claims (claim.Order order) ∷ before)) × IsServe order looks acts × EndsFor order acts answer
-MayWork looks past Pauses = (busy : ℕ) × (before : List Deed) × (past ≡ Claims (claim.Idle busy) ∷ before)
+MayWork looks past Pauses = (given : Claim) × (before : List Deed) × GivesNone given × (past ≡ Claims given ∷ before)
 MayWork looks past Halts = (before : List Deed) × ((past ≡ Claims claim.Memory ∷ before) ⊎ ((order : Order) × (acts : List Act) × (past ≡ Serves order acts served.Memory ∷ before)))
 
 -- All of it may be done.

@@ -26,6 +26,10 @@ const LONGEST: usize = 1024;
 /// How many milliseconds the operator sleeps where no input is open and others are at work.
 const PAUSE: u64 = 20;
 
+/// How often the operator, where it has found others at work, sleeps and asks once more before it rests: whoever is at work has
+/// no claim open for a moment between two tasks.
+const LAST_ASKS: u32 = 7;
+
 /// Where reading a line stopped.
 #[derive(Clone, Copy, Debug, PartialEq, Eq)]
 pub enum LineEnd {
@@ -147,7 +151,7 @@ fn give<G: Gate>(alloc: Global, gate: &mut G, line: &mut Bytes) -> Result<(), Wo
 }
 
 /// The operator's work: while an input is open, it reads answer lines and gives them to the gate. Where none is open and
-/// others are at work it sleeps.
+/// others are at work it sleeps; so it does some times behind that ([`LAST_ASKS`]).
 pub(crate) fn work_operator<R: Wait + Clock + AllocGlobal, G: Gate, A: Source>(
     rt: &R,
     gate: &mut G,
@@ -165,11 +169,17 @@ pub(crate) fn work_operator<R: Wait + Clock + AllocGlobal, G: Gate, A: Source>(
     if *ended {
         return Worked::Rest;
     }
+    let mut left: u32 = 0;
     for _ in rt.forever() {
         let inputs = gate.inputs();
         if inputs.waiting == 0 {
             if inputs.busy == 0 {
-                return Worked::Rest;
+                if left == 0 {
+                    return Worked::Rest;
+                }
+                left -= 1;
+            } else {
+                left = LAST_ASKS;
             }
             thread::sleep(rt, Duration::from_millis(PAUSE));
         } else {

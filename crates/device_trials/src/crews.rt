@@ -1,7 +1,6 @@
-use agent_worker::Member;
+use agent_worker::{Crew, Member};
 use model_run::Executor;
 use model_text::{Text, Texts};
-use agent_worker::Crew;
 use std::alloc::{AllocError, Global};
 use std::test::Fail;
 

@@ -224,8 +224,8 @@ fn an_executor_serves_pauses_while_others_work_and_rests(rt: HostRuntime) -> Res
     let Member::Executor { number: _, host } = &member else {
         return Err(Fail::from("no executor"));
     };
-    // `make_dir`, `start`, a look, two reads of each stream, `remove`, and a pause where others are at work
-    assert_eq!(rt; host.calls().map(|calls| calls.len()), Some(9));
+    // `make_dir`, `start`, a look, two reads of each stream, `remove`, a pause where others are at work, and seven where nobody is
+    assert_eq!(rt; host.calls().map(|calls| calls.len()), Some(16));
     Ok(())
 }
 
@@ -312,11 +312,11 @@ fn the_operator_gives_whole_lines_and_passes_over_long_ones(rt: HostRuntime) -> 
 fn the_operator_reads_nothing_while_no_input_is_open(rt: HostRuntime) -> Result<(), Fail> {
     let alloc = rt.alloc();
     let mut gate = gate(alloc, 0);
-    for busy in [0, 1] {
+    for busy in [0, 0, 0, 0, 0, 0, 0, 0, 1] {
         gate.open.push(Inputs { waiting: 0, busy })?;
     }
     let mut member = operator(alloc, Vec::from_slice(alloc, b"abort 2 by bob\n")?, &[1])?;
-    // it sleeps while another is at work, and rests where nobody is
+    // it sleeps while another is at work and seven times behind that, and rests where nobody is
     assert_eq!(rt; work(&rt, &mut gate, &mut member, 5), Worked::Rest);
     assert!(rt; gate.open.is_empty());
     assert_eq!(rt; work(&rt, &mut gate, &mut member, 5), Worked::AnswersFailed);

@@ -74,8 +74,8 @@ returns-in-Memory-serve-clause-works g c =
     (before, inr (c.in-Order.order, c.serve.ensures.serves.serve.past, refl)) c.halt.ensures.told c.halt.ensures.calls c.halt.ensures.said c.halt.ensures.claimed)
     (past, refl)
 
-pub loop-preserved : goal.loop-preserved
-loop-preserved g c =
+pub loop-preserved-in-Idle : goal.loop-preserved-in-Idle
+loop-preserved-in-Idle g c =
     let so = c.loop.invariant.so_far in
     let claimed = work-claims c.args.number c.args.looks (g.H.Host.honest c.args.host.now) (telling g.H.Host g.G.Gate.tells c.args.host.now c.args.gate.now) (telling g.H.Host g.G.Gate.tells c.loop.host c.loop.gate) so.0 (claim.Idle c.in-Idle.busy) (g.G.Gate.tells c.claim.new.self).told (g.G.Gate.tells c.claim.new.self).calls (g.G.Gate.tells c.claim.new.self).said (g.G.Gate.tells c.claim.new.self).claimed
     so.1 so.2 c.in-Idle.ensures.told c.in-Idle.ensures.calls c.in-Idle.ensures.said c.in-Idle.ensures.claimed in
@@ -84,8 +84,8 @@ loop-preserved g c =
       finite = tt;
       so_far = (
         Pauses ∷ Claims (claim.Idle c.in-Idle.busy) ∷ so.0,
-        work-pauses c.args.number c.args.looks (g.H.Host.honest c.args.host.now) (telling g.H.Host g.G.Gate.tells c.args.host.now c.args.gate.now) (telling g.H.Host g.G.Gate.tells c.loop.host c.claim.new.self) so.0 c.in-Idle.busy (g.H.Host.calls c.pause.new.self) (on_host g.H.Host c.pause.new.self)
-            claimed c.pause.ensures.calls c.pause.ensures.launches (λ is. same-host _ _ _ _ _ _ _ _ c.pause.ensures.launches (c.pause.ensures.folders (c.loop.invariant.honest.1 is)) (c.pause.ensures.output (c.loop.invariant.honest.1 is))),
+        work-pauses c.args.number c.args.looks (g.H.Host.honest c.args.host.now) (telling g.H.Host g.G.Gate.tells c.args.host.now c.args.gate.now) (telling g.H.Host g.G.Gate.tells c.loop.host c.claim.new.self) so.0 (claim.Idle c.in-Idle.busy) (g.H.Host.calls c.pause.new.self) (on_host g.H.Host c.pause.new.self)
+            tt claimed c.pause.ensures.calls c.pause.ensures.launches (λ is. same-host _ _ _ _ _ _ _ _ c.pause.ensures.launches (c.pause.ensures.folders (c.loop.invariant.honest.1 is)) (c.pause.ensures.output (c.loop.invariant.honest.1 is))),
         Paused (Claims (claim.Idle c.in-Idle.busy) ∷ so.0),
       );
       lines = stays-on _ _ _ c.loop.invariant.lines c.in-Idle.ensures.lines;
@@ -94,8 +94,28 @@ loop-preserved g c =
       honest = (λ is. c.loop.invariant.honest.0 (c.pause.ensures.honest.0 is), λ is. c.pause.ensures.honest.1 (c.loop.invariant.honest.1 is));
     }
 
-pub returns-in-Rest-clause-works : goal.returns-in-Rest-clause-works
-returns-in-Rest-clause-works g c =
+pub loop-preserved : goal.loop-preserved
+loop-preserved g c =
+    let so = c.loop.invariant.so_far in
+    let claimed = work-claims c.args.number c.args.looks (g.H.Host.honest c.args.host.now) (telling g.H.Host g.G.Gate.tells c.args.host.now c.args.gate.now) (telling g.H.Host g.G.Gate.tells c.loop.host c.loop.gate) so.0 claim.Rest (g.G.Gate.tells c.claim.new.self).told (g.G.Gate.tells c.claim.new.self).calls (g.G.Gate.tells c.claim.new.self).said (g.G.Gate.tells c.claim.new.self).claimed
+    so.1 so.2 c.in-Rest.ensures.told c.in-Rest.ensures.calls c.in-Rest.ensures.said c.in-Rest.ensures.claimed in
+    record {
+      next = tt;
+      finite = tt;
+      so_far = (
+        Pauses ∷ Claims claim.Rest ∷ so.0,
+        work-pauses c.args.number c.args.looks (g.H.Host.honest c.args.host.now) (telling g.H.Host g.G.Gate.tells c.args.host.now c.args.gate.now) (telling g.H.Host g.G.Gate.tells c.loop.host c.claim.new.self) so.0 claim.Rest (g.H.Host.calls c.pause-in-Rest.new.self) (on_host g.H.Host c.pause-in-Rest.new.self)
+            tt claimed c.pause-in-Rest.ensures.calls c.pause-in-Rest.ensures.launches (λ is. same-host _ _ _ _ _ _ _ _ c.pause-in-Rest.ensures.launches (c.pause-in-Rest.ensures.folders (c.loop.invariant.honest.1 is)) (c.pause-in-Rest.ensures.output (c.loop.invariant.honest.1 is))),
+        Paused (Claims claim.Rest ∷ so.0),
+      );
+      lines = stays-on _ _ _ c.loop.invariant.lines c.in-Rest.ensures.lines;
+      is_open = c.in-Rest.ensures.is_open ∙ c.loop.invariant.is_open;
+      faults = omega (arith, c.loop.invariant.faults, c.pause-in-Rest.ensures.calm);
+      honest = (λ is. c.loop.invariant.honest.0 (c.pause-in-Rest.ensures.honest.0 is), λ is. c.pause-in-Rest.ensures.honest.1 (c.loop.invariant.honest.1 is));
+    }
+
+pub returns-then-alone-ge-LAST_CLAIMS-clause-works : goal.returns-then-alone-ge-LAST_CLAIMS-clause-works
+returns-then-alone-ge-LAST_CLAIMS-clause-works g c =
     let so = c.loop.invariant.so_far in
     let claimed = work-claims c.args.number c.args.looks (g.H.Host.honest c.args.host.now) (telling g.H.Host g.G.Gate.tells c.args.host.now c.args.gate.now) (telling g.H.Host g.G.Gate.tells c.loop.host c.loop.gate) so.0 claim.Rest (g.G.Gate.tells c.claim.new.self).told (g.G.Gate.tells c.claim.new.self).calls (g.G.Gate.tells c.claim.new.self).said (g.G.Gate.tells c.claim.new.self).claimed
     so.1 so.2 c.in-Rest.ensures.told c.in-Rest.ensures.calls c.in-Rest.ensures.said c.in-Rest.ensures.claimed in

@@ -4,7 +4,7 @@ use Rattle.std.specs.Io.KnownBytes.{Consumes}
 use Rattle.agent_worker.specs.declared.operator.LineEnd.TheVariants as line_end
 use Rattle.agent_worker.specs.declared.worked.Worked.TheVariants as worked
 use Rattle.agent_worker.specs.AnswerBytes.{begun_after, kept_line, read_bytes}
-use Rattle.agent_worker.specs.Operating.{Asked, Reads, Halted, First, Busy, FoundInput, NoMore, given_in, read_in, has_ended}
+use Rattle.agent_worker.specs.Operating.{Asked, Reads, Halted, First, Waited, FoundInput, NoMore, given_in, read_in, has_ended}
 use Rattle.agent_worker.proofs.AnswerLemmas.{LinesSoFar, lines-asked, one-line-more, gives-so-far, gives-begun, gives-all, none-begun, last-kept}
 use Rattle.agent_worker.proofs.OperatorLemmas.{operates-none, operates-asked, operates-read, operates-halted, may-ask-behind, read-to-end-behind, ended-before, ended-now}
 use Rattle.agent_worker.proofs.operator.work_operator.Goals as goal
@@ -31,8 +31,8 @@ loop-init g c = record {
   so_far = ([], operates-none (g.G.Gate.tells c.args.gate.now), First, Consumes-nil (g.A.Source.left c.args.answers.now), refl, λ begun is. record { kept = is; given = refl });
 }
 
-pub returns-then-inputs-eq0-2-clause-operates : goal.returns-then-inputs-eq0-2-clause-operates
-returns-then-inputs-eq0-2-clause-operates g c =
+pub returns-then-left-eq0-clause-operates : goal.returns-then-left-eq0-clause-operates
+returns-then-left-eq0-clause-operates g c =
     let so = c.loop.invariant.so_far in
     let inputs = c.inputs-inputs.result in
     let asked = operates-asked (g.G.Gate.tells c.args.gate.now) (g.G.Gate.tells c.loop.gate) (g.G.Gate.tells c.inputs-inputs.new.self) so.0 inputs so.1 so.2
@@ -60,7 +60,7 @@ loop-preserved-then-inputs-eq0 g c =
       ended = c.loop.invariant.ended;
       failed = c.loop.invariant.failed;
       faults = c.loop.invariant.faults;
-      so_far = (Asked inputs ∷ so.0, asked, Busy inputs so.0 c.if-inputs-eq0.true (omega (arith, c.if-inputs-eq0-2.false)), so.3, so.4, λ begun is. lines-asked begun _ so.0 (Asked inputs ∷ so.0) (so.5 begun is) refl refl);
+      so_far = (Asked inputs ∷ so.0, asked, Waited inputs so.0 c.if-inputs-eq0.true, so.3, so.4, λ begun is. lines-asked begun _ so.0 (Asked inputs ∷ so.0) (so.5 begun is) refl refl);
     }
 
 pub returns-in-Err-clause-operates : goal.returns-in-Err-clause-operates

@@ -1,0 +1,92 @@
+"""Findings: what was found, where, and what to write in its place; and how they are printed."""
+import json
+from dataclasses import dataclass
+from typing import Optional
+
+from .differences import instead_of
+
+# How a finding ends a build: `check` refuses the script; an exception or an error is thrown; the build waits for ever; or it does
+# not end it, and the finding is a warning.
+REFUSED, EXCEPTION, ERROR, WAITS, WARNING = "refused", "exception", "error", "waits", "warning"
+# The numbers of the language servers' DiagnosticSeverity.
+SEVERITY_ERROR, SEVERITY_WARNING = 1, 2
+
+
+@dataclass
+class Finding:
+    """`begin` and `end` are characters of the source; `key` names a row of differences.py where one tells what to write."""
+
+    begin: int
+    end: int
+    stage: str
+    key: str
+    what: str
+    instead: Optional[str] = None
+
+    def __post_init__(self):
+        if self.instead is None:
+            self.instead = instead_of(self.key)
+
+    def stops(self):
+        """Whether it would stop the build."""
+        return self.stage != WARNING
+
+    def sentence(self):
+        return f"{self.what}; in its place: {self.instead}" if self.instead else self.what
+
+
+class File:
+    """A source with its name, for places and marks."""
+
+    def __init__(self, name, source):
+        self.name, self.source = name, source
+
+    def place(self, at):
+        """The line and the column of a character, counted from 1; a byte order mark is no character of the first line."""
+        front = self.source[:at]
+        line = front.count("\n") + 1
+        mark = line == 1 and self.source.startswith("\ufeff")
+        return line, at - (front.rfind("\n") + 1) + 1 - mark
+
+    def line_of(self, at):
+        """The line in which a character stands, and the number of characters before it there."""
+        begin = self.source.rfind("\n", 0, at) + 1
+        end = self.source.find("\n", at)
+        line = self.source[begin : len(self.source) if end < 0 else end].rstrip("\r")
+        return (line[1:], at - begin - 1) if line.startswith("\ufeff") else (line, at - begin)
+
+    def marked(self, finding):
+        """The line of a finding, and below it a mark under what was found."""
+        line, before = self.line_of(finding.begin)
+        width = max(1, min(finding.end - finding.begin, len(line) - before))
+        return line.replace("\t", " ") + "\n" + " " * before + "^" + "~" * (width - 1)
+
+    def told(self, finding):
+        """The lines for a reader: place, severity, what it is, what to write, and the line with its mark."""
+        line, column = self.place(finding.begin)
+        severity = "error" if finding.stops() else "warning"
+        head = f"{self.name}:{line}:{column}: {severity}: {finding.what} [{finding.key}]"
+        rows = [head] + [f"    {row}" for row in self.marked(finding).split("\n")]
+        return "\n".join(rows + ([f"    in its place: {finding.instead}"] if finding.instead else []))
+
+    # --- for editors
+
+    def position(self, at):
+        """A Position of the Language Server Protocol: line and character from 0, in units of UTF-16."""
+        begin = self.source.rfind("\n", 0, at) + 1
+        return {"line": self.source.count("\n", 0, at), "character": len(self.source[begin:at].encode("utf-16-le")) // 2}
+
+    def diagnostic(self, finding):
+        """A Diagnostic of the Language Server Protocol."""
+        return {
+            "range": {"start": self.position(finding.begin), "end": self.position(max(finding.end, finding.begin))},
+            "severity": SEVERITY_ERROR if finding.stops() else SEVERITY_WARNING,
+            "code": finding.key,
+            "source": "controller lint",
+            "message": finding.sentence(),
+        }
+
+
+def as_json(files):
+    """For each file its findings: the parameters of the protocol's `textDocument/publishDiagnostics`, as one list."""
+    return json.dumps([{"uri": uri, "diagnostics": [file.diagnostic(it) for it in found]} for uri, file, found in files], indent=2)

@@ -1,0 +1,338 @@
+"""Tests of tools/lint and of the reader below it; tools/test.py runs them with its own."""
+import json
+import os
+import random
+import re
+import subprocess
+import sys
+import tempfile
+import unittest
+
+from examples import Example, codes, examples, of_faults, read, reference, rows
+from groovy_reader import Call, Closure, Declaration, read as read_groovy
+from lint_rules.agents_file import BadFile, executors_of
+from lint_rules.differences import ROWS
+from lint_rules.exact import first_fault
+from lint_rules.findings import REFUSED, File
+from lint_rules.linting import findings_of
+
+# The reference's scripts, from its folder, which lint_rules puts behind all others.
+from random_scripts import Scripts
+from script import script as written
+
+TOOLS = os.path.dirname(os.path.realpath(__file__))
+TOP = os.path.dirname(TOOLS)
+ENDED_WELL = {0, 10, 11, 12}
+# What the random cuts put into a script.
+CUTS = ["", "", "(", ")", "{", "}", "[", "]", '"', "'", "/", "$", "\n", ";", ",", ".", " in ", " as ", "def ", "final ", "~", "**", "<<",
+        "@A ", "==~", "..", "->", ":", "import a\n", "1.5", '"""', "else", "switch", "\\"]
+ONE_EXECUTOR = b'{"job": "a", "agents": [{"name": "m", "root": "/w", "labels": ["linux"], "executors": 1}]}'
+TWO_AGENTS = b"""{"job": "a", "agents": [{"name": "m", "root": "/w", "labels": ["linux"], "executors": 1},
+ {"name": "n", "root": "/v", "labels": ["mac"], "executors": 2}]}"""
+
+
+def lines_of(cell):
+    return cell.replace(" ↵ ", "\n")
+
+
+def stopping(source, agents=None):
+    return [it for it in findings_of(source, agents and executors_of(agents)) if it.stops()]
+
+
+def keys(source, agents=None):
+    return [it.key for it in findings_of(source, agents and executors_of(agents))]
+
+
+def trials():
+    """The sources of crates/script_trials, each with its name and what the program must print."""
+    parts = []
+    for file in ("stdin", "stdout"):
+        with open(f"{TOP}/crates/script_trials/{file}", encoding="utf-8", newline="") as text:
+            parts.append([it.split("\n", 1) for it in text.read().split("=== ")[1:]])
+    for (name, trial), (_, printed) in zip(*parts):
+        yield name, "\n".join(line for line in trial.split("\n") if not line.startswith("> ")), printed
+
+
+class LintDifferences(unittest.TestCase):
+    def test_each_row_of_the_page_is_in_the_data(self):
+        data, before = [(lines_of(it.jenkins), it.told, it.instead) for it in ROWS], None
+        for first, told, instead in rows(read("docs/USING.md").decode(), "in Jenkins"):
+            before = before if instead == "the same" else instead
+            with self.subTest(first):
+                self.assertIn((codes(first)[0], codes(told)[0], before), data)
+
+    def test_each_row_is_told_by_its_key_and_nothing_of_what_stands_in_its_place(self):
+        for row in ROWS:
+            with self.subTest(row.key):
+                self.assertIn(row.key, [it.key for it in stopping(lines_of(row.jenkins))])
+                for script in codes(row.instead):
+                    self.assertEqual([], stopping(lines_of(script)), script)
+
+    def test_rows_that_are_on_no_page_are_told_so_and_run_in_their_place(self):
+        page = [codes(first)[0] for first, *_ in rows(read("docs/USING.md").decode(), "in Jenkins")]
+        for row in ROWS:
+            with self.subTest(row.key):
+                if lines_of(row.jenkins) in page:
+                    continue
+                self.assertIn(row.told, self.ran(row.jenkins)[0])
+                for script in codes(row.instead):
+                    self.assertRegex(self.ran(script)[0], r"(?m)^Finished: |^\+ |\[Pipeline\] sh$", script)
+
+    @staticmethod
+    def ran(script):
+        agents = b'{"job": "using", "agents": [{"name": "m", "root": "/tmp/controller/m", "executors": 1}]}'
+        script = f"withEnv(['PATH=/tmp/controller/bin:/usr/bin:/bin']) {{ {script} }}" if "sh " in script or "sh(" in script else script
+        return reference(Example("", lines_of(script).encode(), "", [0], agents))
+
+
+class LintRepository(unittest.TestCase):
+    def test_examples_that_run_have_no_finding_that_stops_and_those_refused_have_one(self):
+        for example in examples():
+            if example.statuses == [13] or len(example.script) > 100_000:
+                continue
+            source = example.script.decode(errors="replace")
+            found = [it for it in findings_of(source, executors_of(example.agents)) if it.stops()]
+            with self.subTest(example.name):
+                if set(example.statuses) <= ENDED_WELL:
+                    self.assertEqual([], found)
+                elif example.statuses == [4] and b"\xff" not in example.script:
+                    self.assertIn(REFUSED, [it.stage for it in found])
+
+    def test_trials_that_end_well_have_no_finding_that_stops(self):
+        ended = 0
+        for name, source, printed in trials():
+            results = re.findall(r"^Finished: (.*)$", printed, re.M)
+            found = findings_of(source)
+            with self.subTest(name):
+                if results:
+                    self.assertNotIn(REFUSED, [it.stage for it in found])
+                if results and results[-1] != "FAILURE":
+                    ended += 1
+                    self.assertEqual([], [it for it in found if it.stops()])
+        self.assertGreater(ended, 150)
+
+    def test_a_cut_script_is_refused_exactly_where_a_finding_says_so(self):
+        chance = random.Random(51)
+        for _ in range(80):
+            source = written(Scripts(chance).script())[:6000]
+            for _ in range(chance.randint(0, 3)):
+                begin = chance.randrange(len(source) + 1)
+                source = source[:begin] + chance.choice(CUTS) + source[begin + chance.choice([0, 0, 1, 2, 6, 30]) :]
+            with self.subTest(source):
+                refused = [it for it in findings_of(source) if it.stage == REFUSED]
+                self.assertEqual(first_fault(source) is not None, bool(refused))
+
+
+class LintTellsAll(unittest.TestCase):
+    def test_it_goes_on_behind_each_construct(self):
+        source = """import a.B
+@NonCPS def f(x = 1) { x as int }
+switch (1) { case 1: echo 'x' }
+do { echo 'x' } while (false)
+def (a, b) = [1, 2]
+if (a in [1]) { echo 'a' =~ /b/ }
+try { echo 'x' } catch (IOException e) { }
+def l = []; l << 1.5
+node { sh 'x'; undo() }
+"""
+        self.assertEqual(
+            ["import", "annotation", "parameter-default", "cast", "switch", "do", "several-names", "in", "regular-expression",
+             "catch-class", "left-shift", "number", "step-unknown"], keys(source))
+
+    def test_a_second_fault_that_no_rule_knows_is_told_too(self):
+        found = findings_of("if (a b) { echo 'x' }\nnode { sh 'x' 'y'\n echo 'z' }\necho('a',)\n")
+        self.assertEqual([1, 2, 4], [File("", "if (a b) { echo 'x' }\nnode { sh 'x' 'y'\n echo 'z' }\necho('a',)\n").place(it.begin)[0]
+                                     for it in found if it.stage == REFUSED])
+
+    def test_what_is_open_at_the_end_is_told(self):
+        [finding] = findings_of("node {\n    sh(script: 'a'\n    echo 'x'\n}\n")
+        self.assertEqual("this is not expected here; the `(` at 2:7 is open", finding.what)
+        [finding] = findings_of("node {\n    stage('a') {\n        echo 'x'\n    }\n")
+        self.assertEqual("the script ends here; the `{` at 1:6 is open", finding.what)
+
+    def test_unknown_names_of_each_sort(self):
+        self.assertEqual(["another-scope"], keys("def v = 1\ndef f() { v }\nf()"))
+        self.assertEqual(["another-scope"], keys("if (1) { def v = 1 }\necho \"${v}\""))
+        self.assertEqual(["another-scope"], keys("echo v\ndef v = 1"))
+        self.assertEqual(["name"], keys("echo nothing"))
+        self.assertEqual(["class-name"], keys("println(java.io.File.separator)"))
+        self.assertEqual([], keys("v = 1\ndef f() { v }\nf()"))
+
+    def test_arguments_of_steps(self):
+        for source, key in (
+            ("echo()", "echo.arguments"), ("echo('a', 'b')", "echo.arguments"), ("stage('a')", "stage.arguments"),
+            ("retry(0) { }", "retry.arguments"), ("catchError(buildResult: 'BAD') { }", "catchError.arguments"),
+            ("withEnv(['A']) { }", "withEnv.overrides"), ("input message: 'a', id: 'b c'", "input.arguments"),
+            ("node('a &&') { }", "node.arguments"), ("node { sh(script: 'a', returnStdout: 1) }", "sh.arguments"),
+            ("echo(message: 'a', label: 'b')", "echo.label"), ("sh 'a'", "outside-a-node"), ("parallel([a: 1])", "parallel.arguments"),
+        ):
+            with self.subTest(source):
+                self.assertEqual([key], keys(source))
+                self.assertEqual(["error"], [File("", source).told(it).split(": ")[1] for it in findings_of(source)])
+
+    def test_a_step_in_a_function_that_is_called_outside_of_a_node(self):
+        self.assertEqual(["outside-a-node"], keys("def build() { sh 'make' }\nstage('a') { build() }"))
+        self.assertEqual([], keys("def build() { sh 'make' }\nnode { stage('a') { build() } }"))
+
+    def test_methods_and_operators_of_plain_kinds(self):
+        for source, key in (
+            ("'a'.nothing()", "method"), ("def x = [1]\nx.trim()", "method"), ("'a'.trim(1)", "arguments"),
+            ("'a'.contains(1)", "arguments"), ("[1].each(2)", "arguments"), ("[1].each { a, b -> }", "arguments"),
+            ("'a' < 1", "operator"), ("'a'.b", "property"),
+            ("try { } catch (e) { e.cause }", "property"), ("def f(a, b) { }\nf(1)", "arguments"), ("def c = { -> }\nc(1)", "arguments"),
+        ):
+            with self.subTest(source):
+                self.assertEqual([key], [it.key for it in stopping(source)])
+
+    def test_what_a_catch_takes_is_a_warning(self):
+        self.assertEqual([], stopping("try { 'a'.nothing() } catch (e) { echo 'x' }"))
+        self.assertEqual(["method"], keys("try { 'a'.nothing() } catch (e) { echo 'x' }"))
+        self.assertEqual(["undo"], [written_at for written_at in stopped_words("try { undo() } catch (e) { echo 'x' }")])
+        self.assertEqual([], stopping("try { undo() } catch (Throwable e) { echo 'x' }"))
+        self.assertEqual(["undo"], stopped_words("try { undo() } catch (Throwable e) { throw e }"))
+        self.assertEqual([], stopping("catchError { undo() }"))
+        self.assertEqual([], stopping("def never() { undo() }"))
+
+    def test_a_name_that_is_nearly_one_is_proposed(self):
+        self.assertEqual(["`println`"], [it.instead for it in findings_of("printn('a')")])
+        self.assertEqual(["`readLines`"], [it.instead for it in findings_of("'a'.readLine()")])
+
+    def test_line_ends_of_windows_in_a_text_of_several_lines(self):
+        self.assertEqual(["carriage-return"], keys("node {\r\n  sh '''a\r\nb\r\nc'''\r\n}\r\n"))
+        self.assertEqual([], keys("node {\r\n  sh 'a'\r\n}\r\n"))
+
+
+def stopped_words(source):
+    return [source[it.begin : it.end] for it in stopping(source)]
+
+
+class LintAgents(unittest.TestCase):
+    def test_labels_that_no_agent_fits_and_agents_that_no_label_names(self):
+        self.assertEqual(["label-without-an-agent"], [it.key for it in stopping("node('mac') { }", ONE_EXECUTOR)])
+        self.assertEqual([], keys("node('linux && !mac') { }", ONE_EXECUTOR))
+        self.assertEqual(["agent-without-a-label"], keys("node('mac') { }", TWO_AGENTS))
+        self.assertEqual([], keys("node { }", TWO_AGENTS))
+        self.assertEqual([], keys("def l = 'mac'\nnode(l) { }", ONE_EXECUTOR))
+
+    def test_a_node_inside_a_node(self):
+        self.assertEqual(["node-in-a-node"], [it.key for it in stopping("node { node { } }", ONE_EXECUTOR)])
+        self.assertEqual(["node-in-a-node"], [it.key for it in stopping("def f() { node { } }\nnode { f() }", ONE_EXECUTOR)])
+        self.assertEqual([], stopping("node { node { } }", TWO_AGENTS))
+        self.assertEqual(["node-in-a-node"], keys("node { node('linux') { } }", TWO_AGENTS))
+        self.assertEqual([], keys("node('linux') { node('mac') { } }", TWO_AGENTS))
+
+    def test_branches_that_share_an_executor_are_a_warning(self):
+        source = "node { parallel(a: { sh 'x' }, b: { sh 'y' }) }"
+        self.assertEqual(["branches-share-an-executor"], keys(source, ONE_EXECUTOR))
+        self.assertEqual([], stopping(source, ONE_EXECUTOR))
+        self.assertEqual([], keys("parallel(a: { node { sh 'x' } }, b: { node { sh 'y' } })", ONE_EXECUTOR))
+
+    def test_faults_of_an_agents_file_are_those_of_its_page(self):
+        tried = 0
+        for example in of_faults():
+            if example.statuses == [13]:
+                tried += 1
+                with self.assertRaises(BadFile, msg=example.name) as bad:
+                    executors_of(example.agents)
+                self.assertEqual(example.wanted, f"agents.json: {bad.exception}\n")
+        self.assertGreater(tried, 7)
+
+    def test_fault_rows_of_the_formats_page(self):
+        for cell, told in re.findall(r"^\| `([{\[].*)` \| `agents\.json: (.*)` \|$", read("docs/FORMATS.md").decode(), re.M):
+            with self.assertRaises(BadFile, msg=cell) as bad:
+                executors_of(cell.encode())
+            self.assertEqual(told, str(bad.exception))
+
+
+class LintPrinted(unittest.TestCase):
+    def setUp(self):
+        room = tempfile.TemporaryDirectory(prefix="controller-lint-")
+        self.addCleanup(room.cleanup)
+        self.room = room.name
+
+    def lint(self, source, *words, agents=None):
+        for name, content in (("Jenkinsfile", source.encode()), ("agents.json", agents)):
+            if content is not None:
+                with open(f"{self.room}/{name}", "wb") as file:
+                    file.write(content)
+        command = [sys.executable, f"{TOOLS}/lint", *words, self.room]
+        ran = subprocess.run(command, stdout=subprocess.PIPE, stderr=subprocess.DEVNULL, check=False)
+        return ran.stdout.decode(), ran.returncode
+
+    def test_place_line_and_mark(self):
+        told, status = self.lint("def x = 1\n\tif (x in [1]) { echo 'ü' }\n", agents=ONE_EXECUTOR)
+        self.assertEqual(4, status)
+        self.assertEqual(
+            f"{self.room}/Jenkinsfile:2:6: error: the operator `in` [in]\n"
+            "     if (x in [1]) { echo 'ü' }\n"
+            "         ^~~~~~~~\n"
+            "    in its place: `[1].contains(x)`\n", told)
+
+    def test_statuses(self):
+        self.assertEqual(1, self.lint("echo 'a'\n")[1])
+        self.assertEqual(("", 0), self.lint("echo 'a'\n", agents=b'{"job": "a", "agents": []}'))
+        self.assertEqual(1, self.lint("try { undo() } catch (Throwable e) { }\n")[1])
+        self.assertEqual(4, self.lint("echo 'a\n")[1])
+        self.assertEqual(4, self.lint("echo 'a'\n", agents=b"[]")[1])
+        self.assertEqual(2, self.lint("echo 'a'\n", "--nothing")[1])
+        os.remove(f"{self.room}/Jenkinsfile")
+        ran = subprocess.run([sys.executable, f"{TOOLS}/lint", self.room], stderr=subprocess.PIPE, check=False)
+        self.assertEqual((6, f"lint: {self.room}/Jenkinsfile: No such file or directory\n"), (ran.returncode, ran.stderr.decode()))
+
+    def test_bytes_that_are_no_script(self):
+        with open(f"{self.room}/Jenkinsfile", "wb") as file:
+            file.write(b"echo '\xc3\xa4'\necho '\xff'\n")
+        ran = subprocess.run([sys.executable, f"{TOOLS}/lint", f"{self.room}/Jenkinsfile"], stdout=subprocess.PIPE, check=False)
+        self.assertEqual(4, ran.returncode)
+        self.assertIn(b"/Jenkinsfile:2:7: error: this byte is no UTF-8 [not-UTF-8]", ran.stdout)
+
+    def test_diagnostics_of_the_language_servers(self):
+        told, status = self.lint("echo '\U0001d11e', 1 as int\n", "--json", agents=ONE_EXECUTOR)
+        self.assertEqual(4, status)
+        _, file = json.loads(told)
+        self.assertEqual(f"file://{self.room}/Jenkinsfile", file["uri"])
+        self.assertEqual({"code", "message", "range", "severity", "source"}, set(file["diagnostics"][0]))
+        cast = next(it for it in file["diagnostics"] if it["code"] == "cast")
+        # The clef is two units of UTF-16.
+        self.assertEqual({"start": {"line": 0, "character": 11}, "end": {"line": 0, "character": 19}}, cast["range"])
+        self.assertEqual(1, cast["severity"])
+
+    def test_lines_of_the_page_for_editors(self):
+        page = read("docs/LINT.md").decode()
+        [pattern] = re.findall(r'"regexp": "(.*)"', page)
+        line = self.lint("def x = 1 as int\n", agents=ONE_EXECUTOR)[0].splitlines()[0]
+        found = re.fullmatch(json.loads(f'"{pattern}"'), line)
+        self.assertEqual((f"{self.room}/Jenkinsfile", "1", "9", "error"), found.groups()[:4])
+
+
+class GroovyReader(unittest.TestCase):
+    def test_each_node_has_its_place(self):
+        source = "def a = sh(script: 'x') { y -> z }.trim()\n"
+        script = read_groovy(source)
+        self.assertEqual([source.strip()], [script.written(it) for it in script.statements])
+        [declaration] = script.statements
+        self.assertIsInstance(declaration, Declaration)
+        self.assertEqual(["sh(script: 'x') { y -> z }.trim()", "sh(script: 'x') { y -> z }"],
+                         [script.written(it) for it in script.walk() if isinstance(it, Call)])
+        self.assertEqual(["{ y -> z }"], [script.written(it) for it in script.walk() if isinstance(it, Closure)])
+
+    def test_nothing_makes_it_stop(self):
+        chance = random.Random(7)
+        source = read("examples/usual/Jenkinsfile").decode()
+        for _ in range(150):
+            begin = chance.randrange(len(source))
+            cut = source[:begin] + chance.choice(CUTS) + source[begin + chance.choice([0, 1, 5, 40]) :]
+            for node in read_groovy(cut).walk():
+                self.assertTrue(0 <= node.begin <= node.end <= len(cut), cut)
+
+    def test_texts_between_slashes(self):
+        for source in ("x = /a b/", "x =~ /a/", "f(/a/)", "echo /a/", "x = $/a/$"):
+            with self.subTest(source):
+                self.assertIn("/", [getattr(it, "quote", "")[-1:] for it in read_groovy(source).walk()])
+        for source in ("x = a / b / c", "x = f() / 2", "x = l[0] / 2 / 3"):
+            with self.subTest(source):
+                self.assertEqual([], [it for it in read_groovy(source).walk() if hasattr(it, "quote")])
+
+
+if __name__ == "__main__":
+    unittest.main()
