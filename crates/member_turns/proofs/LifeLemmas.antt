@@ -89,7 +89,7 @@ module _ {H A : Type 0} (host : HostView H) (source : SourceView A) (looks : ℕ
           orders = life_orders answers (base state) (turns_of r.rounds ++ r.last) (history state) answered;
           claimed_once = claims_differ stance opening (base state) (history state) e.legal;
           launched_once = launches_differ stance opening (base state) host (turns_of r.rounds ++ r.last) (history state) e.legal made
-              (all_map Did (λ (turn : Turn H A). Launches host.launches turn.old turn.now turn.own turn.launches) (turns_of r.rounds ++ r.last) (λ turn d. d.launched) r.did);
+              (all_map Did (λ (turn : Turn H A). Launches host turn.old turn.now turn.own turn.launches) (turns_of r.rounds ++ r.last) (λ turn d. d.launched) r.did);
           told = events.0;
           came = ∥∥₁_map r.goes.came (λ (f : CameUnder answers v → CameUnder answers w).
               subst (EachIs (Came (answers (base state))) []) (sym e.past)

@@ -159,11 +159,11 @@ work_removed looks (Pauses ∷ past) lawful = work_removed looks past lawful.1
 work_removed looks (Halts ∷ past) lawful = work_removed looks past lawful.1
 work_removed looks (Serves order acts answer ∷ past) lawful = acts_removed order looks acts (removed past) (work_told past []) lawful.0.1 (work_removed looks past lawful.1)
 
-module _ {H : Type 0} (host : HostView H) (exit : H → ℕ → Option ℤ) where
+module _ {H : Type 0} (host : HostView H) where
   -- An executor's work over a gate that was new is a turn.
   pub executor_turn : (number looks : ℕ) (honest : Type 0) (own : List Entry) (gate_calls : List GateCall) (said : Said) (is_open : Bool) (old now : H) (worked : Worked)
-      → Works number looks honest (telling host exit (λ t. t) old (tells_of [] [] Nothing false)) (telling host exit (λ t. t) now (tells_of own gate_calls said is_open)) worked
-      → ExecutorTurn number looks honest own gate_calls (host.calls old) (host.calls now) (on_host host exit old) (on_host host exit now) worked
+      → Works number looks honest (telling host (λ t. t) old (tells_of [] [] Nothing false)) (telling host (λ t. t) now (tells_of own gate_calls said is_open)) worked
+      → ExecutorTurn number looks honest own gate_calls (host.calls old) (host.calls now) (on_host host old) (on_host host now) worked
   executor_turn number looks honest own gate_calls said is_open old now worked w =
       let so = w.so_far in
       record {

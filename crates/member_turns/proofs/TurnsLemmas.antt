@@ -46,22 +46,22 @@ whole_again v u new other w s same j whole =
     let joined = parts-join u other w j in
     omega arith
 
-module _ {H A : Type 0} (host : HostView H) (exit : H → ℕ → Option ℤ)
+module _ {H A : Type 0} (host : HostView H)
     (source : SourceView A) (looks : ℕ) where
   -- a member's work, by what its gate told before it and tells after it
   abbrev Work : Member H A → Member H A → Worked → GateTells → GateTells → Type 0
-  Work m m' worked old now = WorksAs host (telling host exit (λ t. t)) (λ t. t) source looks m m' old now worked
+  Work m m' worked old now = WorksAs host (telling host (λ t. t)) (λ t. t) source looks m m' old now worked
 
   pub works_by : {G : Type 0} (tells : G → GateTells) (m m' : Member H A) (g g' : G) (worked : Worked)
-      → WorksAs host (telling host exit tells) tells source looks m m' g g' worked → Work m m' worked (tells g) (tells g')
+      → WorksAs host (telling host tells) tells source looks m m' g g' worked → Work m m' worked (tells g) (tells g')
   works_by tells (Executor number machine) (Executor now next) g g' worked w = w
   works_by tells (Operator answers line ended failed) (Operator next kept now_ended now_failed) g g' worked w = w
   works_by tells (Executor number machine) (Operator next kept now_ended now_failed) g g' worked w = absurd w
   works_by tells (Operator answers line ended failed) (Executor now next) g g' worked w = absurd w
 
   pub executed : (m m' : Member H A) (own : List Entry) (gate_calls : List GateCall) (said : Said) (is_open : Bool) (worked : Worked) → Work m m' worked (tells_of [] [] Nothing false) (tells_of own gate_calls said is_open)
-      → Executed host exit looks m m' worked own gate_calls
-  executed (Executor number machine) (Executor now next) own gate_calls said is_open worked w = executor_turn host exit number looks (host.honest machine) own gate_calls said is_open machine next worked w.3
+      → Executed host looks m m' worked own gate_calls
+  executed (Executor number machine) (Executor now next) own gate_calls said is_open worked w = executor_turn host number looks (host.honest machine) own gate_calls said is_open machine next worked w.3
   executed (Operator answers line ended failed) (Operator next kept now_ended now_failed) own gate_calls said is_open worked w = tt
   executed (Executor number machine) (Operator next kept now_ended now_failed) own gate_calls said is_open worked w = absurd w
   executed (Operator answers line ended failed) (Executor now next) own gate_calls said is_open worked w = absurd w

@@ -76,7 +76,7 @@ module _ {H A : Type 0} (host : HostView H) (history : List Entry) where
   claims_before before (turn ∷ turns) after made claims =
       all_first (IsClaimedIn history) (tasks_of (claimed_of before)) (tasks_of (claimed_of turn.own)) (tasks_of (claimed_of made.0)) (claims_merge before turn.own made.0 made.1) (claims_before made.0 turns after made.2 claims)
 
-  turns_launch : (old now : Member H A) (turns : List (Turn H A)) (before own : List Entry) → Chained old turns now → AllAre (λ (turn : Turn H A). Launches host.launches turn.old turn.now turn.own turn.launches) turns → MadeOf before turns own → AreClaimedIn history own → MemberLaunches old now
+  turns_launch : (old now : Member H A) (turns : List (Turn H A)) (before own : List Entry) → Chained old turns now → AllAre (λ (turn : Turn H A). Launches host turn.old turn.now turn.own turn.launches) turns → MadeOf before turns own → AreClaimedIn history own → MemberLaunches old now
   turns_launch old now [] before own chain did made claims = launches_none old now chain
   turns_launch old now (turn ∷ turns) before own chain did made claims =
       let mid = claims_before made.0 turns own made.2 claims in
@@ -85,7 +85,7 @@ module _ {H A : Type 0} (host : HostView H) (history : List Entry) where
 
   module _ (Did : Turn H A → Type 0) (launched : (turn : Turn H A) → Did turn → Launches host turn.old turn.now turn.own turn.launches) where
     way_launches : (old now : Member H A) → Way Did history old now → MemberLaunches old now
-    way_launches old now way = turns_launch old now way.turns [] way.own way.chain (all_map Did (λ (turn : Turn H A). Launches host.launches turn.old turn.now turn.own turn.launches) way.turns launched way.did) way.made
+    way_launches old now way = turns_launch old now way.turns [] way.own way.chain (all_map Did (λ (turn : Turn H A). Launches host turn.old turn.now turn.own turn.launches) way.turns launched way.did) way.made
         (all_first (IsClaimedIn history) (tasks_of (claimed_of way.own)) (tasks_of (claimed_of way.others)) (tasks_of (claimed_of history)) (claims_merge way.own way.others history way.part) (all_in (tasks_of (claimed_of history))))
 
     -- each host has launched, in the life, only tasks that were claimed in it
