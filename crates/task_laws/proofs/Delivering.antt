@@ -217,7 +217,7 @@ module _ {H A : Type 0} (host : HostView H) (source : SourceView A) (looks : ℕ
       → (ends : Ends disk stance host source looks turns durable setting entry origin before events old new history kept ended)
       → AreHonest host old → AreApart (hosts_of host old) → AreShort (ends.granted ++ tooks history) → AllDelivered host setting events old → AllDelivered host setting ends.now new
   members_deliver disk stance setting proper entry origin before events turns old new history kept ended started ends are apart short delivered =
-      subst (λ (now : List Event). AllDelivered host.output setting now new) (sym (ends.is ∙ append_assoc events ends.granted (tooks history)))
+      subst (λ (now : List Event). AllDelivered host setting now new) (sym (ends.is ∙ append_assoc events ends.granted (tooks history)))
       (all_deliver setting (tree_node proper.tree) (of_tree stance setting proper) (small stance setting proper) events taken turns started explained given short old new came are delivered)
     where
       taken : List Event

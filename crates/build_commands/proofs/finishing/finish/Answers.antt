@@ -1,4 +1,4 @@
-use Rattle.std.proofs.Common.{◌≡◌, ◌∙◌, ℕ, List, [], ◌∷◌, max, sym, ap, subst, reverse, arith}
+use Rattle.std.proofs.Common.{◌≡◌, ◌≤◌, ◌+◌, length, ◌∙◌, ℕ, List, [], ◌∷◌, max, sym, ap, subst, reverse, arith}
 use Rattle.agent_worker.specs.declared.member.Member.{Member}
 use Rattle.build_life.specs.Lower.build_core.Builds.{Parts, setting_in}
 use Rattle.model_run.specs.declared.site.Executor.{Executor as SiteExecutor}
@@ -100,6 +100,18 @@ gathered {H} {A} setting site other executors members others hosts answers looks
 
 again : {H A : Type 0} (setting later : Setting) (members : List (Member H A)) (others hosts : List H) (answers : A) (looks : ℕ) → setting ≡ later → Gathered setting members others hosts answers looks → Gathered later members others hosts answers looks
 again setting later members others hosts answers looks same g = subst (λ (s : Setting). Gathered s members others hosts answers looks) same g
+
+-- there is a member for each host at most, and the operator
+members_few : {H A : Type 0} (executors : List SiteExecutor) (hosts : List H) (answers : A) → length (members_of executors hosts answers) ≤ length hosts + 1
+members_few [] hosts answers = omega arith
+members_few (x ∷ executors) [] answers = omega arith
+members_few (x ∷ executors) (host ∷ hosts) answers = let more = members_few executors hosts answers in omega (arith, more)
+
+crew_few : {H A : Type 0} (executors : List SiteExecutor) (hosts : List H) (answers : A) (members : List (Member H A)) → members ≡ members_of executors hosts answers → length hosts ≤ 126 → length members ≤ 127
+crew_few executors hosts answers members made few = let some = members_few executors hosts answers in subst (λ (n : ℕ). n ≤ 127) (ap length (sym made)) (omega (arith, some, few))
+
+pub live-requires-clause-few : goal.live-requires-clause-few
+live-requires-clause-few g c κs within = crew_few c.as_slice-executors.result.now c.args.hosts.items c.args.answers c.in-Ok.crew.members.items c.in-Ok.ensures.members c.requires.few
 
 pub live-requires-clause-whole : goal.live-requires-clause-whole
 live-requires-clause-whole g c κs within = c.build.ensures.whole c.requires.running c.requires.begun
