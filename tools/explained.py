@@ -1,0 +1,108 @@
+#!/usr/bin/env python3
+"""Runs the program, and tells on standard error what its one line or its log leaves open: `tools/explained.py PROGRAM WORD..`.
+
+`./controller` ends in it. The program has the standard input, output and error of this script, and this script ends as it ended, with
+its status or by the signal that ended it. Where this script is killed, the program is: the system is asked for that before the program
+begins. Where the system cannot be asked, the program takes this script's place, and nothing is told. What is told is in `reasons.py`;
+nothing of it is proved.
+"""
+import contextlib
+import os
+import resource
+import signal
+import stat
+import sys
+
+# Python changes these when it begins; the program gets them as they are by default.
+CHANGED_BY_PYTHON = (signal.SIGPIPE, signal.SIGXFSZ)
+SET_SIGNAL_AT_END_OF_PARENT = 1
+WITH_ANSWERS = ("run", "resume")
+
+
+def prctl():
+    """The system's call by which a process asks for a signal at the end of its parent; None where there is none."""
+    try:
+        import ctypes
+
+        return ctypes.CDLL(None).prctl
+    except (ImportError, OSError, AttributeError):
+        return None
+
+
+def become(program, words):
+    """The program in this process."""
+    for it in CHANGED_BY_PYTHON:
+        signal.signal(it, signal.SIG_DFL)
+    os.execv(program, [program, *words])
+
+
+def started(program, words, ask):
+    """The number of a process with the program, which is killed where this one ends."""
+    own = os.getpid()
+    child = os.fork()
+    if child:
+        return child
+    try:
+        if ask(SET_SIGNAL_AT_END_OF_PARENT, signal.SIGKILL, 0, 0, 0) == 0 and os.getppid() == own:
+            become(program, words)
+    finally:
+        os._exit(125)
+
+
+def end_by(number):
+    """Ends this process by the signal, as the program ended; without an image of its memory."""
+    resource.setrlimit(resource.RLIMIT_CORE, (0, 0))
+    with contextlib.suppress(OSError):
+        signal.signal(number, signal.SIG_DFL)
+    os.kill(os.getpid(), number)
+    return 128 + number
+
+
+def place_of_input():
+    """Up to where standard input was read, where it is a file; else None."""
+    try:
+        return os.lseek(0, 0, os.SEEK_CUR) if stat.S_ISREG(os.fstat(0).st_mode) else None
+    except OSError:
+        return None
+
+
+def count_of_records(folder):
+    from builds import count_of_records as count_of
+
+    try:
+        return count_of(f"{folder}/program.dat")
+    except OSError:
+        return 0
+
+
+def tell(call, status):
+    """Tells what there is to tell. What goes wrong here, a terminal that is gone or a store of another form, tells nothing."""
+    with contextlib.suppress(Exception):
+        for line in call.lines(status):
+            print(line, file=sys.stderr, flush=True)
+
+
+def main(program, *words):
+    # An interrupt at the terminal reaches the program too, and this script ends as that does.
+    if signal.getsignal(signal.SIGINT) == signal.default_int_handler:
+        signal.signal(signal.SIGINT, signal.SIG_DFL)
+    ask = prctl()
+    if ask is None or words[:1] == ("gen",):
+        become(program, words)
+    begin = place_of_input() if words[:1] in ((it,) for it in WITH_ANSWERS) else None
+    records = count_of_records(words[-1]) if begin is not None else 0
+    child = started(program, words, ask)
+    # While the program is at work.
+    from reasons import Call
+
+    _, ended = os.waitpid(child, 0)
+    if os.WIFSIGNALED(ended):
+        return end_by(os.WTERMSIG(ended))
+    status = os.WEXITSTATUS(ended)
+    answers = None if begin is None else (begin, place_of_input(), records)
+    tell(Call(program, words, answers), status)
+    return status
+
+
+if __name__ == "__main__":
+    sys.exit(main(*sys.argv[1:]))

@@ -1,0 +1,264 @@
+"""Why a call of the program ended as it did, for people: `tools/explained.py` tells it on standard error.
+
+The program says one line on standard output, or a log. Here is found what that leaves open: the line of a file with a mark under the
+place of a fault, why a file, the store or the output failed, what a build waits for, and which answers it passed over. All of it is
+looked up after the call has ended, and so is what was there then.
+"""
+import errno
+import fcntl
+import os
+import re
+import select
+import stat
+import subprocess
+
+import builds
+import failures
+import places
+from store_changes import INPUT, NODE
+from store_records import NoRecord, NotARecord
+
+SUCCESS, FAILURE, USAGE, WAITS, BAD_SCRIPT, DISK, READ, OUTPUT, STORE, BAD_AGENTS = 0, 1, 2, 3, 4, 5, 6, 7, 9, 13
+OVER_A_FOLDER = ("run", "resume", "log", "graph", "check")
+# How many bytes of answers are read again, and how many of them that were passed over are told.
+GIVEN, MOST_TOLD = 1 << 20, 10
+ANSWER = re.compile(r"(proceed|abort) ([^ \t]+) by (.+)")
+TRIED = 1 << 16
+
+
+class Call:
+    """A call of the program with these words that has ended. Of answers from a file: from where to where it read them, and how
+    many records the store had before."""
+
+    def __init__(self, program, words, answers):
+        self.program, self.words, self.answers = program, words, answers
+        self.command, self.folder = words if len(words) == 2 else ("", "")
+
+    def lines(self, status):
+        """What there is to tell of the call, which ended with this status."""
+        if status == USAGE:
+            return of_usage(self.words)
+        if self.command not in OVER_A_FOLDER:
+            return []
+        if status == OUTPUT:
+            return of_output()
+        found = {
+            BAD_SCRIPT: self.of_script,
+            BAD_AGENTS: self.of_agents,
+            READ: self.of_reading,
+            DISK: self.of_disk,
+            STORE: self.of_store,
+            FAILURE: self.of_failure,
+            WAITS: self.of_waiting,
+        }
+        lines = found[status]() if status in found else []
+        return [*self.of_answers(), *lines]
+
+    def told(self):
+        """The line that `check` prints of the folder's files."""
+        call = [self.program, "check", self.folder]
+        told = subprocess.run(call, stdin=subprocess.DEVNULL, stdout=subprocess.PIPE, stderr=subprocess.DEVNULL, check=False)
+        return told.stdout.decode(errors="replace").removesuffix("\n")
+
+    def of_script(self):
+        found = re.fullmatch(r"Jenkinsfile:(\d+):(\d+): (.*)", self.told())
+        if found is None:
+            return []
+        path, (line, column) = f"{self.folder}/Jenkinsfile", map(int, found.groups()[:2])
+        return shown(path, places.read(path), line, column, found[3])
+
+    def of_agents(self):
+        path, found = f"{self.folder}/agents.json", re.fullmatch(r"agents\.json: (.*): ([a-zA-Z ]+)", self.told(), re.S)
+        if found is None or found[2] == "too long":
+            return []
+        if found[2] == "not JSON":
+            with open(path, "rb") as file:
+                line, column, what = places.of_bytes_that_are_no_json(file.read())
+            return shown(path, places.read(path), line, column, f"not JSON: {what}")
+        text = places.read(path)
+        at = "the whole file" if found[1] == "." else found[1]
+        return shown(path, text, *places.of_member(text, *found.groups()), f"{at}: {found[2]}")
+
+    def of_reading(self):
+        """Which file could not be read. Where both can be, it was standard input."""
+        if not os.path.isdir(self.folder):
+            return [f"controller: {no_folder(self.folder)}"]
+        if self.command in ("run", "check"):
+            for name in ("agents.json", "Jenkinsfile"):
+                why = why_unreadable(f"{self.folder}/{name}")
+                if why:
+                    return [f"controller: {self.folder}/{name} cannot be read: {why}"]
+        why = why_fails(lambda: os.read(0, 0))
+        return [f"controller: the answers on standard input could not be read{': ' + why if why else ''}"]
+
+    def of_disk(self):
+        if is_held(f"{self.folder}/program.lock"):
+            return []
+        why = why_store_fails(self.folder, writes=self.command in ("run", "resume"))
+        return [f"controller: {why}"] if why else []
+
+    def of_store(self):
+        path = f"{self.folder}/program.dat"
+        if self.command == "run":
+            return [f"controller: {path} has a build: 'resume' goes on with it, 'archive' puts it away, so that 'run' begins the next one"]
+        if not os.path.isdir(self.folder):
+            return [f"controller: {no_folder(self.folder)}"]
+        if size_of(path) < 6:
+            return [f"controller: 'run' begins the build of {self.folder}"]
+        return []
+
+    def view(self):
+        return builds.view_of(f"{self.folder}/{builds.STORE}")
+
+    def of_failure(self):
+        """What failed of the build, and where."""
+        return failures.lines_of(self.view())
+
+    def of_waiting(self):
+        """What the build waits for, and how to give it."""
+        view = self.view()
+        questions, nodes = (builds.open_requests(view, kind) for kind in (INPUT, NODE))
+        lines = [f"controller: it waits for an answer to the input {it.text}: 'proceed {it.text} by NAME' or 'abort {it.text} by NAME'"
+                 for it in questions]
+        lines += [f"controller: it waits for an executor: no free one fits {f'the label {it.text}' if it.text else 'it'}" for it in nodes]
+        if questions:
+            lines.append(f"controller: to answer: echo 'proceed {questions[0].text} by NAME' | ./controller resume {self.folder}")
+        return lines
+
+    def of_answers(self):
+        """The lines of standard input that the call read and that fitted no open input: of a file, since what was read of a terminal
+        or a pipe is gone."""
+        if self.answers is None or self.answers[1] is None:
+            return []
+        begin, behind, records = self.answers
+        try:
+            steps = [it for it in self.view().tree.steps() if it.answer is not None and it.ended >= records]
+        except (NoRecord, NotARecord, OSError):
+            return []
+        steps.sort(key=lambda it: it.ended)
+        decisions = [(it.answer.proceeds, it.request.text, it.answer.name) for it in steps]
+        given = os.pread(0, min(max(0, behind - begin), GIVEN), begin)
+        passed = passed_over(given.split(b"\n"), decisions)
+        lines = [f"controller: answer {at} fits no open input, and was passed over: {line}" for at, line in passed]
+        more = len(lines) - MOST_TOLD
+        return lines[:MOST_TOLD] + ([f"controller: {more} more answers were passed over"] if more > 0 else [])
+
+
+def passed_over(lines, decisions):
+    """Which of the lines, with their numbers from 1, made none of these decisions, which come in the order of the lines."""
+    left, passed = list(decisions), []
+    for at, line in enumerate(lines, 1):
+        line = line.removesuffix(b"\r").decode(errors="replace")
+        form = ANSWER.fullmatch(line)
+        if form and left and (form[1] == "proceed", form[2], form[3]) == left[0]:
+            del left[0]
+        elif line:
+            passed.append((at, line if len(line) <= 100 else line[:99] + "\u2026"))
+    return passed
+
+
+def shown(path, text, line, column, what):
+    """A fault at its place, with the line and a mark."""
+    return [f"controller: {path}:{line}:{column}: {what}", places.marked(text, line, column)]
+
+
+def of_usage(words):
+    if len(words) == 2 and words[0] in OVER_A_FOLDER:
+        why = "the folder's name is empty" if words[1] == "" else f"write ./{words[1]} for a folder of this name"
+    elif len(words) == 2 and words[0] == "gen":
+        why = "the number of stages is from 1 to 2000"
+    else:
+        why = f"'{words[0]}' is no command" if words and words[0] not in (*OVER_A_FOLDER, "gen") else "a command and one word are wanted"
+    return [f"controller: {why}; 'controller help' tells all commands"]
+
+
+# --- reasons of the system
+
+
+def why_fails(call):
+    """The system's reason where a call fails, else None."""
+    try:
+        call()
+    except OSError as why:
+        return why.strerror
+    return None
+
+
+def no_folder(path):
+    return f"{path} is {'no folder' if os.path.exists(path) else 'not there'}"
+
+
+def why_unreadable(path):
+    def read():
+        with open(path, "rb") as file:
+            file.read(1)
+
+    return why_fails(read)
+
+
+def size_of(path):
+    try:
+        return os.stat(path).st_size
+    except OSError:
+        return 0
+
+
+def is_held(path):
+    """Whether another process holds the lock: then standard error has told it."""
+    try:
+        with open(path, "rb") as file:
+            fcntl.flock(file, fcntl.LOCK_SH | fcntl.LOCK_NB)
+    except BlockingIOError:
+        return True
+    except OSError:
+        return False
+    return False
+
+
+def why_store_fails(folder, writes):
+    """Why the store of a folder cannot be read, or written; None where nothing is found."""
+    path = f"{folder}/program.dat"
+    if not os.path.isdir(folder):
+        return no_folder(folder)
+    why = why_unreadable(path)
+    if why and os.path.lexists(path):
+        return f"{path} cannot be read: {why}"
+    why = why_unwritable(folder, path) if writes else None
+    if why:
+        return f"{path} cannot be written: {why}"
+    return None
+
+
+def why_unwritable(folder, path):
+    """Why nothing can be written behind the store. It is tried in a file without a name, which goes when it is closed."""
+    if os.path.exists(path) and not os.access(path, os.W_OK):
+        return os.strerror(errno.EROFS if os.statvfs(folder).f_flag & os.ST_RDONLY else errno.EACCES)
+
+    def write():
+        file = os.open(folder, os.O_TMPFILE | os.O_WRONLY, 0o600)
+        try:
+            os.pwrite(file, bytes(TRIED), size_of(path))
+            os.fsync(file)
+        finally:
+            os.close(file)
+
+    why = why_fails(write)
+    return None if why in (os.strerror(errno.EOPNOTSUPP), os.strerror(errno.EISDIR)) else why
+
+
+def of_output():
+    why = why_fails(lambda: os.write(1, b"")) or why_output_fails()
+    return [f"controller: standard output could not be written: {why}"] if why else []
+
+
+def why_output_fails():
+    """Why standard output takes no more, by what it is."""
+    mode = os.fstat(1).st_mode
+    if stat.S_ISFIFO(mode) or stat.S_ISSOCK(mode):
+        poll = select.poll()
+        poll.register(1, select.POLLOUT)
+        gone = any(event & (select.POLLERR | select.POLLHUP) for _, event in poll.poll(0))
+        return "whoever read it has ended" if gone else None
+    if stat.S_ISREG(mode):
+        return os.strerror(errno.ENOSPC) if os.fstatvfs(1).f_bavail == 0 else None
+    return None
