@@ -6,8 +6,8 @@ With words it runs only those whose names have one of them. The examples are
 - each folder below examples/ with a `log`: what is printed is the log, the status is that of the line `Exit status: N` of its
   README.md, and `answers`, where it is there, is standard input;
 - each row of the tables in examples/faults/README.md and examples/shell/README.md;
-- in docs/USING.md each row of a table whose first column is `in Jenkins` or `met by`, each script with a log behind it, and the
-  `"looks"` of an agents file.
+- in docs/USING.md each row of a table whose first column is `in Jenkins` or `met by`, and the `"looks"` of an agents file;
+- in docs/USING.md and docs/STEPS.md each script with a log behind it.
 
 Where branches have shell steps their lines may come in any order among each other: then the lines of a log are compared in any order,
 and the flow graph without its numbers, so that each branch has to have its own steps in their order.
@@ -207,18 +207,18 @@ def of_tables(page):
             yield Example(f"docs/USING.md: {script!r} in its place", run.encode(), runs, [0, 3, 10, 11], agents_for(script))
 
 
-def of_blocks(page):
+def of_blocks(path):
     """Scripts in blocks, each with what is behind it: answers, and its log.
 
     A block `json` is the agents file of the scripts behind it. A log leaves out the first line of a build, and the last two of
     one that ends with SUCCESS; `log N` is all but the first line, with the exit status N. A script without a log ends with SUCCESS,
     with stand-ins for commands.
     """
-    agents, script, answers = NO_AGENTS, None, b""
+    agents, script, answers, page = NO_AGENTS, None, b"", read(path).decode()
     for kind, rest, content in re.findall(r"^```(\w+) ?(\d*)\n(.*?)^```$", page, re.M | re.S):
         if script is not None and kind not in ("answers", "log"):
             run = WITH_STAND_INS % script
-            yield Example(f"docs/USING.md: {script!r}", run.encode(), re.compile("^Finished: SUCCESS$", re.M), [0], ONE_AGENT)
+            yield Example(f"{path}: {script!r}", run.encode(), re.compile("^Finished: SUCCESS$", re.M), [0], ONE_AGENT)
             script = None
         if kind == "json":
             agents = content.encode()
@@ -228,7 +228,7 @@ def of_blocks(page):
             answers = content.encode()
         elif kind == "log":
             wanted = START + content + ("" if rest else END)
-            yield Example(f"docs/USING.md: {script!r}", script.encode(), wanted, [int(rest or 0)], agents, answers)
+            yield Example(f"{path}: {script!r}", script.encode(), wanted, [int(rest or 0)], agents, answers)
             script = None
 
 
@@ -240,7 +240,8 @@ def of_looks(page):
 
 def examples():
     page = read("docs/USING.md").decode()
-    return [*of_folders(), *of_faults(), *of_shell_steps(), *of_tables(page), *of_blocks(page), *of_looks(page)]
+    blocks = [it for path in ("docs/USING.md", "docs/STEPS.md") for it in of_blocks(path)]
+    return [*of_folders(), *of_faults(), *of_shell_steps(), *of_tables(page), *of_looks(page), *blocks]
 
 
 # --- ways to run them: each gives what was printed and the status, in order
