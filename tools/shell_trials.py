@@ -18,6 +18,8 @@ import unittest
 
 TOP = os.path.dirname(os.path.dirname(os.path.realpath(__file__)))
 PROGRAM = f"{TOP}/crates/jenkinsd/out/jenkinsd"
+# By it the commands of pages are typed: it runs the program of this clone.
+LAUNCHER = f"{TOP}/controller"
 # Seconds until something has to have come.
 PATIENCE = 60
 
@@ -317,48 +319,52 @@ class Page(Shell):
         """The block for a shell that has this word, with the names of this trial."""
         with open(f"{TOP}/docs/USING.md", encoding="utf-8") as page:
             [found] = [block for block in re.findall(r"^```sh\n(.*?)^```$", page.read(), re.M | re.S) if word in block]
-        for name, value in (("./controller", PROGRAM), ("DIR", self.folder), ("ROOT", self.agent), ("JOB", "trial")):
+        for name, value in (("./controller", LAUNCHER), ("DIR", self.folder), ("ROOT", self.agent), ("JOB", "trial")):
             found = found.replace(name, value)
         return found
 
     def sh(self, commands):
         return subprocess.run(["sh", "-c", commands], cwd=TOP, stdin=subprocess.DEVNULL, capture_output=True, text=True, check=False)
 
-    def test_a_job_of_cron_begins_a_build_and_goes_on_with_it(self):
+    def test_a_nightly_job_goes_on_with_a_build_and_the_next_night_begins_another(self):
         self.build(f"node {{ sh {script('sleep 1')}; sh {script('exit 3')} }}")
         self.killed_at_launch(1)
-        for _ in range(2):
-            self.assertEqual(self.sh(self.block("resume")).returncode, 1)
+        for night in (1, 2):
+            ran = self.sh(self.block("resume"))
+            self.assertEqual(ran.returncode, 1, ran.stderr)
             with open(f"{self.folder}/log", encoding="utf-8") as log:
                 self.assertIn("\nERROR: script returned exit code 3\nFinished: FAILURE\n", log.read())
-        self.assertEqual(len(self.launches()), 2)
-        self.assertEqual(sorted(os.listdir(self.folder)), ["Jenkinsfile", "agents.json", "log", "program.dat", "program.lock"])
+            self.assertEqual(len(self.launches()), 2 * night)
+        self.assertEqual(sorted(os.listdir(self.folder)), ["Jenkinsfile", "agents.json", "builds", "log", "program.lock"])
+        self.assertEqual(sorted(os.listdir(f"{self.folder}/builds")), ["1", "2"])
 
-    def test_a_job_of_cron_that_gets_no_log_keeps_the_earlier_one_and_says_why(self):
-        self.build(f"node {{ sh {script('true')} }}")
-        self.assertEqual(self.sh(self.block("resume")).returncode, 0)
+    def test_a_nightly_job_that_gets_no_log_keeps_the_earlier_one_and_says_why(self):
+        self.build(f"node {{ sh {script('true')} }}; input 'on?'")
+        self.assertEqual(self.sh(self.block("resume")).returncode, 3)
         with open(f"{self.folder}/log", encoding="utf-8") as file:
             log = file.read()
         os.truncate(f"{self.folder}/program.dat", os.path.getsize(f"{self.folder}/program.dat") - 1)
-        for program, status, told in ((PROGRAM, 9, "program.dat: damaged at "), ("/none", 127, "")):
-            ran = self.sh(self.block("resume").replace(PROGRAM, program))
+        for launcher, status, told in ((LAUNCHER, 9, "program.dat: damaged at "), ("/none", 127, "")):
+            ran = self.sh(self.block("resume").replace(LAUNCHER, launcher))
             self.assertEqual((ran.returncode, told in ran.stderr), (status, True), ran.stderr)
             with open(f"{self.folder}/log", encoding="utf-8") as file:
                 self.assertEqual(file.read(), log)
 
-    def test_the_line_of_the_page_for_cron_runs_the_script_of_the_job(self):
+    def test_the_lines_of_the_page_for_cron_run_the_script_of_the_job(self):
         with open(f"{TOP}/docs/USING.md", encoding="utf-8") as page:
-            [line] = re.findall(r"^```crontab\n@reboot (.*)\n```$", page.read(), re.M)
+            [table] = re.findall(r"^```crontab\n(.*?)^```$", page.read(), re.M | re.S)
         self.build("echo 'on'")
-        self.put("shop.sh", self.block("resume"))
-        self.assertEqual(self.sh(line.replace("/srv/controller", self.room)).returncode, 0)
-        self.assertTrue(os.path.exists(f"{self.folder}/log"))
+        self.put("nightly.sh", self.block("resume"))
+        for night, line in enumerate(table.splitlines(), 1):
+            command = re.fullmatch(r"(?:@reboot|\S+ \S+ \* \* \*) (.*)", line)[1]
+            self.assertEqual(self.sh(command.replace("/srv/controller", self.room)).returncode, 0)
+            self.assertTrue(os.path.exists(f"{self.folder}/builds/{night}/log"))
 
     def unit(self):
         """The lines of the page's unit, with the names of this trial."""
         with open(f"{TOP}/docs/USING.md", encoding="utf-8") as page:
             [lines] = re.findall(r"^```ini\n\[Service\]\n(.*?)^```$", page.read(), re.M | re.S)
-        for name, value in (("./controller", PROGRAM), ("DIR", "build"), ("/srv/controller", self.room), ("/srv", self.room)):
+        for name, value in (("./controller", LAUNCHER), ("DIR", "build"), ("/srv/controller", self.room), ("/srv", self.room)):
             lines = lines.replace(name, value)
         return dict(line.split("=", 1) for line in lines.splitlines())
 
@@ -388,7 +394,7 @@ class Page(Shell):
         tried = {"WorkingDirectory", "ExecStart", "StandardInput", "StandardOutput", "KillMode", "SuccessExitStatus"}
         self.assertEqual({*unit} - {"Type", "User"}, tried)
 
-    def test_a_job_of_cron_beside_another_leaves_that_alone(self):
+    def test_a_nightly_job_beside_another_controller_leaves_that_alone(self):
         self.build(f"node {{ sh {script('sleep 2', 'echo slept')} }}")
         first = self.start("run")
         self.wait_until(lambda: self.launches(), "a launch")
