@@ -28,10 +28,10 @@ TRIED = 1 << 16
 
 class Call:
     """A call of the program with these words that has ended. Of answers from a file: from where to where it read them, and how
-    many records the store had before."""
+    many records the store had before. `printed` is what it printed, where that is known."""
 
-    def __init__(self, program, words, answers):
-        self.program, self.words, self.answers = program, words, answers
+    def __init__(self, program, words, answers, printed=None):
+        self.program, self.words, self.answers, self.printed = program, words, answers, printed
         self.command, self.folder = words if len(words) == 2 else ("", "")
 
     def lines(self, status):
@@ -55,7 +55,9 @@ class Call:
         return [*self.of_answers(), *lines]
 
     def told(self):
-        """The line that `check` prints of the folder's files."""
+        """The line that the call printed of the folder's files, where that is known, else what `check` prints of them now."""
+        if self.printed is not None:
+            return self.printed.removesuffix("\n")
         call = [self.program, "check", self.folder]
         told = subprocess.run(call, stdin=subprocess.DEVNULL, stdout=subprocess.PIPE, stderr=subprocess.DEVNULL, check=False)
         return told.stdout.decode(errors="replace").removesuffix("\n")

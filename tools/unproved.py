@@ -19,6 +19,8 @@ import tempfile
 import time
 
 import quick_try
+import reasons
+from explained import tell
 
 TOP = os.path.dirname(os.path.dirname(os.path.realpath(__file__)))
 NO_ANSWER = 125
@@ -74,7 +76,7 @@ def given():
 
 
 def kit_run(words):
-    """What the kit's run said on standard error, where the kit's own lines follow those of the program."""
+    """What the kit's run said on standard error, where the kit's own lines follow those of the program, and what it printed."""
     rt = shutil.which("rt")
     if rt is None:
         raise NoKit
@@ -83,28 +85,29 @@ def kit_run(words):
         with open(f"{folder}/stdin", "wb") as file:
             file.write(given() if words[0] in READERS else b"")
         if quick_try.is_here(kit):
-            told, status = quick_run(kit, folder, words)
+            told, status, printed = quick_run(kit, folder, words)
             # The kit's last line says that nothing is proved, once it has run the program.
             if status < 0 or told.endswith(" proved=no\n"):
-                return told
+                return told, printed
             why = "; ".join(told.splitlines()[:2]) or f"status {status}"
             say(f"the quick way failed ({why}); the kit now runs the program in its own way")
-        return called([rt, "try", "--seconds", SECONDS, "--", *words], folder)[0]
+        told, _, printed = called([rt, "try", "--seconds", SECONDS, "--", *words], folder)
+        return told, printed
 
 
 def quick_run(kit, folder, words):
-    """What the quick way said on standard error, and its exit status: 1 where it could not begin."""
+    """What the quick way said on standard error, its exit status, which is 1 where it could not begin, and what it printed."""
     try:
         command = quick_try.command(kit, folder, SECONDS, words)
     except Exception as why:  # The kit's own way is there for sources of whatever form.
-        return f"{type(why).__name__}: {why}", 1
+        return f"{type(why).__name__}: {why}", 1, b""
     return called(command, folder)
 
 
 def called(command, folder):
-    """What the command wrote on standard error, and its exit status. What it wrote on standard output is passed on."""
-    # A terminal that shows the count gets the log once that line is cleared.
-    streams = {"stdout": subprocess.PIPE if sys.stdout.isatty() else None, "stderr": subprocess.PIPE}
+    """What the command wrote on standard error, its exit status, and what it wrote on standard output, which is passed on."""
+    # The kit writes it when the run has ended; a terminal that shows the count gets it once that line is cleared.
+    streams = {"stdout": subprocess.PIPE, "stderr": subprocess.PIPE}
     # The kit's memory is not given back while it works, since it wants it again at once.
     env = {**os.environ, "TMPDIR": folder, "MIMALLOC_PURGE_DELAY": "-1"}
     with open(f"{folder}/stdin", "rb") as stdin:
@@ -119,7 +122,7 @@ def called(command, folder):
         raise
     sys.stdout.buffer.write(printed or b"")
     sys.stdout.flush()
-    return told.decode(errors="replace"), child.returncode
+    return told.decode(errors="replace"), child.returncode, printed
 
 
 def counted(child):
@@ -145,7 +148,7 @@ def main(words):
         return 2
     say("unproved and slow; ./controller build proves and builds the program")
     try:
-        told = kit_run(with_whole_path(words))
+        told, printed = kit_run(with_whole_path(words))
     except KeyboardInterrupt:
         say("stopped; resume goes on with a build that had begun")
         return 130
@@ -161,6 +164,7 @@ def main(words):
     if ended:
         # The kit's own lines follow those of the program.
         status = int(ended[-1])
+        tell(reasons.Call(f"{TOP}/controller", words, None, printed.decode(errors="replace")), status)
         if status == WAITS and words[0] in READERS and sys.stdin is not None and sys.stdin.isatty():
             say("no answer is read from a terminal here: give answers by a pipe or a file, or ./controller build")
         return status
