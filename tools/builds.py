@@ -10,6 +10,7 @@ import struct
 from typing import NamedTuple, Optional
 
 import build_view
+from locks import holders
 from store_changes import START, TASK
 from store_records import OPEN, NoRecord, NotARecord, Store, number_at
 
@@ -100,17 +101,6 @@ def state_word(build):
         return "at work"
     waits = view.requests and not open_requests(view, TASK)
     return "waits" if waits else "stopped"
-
-
-def holders(path):
-    """The numbers of the processes that hold a lock of the file, as far as the system tells them. It takes no lock to find out."""
-    try:
-        own = os.stat(path).st_ino
-        with open("/proc/locks", encoding="ascii") as lines:
-            fields = [line.split() for line in lines]
-    except OSError:
-        return []
-    return [int(it[4]) for it in fields if it[1] == "FLOCK" and it[5].rpartition(":")[2] == str(own)]
 
 
 def began(path) -> Optional[float]:
