@@ -11,7 +11,7 @@ from typing import NamedTuple, Optional
 
 import build_view
 from locks import holders
-from store_changes import START, TASK
+from store_changes import TASK
 from store_records import OPEN, NoRecord, NotARecord, Store, number_at
 
 STORE, LOCK = "program.dat", "program.lock"
@@ -48,23 +48,12 @@ def now(folder):
     return Build(last + 1, folder, False)
 
 
-class View(build_view.View):
-    """A build by its records, with the script that it was begun with."""
-
-    script = b""
-
-    def settle(self, event, asker):
-        if event.kind == START:
-            self.script = event.content
-        super().settle(event, asker)
-
-
 def view_of(path):
     """The build of the store at this path, by its records.
 
     Raises NoRecord where there is none, NotARecord where the store has another form, OSError where it cannot be read.
     """
-    view = View()
+    view = build_view.View()
     with Store(path) as store:
         for record in store.records():
             view.take(record)
