@@ -10,7 +10,8 @@ import struct
 from typing import NamedTuple, Optional
 
 import build_view
-from store_changes import START, TASK
+from locks import holders
+from store_changes import TASK
 from store_records import OPEN, NoRecord, NotARecord, Store, number_at
 
 STORE, LOCK = "program.dat", "program.lock"
@@ -47,23 +48,12 @@ def now(folder):
     return Build(last + 1, folder, False)
 
 
-class View(build_view.View):
-    """A build by its records, with the script that it was begun with."""
-
-    script = b""
-
-    def settle(self, event, asker):
-        if event.kind == START:
-            self.script = event.content
-        super().settle(event, asker)
-
-
 def view_of(path):
     """The build of the store at this path, by its records.
 
     Raises NoRecord where there is none, NotARecord where the store has another form, OSError where it cannot be read.
     """
-    view = View()
+    view = build_view.View()
     with Store(path) as store:
         for record in store.records():
             view.take(record)
@@ -100,17 +90,6 @@ def state_word(build):
         return "at work"
     waits = view.requests and not open_requests(view, TASK)
     return "waits" if waits else "stopped"
-
-
-def holders(path):
-    """The numbers of the processes that hold a lock of the file, as far as the system tells them. It takes no lock to find out."""
-    try:
-        own = os.stat(path).st_ino
-        with open("/proc/locks", encoding="ascii") as lines:
-            fields = [line.split() for line in lines]
-    except OSError:
-        return []
-    return [int(it[4]) for it in fields if it[1] == "FLOCK" and it[5].rpartition(":")[2] == str(own)]
 
 
 def began(path) -> Optional[float]:

@@ -13,6 +13,8 @@ import signal
 import stat
 import sys
 
+from locks import wait_for_ending
+
 # Python changes these when it begins; the program gets them as they are by default.
 CHANGED_BY_PYTHON = (signal.SIGPIPE, signal.SIGXFSZ)
 SET_SIGNAL_AT_END_OF_PARENT = 1
@@ -89,7 +91,11 @@ def main(program, *words):
     ask = prctl()
     if ask is None or words[:1] == ("gen",):
         become(program, words)
-    begin = place_of_input() if words[:1] in ((it,) for it in WITH_ANSWERS) else None
+    begin = None
+    if len(words) == 2 and words[0] in WITH_ANSWERS:
+        # A program whose launcher was killed a moment ago has the lock until it is gone.
+        wait_for_ending(f"{words[1]}/program.lock")
+        begin = place_of_input()
     records = count_of_records(words[-1]) if begin is not None else 0
     child = started(program, words, ask)
     # While the program is at work.

@@ -2,6 +2,7 @@
 import re
 
 import build_view
+from plain_words import first_line, one_line, printable
 
 # How many lines of a step's output are shown, and how much of the end of it is looked at.
 LAST_LINES, LOOKED_AT = 10, 1 << 14
@@ -22,14 +23,14 @@ def lines_of(view):
     place = place_in_script(view.script.decode("utf-8-sig", errors="replace"), fault)
     if place is not None:
         line, text = place
-        lines += [f"{line:5} | {build_view.printable(text)}"]
+        lines += [f"{line:5} | {printable(text)}"]
     output = last_lines(view, fault.step)
     return lines + (["controller: the last lines of its output:", *(f"      | {line}" for line in output)] if output else [])
 
 
 def chain(fault):
     """The stages and branches around what failed, from outside, and the step."""
-    names = [f"{'branch' if it.is_branch() else 'stage'} {build_view.printable(it.title())}" for it in fault.boxes]
+    names = [f"{'branch' if it.is_branch() else 'stage'} {one_line(it.title())}" for it in fault.boxes]
     return " > ".join([*names, *([fault.step.name] if fault.step else [])]) or "the script"
 
 
@@ -39,7 +40,7 @@ def told(fault):
         return f", exit code {code}"
     error = ERROR.search(fault.message)
     message = error[1] if error else fault.message.split("\n")[0]
-    return f": {build_view.printable(message)}" if message else ""
+    return f": {one_line(message)}" if message else ""
 
 
 def last_lines(view, step):
@@ -47,7 +48,7 @@ def last_lines(view, step):
     if step is None or step.name != "sh":
         return []
     text = view.text(step.pieces)[-LOOKED_AT:]
-    return [build_view.printable(line) for line in text.rstrip("\n").split("\n") if line][-LAST_LINES:]
+    return [printable(line) for line in text.rstrip("\n").split("\n") if line][-LAST_LINES:]
 
 
 def place_in_script(script, fault):
@@ -69,6 +70,6 @@ def wanted_text(fault):
     """What a step was given that the script may have as it is: of `sh` its first line, of others the message that was thrown."""
     step = fault.step
     if step is not None and step.name == "sh" and getattr(step, "request", None):
-        return build_view.first_line(step.request.text)
+        return first_line(step.request.text)
     error = ERROR.search(fault.message)
     return error[1] if error else ""

@@ -5,16 +5,19 @@ place of a fault, why a file, the store or the output failed, what a build waits
 looked up after the call has ended, and so is what was there then.
 """
 import errno
-import fcntl
 import os
 import re
 import select
+import shlex
 import stat
 import subprocess
 
 import builds
 import failures
 import places
+from locks import holders
+from own_program import NAME
+from plain_words import one_line
 from store_changes import INPUT, NODE
 from store_records import NoRecord, NotARecord
 
@@ -94,7 +97,8 @@ class Call:
         return [f"controller: the answers on standard input could not be read{': ' + why if why else ''}"]
 
     def of_disk(self):
-        if is_held(f"{self.folder}/program.lock"):
+        if holders(f"{self.folder}/{builds.LOCK}"):
+            # The program has told it.
             return []
         why = why_store_fails(self.folder, writes=self.command in ("run", "resume"))
         return [f"controller: {why}"] if why else []
@@ -119,12 +123,13 @@ class Call:
     def of_waiting(self):
         """What the build waits for, and how to give it."""
         view = self.view()
-        questions, nodes = (builds.open_requests(view, kind) for kind in (INPUT, NODE))
-        lines = [f"controller: it waits for an answer to the input {it.text}: 'proceed {it.text} by NAME' or 'abort {it.text} by NAME'"
-                 for it in questions]
-        lines += [f"controller: it waits for an executor: no free one fits {f'the label {it.text}' if it.text else 'it'}" for it in nodes]
-        if questions:
-            lines.append(f"controller: to answer: echo 'proceed {questions[0].text} by NAME' | ./controller resume {self.folder}")
+        ids = [one_line(it.text) for it in builds.open_requests(view, INPUT)]
+        labels = [one_line(it.text) for it in builds.open_requests(view, NODE)]
+        lines = [f"controller: it waits for an answer to the input {own}: 'proceed {own} by NAME' or 'abort {own} by NAME'" for own in ids]
+        lines += [f"controller: it waits for an executor: no free one fits {f'the label {label}' if label else 'it'}" for label in labels]
+        if ids:
+            answer, folder = (shlex.quote(it) for it in (f"proceed {ids[0]} by NAME", self.folder))
+            lines.append(f"controller: to answer: echo {answer} | {NAME} resume {folder}")
         return lines
 
     def of_answers(self):
@@ -141,7 +146,7 @@ class Call:
         decisions = [(it.answer.proceeds, it.request.text, it.answer.name) for it in steps]
         given = os.pread(0, min(max(0, behind - begin), GIVEN), begin)
         passed = passed_over(given.split(b"\n"), decisions)
-        lines = [f"controller: answer {at} fits no open input, and was passed over: {line}" for at, line in passed]
+        lines = [f"controller: answer {at} fits no open input, and was passed over: {one_line(line)}" for at, line in passed]
         more = len(lines) - MOST_TOLD
         return lines[:MOST_TOLD] + ([f"controller: {more} more answers were passed over"] if more > 0 else [])
 
@@ -171,7 +176,7 @@ def of_usage(words):
         why = "the number of stages is from 1 to 2000"
     else:
         why = f"'{words[0]}' is no command" if words and words[0] not in (*OVER_A_FOLDER, "gen") else "a command and one word are wanted"
-    return [f"controller: {why}; 'controller help' tells all commands"]
+    return [f"controller: {why}; '{NAME} help' tells all commands"]
 
 
 # --- reasons of the system
@@ -203,18 +208,6 @@ def size_of(path):
         return os.stat(path).st_size
     except OSError:
         return 0
-
-
-def is_held(path):
-    """Whether another process holds the lock: then standard error has told it."""
-    try:
-        with open(path, "rb") as file:
-            fcntl.flock(file, fcntl.LOCK_SH | fcntl.LOCK_NB)
-    except BlockingIOError:
-        return True
-    except OSError:
-        return False
-    return False
 
 
 def why_store_fails(folder, writes):
