@@ -324,6 +324,19 @@ class LintPrinted(unittest.TestCase):
         self.assertEqual((f"{self.room}/Jenkinsfile", "1", "9", "error"), found.groups()[:4])
 
 
+    def test_the_hook_of_the_page(self):
+        [hook] = re.findall(r"^```sh\n(#!/bin/sh\n.*?)^```$", read("docs/LINT.md").decode(), re.M | re.S)
+        subprocess.run(["git", "init", "-q", self.room], check=True)
+        with open(f"{self.room}/hook", "w", encoding="utf-8") as file:
+            file.write(hook.replace("/srv/controller/controller lint", f"{sys.executable} {TOOLS}/lint"))
+        for source, status in (("echo 'a'\n", 0), ("try { undo() } catch (Throwable e) { }\n", 0), ("echo 'a\n", 1)):
+            with open(f"{self.room}/Jenkinsfile", "w", encoding="utf-8") as file:
+                file.write(source)
+            subprocess.run(["git", "-C", self.room, "add", "Jenkinsfile"], check=True)
+            ran = subprocess.run(["sh", "hook"], cwd=self.room, stdout=subprocess.DEVNULL, check=False)
+            self.assertEqual(status, ran.returncode, source)
+
+
 class GroovyReader(unittest.TestCase):
     def test_each_node_has_its_place(self):
         source = "def a = sh(script: 'x') { y -> z }.trim()\n"
