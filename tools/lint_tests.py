@@ -324,6 +324,11 @@ class LintPrinted(unittest.TestCase):
         self.assertEqual((f"{self.room}/Jenkinsfile", "1", "9", "error"), found.groups()[:4])
 
 
+    def test_the_example_of_the_page(self):
+        [example] = re.findall(r"(?m)^    shop/Jenkinsfile:(?:.*\n)(?:    .*\n)+", read("docs/LINT.md").decode())
+        told, _ = self.lint("def env = 'qa'\nnode {\n\n\n\n\n    if (env in ['qa', 'prod']) {\n    }\n}\n", agents=ONE_EXECUTOR)
+        self.assertEqual(re.sub("(?m)^    ", "", example), told.replace(self.room, "shop"))
+
     def test_the_hook_of_the_page(self):
         [hook] = re.findall(r"^```sh\n(#!/bin/sh\n.*?)^```$", read("docs/LINT.md").decode(), re.M | re.S)
         subprocess.run(["git", "init", "-q", self.room], check=True)

@@ -69,8 +69,9 @@ class Outside(Expressions):
     def of_annotation(self, node, around):
         key = {"Library": "annotation.Library", "Field": "annotation.Field", "groovy.transform.Field": "annotation.Field"}
         instead = None if node.name in key else "nothing"
-        if node.name in ("Field", "groovy.transform.Field") and isinstance(around.statement, Declaration):
-            instead = self.put("{} = {}", around.statement.names[0].name, around.statement.names[0].value or Node(0, 0))
+        if key.get(node.name) == "annotation.Field" and isinstance(around.statement, Declaration):
+            first = around.statement.names[0]
+            instead = self.put("{} = {}", first.name, first.value or "null")
         self.tell(node, key.get(node.name, "annotation"), f"the annotation `@{node.name}`", instead=instead)
 
     def of_classdefinition(self, node, around):
