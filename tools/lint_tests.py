@@ -3,12 +3,13 @@ import json
 import os
 import random
 import re
+import shutil
 import subprocess
 import sys
 import tempfile
 import unittest
 
-from examples import Example, codes, examples, of_faults, read, reference, rows
+from examples import BUILT, Example, codes, examples, of_faults, read, reference, rows, run_program
 from groovy_reader import Call, Closure, Declaration, read as read_groovy
 from lint_rules.agents_file import BadFile, executors_of
 from lint_rules.differences import ROWS
@@ -19,13 +20,14 @@ from lint_rules.linting import findings_of
 # The reference's scripts, from its folder, which lint_rules puts behind all others.
 from random_scripts import Scripts
 from script import script as written
+from tokens import Fault
 
 TOOLS = os.path.dirname(os.path.realpath(__file__))
 TOP = os.path.dirname(TOOLS)
 ENDED_WELL = {0, 10, 11, 12}
 # What the random cuts put into a script.
 CUTS = ["", "", "(", ")", "{", "}", "[", "]", '"', "'", "/", "$", "\n", ";", ",", ".", " in ", " as ", "def ", "final ", "~", "**", "<<",
-        "@A ", "==~", "..", "->", ":", "import a\n", "1.5", '"""', "else", "switch", "\\"]
+        "@A ", "==~", "..", "->", ":", "import a\n", "1.5", '"""', "else", "switch", "\\", "for (", "def T ", "$_", "x ", "1", "++", "? "]
 ONE_EXECUTOR = b'{"job": "a", "agents": [{"name": "m", "root": "/w", "labels": ["linux"], "executors": 1}]}'
 TWO_AGENTS = b"""{"job": "a", "agents": [{"name": "m", "root": "/w", "labels": ["linux"], "executors": 1},
  {"name": "n", "root": "/v", "labels": ["mac"], "executors": 2}]}"""
@@ -51,6 +53,17 @@ def trials():
             parts.append([it.split("\n", 1) for it in text.read().split("=== ")[1:]])
     for (name, trial), (_, printed) in zip(*parts):
         yield name, "\n".join(line for line in trial.split("\n") if not line.startswith("> ")), printed
+
+
+def cut_scripts(seed, count):
+    """Random scripts, most of them cut in some places."""
+    chance = random.Random(seed)
+    for _ in range(count):
+        source = written(Scripts(chance).script())[:6000]
+        for _ in range(chance.randint(0, 3)):
+            begin = chance.randrange(len(source) + 1)
+            source = source[:begin] + chance.choice(CUTS) + source[begin + chance.choice([0, 0, 1, 2, 6, 30]) :]
+        yield source
 
 
 class LintDifferences(unittest.TestCase):
@@ -112,15 +125,21 @@ class LintRepository(unittest.TestCase):
         self.assertGreater(ended, 150)
 
     def test_a_cut_script_is_refused_exactly_where_a_finding_says_so(self):
-        chance = random.Random(51)
-        for _ in range(80):
-            source = written(Scripts(chance).script())[:6000]
-            for _ in range(chance.randint(0, 3)):
-                begin = chance.randrange(len(source) + 1)
-                source = source[:begin] + chance.choice(CUTS) + source[begin + chance.choice([0, 0, 1, 2, 6, 30]) :]
+        for source in cut_scripts(51, 80):
             with self.subTest(source):
                 refused = [it for it in findings_of(source) if it.stage == REFUSED]
                 self.assertEqual(first_fault(source) is not None, bool(refused))
+
+    @unittest.skipUnless(os.access(BUILT, os.X_OK), "the program is not built")
+    def test_the_grammar_below_tells_the_first_fault_that_the_program_tells(self):
+        with tempfile.TemporaryDirectory(prefix="controller-lint-") as room:
+            for source in cut_scripts(52, 300):
+                Example("", source.encode(), "", [0]).write(f"{room}/folder")
+                told = run_program(BUILT, "check", f"{room}/folder")
+                shutil.rmtree(f"{room}/folder")
+                fault = first_fault(source)
+                with self.subTest(source):
+                    self.assertEqual(told, ("ok\n", 0) if fault is None else (Fault(*fault).told(source) + "\n", 4))
 
 
 class LintTellsAll(unittest.TestCase):
@@ -303,6 +322,24 @@ class LintPrinted(unittest.TestCase):
         line = self.lint("def x = 1 as int\n", agents=ONE_EXECUTOR)[0].splitlines()[0]
         found = re.fullmatch(json.loads(f'"{pattern}"'), line)
         self.assertEqual((f"{self.room}/Jenkinsfile", "1", "9", "error"), found.groups()[:4])
+
+
+    def test_the_example_of_the_page(self):
+        [example] = re.findall(r"(?m)^    shop/Jenkinsfile:(?:.*\n)(?:    .*\n)+", read("docs/LINT.md").decode())
+        told, _ = self.lint("def env = 'qa'\nnode {\n\n\n\n\n    if (env in ['qa', 'prod']) {\n    }\n}\n", agents=ONE_EXECUTOR)
+        self.assertEqual(re.sub("(?m)^    ", "", example), told.replace(self.room, "shop"))
+
+    def test_the_hook_of_the_page(self):
+        [hook] = re.findall(r"^```sh\n(#!/bin/sh\n.*?)^```$", read("docs/LINT.md").decode(), re.M | re.S)
+        subprocess.run(["git", "init", "-q", self.room], check=True)
+        with open(f"{self.room}/hook", "w", encoding="utf-8") as file:
+            file.write(hook.replace("/srv/controller/controller lint", f"{sys.executable} {TOOLS}/lint"))
+        for source, status in (("echo 'a'\n", 0), ("try { undo() } catch (Throwable e) { }\n", 0), ("echo 'a\n", 1)):
+            with open(f"{self.room}/Jenkinsfile", "w", encoding="utf-8") as file:
+                file.write(source)
+            subprocess.run(["git", "-C", self.room, "add", "Jenkinsfile"], check=True)
+            ran = subprocess.run(["sh", "hook"], cwd=self.room, stdout=subprocess.DEVNULL, check=False)
+            self.assertEqual(status, ran.returncode, source)
 
 
 class GroovyReader(unittest.TestCase):

@@ -22,6 +22,7 @@ SIGNS = [
     "+=", "-=", "*=", "/=", "%=", "&=", "|=", "^=", "++", "--", "**", "||", "&&", "==", "!=", "<=", ">=", "=~", "<<", ">>", "::",
     *"()[]{},;:?.=<>+-*/%!&|^~@",
 ]
+SIGN = re.compile("|".join(map(re.escape, SIGNS)))
 CLOSING = {")": "(", "]": "[", "}": "{"}
 ESCAPES = {"n": "\n", "t": "\t", "r": "\r", "b": "\b", "f": "\f", "\\": "\\", "'": "'", '"': '"', "$": "$"}
 NAME = re.compile(r"[^\W\d][\w$]*|\$[\w$]+")
@@ -133,13 +134,13 @@ class Lexer:
 
     def sign(self):
         begin = self.at
-        sign = next((it for it in SIGNS if self.next_is(it)), None)
-        if sign is None:
+        found = SIGN.match(self.source, begin)
+        if found is None:
             self.at += 1
             self.note("unknown character", begin, self.at)
             self.add("unknown", self.source[begin], begin)
             return
-        self.at += len(sign)
+        sign, self.at = found[0], found.end()
         if sign in ("(", "[", "{"):
             self.open.append(sign)
         ends = sign in CLOSING and self.open and isinstance(self.open[-1], str)

@@ -7,7 +7,7 @@ from .differences import METHOD, has_row
 from .findings import EXCEPTION, WARNING, Finding
 from .kinds import CLOSURE, MAP, NULL, NUMBER, TEXT
 from .statement_walk import truth
-from .steps import STEPS, StepCall
+from .steps import DEAF, STEPS, StepCall
 from .value_walk import Values
 
 # Methods that call their closure while they run.
@@ -83,9 +83,13 @@ class Calls(Values):
             self.needs_a_node(node)
         takes = ALL if node.what.name == "catchError" else NOTHING
         on_executor = INSIDE if node.what.name == "node" else self.on_executor
+        was = self.in_unknown
         for argument in node.arguments:
             is_body = isinstance(argument.value, Closure)
+            named = isinstance(argument.key, Identifier) and node.what.name not in DEAF
+            self.in_unknown = was or named and argument.key.name not in STEPS[node.what.name][0]
             self.on(on_executor if is_body else self.on_executor, self.taking, takes if is_body else NOTHING, self.argument, argument.value)
+        self.in_unknown = was
         if self.learnt is not None:
             self.found += [(self.function, self.takes, finding) for finding in StepCall(node, self.kind_of).findings()]
         if node.what.name != "sh":
@@ -111,7 +115,7 @@ class Calls(Values):
         if isinstance(on, Name) and kind is None and self.scope.find(on.name) is None and not self.is_bound(on.name):
             self.unknown_name(on, node)
             self.arguments(node)
-            return None
+            return BROKEN
         inner = on.inner if isinstance(on, Group) else on
         never = isinstance(inner, Prefix) and inner.sign == "-" or truth(inner) is False
         for argument in node.arguments:

@@ -8,8 +8,8 @@ from collections import namedtuple
 
 # What a row is about: the name of a step or of a parameter, another name, a method or an operator, or a form of the language.
 STEP, NAME, METHOD, FORM = "step", "name", "method", "form"
-# `key` names what a finding is about, and of several rows with one key the first tells what to write in general; `jenkins` is a script with it, `told` a part of what the program prints for that script, and
-# `instead` what to write, with scripts in backquotes.
+# `key` names what a finding is about, and of several rows with one key the first tells what to write in general. `jenkins` is a script
+# with it, `told` a part of what the program prints for that script, and `instead` what to write, with scripts in backquotes.
 Row = namedtuple("Row", "group key jenkins told instead")
 
 ROWS = (
@@ -109,7 +109,8 @@ ROWS = (
     Row(FORM, "modifier", "final name = 'shop'", "unexpected token", "`def name = 'shop'`"),
     Row(FORM, "modifier", "final def x = 1", "unexpected token", "`def x = 1`"),
     Row(FORM, "several-names", "def a, b", "unexpected token", "`def a ↵ def b`"),
-    Row(FORM, "catch-class", "try { error 'x' } catch (hudson.AbortException e) { }", "unexpected token", "`try { error 'x' } catch (e) { }`"),
+    Row(FORM, "catch-class", "try { error 'x' } catch (hudson.AbortException e) { }", "unexpected token",
+        "`try { error 'x' } catch (e) { }`"),
     Row(FORM, "generic-type", "Map<String, String> m = [:]", "unexpected token", "`def m = [:]`"),
     Row(FORM, "dotted-type", "java.util.List l = []", "unexpected token", "`def l = []`"),
     Row(NAME, "class-name", "println(java.io.File.separator)", "No such property: java", "a shell step, or a value of the script"),

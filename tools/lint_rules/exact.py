@@ -51,8 +51,8 @@ def inside(script, block):
     """The characters between the braces of a block or closure."""
     if isinstance(block, Closure):
         return block.body.begin, block.body.end
-    begin = block.begin + script.source[block.begin :].startswith("{")
-    return begin, max(begin, block.end - script.source[: block.end].endswith("}"))
+    begin = block.begin + script.source.startswith("{", block.begin)
+    return begin, max(begin, block.end - script.source.endswith("}", begin, block.end))
 
 
 def blank(text):

@@ -32,6 +32,8 @@ CASTS = {
     "Boolean": "{} ? true : false",
 }
 ASSIGNED = {"/=": "{0} = {0}.intdiv({1})", "?=": "{0} = {0} ?: {1}", "<<=": "{0}.add({1})"}
+OTHER_CLASS = "a shell step, or a map for what only holds values: `[:]`"
+MATCHING = "`startsWith`, `endsWith` or `contains` of the text, or a shell step with `grep`"
 INSTEAD = {
     "form-feed": "a blank", "joined-lines": "a line that ends with an operator, or one line",
     "carriage-return": "the file with line feeds alone: `sed -i 's/\\r$//' Jenkinsfile`",
@@ -74,6 +76,8 @@ class Expressions:
         """What to write for an operator that the language does not have, where that is one expression."""
         if node.sign == "as":
             return self.cast(node.right, node.left)
+        if node.sign in ("=~", "==~"):
+            return MATCHING
         if node.sign not in OPERATIONS:
             return None
         form, argument = OPERATIONS[node.sign]
@@ -107,7 +111,7 @@ class Expressions:
         if node.sign in ("++", "--"):
             self.tell(node, "step-in-front", f"`{node.sign}` in front of what it changes", instead=self.put("{}" + node.sign, node.operand))
         elif node.sign == "~":
-            self.tell(node, "regular-expression", "a regular expression")
+            self.tell(node, "regular-expression", "a regular expression", instead=MATCHING)
 
     def of_cast(self, node, around):
         self.tell(node, "cast-in-front", f"a cast to `{node.type.name}`", instead=self.cast(node.type, node.operand))
@@ -129,7 +133,7 @@ class Expressions:
             key = "Date" if node.type.name in ("Date", "java.util.Date") else "new-class"
             simple = node.type.name.rsplit(".", 1)[-1]
             is_thrown = simple.endswith(("Exception", "Error")) and len(node.arguments) == 1
-            instead = self.put("new Exception({})", node.arguments[0]) if is_thrown else "a map: `[:]`" if key != "Date" else None
+            instead = self.put("new Exception({})", node.arguments[0]) if is_thrown else OTHER_CLASS if key != "Date" else None
             what = f"`new {node.type.name}`: the classes are Exception, RuntimeException and Error"
             self.tell(node, key, what, node.type.end, instead=instead)
         elif len(node.arguments) > 1:
@@ -175,7 +179,7 @@ class Expressions:
             self.tell(node.name, "word-as-name", "a name behind a dot that is no plain name")
         elif node.name.name in WORDS:
             is_class = node.name.name == "class"
-            instead = "nothing: a value has no class" if is_class else self.put("{}['{}']", self.operand(node.on), node.name)
+            instead = "nothing; a value has no class" if is_class else self.put("{}['{}']", self.operand(node.on), node.name)
             self.tell(node.name, "word-as-name", f"the word `{node.name.name}` behind a dot", instead=instead)
         between = self.script.source[node.on.end : node.name.begin]
         if "." in between and "\n" in between[between.index(".") :]:

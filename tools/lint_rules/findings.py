@@ -1,5 +1,7 @@
 """Findings: what was found, where, and what to write in its place; and how they are printed."""
+import bisect
 import json
+import re
 from dataclasses import dataclass
 from typing import Optional
 
@@ -40,13 +42,13 @@ class File:
 
     def __init__(self, name, source):
         self.name, self.source = name, source
+        self.lines = [0] + [found.end() for found in re.finditer("\n", source)]
 
     def place(self, at):
         """The line and the column of a character, counted from 1; a byte order mark is no character of the first line."""
-        front = self.source[:at]
-        line = front.count("\n") + 1
+        line = bisect.bisect_right(self.lines, at)
         mark = line == 1 and self.source.startswith("\ufeff")
-        return line, at - (front.rfind("\n") + 1) + 1 - mark
+        return line, at - self.lines[line - 1] + 1 - mark
 
     def line_of(self, at):
         """The line in which a character stands, and the number of characters before it there."""
@@ -73,8 +75,9 @@ class File:
 
     def position(self, at):
         """A Position of the Language Server Protocol: line and character from 0, in units of UTF-16."""
-        begin = self.source.rfind("\n", 0, at) + 1
-        return {"line": self.source.count("\n", 0, at), "character": len(self.source[begin:at].encode("utf-16-le")) // 2}
+        line = bisect.bisect_right(self.lines, at)
+        begin = self.lines[line - 1]
+        return {"line": line - 1, "character": len(self.source[begin:at].encode("utf-16-le")) // 2}
 
     def diagnostic(self, finding):
         """A Diagnostic of the Language Server Protocol."""

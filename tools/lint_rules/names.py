@@ -17,6 +17,8 @@ VARIABLE = re.compile(r"[A-Z][A-Z0-9]*(_[A-Z0-9]+)+|[A-Z]{4,}")
 OF_STEPS = ("JOB_NAME", "BUILD_NUMBER", "NODE_NAME", "EXECUTOR_NUMBER", "WORKSPACE")
 # The results that a `catchError` gives in place of an assignment, besides UNSTABLE.
 WORSE = ("FAILURE", "NOT_BUILT", "ABORTED")
+# What to write for a call of some steps, shorter than their rows.
+IN_PLACE = {it: "the statements of its body alone" for it in ("timestamps", "ansiColor", "script")} | {"isUnix": "`true`"}
 # The sections of a Declarative Pipeline whose bodies are statements of a script, and those that hold further sections.
 CODE = frozenset("steps script always changed fixed regression aborted failure success unstable unsuccessful cleanup".split())
 SECTIONS = frozenset("pipeline stages stage parallel matrix post".split())
@@ -82,6 +84,7 @@ class Walk(Calls):
         elif name.name == "currentBuild":
             result = node.value.value if isinstance(node.value, Text) else ""
             is_result = self.script.written(node.target.name) == "result"
+            is_result = is_result and result != "SUCCESS"
             key = "currentBuild.result" if result == "UNSTABLE" else "currentBuild.result.NOT_BUILT"
             instead = f"`catchError(buildResult: '{result}') {{ error 'why' }}`" if is_result and result in WORSE else None
             self.tell(node, EXCEPTION, key if is_result else "currentBuild.read", "nothing has the name `currentBuild`", instead)
@@ -108,7 +111,7 @@ class Walk(Calls):
 
     def similar_call(self, key, name):
         if key != "step-unknown":
-            return None
+            return IN_PLACE.get(key)
         return suggested(name, [*STEPS, *self.functions]) or "a shell step, or a function of the script"
 
     def similar_name(self, name):

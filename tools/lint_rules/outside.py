@@ -59,14 +59,20 @@ class Outside(Expressions):
     # --- definitions
 
     def of_import(self, node, around):
-        self.tell(node, "import", "`import` is not in the language")
+        is_json = node.path.startswith("groovy.json.")
+        instead = None if is_json else f"nothing; no class `{node.path.rsplit('.', 1)[-1]}` is there"
+        self.tell(node, "import", "`import` is not in the language", instead=instead)
 
     def of_package(self, node, around):
         self.tell(node, "package", "`package` is not in the language")
 
     def of_annotation(self, node, around):
         key = {"Library": "annotation.Library", "Field": "annotation.Field", "groovy.transform.Field": "annotation.Field"}
-        self.tell(node, key.get(node.name, "annotation"), f"the annotation `@{node.name}`")
+        instead = None if node.name in key else "nothing"
+        if key.get(node.name) == "annotation.Field" and isinstance(around.statement, Declaration):
+            first = around.statement.names[0]
+            instead = self.put("{} = {}", first.name, first.value or "null")
+        self.tell(node, key.get(node.name, "annotation"), f"the annotation `@{node.name}`", instead=instead)
 
     def of_classdefinition(self, node, around):
         end = node.begin + len(node.word) + 1 + len(node.name)
@@ -156,10 +162,13 @@ class Outside(Expressions):
     # --- statements
 
     def of_switch(self, node, around):
-        self.tell(node, "switch", "`switch` is not in the language", node.begin + len("switch"))
+        first = next((it.value for it in node.cases if it.value is not None), None)
+        instead = self.put("if ({} == {}) {{ .. }} else ..", self.operand(node.subject), first) if first is not None else None
+        self.tell(node, "switch", "`switch` is not in the language", node.begin + len("switch"), instead=instead)
 
     def of_dowhile(self, node, around):
-        self.tell(node, "do", "`do` is not in the language", node.begin + len("do"))
+        instead = self.put("while (true) {{ ..; if (!({})) {{ break }} }}", node.test)
+        self.tell(node, "do", "`do` is not in the language", node.begin + len("do"), instead=instead)
 
     def of_assert(self, node, around):
         instead = self.put("if (!({})) {{ error '..' }}", node.test)

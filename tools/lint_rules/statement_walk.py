@@ -35,7 +35,7 @@ class Statements(Context):
         """A statement, a block, an expression or a part of one."""
         if isinstance(node, Block):
             self.block(node)
-        elif hasattr(self, "do_" + type(node).__name__.lower()) or type(node).__name__ in ("Case", "Switch", "DoWhile", "Labeled"):
+        elif hasattr(self, "do_" + type(node).__name__.lower()) or type(node).__name__ == "Labeled":
             self.statement(node)
         else:
             self.value(node)
@@ -102,6 +102,13 @@ class Statements(Context):
     def do_while(self, node):
         self.value(node.test)
         self.only_if(truth(node.test) is not False, self.block, node.body, True)
+
+    def do_switch(self, node):
+        """A `break` in it is no fault of its own: it goes with the `switch`."""
+        self.value(node.subject)
+        for case in node.cases:
+            self.value(case.value)
+            self.inside(self.statements, case.statements, in_loop=True)
 
     def do_dowhile(self, node):
         self.block(node.body, True)

@@ -10,6 +10,10 @@ from .statement_walk import Statements, truth
 from .steps import STEPS
 
 
+# Operators whose value is a truth value, whatever the operands are.
+LOGICAL = ("==", "!=", "&&", "||", "in", "!in", "==~", "<", "<=", ">", ">=")
+
+
 class Values(Statements):
     """Each method `of_..` walks the expressions of one class, and gives the kind of the value."""
 
@@ -48,7 +52,8 @@ class Values(Statements):
         return {"true": TRUTH, "false": TRUTH, "null": NULL}.get(node.word)
 
     def of_group(self, node):
-        return self.value(node.inner)
+        kind = self.value(node.inner)
+        return BROKEN if self.is_broken(node.inner) else kind
 
     def of_listliteral(self, node):
         for item in node.items:
@@ -141,6 +146,8 @@ class Values(Statements):
             return TRUTH if node.sign == "instanceof" else None
         decides = node.sign == "&&" and truth(node.left) is False or node.sign == "||" and truth(node.left) is True
         right = self.taking(ALL if decides else NOTHING, self.value, node.right)
+        if node.sign not in LOGICAL and (self.is_broken(node.left) or self.is_broken(node.right)):
+            return BROKEN
         if node.sign not in kinds.METHOD_OF_SIGN and node.sign not in ("==", "!=", "&&", "||"):
             return TRUTH if node.sign in ("in", "!in", "==~") else None
         return self.joined(node, node.sign, left, right)
