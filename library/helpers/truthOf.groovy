@@ -1,0 +1,7 @@
+// `value as boolean`.
+//
+// Example:
+//     echo "${truthOf('')}"
+def truthOf(value) {
+    return value ? true : false
+}

@@ -1,0 +1,8 @@
+// warnError(MESSAGE) { .. }, warnError(message: MESSAGE) { .. }: goes on behind a failure of its body, logs the message, and makes the
+// build UNSTABLE.
+//
+// Example:
+//     warnError('style') { echo 'x' }
+def warnError(given, body) {
+    catchError(message: argumentsOf(given, 'message').message, buildResult: 'UNSTABLE') { body() }
+}

@@ -1,0 +1,308 @@
+"""A prepared script: the rewritten Jenkinsfile with what it needs in front of its first statement and behind its last line."""
+import os
+import sys
+import threading
+
+from groovy_reader import nodes as g, read
+
+from . import library, parameters, places
+from .findings import Findings, REFUSED
+from .names import Names
+from .rewrite import Module, Rewriter, caught_classes, functions_of
+from .syntax import literal
+from .words import OF_BUILDS
+
+REFERENCE = f"{library.TOP}/tools/reference"
+
+
+class Options:
+    """What the words of the command say."""
+
+    def __init__(self, given=None, environment=None, dropped=(), vars_folder=None, scm=None, folder=None):
+        self.parameters, self.environment = dict(given or {}), dict(environment or {})
+        self.dropped, self.vars, self.scm, self.folder = list(dropped), vars_folder, scm, folder
+
+
+class Context:
+    """What the files of one build share."""
+
+    def __init__(self, options, main, modules, found):
+        scripts = [main, *(it.script for it in modules.values())]
+        names = Names(scripts)
+        self.assigned = names.assigned | names.fields
+        self.caught_classes = caught_classes(scripts)
+        self.modules, self.loads = modules, set()
+        self.dropped = {name: [] for name in options.dropped}
+        self.library = set(library.items()) - {name for script in scripts for name in names_of_functions(script)}
+        self.parameters = parameters.values(parameters.declared(main, found), options.parameters)
+        self.environment = {**{name: plain(value) for name, value in self.parameters.items()}, **options.environment}
+        self.scm, self.needed, self.uses, self.fresh = options.scm, set(), set(), 0
+        calls = [it for script in scripts for it in script.walk() if isinstance(it, g.Call) and isinstance(it.what, g.Name)]
+        self.has_credentials = any(it.what.name == "withCredentials" for it in calls)
+        self.set_names = {name for script in scripts for name in set_by_env(script)}
+        self.with_names = {name for it in calls if it.what.name in ("withEnv", "withCredentials") for name in named_in(it)}
+        self.reads_result = any(is_read(script) for script in scripts)
+        self.is_wrapped = bool(self.environment) and is_one_piece(main)
+        if self.environment and not self.is_wrapped:
+            self.set_names |= set(self.environment)
+
+
+def names_of_functions(script):
+    return [it.name.name for it in functions_of(script)]
+
+
+def plain(value):
+    return {True: "true", False: "false"}.get(value, value) if isinstance(value, bool) else str(value)
+
+
+def set_by_env(script):
+    for node in script.walk():
+        target = node.target if isinstance(node, g.Assignment) else None
+        if isinstance(target, g.Property) and isinstance(target.on, g.Name) and target.on.name == "env" and hasattr(target.name, "name"):
+            yield target.name.name
+        elif isinstance(target, g.Index) and isinstance(target.on, g.Name) and target.on.name == "env" and isinstance(target.items[0].value, g.Text):
+            yield target.items[0].value.value
+
+
+def named_in(call):
+    """The variables that `withEnv` or `withCredentials` sets, as far as they are written out."""
+    for node in (inner for it in call.arguments if not isinstance(it.value, g.Closure) for inner in it.walk()):
+        if isinstance(node, g.Argument) and getattr(node.key, "name", "").lower().endswith("variable") and isinstance(node.value, g.Text):
+            yield node.value.value
+        front = node.value if isinstance(node, g.Text) else node.parts[0].value if isinstance(node, g.GString) and node.parts \
+            and isinstance(node.parts[0], g.TextPart) else ""
+        name = front.split("=")[0].split("+")[0]
+        if "=" in front and name.isidentifier():
+            yield name
+
+
+def is_read(script):
+    """Whether a script reads the result of its build."""
+    targets = {id(it.target) for it in script.walk() if isinstance(it, g.Assignment)}
+    return any(isinstance(it, g.Property) and isinstance(it.on, g.Name) and it.on.name == "currentBuild" and id(it) not in targets
+               and getattr(it.name, "name", "") in ("result", "currentResult") for it in script.walk())
+
+
+def is_run(node):
+    """Whether a statement of the top level runs, as functions and imports do not."""
+    inner = node.statement if isinstance(node, g.Annotated) else node
+    is_library = isinstance(node, g.Annotated) and any(it.name == "Library" for it in node.annotations)
+    return not (is_library or inner is None or isinstance(inner, (g.Function, g.Import, g.Package, g.ClassDefinition)))
+
+
+def is_one_piece(script):
+    """Whether no function stands between two statements that run."""
+    runs = [is_run(it) or not isinstance(it, g.Function) and not isinstance(getattr(it, "statement", None), g.Function) for it in script.statements]
+    if True not in [is_run(it) for it in script.statements]:
+        return False
+    first = [is_run(it) for it in script.statements].index(True)
+    last = len(runs) - 1 - [is_run(it) for it in script.statements][::-1].index(True)
+    return all(runs[first : last + 1])
+
+
+# --- the files
+
+
+def read_file(path):
+    with open(path, encoding="utf-8", newline="") as file:
+        return file.read().replace("\r\n", "\n")
+
+
+def modules_of(options, main, file, found):
+    """The files of functions that the script may call."""
+    made = {}
+    if options.vars:
+        for name in sorted(os.listdir(options.vars)):
+            if name.endswith(".groovy"):
+                path = f"{options.vars}/{name}"
+                made[name[:-7]] = Module(name[:-7], path, read(read_file(path)))
+    for node in main.walk():
+        if isinstance(node, g.Declaration) and len(node.names) == 1 and is_load(node.names[0].value):
+            path = os.path.join(os.path.dirname(file), node.names[0].value.arguments[0].value.value)
+            name = node.names[0].name.name
+            try:
+                made[name] = Module(name, path, read(read_file(path)))
+            except OSError:
+                found.refuse(node, f"`load`: there is no file {path}")
+    return made
+
+
+def is_load(node):
+    return isinstance(node, g.Call) and isinstance(node.what, g.Name) and node.what.name == "load" and len(node.arguments) == 1 \
+        and isinstance(node.arguments[0].value, g.Text)
+
+
+def used_modules(main, modules):
+    """The modules that a script names, and those that these name."""
+    used, rest = {}, [main]
+    while rest:
+        script = rest.pop()
+        for node in script.walk():
+            if isinstance(node, g.Name) and node.name in modules and node.name not in used:
+                used[node.name] = modules[node.name]
+                rest.append(modules[node.name].script)
+    return used
+
+
+class Prepared:
+    """What came of a Jenkinsfile: the text, and all findings."""
+
+    def __init__(self, source, file, options):
+        self.file, self.options = file, options
+        main = read(source)
+        early = Findings(main, file)
+        loaded = used_modules(main, modules_of(options, main, file, early))
+        self.context = Context(options, main, loaded, early)
+        self.rewriter = Rewriter(self.context, main, file)
+        self.rewriter.found.all += early.all
+        self.take_loads(main)
+        self.rewriter.all()
+        self.parts = [self.of_module(it) for it in loaded.values()]
+        self.text = self.whole(main)
+        self.findings = sorted({*map(as_tuple, self.rewriter.found.all), *(as_tuple(it) for part in self.parts for it in part.found.all)})
+        self.sources = {file: source, **{it.file: it.script.source for it in loaded.values()}}
+
+    def take_loads(self, main):
+        for node in main.walk():
+            if isinstance(node, g.Declaration) and len(node.names) == 1 and is_load(node.names[0].value):
+                call = node.names[0].value
+                self.context.loads.add(id(call))
+                self.rewriter.edits.replace(call.begin, call.end, literal(call.arguments[0].value.value))
+                self.rewriter.skip(call)
+                self.rewriter.found.changed(node, f"the functions of {call.arguments[0].value.value} come into the script, as they are now")
+
+    def of_module(self, module):
+        made = Rewriter(self.context, module.script, module.file, module)
+        made.all()
+        for node in module.script.statements:
+            inner = node.statement if isinstance(node, g.Annotated) else node
+            is_end = isinstance(node, g.Return) and isinstance(node.value, g.Constant) and node.value.word == "this"
+            if is_end:
+                made.edits.replace(node.begin, node.end, "")
+            elif is_run(node) and not isinstance(inner, g.Function):
+                made.found.refuse(node, "a statement beside the functions of such a file")
+        return made
+
+    # --- the text
+
+    def whole(self, main):
+        """The script: its own lines first, each at its number, then what was added, then the map."""
+        self.set_in_front(main)
+        text, pieces = self.rewriter.edits.applied()
+        lines = places.pieces_of(text, pieces, main.place)
+        text = text if text.endswith("\n") else text + "\n"
+        functions = []
+
+        def add(file, code, line=1):
+            nonlocal text
+            functions.append((text.count("\n") + 1, line, file))
+            text += code if code.endswith("\n") else code + "\n"
+
+        if self.rewriter.added:
+            add(self.file, "\n".join(self.rewriter.added))
+        for part in self.parts:
+            code, _ = part.edits.applied()
+            add(part.file, code)
+            if part.added:
+                add(part.file, "\n".join(part.added))
+        for name, calls in sorted(self.context.dropped.items()):
+            if calls:
+                add("tools/prepare", dropped(name, calls))
+        for it in library.needed(self.context.needed & self.context.library):
+            add(f"library/{it.path}", it.code, it.first)
+        if not lines and not functions:
+            return text
+        return f"{text}{places.HEAD}of {os.path.abspath(self.file)}\n" + places.told(lines, functions)
+
+    def set_in_front(self, main):
+        """What the script needs before its first statement, on the line of that statement; and what is around all of it."""
+        runs = [it for it in main.statements if is_run(it)]
+        front = "".join(f"{it}; " for it in self.settings())
+        back = ""
+        if self.context.is_wrapped and self.has_shell_steps(main):
+            overrides = ", ".join(literal(f"{name}={value}") for name, value in sorted(self.context.environment.items()))
+            front, back = f"{front}withEnv([{overrides}]) {{ ", " }"
+        if not front or not runs:
+            return
+        edits = self.rewriter.edits
+        edits.fronts[runs[0].begin].insert(0, front)
+        edits.backs[runs[-1].end].append(back)
+
+    def has_shell_steps(self, main):
+        return any(isinstance(it, g.Name) and it.name == "sh" for it in main.walk()) or bool(self.context.needed)
+
+    def settings(self):
+        """The variables of Jenkins that the script reads."""
+        context = self.context
+        needed = {it.name for it in library.needed(context.needed & context.library)}
+        if "params" in context.uses:
+            yield f"params = {written(context.parameters)}"
+        if "env" in context.uses or context.set_names:
+            yield f"env = {written({**OF_BUILDS, **context.environment})}"
+        if "currentBuild" in context.uses or context.reads_result or "noteResult" in needed:
+            yield "currentBuild = [number: 1, id: '1', displayName: '#1', description: null, result: null, currentResult: 'SUCCESS', " \
+                "previousBuild: null, changeSets: []]"
+        if "scm" in context.uses and context.scm:
+            url, _, branch = context.scm.partition("#")
+            yield f"scm = {written({'url': url, 'branch': branch or 'HEAD'})}"
+        if needed & {"archiveArtifacts", "stash", "unstash"}:
+            yield f"buildFolder = {literal(self.options.folder or os.path.dirname(os.path.abspath(self.file)))}"
+
+
+def as_tuple(finding):
+    return finding.file, finding.line, finding.column, finding.kind, finding.text
+
+
+def written(values):
+    """A map as it is written in the language."""
+    def entry(value):
+        if isinstance(value, bool):
+            return "true" if value else "false"
+        return literal(value) if isinstance(value, str) else "null" if value is None else str(value)
+
+    return "[" + (", ".join(f"{literal(name)}: {entry(value)}" for name, value in values.items()) or ":") + "]"
+
+
+def dropped(name, calls):
+    """A function in place of a step that is left out."""
+    has_body = any(trailing for _, trailing in calls)
+    return f"def {name}(given, body) {{ return body() }}" if has_body else f"def {name}(given) {{ return null }}"
+
+
+def first_fault(text):
+    """The first fault of a script by the product's grammar: its line, column and kind; None where it has none."""
+    if REFERENCE not in sys.path:
+        sys.path.append(REFERENCE)
+    from parse import parsed
+    from tokens import Fault
+    try:
+        with_deep_calls(lambda: parsed(text))
+    except Fault as fault:
+        line, column, kind = fault.told(text).split(":", 3)[1:]
+        return int(line), int(column), kind.strip()
+    return None
+
+
+def with_deep_calls(call):
+    """What a call gives that may be nested some thousand calls deep."""
+    ended = []
+
+    def run():
+        try:
+            ended.append((call(), None))
+        except Exception as fault:  # it is raised again below
+            ended.append((None, fault))
+
+    depth, size = sys.getrecursionlimit(), threading.stack_size(256 << 20)
+    sys.setrecursionlimit(100_000)
+    try:
+        thread = threading.Thread(target=run)
+        thread.start()
+        thread.join()
+    finally:
+        sys.setrecursionlimit(depth)
+        threading.stack_size(size)
+    told, fault = ended[0]
+    if fault is not None:
+        raise fault
+    return told

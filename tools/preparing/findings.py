@@ -1,0 +1,47 @@
+"""What `tools/prepare` tells of a script: what it changed, and what it could not."""
+from dataclasses import dataclass
+
+# What stands as it was, since it cannot be written in the language, or not without a change of what it means.
+REFUSED = "refused"
+# What was written in another way, with the same meaning; and what the one who builds should know.
+CHANGED, NOTE = "changed", "note"
+
+
+@dataclass(order=True)
+class Finding:
+    file: str
+    line: int
+    column: int
+    kind: str
+    text: str
+
+    def told(self, source):
+        """As `lint` tells it: the place and the text; of what was refused also the line with a mark under it."""
+        head = f"{self.file}:{self.line}:{self.column}: {self.kind}: {self.text}"
+        if self.kind != REFUSED:
+            return head
+        line = source.split("\n")[self.line - 1]
+        blanks = "".join(sign if sign == "\t" else " " for sign in line[: self.column - 1])
+        return f"{head}\n    {line}\n    {blanks}^"
+
+
+class Findings:
+    """The findings of one file."""
+
+    def __init__(self, script, file):
+        self.script, self.file, self.all = script, file, []
+
+    def add(self, kind, at, text):
+        line, column = self.script.place(at)
+        made = Finding(self.file, line, column, kind, text)
+        if made not in self.all:
+            self.all.append(made)
+
+    def refuse(self, node, text):
+        self.add(REFUSED, node.begin, text)
+
+    def changed(self, node, text):
+        self.add(CHANGED, node.begin, text)
+
+    def note(self, node, text):
+        self.add(NOTE, node.begin, text)

@@ -1,0 +1,68 @@
+"""The names of scripts: what they declare, which functions they have, and what is plain of the kinds of their variables."""
+from groovy_reader.nodes import (Annotated, Assignment, Binary, Call, Catch, Choice, Closure, Constant, Declaration, ForIn, Function, Group,
+                                 GString, ListLiteral, MapLiteral, Name, Number, Parameter, Property, Text)
+
+# Methods that give a text, or a list, whatever they are called on.
+TEXTS = frozenset("trim toString replace toUpperCase toLowerCase substring join capitalize".split())
+LISTS = frozenset("tokenize readLines collect keySet values split".split())
+
+
+class Names:
+    """The names of all scripts that become one: the Jenkinsfile and the files whose functions it calls."""
+
+    def __init__(self, trees):
+        self.functions, self.declared, self.assigned, self.fields, self.values = {}, set(), set(), set(), {}
+        for tree in trees:
+            for node in tree.walk():
+                self.take(node)
+
+    def take(self, node):
+        if isinstance(node, Function):
+            self.functions.setdefault(node.name.name, []).append(node)
+        elif isinstance(node, (Parameter, Catch, ForIn)):
+            self.declare(node.name.name, None)
+        elif isinstance(node, Declaration):
+            for it in node.names:
+                self.declare(it.name.name, it.value)
+        elif isinstance(node, Assignment) and isinstance(node.target, Name):
+            self.assigned.add(node.target.name)
+            if node.sign == "=":
+                self.values.setdefault(node.target.name, []).append(node.value)
+        elif isinstance(node, Annotated) and any(it.name.split(".")[-1] == "Field" for it in node.annotations):
+            self.fields |= {it.name.name for it in getattr(node.statement, "names", [])}
+
+    def declare(self, name, value):
+        self.declared.add(name)
+        self.values.setdefault(name, []).append(value)
+
+    def is_variable(self, name):
+        return name in self.declared or name in self.assigned
+
+    def kind(self, node, depth=0):
+        """'text', 'list', 'map', 'number' or 'closure' where a value can only be of that kind; else None."""
+        if isinstance(node, Group):
+            return self.kind(node.inner, depth)
+        for form, kind in ((Text, "text"), (GString, "text"), (ListLiteral, "list"), (MapLiteral, "map"), (Number, "number"), (Closure, "closure")):
+            if isinstance(node, form):
+                return kind
+        if isinstance(node, Name) and depth < 4:
+            kinds = {self.kind(value, depth + 1) for value in self.values.get(node.name, [None])}
+            return kinds.pop() if len(kinds) == 1 else None
+        if isinstance(node, Binary):
+            if node.sign in ("..", "..<"):
+                return "list"
+            return self.kind(node.left, depth) if node.sign == "+" and self.kind(node.left, depth) in ("text", "list") else None
+        if isinstance(node, Choice) and node.then is not None:
+            kinds = {self.kind(node.then, depth), self.kind(node.otherwise, depth)}
+            return kinds.pop() if len(kinds) == 1 else None
+        if isinstance(node, Call) and isinstance(node.what, Property) and hasattr(node.what.name, "name"):
+            name = node.what.name.name
+            return "text" if name in TEXTS else "list" if name in LISTS else None
+        return None
+
+
+def is_plain(node):
+    """Whether the evaluation of an expression does nothing else, so that it may come earlier or later."""
+    return isinstance(node, (Text, Number, Constant, Name)) or isinstance(node, Group) and is_plain(node.inner) \
+        or isinstance(node, ListLiteral) and all(is_plain(it.value) for it in node.items) \
+        or isinstance(node, Property) and node.dot in (".", "?.") and is_plain(node.on)
