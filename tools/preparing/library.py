@@ -32,7 +32,7 @@ class Item:
 def items():
     """All functions, by their names."""
     found = {}
-    for path in [*sorted(os.listdir(FOLDER)), *(f"methods/{name}" for name in sorted(os.listdir(f"{FOLDER}/methods")))]:
+    for path in [*sorted(os.listdir(FOLDER)), *(f"helpers/{name}" for name in sorted(os.listdir(f"{FOLDER}/helpers")))]:
         if path.endswith(".groovy"):
             with open(f"{FOLDER}/{path}", encoding="utf-8") as file:
                 item = Item(path, file.read())

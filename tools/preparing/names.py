@@ -4,7 +4,7 @@ from groovy_reader.nodes import (Annotated, Assignment, Binary, Call, Catch, Cho
 
 # Methods that give a text, or a list, whatever they are called on.
 TEXTS = frozenset("trim toString replace toUpperCase toLowerCase substring join capitalize".split())
-LISTS = frozenset("tokenize readLines collect keySet values split".split())
+LISTS = frozenset("tokenize readLines collect keySet values split withIndex toList sort flatten".split())
 
 
 class Names:

@@ -156,7 +156,7 @@ class Steps:
         parent, first = self.parent(node), node.arguments[0]
         is_whole = isinstance(parent, (g.Evaluate, g.Declarator, g.Assignment, g.Return))
         is_word = isinstance(first.value, (g.Text, g.Name, g.Number, g.GString, g.Constant, g.Call, g.Property, g.Binary, g.Closure, g.Choice))
-        is_word = is_word and (first.key is not None or self.source[first.begin] not in "[({!-+~")
+        is_word = is_word and (first.key is not None or self.source[first.begin] not in "[({!-+~" and not is_turned(first.value))
         if is_whole and is_word and isinstance(node.what, g.Name):
             return
         if id(node) in self.as_functions:
@@ -429,6 +429,15 @@ class Steps:
             self.found.changed(node, "`e.causes` becomes `causesOf(e)` of the library")
             return True
         return False
+
+
+def is_turned(node):
+    """Whether what comes first in an expression is written behind the rest, as the value that a list is asked for."""
+    while isinstance(node, (g.Binary, g.Choice)):
+        if isinstance(node, g.Binary) and node.sign in ("in", "!in"):
+            return True
+        node = node.left if isinstance(node, g.Binary) else node.test
+    return False
 
 
 def text_of(node):

@@ -23,6 +23,18 @@ def simple(name):
 FILLED = {("sort", 0): ", null", ("split", 0): ", null", ("padLeft", 1): ", ' '", ("padRight", 1): ", ' '"}
 
 
+def leaves(statement):
+    """Whether nothing behind a statement runs after it: it returns, throws or begins the next turn, whatever it chooses."""
+    if isinstance(statement, g.If):
+        return statement.otherwise is not None and leaves(statement.then) and leaves(statement.otherwise)
+    if isinstance(statement, g.Block):
+        return bool(statement.statements) and leaves(statement.statements[-1])
+    if isinstance(statement, g.Switch):
+        ends = [it.statements[-1] for it in statement.cases if it.statements]
+        return any(it.value is None for it in statement.cases) and all(map(leaves, ends))
+    return isinstance(statement, (g.Return, g.Throw, g.Continue))
+
+
 class Syntax:
     """Rules on nodes of the tree, by their forms: each is a method `on_Form`, called from the outside in."""
 
@@ -189,12 +201,11 @@ class Syntax:
 
     def on_If(self, node):
         otherwise = node.otherwise
-        if isinstance(otherwise, g.If) and "\n" in self.source[self.behind_else(node) : otherwise.begin]:
-            self.edits.replace(self.behind_else(node), otherwise.begin, " ")
-            self.found.changed(otherwise, "`else` and `if` on one line")
-
-    def behind_else(self, node):
-        return self.source.index("else", node.then.end) + 4
+        if isinstance(otherwise, g.If):
+            between = self.source[node.then.end : otherwise.begin]
+            if "\n" in between[between.rindex("else") :] and not between.replace("else", "", 1).strip(" \t\n;"):
+                self.edits.replace(node.then.end, otherwise.begin, "\n" * between.count("\n") + " else ")
+                self.found.changed(otherwise, "`else` and `if` on one line")
 
     def on_Switch(self, node):
         """`switch` whose cases do not fall through becomes `if`, `else if`, `else`."""
@@ -245,7 +256,7 @@ class Syntax:
             is_last = at == len(node.cases) - 1
             if case.value is None and not is_last:
                 return case
-            if last is not None and not is_last and not isinstance(last, (g.Break, g.Return, g.Throw, g.Continue)):
+            if last is not None and not is_last and not (isinstance(last, g.Break) or leaves(last)):
                 return case
             for statement in case.statements[:-1] if isinstance(last, g.Break) else case.statements:
                 if self.breaks_out(statement):
@@ -538,9 +549,7 @@ class Syntax:
         """A pattern that is written out becomes a function of the library that matches it."""
         right = node.right
         inner = right.operand if isinstance(right, g.Prefix) and right.sign == "~" else right
-        parent = self.parent(node)
-        is_truth = node.sign == "==~" or isinstance(parent, (g.If, g.While, g.Choice)) and node is getattr(parent, "test", None) \
-            or isinstance(parent, g.Binary) and parent.sign in ("&&", "||") or isinstance(parent, g.Prefix) and parent.sign == "!"
+        is_truth = node.sign == "==~" or self.is_condition(node)
         self.done.add(id(right))
         pattern = patterns.written(inner.value) if isinstance(inner, g.Text) and is_truth else None
         if pattern is None:
@@ -550,6 +559,14 @@ class Syntax:
         self.skip(right)
         self.edits.replace(right.begin, right.end, pattern)
         self.found.changed(node, f"`{node.sign}` becomes `matchesPattern(..)` of the library")
+
+    def is_condition(self, node):
+        """Whether only the truth of a value counts."""
+        inner, parent = node, self.parent(node)
+        while isinstance(parent, g.Group):
+            inner, parent = parent, self.parent(parent)
+        return isinstance(parent, (g.If, g.While, g.Choice)) and inner is parent.test \
+            or isinstance(parent, g.Binary) and parent.sign in ("&&", "||") or isinstance(parent, g.Prefix) and parent.sign == "!"
 
     # --- what stands behind a value
 
@@ -641,6 +658,8 @@ class Syntax:
         name, number = getattr(what.name, "name", None), len(node.arguments)
         named = [it for it in node.arguments if it.key is not None]
         number -= max(0, len(named) - 1)
+        if number in METHODS.get(name, ()) and node.trailing and self.names.kind(what.on) == "list" and len(node.arguments[-1].value.parameters or []) > 1:
+            self.found.refuse(node.arguments[-1], "an entry of a list that is spread over several parameters: take one, and its entries by `[0]`, `[1]`")
         if name is None or name in ("call",) or number in METHODS.get(name, ()):
             return
         if (name, number) in LEFT_OUT:

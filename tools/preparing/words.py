@@ -15,7 +15,7 @@ METHODS = {
     "findAll": {1}, "any": {1}, "every": {1}, "times": {1}, "intdiv": {1}, "getMessage": {0},
 }
 
-# Methods of Groovy that a function of `library/methods` does, with the numbers of arguments behind the receiver. No kind of value of
+# Methods of Groovy that a function of `library/helpers` does, with the numbers of arguments behind the receiver. No kind of value of
 # the language has a method of that name with so many arguments.
 FUNCTIONS = {
     "capitalize": {0}, "take": {1}, "drop": {1}, "sort": {0, 1}, "sum": {0}, "max": {0}, "min": {0}, "unique": {0}, "collectEntries": {1},
