@@ -24,8 +24,7 @@ from preparing.assemble import Options, Prepared, first_fault, read_file
 PACKAGES = [
     ("maven", "3.8.7-1"), ("surefire", "2.22.3-2"), ("maven-resolver", "1.6.3-1"), ("jetty9", "9.4.57-1.1~deb12u1"),
     ("zookeeper", "3.8.0-11+deb12u2"), ("docker.io", "20.10.24+dfsg1-1+deb12u1"), ("docker-compose", "1.29.2-3"),
-    ("apache-directory-server", "2.0.0~M26-1"), ("maven-shared-utils", "3.3.4-1"), ("doxia", "1.12.0-1"),
-    ("activemq", "5.17.2+dfsg-2+deb12u1"), ("libfabric", "1.17.0-3"), ("shiro", "1.3.2-5"),
+    ("apache-directory-server", "2.0.0~M26-1"),
 ]
 SOURCES = "deb-src [signed-by=/usr/share/keyrings/debian-archive-keyring.gpg] http://deb.debian.org/debian bookworm main\n"
 NAMED_SO = re.compile(r"(^|/)([\w.-]*jenkinsfile[\w.-]*)$", re.I)
@@ -82,3 +81,180 @@ def fetch(into):
             shutil.rmtree(folder)
     print(f"{total} Jenkinsfiles in {into}")
     return 0 if total else 1
+
+
+# --- what is run
+
+
+# The words of `tools/prepare` for a file; the labels of the agents beside a first one without; what a command makes in its folder, by
+# the command's name; the status of the build, and lines that its log has to have, in this order.
+FILES = {
+    "maven-Jenkinsfile": {
+        "words": ["--drop", "timeout"], "labels": ["ubuntu"], "makes": {"mvn": ["apache-maven/target/apache-maven-bin.zip", "a/target/surefire-reports/TEST-a.xml"]},
+        "status": 0, "lines": ["mvn clean verify", "Stashed 1 file(s)", "Run ITs Linux Java 17", "notified of SUCCESS"],
+    },
+    "surefire-Jenkinsfile": {
+        "words": ["--drop", "timeout", "--drop", "openTasks", "--drop", "jacoco"], "labels": ["ubuntu", "Windows"],
+        "makes": {"mvn": ["surefire-its/target/surefire-reports/TEST-a.xml"]},
+        "status": 0, "lines": ["linux-jdk7-maven3.5.x  ==>  Label: ubuntu && !H24, JDK: jdk_7_latest, Maven: maven_3.5.x_latest.", "Finished: SUCCESS"],
+    },
+    "maven-resolver-Jenkinsfile": {
+        "words": [], "labels": ["ubuntu"], "makes": {"mvn": ["a/target/surefire-reports/TEST-a.xml"]},
+        "status": 0, "lines": ["mvn clean verify", "notified of SUCCESS"],
+    },
+    "jetty9-Jmh_Jenkinsfile": {
+        "words": ["--drop", "timeout", "--drop", "jmhReport"], "labels": ["linux", "jmh-build-node"],
+        "makes": {"mvn": ["jetty-jmh/target/benchmarks.jar"]},
+        "status": 0, "lines": ["mvn -V -B clean install -DskipTests -T6 -e -pl :jetty-jmh -am", "java -jar jetty-jmh/target/benchmarks.jar"],
+    },
+}
+COMMANDS = ("mvn", "make", "docker", "zip", "npm", "gradle", "ant", "curl", "mail")
+# The repositories of which clones are asked for, each with its branches.
+REPOSITORIES = {"apache/maven-integration-testing": "master", "eclipse/jetty.project": "jetty-9.4.x", "example/amazing-project": "master"}
+REPORT = '<testsuite><testcase name="a"/><testcase name="b"/></testsuite>'
+# Seconds until a build has to have ended.
+PATIENCE = 300
+
+
+def write(path, content, mode=0o644):
+    os.makedirs(os.path.dirname(path), exist_ok=True)
+    with open(path, "w", encoding="utf-8") as file:
+        file.write(content)
+    os.chmod(path, mode)
+
+
+def repository(path, branch):
+    """A repository with one commit."""
+    os.makedirs(path)
+    for words in (["init", "-q", "-b", branch], ["-c", "user.name=a", "-c", "user.email=a@example.com", "commit", "-q", "--allow-empty", "-m", "a"]):
+        subprocess.run(["git", "-C", path, *words], check=True)
+
+
+class Room:
+    """A folder with the stand-ins and repositories of one build."""
+
+    def __init__(self, room, case):
+        self.room, self.case = room, case
+        self.env = {"PATH": f"{room}/bin:/usr/bin:/bin", "HOME": room, "LANG": "C.UTF-8", "GIT_CONFIG_GLOBAL": f"{room}/gitconfig",
+                    "CONTROLLER_LOCKS": f"{room}/locks"}
+        write(f"{room}/gitconfig", f'[url "{room}/git/"]\n\tinsteadOf = https://github.com/\n')
+        for name, branch in REPOSITORIES.items():
+            repository(f"{room}/git/{name}.git", branch)
+        for command in COMMANDS:
+            self.stand_in(command)
+        for tool in ("jdk8", "jdk_8_latest"):
+            write(f"{room}/tools/{tool}/bin/java", "#!/bin/sh\necho \"java $*\"\n", 0o755)
+        agents = [{"name": "any", "root": f"{room}/agents/any", "executors": 2}]
+        agents += [{"name": f"a{at}", "labels": [label], "root": f"{room}/agents/{at}", "executors": 4} for at, label in enumerate(case["labels"])]
+        write(f"{room}/folder/agents.json", json.dumps({"job": "corpus", "agents": agents}))
+
+    def stand_in(self, command):
+        """A command that prints its words, and makes what the case says; it fails where the case says so of its words."""
+        lines = ["#!/bin/sh", f'echo "{command} $*"']
+        for path in self.case.get("makes", {}).get(command, []):
+            content = REPORT if path.endswith(".xml") else ""
+            lines.append(f"mkdir -p '{os.path.dirname(path) or '.'}'; printf '%s' '{content}' > '{path}'")
+        if command == "zip":
+            lines.append('touch "$3"')
+        lines += [f"case \"{command} $*\" in '{words}') exit 1;; esac" for words in self.case.get("fails", []) if words.split()[0] == command]
+        write(f"{self.room}/bin/{command}", "\n".join(lines) + "\n", 0o755)
+
+    def run(self, program, answers=""):
+        """The log and the status of the build."""
+        words = [program, "run", f"{self.room}/folder"]
+        try:
+            ran = subprocess.run(words, env=self.env, input=answers.encode(), stdout=subprocess.PIPE, stderr=subprocess.STDOUT, timeout=PATIENCE, check=False)
+        except subprocess.TimeoutExpired:
+            return "", f"of no end in {PATIENCE} seconds"
+        return ran.stdout.decode(errors="replace"), ran.returncode
+
+
+def options_of(words, room):
+    """The options that the words of `tools/prepare` say."""
+    options = Options(environment={"TOOLS": f"{room}/tools"}, vars_folder=f"{TOP}/tools/corpus/vars", folder=f"{room}/folder",
+                      scm=f"{room}/git/example/amazing-project.git#master")
+    for word, value in zip(words[::2], words[1::2]):
+        if word == "--drop":
+            options.dropped.append(value)
+        else:
+            name, _, given = value.partition("=")
+            {"-p": options.parameters, "-e": options.environment}[word][name] = given
+    return options
+
+
+def refusals(prepared):
+    told = [f"{it[0]}:{it[1]}:{it[2]}: {it[4]}" for it in prepared.findings if it[3] == "refused"]
+    fault = first_fault(prepared.text)
+    return told + ([f"line {fault[0]}: {fault[2]}"] if fault else [])
+
+
+def missing(lines, log):
+    """The first of the lines that the log has not behind the one before; None where it has all."""
+    at = 0
+    for line in lines:
+        found = log.find(line, at)
+        if found < 0:
+            return line
+        at = found + len(line)
+    return None
+
+
+def tried(name, path, case, program):
+    """How far a script came: 'refused', 'prepared' or 'right', with what is to be told of it."""
+    with tempfile.TemporaryDirectory(prefix="controller-corpus-") as folder:
+        room = Room(folder, case)
+        prepared = Prepared(read_file(path), path, options_of(case["words"], folder))
+        told = refusals(prepared)
+        if told:
+            return "refused", told
+        write(f"{folder}/folder/Jenkinsfile", prepared.text)
+        log, status = room.run(program, case.get("answers", ""))
+        line = missing(case["lines"], log)
+        if status != case["status"] or line is not None:
+            return "prepared", [f"status {status} for {case['status']}; no line {line!r}", *log.splitlines()[-15:]]
+    return "right", []
+
+
+def is_declarative(path):
+    return re.search(r"^\s*pipeline\s*\{", read_file(path), re.M) is not None
+
+
+def of_handbook():
+    """The scripts of our own making: each folder has the script, and a file of what is said of it."""
+    top = f"{TOP}/tools/corpus/handbook"
+    for name in sorted(os.listdir(top)):
+        with open(f"{top}/{name}/case.json", encoding="utf-8") as file:
+            yield name, f"{top}/{name}/Jenkinsfile", {"words": [], "labels": [], **json.load(file)}
+
+
+def run(folder, program):
+    """Runs all, and prints a table; the status is 0 where each but the refused ones came to its end."""
+    groups = {"scripted": [], "declarative": [], "handbook": []}
+    for name in sorted(os.listdir(folder)) if folder and os.path.isdir(folder) else []:
+        kind = "declarative" if is_declarative(f"{folder}/{name}") else "scripted"
+        groups[kind].append((name, f"{folder}/{name}", FILES.get(name, {"words": [], "labels": [], "lines": [], "status": 0})))
+    groups["handbook"] = list(of_handbook())
+    wrong = 0
+    for kind, cases in groups.items():
+        counts = {"refused": 0, "prepared": 0, "right": 0}
+        for name, path, case in cases:
+            end, told = tried(name, path, case, program)
+            counts[end] += 1
+            wrong += end == "prepared"
+            print(f"{kind} {name}: {end}", *told, sep="\n    ", flush=True)
+        print(f"{kind}: {len(cases)} scripts, {counts['refused']} refused, {len(cases) - counts['refused']} prepared, "
+              f"{counts['right']} run to the end they should have", flush=True)
+    return 1 if wrong else 0
+
+
+def main(words):
+    if len(words) >= 2 and words[0] == "fetch" and len(words) == 2:
+        return fetch(words[1])
+    if len(words) in (2, 3) and words[0] == "run":
+        return run(words[1], words[2] if len(words) == 3 else f"{TOP}/crates/{PROGRAM}/out/{PROGRAM}")
+    print("usage: tools/corpus.py fetch FOLDER | run FOLDER [PROGRAM]", file=sys.stderr)
+    return 2
+
+
+if __name__ == "__main__":
+    sys.exit(main(sys.argv[1:]))
