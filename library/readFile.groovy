@@ -14,5 +14,8 @@ def readFile(given) {
     } else if (encoding.toUpperCase() != 'UTF-8') {
         reader = "iconv -t UTF-8 -f ${quoted(encoding)}"
     }
-    return sh(script: "#!/bin/sh\nexec ${reader} < ${quoted(asked.file)}", returnStdout: true)
+    def file = quoted(asked.file)
+    return sh(returnStdout: true, script: """#!/bin/sh
+[ -r ${file} ] || { printf 'readFile: %s cannot be read\\n' ${file} >&2; exit 1; }
+exec ${reader} < ${file}""")
 }

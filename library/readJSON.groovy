@@ -34,8 +34,13 @@ def readJSON(given) {
             told += rest.substring(0, back)
             at += back + 1
             if (text[at] == 'u') {
-                told += characterOf(text.substring(at + 1, at + 5))
+                def digits = text.substring(at + 1, at + 5)
                 at += 5
+                while (text.substring(at).startsWith('\\u')) {
+                    digits += text.substring(at + 2, at + 6)
+                    at += 6
+                }
+                told += charactersOf(digits)
             } else {
                 def place = '"\\/bfnrt'.indexOf(text[at])
                 if (place < 0) { wrong() }
