@@ -30,7 +30,7 @@ END { print files + 0, cases + 0, failed + 0, skipped + 0 }'""").tokenize().coll
         }
         println 'No test results'
     } else if (count.failCount > 0 && !asked.skipMarkingBuildUnstable) {
-        unstable "${count.failCount} of ${count.totalCount} tests failed"
+        unstableHere "${count.failCount} of ${count.totalCount} tests failed"
     }
     return count
 }

@@ -4,5 +4,5 @@
 // Example:
 //     warnError('style') { echo 'x' }
 def warnError(given, body) {
-    catchError(message: argumentsOf(given, 'message').message, buildResult: 'UNSTABLE') { body() }
+    catchErrorHere(message: argumentsOf(given, 'message').message, buildResult: 'UNSTABLE') { body() }
 }

@@ -112,6 +112,7 @@ COMMANDS = ("mvn", "make", "docker", "zip", "npm", "gradle", "ant", "curl", "mai
 # The repositories of which clones are asked for, each with its branches.
 REPOSITORIES = {"apache/maven-integration-testing": "master", "eclipse/jetty.project": "jetty-9.4.x", "example/amazing-project": "master"}
 REPORT = '<testsuite><testcase name="a"/><testcase name="b"/></testsuite>'
+FAILED = '<testsuite><testcase name="a"><failure/></testcase><testcase name="b"/></testsuite>'
 # Seconds until a build has to have ended.
 PATIENCE = 300
 
@@ -152,7 +153,7 @@ class Room:
         """A command that prints its words, and makes what the case says; it fails where the case says so of its words."""
         lines = ["#!/bin/sh", f'echo "{command} $*"']
         for path in self.case.get("makes", {}).get(command, []):
-            content = REPORT if path.endswith(".xml") else ""
+            content = FAILED if path.endswith("failed.xml") else REPORT if path.endswith(".xml") else ""
             lines.append(f"mkdir -p '{os.path.dirname(path) or '.'}'; printf '%s' '{content}' > '{path}'")
         if command == "zip":
             lines.append('touch "$3"')

@@ -1,4 +1,4 @@
-// `catchError`, for a script that reads `currentBuild.result`.
+// `catchError`, which keeps the result in `currentBuild` where the script has it.
 //
 // Example:
 //     currentBuild = [result: null, currentResult: 'SUCCESS']
@@ -11,6 +11,6 @@ def catchErrorHere(given, body) {
         isWhole = true
     }
     if (!isWhole) {
-        noteResult(asked.buildResult ?: 'FAILURE')
+        answers { noteResult(asked.buildResult ?: 'FAILURE') }
     }
 }

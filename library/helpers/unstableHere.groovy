@@ -1,9 +1,9 @@
-// `unstable`, for a script that reads `currentBuild.result`.
+// `unstable`, which keeps the result in `currentBuild` where the script has it.
 //
 // Example:
 //     currentBuild = [result: null, currentResult: 'SUCCESS']
 //     catchError(buildResult: 'SUCCESS') { echo 'x' }
 def unstableHere(given) {
-    noteResult('UNSTABLE')
+    answers { noteResult('UNSTABLE') }
     unstable argumentsOf(given, 'message').message
 }

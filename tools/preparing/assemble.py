@@ -239,7 +239,7 @@ class Prepared:
             yield f"params = {written(context.parameters)}"
         if "env" in context.uses or context.set_names:
             yield f"env = {written({**OF_BUILDS, **context.environment})}"
-        if "currentBuild" in context.uses or context.reads_result or "noteResult" in needed:
+        if "currentBuild" in context.uses or context.reads_result or "setResult" in needed:
             yield "currentBuild = [number: 1, id: '1', displayName: '#1', description: null, result: null, currentResult: 'SUCCESS', " \
                 "previousBuild: null, changeSets: []]"
         if "scm" in context.uses and context.scm:

@@ -184,12 +184,14 @@ class Steps:
         if encoding is not None:
             self.without_argument(node, encoding)
 
-    def without_argument(self, node, argument):
-        at = node.arguments.index(argument)
-        if at + 1 < len(node.arguments):
-            self.edits.replace(argument.begin, node.arguments[at + 1].begin, "")
+    def without_argument(self, node, argument, filled=""):
+        """Takes an argument away; where it is the only one something may stand in its place."""
+        written = node.arguments[: len(node.arguments) - node.trailing]
+        at = written.index(argument)
+        if at + 1 < len(written):
+            self.edits.replace(argument.begin, written[at + 1].begin, "")
         else:
-            self.edits.replace(node.arguments[at - 1].end if at else argument.begin, argument.end, "")
+            self.edits.replace(written[at - 1].end if at else argument.begin, argument.end, "" if at else filled)
         self.skip(argument)
 
     def step_withEnv(self, node):
@@ -207,7 +209,7 @@ class Steps:
         if "catchInterruptions" in given:
             self.found.refuse(given["catchInterruptions"], "`catchInterruptions`")
         if "stageResult" in given:
-            self.without_argument(node, given["stageResult"])
+            self.without_argument(node, given["stageResult"], "null" if self.context.reads_result else "")
             self.found.changed(given["stageResult"], "`stageResult` goes: a stage has no result of its own; that of the build is the same")
         if self.context.reads_result:
             self.renamed(node, "catchErrorHere")
@@ -222,11 +224,6 @@ class Steps:
     def step_unstable(self, node):
         if self.context.reads_result:
             self.renamed(node, "unstableHere")
-
-    def step_warnError(self, node):
-        self.need("warnError", node)
-        if self.context.reads_result:
-            self.need("setResult", node)
 
     def step_parallel(self, node):
         fast = named(node).get("failFast")

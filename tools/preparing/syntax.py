@@ -244,6 +244,11 @@ class Syntax:
         written = self.source[case.value.begin : case.value.end]
         if isinstance(case.value, (g.Text, g.Number, g.Constant)):
             return f"{subject} == {literal(case.value.value) if isinstance(case.value, g.Text) else written}"
+        if isinstance(case.value, g.Prefix) and case.value.sign == "~" and isinstance(case.value.operand, g.Text):
+            pattern = patterns.written(case.value.operand.value)
+            if pattern is not None:
+                self.need("matchesPattern", case)
+                return f"matchesPattern({subject}, {pattern}, true)"
         if isinstance(case.value, (g.Name, g.ListLiteral)) and is_plain(case.value):
             self.need("isIn", case)
             return f"isIn({subject}, {written})"
