@@ -14,7 +14,7 @@ def matchesFrom(text, pattern, at, then) {
         return at == 0 ? matchesFrom(text, rest, at, then) : -1
     }
     if (kind == 'end') {
-        return at == text.length() ? matchesFrom(text, rest, at, then) : -1
+        return ['', '\n', '\r\n'].contains(text.substring(at)) ? matchesFrom(text, rest, at, then) : -1
     }
     if (kind == 'set') {
         return at < text.length() && part[1].contains(text[at]) != part[2] ? matchesFrom(text, rest, at + 1, then) : -1
@@ -27,6 +27,9 @@ def matchesFrom(text, pattern, at, then) {
             }
         }
         return -1
+    }
+    if (part[1].size() == 1 && part[1][0][0] == 'set') {
+        return matchesRow(text, part, rest, at, then)
     }
     if (part[3] > 0) {
         def less = ['repeat', part[1], part[2] > 0 ? part[2] - 1 : 0, part[3] - 1]

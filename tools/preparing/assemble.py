@@ -41,6 +41,8 @@ class Context:
         self.has_credentials = any(it.what.name == "withCredentials" for it in calls)
         self.set_names = {name for script in scripts for name in set_by_env(script)}
         self.with_names = {name for it in calls if it.what.name in ("withEnv", "withCredentials") for name in named_in(it)}
+        self.credential_names = {name for it in calls if it.what.name == "withCredentials" for name in named_in(it)}
+        self.has_open_overrides = any(it.what.name == "withEnv" and not is_closed(it) for it in calls)
         self.reads_result = any(is_read(script) for script in scripts)
         self.is_wrapped = bool(self.environment) and is_one_piece(main)
         if self.environment and not self.is_wrapped:
@@ -74,6 +76,12 @@ def named_in(call):
         name = front.split("=")[0].split("+")[0]
         if "=" in front and name.isidentifier():
             yield name
+
+
+def is_closed(call):
+    """Whether all names that a `withEnv` sets are written out."""
+    given = call.arguments[0].value if call.arguments else None
+    return isinstance(given, g.ListLiteral) and len(list(named_in(call))) >= len(given.items)
 
 
 def is_read(script):
@@ -244,7 +252,8 @@ class Prepared:
                 "previousBuild: null, changeSets: []]"
         if "scm" in context.uses and context.scm:
             url, _, branch = context.scm.partition("#")
-            yield f"scm = {written({'url': url, 'branch': branch or 'HEAD'})}"
+            yield f"scm = ['$class': 'GitSCM', url: {literal(url)}, branch: {literal(branch or 'HEAD')}, extensions: [], " \
+                f"branches: [[name: {literal(branch or 'HEAD')}]], userRemoteConfigs: [[url: {literal(url)}]]]"
         if needed & {"archiveArtifacts", "stash", "unstash"}:
             yield f"buildFolder = {literal(self.options.folder or os.path.dirname(os.path.abspath(self.file)))}"
 

@@ -3,6 +3,8 @@
 A pattern is a list of parts, each a list: ['set', CHARACTERS, IS_WITHOUT], ['begin'], ['end'], ['any', PATTERN..] for one of several
 patterns, ['repeat', PATTERN, LEAST, MOST]. What has no such form, as a group that is named again, is not known.
 """
+import re
+
 try:
     from re import _constants as signs, _parser as reader
 except ImportError:  # before Python 3.11
@@ -62,12 +64,12 @@ def part(kind, value):
         return a_set(*members(value))
     if kind is signs.AT and value in (signs.AT_BEGINNING, signs.AT_BEGINNING_STRING):
         return "['begin']"
-    if kind is signs.AT and value in (signs.AT_END, signs.AT_END_STRING):
+    if kind is signs.AT and value is signs.AT_END:
         return "['end']"
     if kind is signs.MAX_REPEAT:
         least, most, inner = value
         return f"['repeat', {row(inner)}, {min(least, MOST)}, {min(int(most), MOST)}]"
-    if kind is signs.SUBPATTERN:
+    if kind is signs.SUBPATTERN and not value[1] and not value[2]:
         return f"['any', {row(value[-1])}]"
     if kind is signs.BRANCH:
         return f"['any', {', '.join(row(it) for it in value[1])}]"
@@ -80,7 +82,11 @@ def row(parts):
 
 def written(pattern):
     """A pattern as the library reads it; None where it has something that is not known."""
+    # Java has more in brackets than Python.
+    if "&&" in pattern or re.search(r"\[[^\]]*\[", pattern) or "{," in pattern:
+        return None
     try:
-        return row(reader.parse(pattern))
+        read = reader.parse(pattern)
+        return None if read.state.flags & ~re.UNICODE else row(read)
     except (Unknown, reader.error if hasattr(reader, "error") else ValueError, KeyError, OverflowError, RecursionError):
         return None

@@ -40,7 +40,7 @@ class Rewriter(Syntax, Steps):
         self.names.assigned |= context.assigned
         self.names.declared -= {"it"}
         self.caught = {it.name.name for it in script.walk() if isinstance(it, g.Catch)}
-        self.done, self.skipped, self.as_functions, self.added = set(), set(), set(), []
+        self.done, self.skipped, self.as_functions, self.valued, self.added = set(), set(), set(), set(), []
         self.parents = {}
         for statement in script.statements:
             self.keep_parents(statement)
@@ -62,12 +62,17 @@ class Rewriter(Syntax, Steps):
 
     def need(self, name, node=None):
         """Takes a function of the library into the script."""
-        if name not in self.library and node is not None:
+        is_hidden = node is not None and self.is_declared(node, name)
+        if node is not None and (name not in self.library or is_hidden):
             self.found.refuse(node, f"the script has a function `{name}` of its own, and this needs the library's: give it another name")
         self.context.needed.add(name)
 
     def is_variable(self, node, name):
         """Whether a name means a variable at a node: one that is declared around it, or one that is set without `def` anywhere."""
+        return self.is_declared(node, name) or name in self.context.assigned
+
+    def is_declared(self, node, name):
+        """Whether a variable of a name is declared around a node."""
         inner = node
         while inner is not None:
             around = self.parent(inner)
@@ -75,7 +80,7 @@ class Rewriter(Syntax, Steps):
                 if any(it.name.name == name for it in around.parameters or []):
                     return True
                 if isinstance(around, g.Function):
-                    return name in self.context.assigned
+                    return False
             elif isinstance(around, (g.ForIn, g.Catch)) and around.name.name == name:
                 return True
             rows = around.statements if isinstance(around, (g.Block, g.Case)) else around.first if isinstance(around, g.ForSteps) else \
@@ -83,11 +88,14 @@ class Rewriter(Syntax, Steps):
             if any(name in declared_by(it) for it in rows if it.begin < inner.begin):
                 return True
             inner = around
-        return name in self.context.assigned
+        return False
 
     def fresh(self, name):
-        self.context.fresh += 1
-        return f"{name}{self.context.fresh}"
+        while True:
+            self.context.fresh += 1
+            made = f"{name}{self.context.fresh}"
+            if made not in self.source:
+                return made
 
     def called(self, function):
         """What a function of this file is called in the prepared script."""
@@ -145,6 +153,20 @@ class Rewriter(Syntax, Steps):
             self.on_index_of_environment(node)
         else:
             Syntax.on_Index(self, node)
+
+    def on_Evaluate(self, node):
+        """The last statement of a function of a type gives its value."""
+        body = self.parent(node)
+        function = self.parent(body) if isinstance(body, g.Block) else None
+        if isinstance(function, g.Function) and function.body is body and body.statements[-1] is node and not isinstance(node.expression, g.Assignment):
+            self.as_type(node.expression, function.type)
+
+    def on_Return(self, node):
+        around = self.parent(node)
+        while around is not None and not isinstance(around, (g.Function, g.Closure)):
+            around = self.parent(around)
+        if isinstance(around, g.Function) and node.value is not None:
+            self.as_type(node.value, around.type)
 
     def on_Constant(self, node):
         if node.word == "this" and not isinstance(self.parent(node), g.Return):

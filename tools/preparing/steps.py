@@ -154,7 +154,7 @@ class Steps:
         if node.form != "command" or not node.arguments:
             return
         parent, first = self.parent(node), node.arguments[0]
-        is_whole = isinstance(parent, (g.Evaluate, g.Declarator, g.Assignment, g.Return))
+        is_whole = isinstance(parent, (g.Evaluate, g.Declarator, g.Assignment, g.Return)) and id(node) not in self.valued
         is_word = isinstance(first.value, (g.Text, g.Name, g.Number, g.GString, g.Constant, g.Call, g.Property, g.Binary, g.Closure, g.Choice))
         is_word = is_word and (first.key is not None or self.source[first.begin] not in "[({!-+~" and not is_turned(first.value))
         if is_whole and is_word and isinstance(node.what, g.Name):
@@ -375,8 +375,15 @@ class Steps:
     def a_variable_of_environment(self, node, name, written):
         """A variable of the environment is read from the build's own map, or by a shell step where a node or `withEnv` sets it."""
         own = self.context
+        if name in own.credential_names:
+            self.found.refuse(node, f"`{name}` of credentials in the script itself: leave it to the shell, in a text between single quotes")
+            return
+        if name in own.set_names and (name in own.with_names or own.has_open_overrides):
+            self.found.refuse(node, f"`{name}` is set by `env` and may be set by `withEnv` too: use two names")
+            return
         is_bare = isinstance(self.parent(written), g.Embedded) and not self.parent(written).has_braces
-        if (name in own.set_names or name in own.environment or name in OF_BUILDS or name in OF_JOBS) and name not in own.with_names:
+        is_plain_read = name in own.set_names or name in OF_BUILDS or (name in own.environment or name in OF_JOBS) and not own.has_open_overrides
+        if is_plain_read and name not in own.with_names:
             own.uses.add("env")
             if isinstance(written, g.Name):
                 self.edits.replace(written.begin, written.end, f"env.{name}")

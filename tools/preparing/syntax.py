@@ -19,6 +19,8 @@ def simple(name):
     return name.split(".")[-1]
 
 
+# Operators that give a truth value.
+TRUTHS = ("==", "!=", "<", "<=", ">", ">=", "in", "!in", "instanceof", "==~")
 # What Groovy gives for arguments that are left out, behind those that are there.
 FILLED = {("sort", 0): ", null", ("split", 0): ", null", ("padLeft", 1): ", ' '", ("padRight", 1): ", ' '"}
 
@@ -33,6 +35,10 @@ def leaves(statement):
         ends = [it.statements[-1] for it in statement.cases if it.statements]
         return any(it.value is None for it in statement.cases) and all(map(leaves, ends))
     return isinstance(statement, (g.Return, g.Throw, g.Continue))
+
+
+def names_it(node):
+    return any(isinstance(it, g.Name) and it.name == "it" for it in node.walk())
 
 
 class Syntax:
@@ -68,6 +74,8 @@ class Syntax:
         if len(node.names) > 1 or node.is_tuple:
             self.found.refuse(node, "`@Field` with several names: give each a line of its own")
             return
+        if self.module is None and any(it.begin < node.begin and isinstance(it, (g.Evaluate, g.Declaration, g.If, g.Try, g.ForIn)) for it in self.script.statements):
+            self.found.refuse(node, "`@Field` behind statements, before which Groovy sets it: put it in front of them")
         self.edits.replace(node.begin, first.begin, "")
         if first.value is None:
             self.edits.behind(first.end, " = null")
@@ -88,9 +96,26 @@ class Syntax:
         if not is_written and self.source[node.begin : first.begin].split() != ["def"]:
             self.edits.replace(node.begin, first.begin, "def ")
             self.found.changed(node, "a declaration without its modifiers or type: `def`")
+        for it in node.names:
+            if it.value is not None:
+                self.as_type(it.value, node.type)
         for before, it in zip(node.names, node.names[1:]):
             self.edits.replace(before.end, it.begin, "; def ")
             self.found.changed(it, f"`{it.name.name}` becomes a declaration of its own")
+
+    def as_type(self, value, kind):
+        """Groovy makes a text of what a variable or function of the type String gets, and a truth value for boolean."""
+        name = simple(kind.name) if kind is not None else ""
+        function = {"String": "textOf", "boolean": "truthOf", "Boolean": "truthOf"}.get(name)
+        if function is None or name == "String" and self.names.kind(value) == "text" or isinstance(value, g.Constant):
+            return
+        if name != "String" and (isinstance(value, g.Prefix) and value.sign == "!" or isinstance(value, g.Binary) and value.sign in TRUTHS):
+            return
+        self.need(function, value)
+        self.edits.around(value, f"{function}(", ")")
+        if isinstance(value, g.Call) and value.form == "command":
+            self.valued.add(id(value))
+        self.found.changed(value, f"a value for the type {name}: `{function}(..)` of the library")
 
     def several(self, node):
         names = [it.name.name for it in node.names]
@@ -249,11 +274,14 @@ class Syntax:
             if pattern is not None:
                 self.need("matchesPattern", case)
                 return f"matchesPattern({subject}, {pattern}, true)"
-        if isinstance(case.value, (g.Name, g.ListLiteral)) and is_plain(case.value):
+        if isinstance(case.value, (g.Name, g.ListLiteral)) and is_plain(case.value) and not self.is_class(case.value):
             self.need("isIn", case)
             return f"isIn({subject}, {written})"
         self.found.refuse(case, "a `case` with such a value: write `if`")
         return "false"
+
+    def is_class(self, node):
+        return isinstance(node, g.Name) and not self.is_variable(node, node.name)
 
     def falls_through(self, node):
         for at, case in enumerate(node.cases):
@@ -649,7 +677,7 @@ class Syntax:
     def a_spread(self, node, name):
         call = self.parent(node)
         is_call = isinstance(call, g.Call) and call.what is node
-        if name is None or is_call and any(not is_plain(it.value) or it.key for it in call.arguments):
+        if name is None or is_call and any(not is_plain(it.value) or it.key or names_it(it) for it in call.arguments):
             self.found.refuse(node, "`*.` with such arguments: write `collect`")
             return
         whole = call if is_call else node
