@@ -18,7 +18,7 @@ import tarfile
 import tempfile
 
 from build import PROGRAM, TOP
-from preparing.assemble import Options, Prepared, first_fault, read_file
+from preparing.assemble import Options, Prepared, read_file
 
 # Source packages of Debian 12 that have Jenkinsfiles. Later versions may have others, or none.
 PACKAGES = [
@@ -90,7 +90,7 @@ def fetch(into):
 # the command's name; the status of the build, and lines that its log has to have, in this order.
 FILES = {
     "maven-Jenkinsfile": {
-        "words": ["--drop", "timeout"], "labels": ["ubuntu"], "makes": {"mvn": ["apache-maven/target/apache-maven-bin.zip", "a/target/surefire-reports/TEST-a.xml"]},
+        "words": [], "labels": ["ubuntu"], "makes": {"mvn": ["apache-maven/target/apache-maven-bin.zip", "a/target/surefire-reports/TEST-a.xml"]},
         "status": 0, "lines": ["mvn clean verify", "Stashed 1 file(s)", "Run ITs Linux Java 17", "notified of SUCCESS"],
     },
     "surefire-Jenkinsfile": {
@@ -184,9 +184,7 @@ def options_of(words, room):
 
 
 def refusals(prepared):
-    told = [f"{it[0]}:{it[1]}:{it[2]}: {it[4]}" for it in prepared.findings if it[3] == "refused"]
-    fault = first_fault(prepared.text)
-    return told + ([f"line {fault[0]}: {fault[2]}"] if fault else [])
+    return [f"{it.file}:{it.line}:{it.column}: {it.text}" for it in prepared.refused()]
 
 
 def missing(lines, log):

@@ -15,7 +15,7 @@ import tempfile
 
 from build import PROGRAM, TOP
 from preparing import library
-from preparing.assemble import Options, Prepared, first_fault
+from preparing.assemble import Options, Prepared
 
 PAGE = "/tmp/controller"
 HELPERS = "def named(name, version = '1') {\n    return \"${name} ${version}\".toString()\n}\nreturn this\n"
@@ -74,19 +74,21 @@ def shown(log, room):
     return "\n".join(it for it in lines if not it.startswith("[Pipeline]") and not it.startswith("Finished: ")).strip("\n")
 
 
-def outcome(trial, program):
-    """What a trial prints, and its status; of what is refused the findings."""
+def outcome(trial, program, is_prepared=False, look=lambda room: None):
+    """What a trial prints, and its status; of what is refused the findings. `look` is given the folder when the build has ended."""
     with tempfile.TemporaryDirectory(prefix="controller-trial-") as room:
         furnish(room)
         script = trial.script.replace(PAGE, room)
-        prepared = Prepared(script, f"{room}/build/Jenkinsfile", Options(folder=f"{room}/build", scm=f"{room}/shop.git#main"))
-        refused = [it[4] for it in prepared.findings if it[3] == "refused"] or [str(it) for it in [first_fault(prepared.text)] if it]
-        if refused or trial.is_refused:
-            return "\n".join(refused), "refused"
-        write(f"{room}/build/Jenkinsfile", prepared.text)
+        if not is_prepared:
+            prepared = Prepared(script, f"{room}/build/Jenkinsfile", Options(folder=f"{room}/build", scm=f"{room}/shop.git#main"))
+            if prepared.refused() or trial.is_refused:
+                return "\n".join(it.text for it in prepared.refused()), "refused"
+            script = prepared.text
+        write(f"{room}/build/Jenkinsfile", script)
         env = {"PATH": "/usr/bin:/bin", "HOME": room, "LANG": "C.UTF-8", "CONTROLLER_CREDENTIALS": f"{room}/credentials",
                "CONTROLLER_LOCKS": f"{room}/locks"}
         ran = subprocess.run([program, "run", f"{room}/build"], env=env, stdin=subprocess.DEVNULL, capture_output=True, timeout=120, check=False)
+        look(room)
         return shown(ran.stdout.decode(errors="replace"), room), ran.returncode
 
 

@@ -4,7 +4,7 @@
 //     echo minusOf('a-b', '-b')
 def minusOf(value, other) {
     def kind = kindOf(value)
-    if (kind == 'number') {
+    if (kind != 'list' && kind != 'text') {
         return value - other
     }
     if (kind == 'list') {

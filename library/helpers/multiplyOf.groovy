@@ -4,7 +4,7 @@
 //     echo multiplyOf('=', 20)
 def multiplyOf(value, number) {
     def kind = kindOf(value)
-    if (kind == 'number') {
+    if (kindOf(number) != 'number' || kind != 'list' && kind != 'text') {
         return value * number
     }
     def told = kind == 'list' ? [] : ''

@@ -1,18 +1,17 @@
 """A prepared script: the rewritten Jenkinsfile with what it needs in front of its first statement and behind its last line."""
 import os
-import sys
-import threading
 
 from groovy_reader import nodes as g, read
+from lint_rules.exact import first_fault
+from lint_rules.linting import findings_of
 
 from . import library, parameters, places
-from .findings import Findings, REFUSED
+from .edits import Lines
+from .findings import Finding, Findings, NOTE, REFUSED
 from .names import Names
 from .rewrite import Module, Rewriter, caught_classes, functions_of
 from .syntax import literal
 from .words import OF_BUILDS
-
-REFERENCE = f"{library.TOP}/tools/reference"
 
 
 class Options:
@@ -167,8 +166,28 @@ class Prepared:
         self.rewriter.all()
         self.parts = [self.of_module(it) for it in loaded.values()]
         self.text = self.whole(main)
-        self.findings = sorted({*map(as_tuple, self.rewriter.found.all), *(as_tuple(it) for part in self.parts for it in part.found.all)})
+        self.findings = sorted({*self.rewriter.found.all, *(it for part in self.parts for it in part.found.all)})
+        if not self.refused():
+            self.findings += self.left()
         self.sources = {file: source, **{it.file: it.script.source for it in loaded.values()}}
+
+    def refused(self):
+        return [it for it in self.findings if it.kind == REFUSED]
+
+    def left(self):
+        """What `check` would still refuse of the script, and what `lint` tells of what is left of it."""
+        lines, map_ = Lines(self.text), places.Places(self.text, self.file)
+
+        def finding(kind, at, text):
+            file, line, column = map_.of(*lines.place(at))
+            return Finding(self.file if file == os.path.abspath(self.file) else file, line, column, kind, text)
+
+        fault = first_fault(self.text)
+        if fault is not None:
+            return [finding(REFUSED, fault[1], f"the script that comes of it has the fault `{fault[0]}` here")]
+        known = {(it.file, it.line) for it in self.findings if it.kind == NOTE}
+        told = [finding(NOTE, it.begin, it.sentence()) for it in findings_of(self.text) if it.stops()]
+        return [it for it in told if it.file in (self.file, *(part.file for part in self.parts)) and (it.file, it.line) not in known]
 
     def take_loads(self, main):
         for node in main.walk():
@@ -247,7 +266,7 @@ class Prepared:
             yield f"params = {written(context.parameters)}"
         if "env" in context.uses or context.set_names:
             yield f"env = {written({**OF_BUILDS, **context.environment})}"
-        if "currentBuild" in context.uses or context.reads_result or "setResult" in needed:
+        if "currentBuild" in context.uses or context.reads_result or "noteResult" in needed:
             yield "currentBuild = [number: 1, id: '1', displayName: '#1', description: null, result: null, currentResult: 'SUCCESS', " \
                 "previousBuild: null, changeSets: []]"
         if "scm" in context.uses and context.scm:
@@ -256,10 +275,6 @@ class Prepared:
                 f"branches: [[name: {literal(branch or 'HEAD')}]], userRemoteConfigs: [[url: {literal(url)}]]]"
         if needed & {"archiveArtifacts", "stash", "unstash"}:
             yield f"buildFolder = {literal(self.options.folder or os.path.dirname(os.path.abspath(self.file)))}"
-
-
-def as_tuple(finding):
-    return finding.file, finding.line, finding.column, finding.kind, finding.text
 
 
 def written(values):
@@ -276,42 +291,3 @@ def dropped(name, calls):
     """A function in place of a step that is left out."""
     has_body = any(trailing for _, trailing in calls)
     return f"def {name}(given, body) {{ return body() }}" if has_body else f"def {name}(given) {{ return null }}"
-
-
-def first_fault(text):
-    """The first fault of a script by the product's grammar: its line, column and kind; None where it has none."""
-    if REFERENCE not in sys.path:
-        sys.path.append(REFERENCE)
-    from parse import parsed
-    from tokens import Fault
-    try:
-        with_deep_calls(lambda: parsed(text))
-    except Fault as fault:
-        line, column, kind = fault.told(text).split(":", 3)[1:]
-        return int(line), int(column), kind.strip()
-    return None
-
-
-def with_deep_calls(call):
-    """What a call gives that may be nested some thousand calls deep."""
-    ended = []
-
-    def run():
-        try:
-            ended.append((call(), None))
-        except Exception as fault:  # it is raised again below
-            ended.append((None, fault))
-
-    depth, size = sys.getrecursionlimit(), threading.stack_size(256 << 20)
-    sys.setrecursionlimit(100_000)
-    try:
-        thread = threading.Thread(target=run)
-        thread.start()
-        thread.join()
-    finally:
-        sys.setrecursionlimit(depth)
-        threading.stack_size(size)
-    told, fault = ended[0]
-    if fault is not None:
-        raise fault
-    return told

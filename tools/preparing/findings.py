@@ -7,7 +7,7 @@ REFUSED = "refused"
 CHANGED, NOTE = "changed", "note"
 
 
-@dataclass(order=True)
+@dataclass(order=True, frozen=True)
 class Finding:
     file: str
     line: int

@@ -326,7 +326,7 @@ class Syntax:
         if node.resources:
             self.found.refuse(node, "a `try` with resources")
         wanted = [[simple(it.name) for it in catch.types] for catch in node.catches]
-        if all(types in ([], ["Exception"], ["Throwable"]) for types in wanted) and len(wanted) < 2:
+        if all(types in ([], ["Exception"], ["Throwable"]) for types in wanted):
             for catch in node.catches:
                 self.plain_catch(catch)
             return
