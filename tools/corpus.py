@@ -214,6 +214,15 @@ def tried(name, path, case, program):
     return "right", []
 
 
+def runs_as_it_is(path, case, program):
+    """Whether a script comes to the end it should have without a change."""
+    with tempfile.TemporaryDirectory(prefix="controller-corpus-") as folder:
+        room = Room(folder, case)
+        write(f"{folder}/folder/Jenkinsfile", read_file(path))
+        log, status = room.run(program, case.get("answers", ""))
+    return status == case["status"] and missing(case["lines"], log) is None
+
+
 def is_declarative(path):
     return re.search(r"^\s*pipeline\s*\{", read_file(path), re.M) is not None
 
@@ -235,13 +244,14 @@ def run(folder, program):
     groups["handbook"] = list(of_handbook())
     wrong = 0
     for kind, cases in groups.items():
-        counts = {"refused": 0, "prepared": 0, "right": 0}
+        counts, as_it_is = {"refused": 0, "prepared": 0, "right": 0}, 0
         for name, path, case in cases:
+            as_it_is += kind != "declarative" and runs_as_it_is(path, case, program)
             end, told = tried(name, path, case, program)
             counts[end] += 1
             wrong += end == "prepared"
             print(f"{kind} {name}: {end}", *told, sep="\n    ", flush=True)
-        print(f"{kind}: {len(cases)} scripts, {counts['refused']} refused, {len(cases) - counts['refused']} prepared, "
+        print(f"{kind}: {len(cases)} scripts, {as_it_is} run as they are, {counts['refused']} refused, {len(cases) - counts['refused']} prepared, "
               f"{counts['right']} run to the end they should have", flush=True)
     return 1 if wrong else 0
 

@@ -20,7 +20,7 @@ def simple(name):
 
 
 # Operators that give a truth value.
-TRUTHS = ("==", "!=", "<", "<=", ">", ">=", "in", "!in", "instanceof", "==~")
+TRUTHS = ("&&", "||", "==", "!=", "<", "<=", ">", ">=", "in", "!in", "instanceof", "==~")
 # What Groovy gives for arguments that are left out, behind those that are there.
 FILLED = {("sort", 0): ", null", ("split", 0): ", null", ("padLeft", 1): ", ' '", ("padRight", 1): ", ' '"}
 
