@@ -96,7 +96,8 @@ FILES = {
     "surefire-Jenkinsfile": {
         "words": ["--drop", "timeout", "--drop", "openTasks", "--drop", "jacoco"], "labels": ["ubuntu", "Windows"],
         "makes": {"mvn": ["surefire-its/target/surefire-reports/TEST-a.xml"]},
-        "status": 0, "lines": ["linux-jdk7-maven3.5.x  ==>  Label: ubuntu && !H24, JDK: jdk_7_latest, Maven: maven_3.5.x_latest.", "Finished: SUCCESS"],
+        "status": 0, "lines": ["linux-jdk7-maven3.5.x  ==>  Label: ubuntu && !H24, JDK: jdk_7_latest, Maven: maven_3.5.x_latest.",
+                               "Finished: SUCCESS"],
     },
     "maven-resolver-Jenkinsfile": {
         "words": [], "labels": ["ubuntu"], "makes": {"mvn": ["a/target/surefire-reports/TEST-a.xml"]},
@@ -162,9 +163,9 @@ class Room:
 
     def run(self, program, answers=""):
         """The log and the status of the build."""
-        words = [program, "run", f"{self.room}/folder"]
+        how = {"env": self.env, "input": answers.encode(), "stdout": subprocess.PIPE, "stderr": subprocess.STDOUT}
         try:
-            ran = subprocess.run(words, env=self.env, input=answers.encode(), stdout=subprocess.PIPE, stderr=subprocess.STDOUT, timeout=PATIENCE, check=False)
+            ran = subprocess.run([program, "run", f"{self.room}/folder"], timeout=PATIENCE, check=False, **how)
         except subprocess.TimeoutExpired:
             return "", f"of no end in {PATIENCE} seconds"
         return ran.stdout.decode(errors="replace"), ran.returncode

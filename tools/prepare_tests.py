@@ -74,6 +74,10 @@ class Prepare(unittest.TestCase):
         self.assertNotIn("git fetch", prepared("def checkout(x) { echo x }\ncheckout 'a'").text)
         self.assertTrue(refused("def slice = 1\necho 'abc'[0..1]"))
 
+    def test_line_ends_of_windows_become_those_of_unix(self):
+        script = prepared("echo \'\'\'a\r\nb\'\'\'\r\n")
+        self.assertEqual((script.text.split("// Places")[0], [it.kind for it in script.findings]), ("echo \'\'\'a\nb\'\'\'\n", ["changed"]))
+
     def test_places_are_translated_back(self):
         source = "final a = 1, b = 2; echo 'x'[0..0] + nothing\nimport x.Y\necho 'é'; def (c, d) = [1, 2]; echo \"${c in [1]}\"\n"
         script = prepared(source)
@@ -132,7 +136,8 @@ class PrepareCommand(unittest.TestCase):
             file.write(script.text)
             file.flush()
             at = script.text.index("echo a") + 1
-            ran = subprocess.run([sys.executable, f"{TOOLS}/places.py", file.name], input=f"Jenkinsfile:1:{at}: unknown\n", capture_output=True, text=True)
+            words = [sys.executable, f"{TOOLS}/places.py", file.name]
+            ran = subprocess.run(words, input=f"Jenkinsfile:1:{at}: unknown\n", capture_output=True, text=True, check=False)
         self.assertRegex(ran.stdout, r"/Jenkinsfile:1:22: unknown\n")
 
 

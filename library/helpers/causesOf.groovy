@@ -1,7 +1,7 @@
 // The causes of an interruption, of which there is one: an input that was rejected. Each has a `shortDescription`.
 //
 // Example:
-//     try { error 'x' } catch (e) { echo "${causesOf(e).size()}" }
+//     try { error 'x' } catch (e) { echo "${answers { causesOf(e) }}" }
 def causesOf(thrown) {
     if (!isThrown(thrown, ['org.jenkinsci.plugins.workflow.steps.FlowInterruptedException'])) {
         throw new Exception("No such property: causes of ${thrown}")

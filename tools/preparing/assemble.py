@@ -7,7 +7,7 @@ from lint_rules.linting import findings_of
 
 from . import library, parameters, places
 from .edits import Lines
-from .findings import Finding, Findings, NOTE, REFUSED
+from .findings import CHANGED, Finding, Findings, NOTE, REFUSED
 from .names import Names
 from .rewrite import Module, Rewriter, caught_classes, functions_of
 from .syntax import literal
@@ -112,7 +112,11 @@ def is_one_piece(script):
 
 def read_file(path):
     with open(path, encoding="utf-8", newline="") as file:
-        return file.read().replace("\r\n", "\n")
+        return file.read()
+
+
+def read_tree(path):
+    return read(read_file(path).replace("\r\n", "\n"))
 
 
 def modules_of(options, main, file, found):
@@ -122,13 +126,13 @@ def modules_of(options, main, file, found):
         for name in sorted(os.listdir(options.vars)):
             if name.endswith(".groovy"):
                 path = f"{options.vars}/{name}"
-                made[name[:-7]] = Module(name[:-7], path, read(read_file(path)))
+                made[name[:-7]] = Module(name[:-7], path, read_tree(path))
     for node in main.walk():
         if isinstance(node, g.Declaration) and len(node.names) == 1 and is_load(node.names[0].value):
             path = os.path.join(os.path.dirname(file), node.names[0].value.arguments[0].value.value)
             name = node.names[0].name.name
             try:
-                made[name] = Module(name, path, read(read_file(path)))
+                made[name] = Module(name, path, read_tree(path))
             except OSError:
                 found.refuse(node, f"`load`: there is no file {path}")
     return made
@@ -156,8 +160,10 @@ class Prepared:
 
     def __init__(self, source, file, options):
         self.file, self.options = file, options
-        main = read(source)
+        main = read(source.replace("\r\n", "\n"))
         early = Findings(main, file)
+        if "\r\n" in source:
+            early.add(CHANGED, 0, "line ends of Windows become those of Unix, as Groovy reads them in texts")
         loaded = used_modules(main, modules_of(options, main, file, early))
         self.context = Context(options, main, loaded, early)
         self.rewriter = Rewriter(self.context, main, file)
@@ -169,7 +175,7 @@ class Prepared:
         self.findings = sorted({*self.rewriter.found.all, *(it for part in self.parts for it in part.found.all)})
         if not self.refused():
             self.findings += self.left()
-        self.sources = {file: source, **{it.file: it.script.source for it in loaded.values()}}
+        self.sources = {file: main.source, **{it.file: it.script.source for it in loaded.values()}}
 
     def refused(self):
         return [it for it in self.findings if it.kind == REFUSED]
@@ -199,6 +205,7 @@ class Prepared:
                 self.rewriter.found.changed(node, f"the functions of {call.arguments[0].value.value} come into the script, as they are now")
 
     def of_module(self, module):
+        """A file of functions, rewritten."""
         made = Rewriter(self.context, module.script, module.file, module)
         made.all()
         for node in module.script.statements:

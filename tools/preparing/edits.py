@@ -28,7 +28,10 @@ class Edits:
         self.cuts[begin] = (end, text + "\n" * max(0, missing))
 
     def applied(self, begin=0, end=None):
-        """The new source of a piece of the old one, and where its own pieces stood: triples of a begin in the new and in the old one, and a length."""
+        """The new source of a piece of the old one, and where its own pieces stood.
+
+        Each of these is a triple: where it begins in the new source and in the old one, and its length.
+        """
         end = len(self.source) if end is None else end
         out, pieces, length, at = [], [], 0, begin
 

@@ -17,6 +17,7 @@ class Names:
                 self.take(node)
 
     def take(self, node):
+        """Takes the names that one node declares or sets."""
         if isinstance(node, Function):
             self.functions.setdefault(node.name.name, []).append(node)
         elif isinstance(node, (Parameter, Catch, ForIn)):

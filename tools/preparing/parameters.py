@@ -44,6 +44,7 @@ def declared(script, found):
 
 
 def declare(made, form, given, node, found):
+    """Notes a parameter that a call or a map declares."""
     if form not in FORMS or "name" not in given:
         return
     try:

@@ -52,6 +52,7 @@ def members(items):
 
 
 def part(kind, value):
+    """One part of a pattern."""
     if kind is signs.LITERAL:
         return a_set(chr(value), False)
     if kind is signs.NOT_LITERAL:

@@ -134,6 +134,7 @@ class Rewriter(Syntax, Steps):
         return [it.key for it in self.script.walk() if isinstance(it, (g.Argument, g.Entry))]
 
     def visit(self, node):
+        """Applies the rule of a node, and then those of the nodes inside it."""
         if id(node) in self.skipped:
             return
         rule = getattr(self, "on_" + type(node).__name__, None)
@@ -158,7 +159,8 @@ class Rewriter(Syntax, Steps):
         """The last statement of a function of a type gives its value."""
         body = self.parent(node)
         function = self.parent(body) if isinstance(body, g.Block) else None
-        if isinstance(function, g.Function) and function.body is body and body.statements[-1] is node and not isinstance(node.expression, g.Assignment):
+        is_last = isinstance(function, g.Function) and function.body is body and body.statements[-1] is node
+        if is_last and not isinstance(node.expression, g.Assignment):
             self.as_type(node.expression, function.type)
 
     def on_Return(self, node):

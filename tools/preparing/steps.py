@@ -26,6 +26,7 @@ class Steps:
     """Rules on calls and names."""
 
     def on_Call(self, node):
+        """A call by what is called, and then the forms of its arguments."""
         what = node.what
         if isinstance(what, g.Property):
             self.a_call_of_property(node)
@@ -37,6 +38,7 @@ class Steps:
         self.in_parentheses(node)
 
     def a_call_of_property(self, node):
+        """`a.b(..)`: of a file of functions, of a variable of Jenkins, or a method."""
         what = node.what
         on = what.on
         if isinstance(on, g.Name) and on.name == "steps" and not self.is_variable(node, "steps") or isinstance(on, g.Constant) and on.word == "this":
@@ -44,7 +46,7 @@ class Steps:
             self.skip(on)
             self.skip(what)
             self.a_call_of_name(node, what.name.name)
-        elif isinstance(on, g.Name) and on.name in self.context.modules and getattr(what.name, "name", None) in self.context.modules[on.name].functions:
+        elif isinstance(on, g.Name) and self.is_of_module(on.name, what.name):
             self.a_call_of_module(node, on.name, what.name.name)
         elif isinstance(on, g.Name) and on.name == "env" and not self.is_variable(node, "env"):
             self.found.refuse(node, f"`env.{getattr(what.name, 'name', '..')}(..)`: read and set `env.NAME`")
@@ -52,6 +54,10 @@ class Steps:
             self.a_call_of_build(node)
         elif not self.is_thrown_causes(what) and not (isinstance(on, g.Name) and self.is_unknown(on)):
             self.a_method(node)
+
+    def is_of_module(self, module, name):
+        """Whether a file of functions has one of that name."""
+        return module in self.context.modules and getattr(name, "name", None) in self.context.modules[module].functions
 
     def a_call_of_module(self, node, module, name):
         what = node.what
@@ -67,6 +73,7 @@ class Steps:
             self.found.refuse(node, f"`currentBuild.{getattr(node.what.name, 'name', '..')}(..)`")
 
     def a_call_of_name(self, node, name=None):
+        """A call of a function, a step, or a function of the library."""
         name = name or node.what.name
         if self.is_variable(node, name):
             return
@@ -195,6 +202,7 @@ class Steps:
         self.skip(argument)
 
     def step_withEnv(self, node):
+        """A name with a `+` puts its value in front of the variable, which has to be read first."""
         first = node.arguments[0].value if node.arguments else None
         if first is None:
             return
@@ -205,6 +213,7 @@ class Steps:
             self.found.changed(node, "`NAME+X=v` of `withEnv` becomes `withPaths(..)` of the library, which reads the variable by a shell step")
 
     def step_catchError(self, node):
+        """Its results are those of the build alone."""
         given = named(node)
         if "catchInterruptions" in given:
             self.found.refuse(given["catchInterruptions"], "`catchInterruptions`")
@@ -226,6 +235,7 @@ class Steps:
             self.renamed(node, "unstableHere")
 
     def step_parallel(self, node):
+        """`failFast` may be left out where it is false."""
         fast = named(node).get("failFast")
         if fast is None:
             return
@@ -262,6 +272,7 @@ class Steps:
         self.found.changed(node, "`properties` goes" + (f": nothing here does {', '.join(names)}" if names else ""))
 
     def step_waitUntil(self, node):
+        """A closure with options becomes one map."""
         self.need("waitUntil", node)
         written = node.arguments[: len(node.arguments) - node.trailing]
         if not written or node.trailing != 1:
@@ -287,12 +298,14 @@ class Steps:
             self.found.refuse(node, "`load` that is not `def NAME = load 'PATH'` of a file beside the script")
 
     def step_timeout(self, node):
-        self.found.refuse(node, "`timeout`: a body cannot be stopped; `sh 'timeout 300 make'` stops a command, and `--drop timeout` leaves the limit out")
+        self.found.refuse(node, "`timeout`: a body cannot be stopped; `sh 'timeout 300 make'` stops a command, "
+                                "and `--drop timeout` leaves the limit out")
 
     def step_error(self, node):
         """As it is."""
 
     def a_dropped_call(self, node, name):
+        """Calls the function that stands in place of a step that is left out."""
         number = self.number_of_arguments(node)
         self.context.dropped[name].append((number, node.trailing))
         if node.trailing and number == 1 and node.form == "closure":
@@ -319,6 +332,7 @@ class Steps:
     # --- names
 
     def on_Name(self, node):
+        """A name that no variable and no function has: one of Jenkins, of the environment, or of nothing."""
         name = node.name
         if self.is_variable(node, name) or name in self.own_functions or name == "it" or name in self.context.modules:
             return
@@ -335,7 +349,7 @@ class Steps:
                 self.found.refuse(node, "`scm`: give the repository by `--scm URL`, or `--scm URL#BRANCH`")
         elif name in self.context.parameters and not self.is_of_environment(name):
             self.context.uses.add("params")
-            self.edits.replace(node.begin, node.end, f"params.{name}" if not isinstance(parent, g.Embedded) or parent.has_braces else f"params.{name}")
+            self.edits.replace(node.begin, node.end, f"params.{name}")
         elif self.is_of_environment(name):
             self.a_variable_of_environment(node, name, node)
         elif name[:1].isupper() or name in ("docker", "java", "groovy", "hudson", "jenkins", "org", "manager", "sshagent"):
@@ -409,6 +423,7 @@ class Steps:
             self.found.refuse(node, "`env[..]` of a name that is not written out")
 
     def a_property_of_build(self, node, name, is_target):
+        """`currentBuild.X`, read or set."""
         self.context.uses.add("currentBuild")
         if name not in OF_CURRENT:
             self.found.refuse(node, f"`currentBuild.{name}`")

@@ -55,6 +55,7 @@ class Syntax:
         self.found.changed(node, "`package` goes")
 
     def on_Annotated(self, node):
+        """Annotations go; `@Field` and `@Library` with what they mean."""
         names = {simple(it.name) for it in node.annotations}
         if "Library" in names:
             self.edits.replace(node.begin, node.end, "")
@@ -74,7 +75,8 @@ class Syntax:
         if len(node.names) > 1 or node.is_tuple:
             self.found.refuse(node, "`@Field` with several names: give each a line of its own")
             return
-        if self.module is None and any(it.begin < node.begin and isinstance(it, (g.Evaluate, g.Declaration, g.If, g.Try, g.ForIn)) for it in self.script.statements):
+        running = (g.Evaluate, g.Declaration, g.If, g.Try, g.ForIn)
+        if self.module is None and any(it.begin < node.begin and isinstance(it, running) for it in self.script.statements):
             self.found.refuse(node, "`@Field` behind statements, before which Groovy sets it: put it in front of them")
         self.edits.replace(node.begin, first.begin, "")
         if first.value is None:
@@ -85,6 +87,7 @@ class Syntax:
     # --- declarations and functions
 
     def on_Declaration(self, node):
+        """A declaration of one name, by `def` or by a plain type with a value."""
         if id(node) in self.done:
             return
         if node.is_tuple:
@@ -118,6 +121,7 @@ class Syntax:
         self.found.changed(value, f"a value for the type {name}: `{function}(..)` of the library")
 
     def several(self, node):
+        """`def (a, b) = e` becomes a declaration of each."""
         names = [it.name.name for it in node.names]
         if node.value is None:
             self.edits.replace(node.begin, node.end, "; ".join(f"def {name}" for name in names))
@@ -129,6 +133,7 @@ class Syntax:
         self.found.changed(node, "a declaration of several names becomes one of each")
 
     def on_Function(self, node):
+        """A function by `def`, of parameters without defaults."""
         first = node.name
         header = self.source[node.begin : first.begin].split()
         name = self.called(first.name)
@@ -265,6 +270,7 @@ class Syntax:
         return self.source.index(":", begin) + 1
 
     def case_test(self, subject, case):
+        """The test in place of `case`: whether the subject is equal, in a list, or matches a pattern."""
         self.skip(case.value)
         written = self.source[case.value.begin : case.value.end]
         if isinstance(case.value, (g.Text, g.Number, g.Constant)):
@@ -284,6 +290,7 @@ class Syntax:
         return isinstance(node, g.Name) and not self.is_variable(node, node.name)
 
     def falls_through(self, node):
+        """A case that may go on with the next one, or that a `break` leaves in the middle; None where none does."""
         for at, case in enumerate(node.cases):
             last = case.statements[-1] if case.statements else None
             is_last = at == len(node.cases) - 1
@@ -318,11 +325,13 @@ class Syntax:
         else:
             self.edits.replace(node.test.end, node.message.begin, ")) { throw new Error(")
             self.edits.behind(node.end, ") }")
-        self.found.changed(node, "`assert` becomes a test that throws an Error, which `catch (Exception e)` lets pass as in Groovy; its text is shorter")
+        self.found.changed(node, "`assert` becomes a test that throws an Error, which `catch (Exception e)` lets pass as in Groovy; "
+                                 "its text is shorter")
 
     # --- exceptions
 
     def on_Try(self, node):
+        """Its catches, where the language does not have them as they are."""
         if node.resources:
             self.found.refuse(node, "a `try` with resources")
         wanted = [[simple(it.name) for it in catch.types] for catch in node.catches]
@@ -375,6 +384,7 @@ class Syntax:
         return f"isThrown({name}, [{', '.join(map(literal, classes))}])"
 
     def on_New(self, node):
+        """A throwable of the language, one that can stand for another, or an empty list or map."""
         name, parent = simple(node.type.name), self.parent(node)
         if node.has_body or node.is_array or len(node.arguments) > 1:
             self.found.refuse(node, f"`new {name}` with such arguments")
@@ -396,6 +406,7 @@ class Syntax:
     # --- literals
 
     def on_Number(self, node):
+        """A whole number of 32 bits, written as the language has it."""
         written = node.written.replace("_", "")
         if written.isdigit() and written == node.written and int(written) < 2**31 and (written == "0" or written[0] != "0"):
             return
@@ -415,6 +426,7 @@ class Syntax:
         self.found.changed(node, "a text between slashes becomes one between quotes")
 
     def on_GString(self, node):
+        """A text with expressions between quotes."""
         if node.quote not in ('"', '"""'):
             first = min([it.begin for it in node.parts] or [node.end])
             self.edits.replace(node.begin, first, '"')
@@ -460,6 +472,7 @@ class Syntax:
             self.found.refuse(node, f"`{node.sign}` within an expression: make it a statement of its own")
 
     def on_Assignment(self, node):
+        """An assignment is a statement; several behind each other become several."""
         parent = self.parent(node)
         if node.sign not in ("=", "+=", "-=", "*=", "%="):
             self.found.refuse(node, f"`{node.sign}`")
@@ -496,6 +509,7 @@ class Syntax:
         self.found.changed(node, "`def a = b = e` becomes `b = e; def a = b`")
 
     def on_Binary(self, node):
+        """An operator that the language has, or a function for it."""
         rule = {"in": self.an_in, "!in": self.an_in, "as": self.an_as, "instanceof": self.an_instanceof, "..<": self.a_range}.get(node.sign)
         if rule is not None:
             rule(node)
@@ -604,6 +618,7 @@ class Syntax:
     # --- what stands behind a value
 
     def on_Index(self, node):
+        """An index by a range becomes a function."""
         if len(node.items) != 1:
             self.found.refuse(node, "an index with several places")
             return
@@ -621,6 +636,7 @@ class Syntax:
             self.found.changed(node, "`x[a..b]` becomes `slice(x, a, b, true)` of the library")
 
     def on_Choice(self, node):
+        """`?` and `:` stand at the ends of lines."""
         for front, sign in ((node.test.end, "?:" if node.then is None else "?"), (node.then.end if node.then else None, ":")):
             if front is None:
                 continue
@@ -675,6 +691,7 @@ class Syntax:
         self.found.changed(node, "`a.'b'` becomes `a['b']`")
 
     def a_spread(self, node, name):
+        """`x*.y` and `x*.f(..)` become `collect`."""
         call = self.parent(node)
         is_call = isinstance(call, g.Call) and call.what is node
         if name is None or is_call and any(not is_plain(it.value) or it.key or names_it(it) for it in call.arguments):
@@ -691,8 +708,10 @@ class Syntax:
         name, number = getattr(what.name, "name", None), len(node.arguments)
         named = [it for it in node.arguments if it.key is not None]
         number -= max(0, len(named) - 1)
-        if number in METHODS.get(name, ()) and node.trailing and self.names.kind(what.on) == "list" and len(node.arguments[-1].value.parameters or []) > 1:
-            self.found.refuse(node.arguments[-1], "an entry of a list that is spread over several parameters: take one, and its entries by `[0]`, `[1]`")
+        is_walk = number in METHODS.get(name, ()) and node.trailing and self.names.kind(what.on) == "list"
+        if is_walk and len(node.arguments[-1].value.parameters or []) > 1:
+            self.found.refuse(node.arguments[-1], "an entry of a list that is spread over several parameters: take one, and "
+                                                  "its entries by `[0]`, `[1]`")
         if name is None or name in ("call",) or number in METHODS.get(name, ()):
             return
         if (name, number) in LEFT_OUT:
