@@ -24,7 +24,8 @@ from preparing.assemble import Options, Prepared, read_file
 PACKAGES = [
     ("maven", "3.8.7-1"), ("surefire", "2.22.3-2"), ("maven-resolver", "1.6.3-1"), ("jetty9", "9.4.57-1.1~deb12u1"),
     ("zookeeper", "3.8.0-11+deb12u2"), ("docker.io", "20.10.24+dfsg1-1+deb12u1"), ("docker-compose", "1.29.2-3"),
-    ("apache-directory-server", "2.0.0~M26-1"),
+    ("apache-directory-server", "2.0.0~M26-1"), ("maven-compiler-plugin", "3.10.1-2"),
+    ("maven-assembly-plugin", "3.4.2-1"),
 ]
 SOURCES = "deb-src [signed-by=/usr/share/keyrings/debian-archive-keyring.gpg] http://deb.debian.org/debian bookworm main\n"
 NAMED_SO = re.compile(r"(^|/)([\w.-]*jenkinsfile[\w.-]*)$", re.I)
@@ -33,7 +34,7 @@ NAMED_SO = re.compile(r"(^|/)([\w.-]*jenkinsfile[\w.-]*)$", re.I)
 def apt(room, *words, folder=None):
     """Runs apt-get with lists and a cache of its own; whether it succeeded."""
     settings = f'Dir::Etc::sourcelist "{room}/sources.list";\nDir::Etc::sourceparts "/dev/null";\n' \
-        f'Dir::State::lists "{room}/lists";\nDir::Cache "{room}/cache";\n'
+        f'Dir::State::lists "{room}/lists";\nDir::Cache "{room}/cache";\nAPT::Update::Error-Mode "any";\n'
     for name in ("lists/partial", "cache/archives/partial"):
         os.makedirs(f"{room}/{name}", exist_ok=True)
     for name, content in (("apt.conf", settings), ("sources.list", SOURCES)):
@@ -103,6 +104,10 @@ FILES = {
         "words": [], "labels": ["ubuntu"], "makes": {"mvn": ["a/target/surefire-reports/TEST-a.xml"]},
         "status": 0, "lines": ["mvn clean verify", "notified of SUCCESS"],
     },
+    **dict.fromkeys(("maven-compiler-plugin-Jenkinsfile", "maven-assembly-plugin-Jenkinsfile"), {
+        "words": [], "labels": ["ubuntu"], "makes": {"mvn": ["target/surefire-reports/TEST-a.xml"]},
+        "status": 0, "lines": ["mvn clean verify", "notified of SUCCESS"],
+    }),
     "jetty9-Jmh_Jenkinsfile": {
         "words": ["--drop", "timeout", "--drop", "jmhReport"], "labels": ["linux", "jmh-build-node"],
         "makes": {"mvn": ["jetty-jmh/target/benchmarks.jar"]},

@@ -70,6 +70,16 @@ class Prepare(unittest.TestCase):
             with self.assertRaises(Exception):
                 prepared(source, given=given)
 
+    def test_parameters_that_are_not_written_out_are_refused(self):
+        for given in ("parameters(all())", "parameters([gitParameter(name: 'A')])", "parameters([string(name: 'A', defaultValue: b())])"):
+            self.assertTrue(refused(f"properties([{given}])\necho params.A"), given)
+
+    def test_a_variable_of_the_environment_is_a_text(self):
+        self.assertIn("env.A = textOf(5)", prepared("env.A = 5\necho env.A").text)
+        told = "env['B'] = textOf(withEnv(environmentSet(['B'])) { sh(script: 'x', returnStdout: true) })"
+        self.assertIn(told, prepared("node { env['B'] = sh script: 'x', returnStdout: true }").text)
+        self.assertTrue(refused("env.A = null"))
+
     def test_a_name_of_the_library_that_the_script_has_is_its_own(self):
         self.assertNotIn("git fetch", prepared("def checkout(x) { echo x }\ncheckout 'a'").text)
         self.assertTrue(refused("def slice = 1\necho 'abc'[0..1]"))

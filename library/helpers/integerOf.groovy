@@ -1,7 +1,7 @@
-// `value as int`: of a number itself, of a text the number that it spells.
+// `value as Integer`: null stays null; of a text the number that it spells.
 //
 // Example:
 //     echo "${integerOf('7') + 1}"
 def integerOf(value) {
-    return value.toInteger()
+    return value == null ? null : value.toInteger()
 }

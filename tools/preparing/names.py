@@ -12,6 +12,8 @@ class Names:
 
     def __init__(self, trees):
         self.functions, self.declared, self.assigned, self.fields, self.values = {}, set(), set(), set(), {}
+        # The types with which a name is declared; None for each declaration without one.
+        self.types = {}
         for tree in trees:
             for node in tree.walk():
                 self.take(node)
@@ -22,9 +24,11 @@ class Names:
             self.functions.setdefault(node.name.name, []).append(node)
         elif isinstance(node, (Parameter, Catch, ForIn)):
             self.declare(node.name.name, None)
+            self.types.setdefault(node.name.name, []).append(getattr(node, "type", None))
         elif isinstance(node, Declaration):
             for it in node.names:
                 self.declare(it.name.name, it.value)
+                self.types.setdefault(it.name.name, []).append(it.type or node.type)
         elif isinstance(node, Assignment) and isinstance(node.target, Name):
             self.assigned.add(node.target.name)
             if node.sign == "=":
@@ -36,8 +40,14 @@ class Names:
         self.declared.add(name)
         self.values.setdefault(name, []).append(value)
 
-    def is_variable(self, name):
-        return name in self.declared or name in self.assigned
+    def has_texts(self, node, depth=0):
+        """Whether a value can only be a list of texts."""
+        if isinstance(node, ListLiteral):
+            return all(self.kind(it.value) == "text" for it in node.items)
+        if isinstance(node, Name) and depth < 4:
+            values = self.values.get(node.name, [])
+            return bool(values) and all(value is not None and self.has_texts(value, depth + 1) for value in values)
+        return isinstance(node, Call) and isinstance(node.what, Property) and getattr(node.what.name, "name", "") in ("tokenize", "readLines", "split")
 
     def kind(self, node, depth=0):
         """'text', 'list', 'map', 'number' or 'closure' where a value can only be of that kind; else None."""

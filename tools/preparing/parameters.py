@@ -34,6 +34,8 @@ def declared(script, found):
     for node in script.walk():
         if not (isinstance(node, g.Call) and isinstance(node.what, g.Name) and node.what.name in ("parameters", "properties")):
             continue
+        if node.what.name == "parameters":
+            refuse_unknown(node, found)
         for inner in node.walk():
             if isinstance(inner, g.Call) and isinstance(inner.what, g.Name):
                 declare(made, inner.what.name, entries(inner.arguments), inner, found)
@@ -41,6 +43,15 @@ def declared(script, found):
                 kind = entries(inner.entries).get("$class")
                 declare(made, getattr(kind, "value", "").split(".")[-1], entries(inner.entries), inner, found)
     return made
+
+
+def refuse_unknown(node, found):
+    """Refuses parameters that are not written out, or of forms that are not known here."""
+    given = node.arguments[0].value if node.arguments else None
+    items = [it.value for it in given.items] if isinstance(given, g.ListLiteral) else [given]
+    for it in items:
+        if not (isinstance(it, g.Call) and isinstance(it.what, g.Name) and it.what.name in FORMS):
+            found.refuse(it or node, "a parameter that is not one of string, text, booleanParam, choice, password, credentials, written out")
 
 
 def declare(made, form, given, node, found):

@@ -83,6 +83,8 @@ class Rewriter(Syntax, Steps):
                     return False
             elif isinstance(around, (g.ForIn, g.Catch)) and around.name.name == name:
                 return True
+            elif isinstance(around, g.Declaration) and any(it.name.name == name for it in around.names if it.end <= inner.begin):
+                return True
             rows = around.statements if isinstance(around, (g.Block, g.Case)) else around.first if isinstance(around, g.ForSteps) else \
                 self.script.statements if around is None else []
             if any(name in declared_by(it) for it in rows if it.begin < inner.begin):

@@ -379,12 +379,24 @@ class Steps:
                 self.context.uses.add("env")
                 if name in self.context.with_names:
                     self.found.refuse(node, f"`env.{name}` is set, and `withEnv` sets it too: use two names")
+                self.a_value_of_environment(parent)
             else:
                 self.a_variable_of_environment(node, name, node)
         elif on.name == "currentBuild" and name is not None:
             self.a_property_of_build(node, name, is_target)
         elif on.name == "params" and name is not None and self.context.parameters and name not in self.context.parameters:
             self.found.note(node, f"`params.{name}` is null: the script declares no such parameter")
+
+    def a_value_of_environment(self, assignment):
+        """A variable of the environment is a text, whatever it is set to."""
+        value = assignment.value
+        if isinstance(value, g.Constant) and value.word == "null":
+            self.found.refuse(value, "`null` as a variable of the environment: write `''`")
+        elif self.names.kind(value) != "text" and assignment.sign == "=" and not isinstance(value, g.Assignment):
+            self.need("textOf", value)
+            self.edits.around(value, "textOf(", ")")
+            if isinstance(value, g.Call) and value.form == "command":
+                self.valued.add(id(value))
 
     def a_variable_of_environment(self, node, name, written):
         """A variable of the environment is read from the build's own map, or by a shell step where a node or `withEnv` sets it."""
@@ -417,6 +429,7 @@ class Steps:
             parent = self.parent(node)
             if isinstance(parent, g.Assignment) and parent.target is node:
                 self.context.uses.add("env")
+                self.a_value_of_environment(parent)
             else:
                 self.a_variable_of_environment(node, inner.value, node)
         else:

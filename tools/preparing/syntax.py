@@ -19,6 +19,9 @@ def simple(name):
     return name.split(".")[-1]
 
 
+# The functions that make of a value one of a type.
+COERCED = {"String": "textOf", "boolean": "truthOf", "Boolean": "truthOf"}
+AS_TYPE = {"int": "intOf", "Integer": "integerOf", **COERCED}
 # Operators that give a truth value.
 TRUTHS = ("&&", "||", "==", "!=", "<", "<=", ">", ">=", "in", "!in", "instanceof", "==~")
 # What Groovy gives for arguments that are left out, behind those that are there.
@@ -35,6 +38,13 @@ def leaves(statement):
         ends = [it.statements[-1] for it in statement.cases if it.statements]
         return any(it.value is None for it in statement.cases) and all(map(leaves, ends))
     return isinstance(statement, (g.Return, g.Throw, g.Continue))
+
+
+def is_simple(statement):
+    """Whether a statement stays one that may stand in the place of a block."""
+    if isinstance(statement, g.Evaluate):
+        return not isinstance(statement.expression, g.Assignment) or not isinstance(statement.expression.value, g.Assignment)
+    return isinstance(statement, (g.Return, g.Throw, g.Break, g.Continue))
 
 
 def names_it(node):
@@ -109,7 +119,7 @@ class Syntax:
     def as_type(self, value, kind):
         """Groovy makes a text of what a variable or function of the type String gets, and a truth value for boolean."""
         name = simple(kind.name) if kind is not None else ""
-        function = {"String": "textOf", "boolean": "truthOf", "Boolean": "truthOf"}.get(name)
+        function = COERCED.get(name)
         if function is None or name == "String" and self.names.kind(value) == "text" or isinstance(value, g.Constant):
             return
         if name != "String" and (isinstance(value, g.Prefix) and value.sign == "!" or isinstance(value, g.Binary) and value.sign in TRUTHS):
@@ -196,6 +206,14 @@ class Syntax:
             self.edits.replace(begin, node.name.begin, "def ")
         elif node.sign == ":" and node.type is None and not node.keyword:
             self.edits.before(node.name.begin, "def ")
+        function = COERCED.get(simple(node.type.name)) if node.type is not None else None
+        if function is not None and not (function == "textOf" and self.names.has_texts(node.collection)):
+            self.need(function, node)
+            if node.body.has_braces:
+                self.edits.behind(node.body.begin + 1, f" {node.name.name} = {function}({node.name.name});")
+                self.found.changed(node.type, f"a loop over values for the type {node.type.name}: `{function}(..)` of the library")
+            else:
+                self.found.refuse(node.type, f"a loop over values for the type {node.type.name} without braces: write `def`")
 
     def on_ForSteps(self, node):
         if node.test is None or len(node.first) != 1 or len(node.following) != 1:
@@ -226,8 +244,11 @@ class Syntax:
         self.found.add("refused", node.fault, "this is no Groovy that can be read")
 
     def on_Block(self, node):
+        """A body without braces gets them where it is more than one simple statement, or may become so."""
         if node.has_braces and isinstance(self.parent(node), (g.Block, type(None))):
             self.found.refuse(node, "a block by itself")
+        elif not node.has_braces and node.statements and not is_simple(node.statements[0]):
+            self.edits.around(node, "{ ", " }")
 
     def on_If(self, node):
         otherwise = node.otherwise
@@ -474,6 +495,8 @@ class Syntax:
     def on_Assignment(self, node):
         """An assignment is a statement; several behind each other become several."""
         parent = self.parent(node)
+        if node.sign == "=" and isinstance(node.target, g.Name) and not isinstance(node.value, g.Assignment):
+            self.of_variable(node)
         if node.sign not in ("=", "+=", "-=", "*=", "%="):
             self.found.refuse(node, f"`{node.sign}`")
         elif isinstance(parent, (g.Evaluate, g.ForSteps)) or isinstance(parent, g.Block) and isinstance(node.value, g.Assignment):
@@ -485,6 +508,15 @@ class Syntax:
             self.found.refuse(node, "an assignment within an expression: make it a statement of its own")
         if node.sign == "-=" and self.names.kind(node.target) in ("text", "list"):
             self.found.refuse(node, "`-=` on a text or a list")
+
+    def of_variable(self, node):
+        """What a variable of a type gets becomes a value of that type."""
+        kinds = self.names.types.get(node.target.name, [])
+        coerced = [it for it in kinds if it is not None and simple(it.name) in COERCED]
+        if coerced and len({simple(it.name) if it else "" for it in kinds}) == 1:
+            self.as_type(node.value, coerced[0])
+        elif coerced and self.names.kind(node.value) != "text":
+            self.found.refuse(node, f"`{node.target.name}` is declared with and without the type {coerced[0].name}: use two names")
 
     def chain(self, node, target):
         """`a = b = e` becomes `b = e; a = b`."""
@@ -550,7 +582,7 @@ class Syntax:
 
     def an_as(self, node):
         name = simple(node.right.name)
-        function = {"int": "integerOf", "Integer": "integerOf", "String": "textOf", "boolean": "truthOf", "Boolean": "truthOf"}.get(name)
+        function = AS_TYPE.get(name)
         if function is None and name in ("List", "Set", "Map", "ArrayList") and self.names.kind(node.left) in ("list", "map") and name != "Set":
             self.edits.replace(node.left.end, node.end, "")
         elif function is None and name.endswith("[]"):
@@ -566,7 +598,7 @@ class Syntax:
 
     def on_Cast(self, node):
         name = simple(node.type.name)
-        function = {"int": "integerOf", "Integer": "integerOf", "String": "textOf", "boolean": "truthOf", "Boolean": "truthOf"}.get(name)
+        function = AS_TYPE.get(name)
         if function is None:
             self.found.refuse(node, f"a cast to {name}")
             return
