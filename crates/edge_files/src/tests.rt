@@ -193,16 +193,24 @@ fn a_store_that_is_cut_short_is_left_to_its_reader(rt: HostRuntime) -> Result<()
     Ok(())
 }
 
+// The file of sums that begins with these bytes, behind who reads the store, and behind who goes on with it.
+fn sums_behind(rt: &HostRuntime, left: &[u8]) -> io::Result<(Vec<u8>, Vec<u8>)> {
+    fs::write(rt, "lacking.sum", left)?;
+    store(rt, "lacking", StoreUse::Reads)?.len()?;
+    let read = fs::read(rt, "lacking.sum")?;
+    store(rt, "lacking", StoreUse::GoesOn)?.len()?;
+    Ok((read, fs::read(rt, "lacking.sum")?))
+}
+
 #[test]
 fn sums_that_are_not_there_are_made_anew_by_who_goes_on(rt: HostRuntime) -> Result<(), Fail> {
     two_records(&rt, "lacking")?;
     let sums = fs::read(&rt, "lacking.sum")?;
-    for left in [&b""[..], &b"short"[..], &sums[..sums.len().min(40)]] {
-        fs::write(&rt, "lacking.sum", left)?;
-        expect(&rt, store(&rt, "lacking", StoreUse::Reads)?.len()?, 15);
-        expect_file(&rt, "lacking.sum", left)?;
-        expect(&rt, store(&rt, "lacking", StoreUse::GoesOn)?.len()?, 15);
-        expect_file(&rt, "lacking.sum", sums.as_slice())?;
+    for count in [0, 5, 40, 64, 95] {
+        let left = &sums.as_slice()[..sums.len().min(count)];
+        let (read, remade) = sums_behind(&rt, left)?;
+        expect(&rt, read.as_slice(), left);
+        expect(&rt, remade.as_slice(), sums.as_slice());
     }
     Ok(())
 }
