@@ -1,5 +1,8 @@
 // Kills a program right before one of its calls of the system. `bench/kills.py --calls` loads it into the controller (LD_PRELOAD).
 //
+// With CALLS_SYNCED, a fifo, it writes the path of each file and folder there that was synced, and waits for a byte from the fifo
+// CALLS_GO_ON before it goes on: `bench/power.py` copies meanwhile what a power cut would leave.
+//
 // It counts the calls that change what is on the disk or start a process, in all threads together, and writes the name of each into
 // the file CALLS_LIST before it is made. The call of the number CALLS_KILL is not made: the program gets SIGKILL. The tasks that the
 // program starts do not load it.
@@ -18,7 +21,8 @@
 #include <unistd.h>
 
 static atomic_int count;
-static int last, list = -1;
+static int last, list = -1, synced_list = -1, go_on = -1;
+static atomic_flag at_a_sync = ATOMIC_FLAG_INIT;
 
 __attribute__((constructor)) static void begin(void)
 {
@@ -26,6 +30,13 @@ __attribute__((constructor)) static void begin(void)
     last = number ? atoi(number) : 0;
     if (path)
         list = syscall(SYS_openat, AT_FDCWD, path, O_WRONLY | O_CREAT | O_APPEND | O_CLOEXEC, 0644);
+    const char *synced_path = getenv("CALLS_SYNCED"), *go_on_path = getenv("CALLS_GO_ON");
+    if (synced_path && go_on_path) {
+        synced_list = syscall(SYS_openat, AT_FDCWD, synced_path, O_WRONLY | O_CLOEXEC, 0);
+        go_on = syscall(SYS_openat, AT_FDCWD, go_on_path, O_RDONLY | O_CLOEXEC, 0);
+    }
+    unsetenv("CALLS_SYNCED");
+    unsetenv("CALLS_GO_ON");
     unsetenv("CALLS_KILL");
     unsetenv("CALLS_LIST");
     unsetenv("LD_PRELOAD");
@@ -44,6 +55,40 @@ static void comes(const char *name)
         syscall(SYS_kill, getpid(), SIGKILL);
 }
 
+// The file or folder of this descriptor was synced.
+static void synced(int file)
+{
+    char link[64], path[4096], answer;
+    if (synced_list < 0)
+        return;
+    snprintf(link, sizeof link, "/proc/self/fd/%d", file);
+    ssize_t length = readlink(link, path, sizeof path - 1);
+    if (length < 0)
+        return;
+    path[length++] = '\n';
+    while (atomic_flag_test_and_set(&at_a_sync))
+        usleep(100);
+    syscall(SYS_write, synced_list, path, length);
+    syscall(SYS_read, go_on, &answer, 1);
+    atomic_flag_clear(&at_a_sync);
+}
+
+#define SYNC(name)                                                  \
+    int name(int file)                                              \
+    {                                                               \
+        static int (*next)(int);                                    \
+        comes(#name);                                               \
+        if (!next)                                                  \
+            next = (int (*)(int))dlsym(RTLD_NEXT, #name);           \
+        int result = next(file);                                    \
+        if (result == 0)                                            \
+            synced(file);                                           \
+        return result;                                              \
+    }
+
+SYNC(fsync)
+SYNC(fdatasync)
+
 #define CALL(result, name, types, ...)                              \
     result name types                                               \
     {                                                               \
@@ -57,8 +102,6 @@ static void comes(const char *name)
 CALL(ssize_t, write, (int file, const void *bytes, size_t size), file, bytes, size)
 CALL(ssize_t, writev, (int file, const struct iovec *parts, int number), file, parts, number)
 CALL(ssize_t, pwrite, (int file, const void *bytes, size_t size, off_t at), file, bytes, size, at)
-CALL(int, fsync, (int file), file)
-CALL(int, fdatasync, (int file), file)
 CALL(int, ftruncate, (int file, off_t size), file, size)
 CALL(int, mkdir, (const char *path, mode_t mode), path, mode)
 CALL(int, mkdirat, (int folder, const char *path, mode_t mode), folder, path, mode)

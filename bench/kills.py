@@ -10,8 +10,10 @@ Executors work side by side, so that the lines of branches may come in another o
 executors, and a line of one branch may be cut by one of another. Where the log of a build with branches is not the same, its lines are
 compared in any order, those of each step in theirs; and where a line is cut, its characters. Such builds are counted for themselves.
 
-A kill between the making of a task's control folder and the start of its shell costs that step: it ends with code -2 or -1 and is not
-launched again (docs/HOSTS.md). Such builds are counted for themselves; in them no task may have been launched twice.
+A step that a kill cost, one with code -2 or -1 that the undisturbed run does not have, is lost. So is a build with one. None may be.
+
+`--busy N` has so many processes at work beside it that do nothing but compute. The last line is a row of a table: the load, builds,
+kills, tasks, and how many builds lost a step, launched one twice, or were wrong otherwise.
 
 With `--calls` one build of five shell steps is killed right before each call in turn that writes or starts a process, in whichever
 thread, by bench/calls.c, which `cc` has to compile.
@@ -21,6 +23,7 @@ The same seed gives the same scripts and times. An interrupt (Ctrl-C) ends it wi
 import argparse
 import collections
 import concurrent.futures
+import contextlib
 import difflib
 import os
 import random
@@ -142,6 +145,10 @@ class Wrong(Exception):
     """What must not be."""
 
 
+class Twice(Wrong):
+    """A task was launched twice."""
+
+
 def gone_on(build, before):
     """What is known behind a kill: the command to go on with, and the log, which has to begin with the one before."""
     command, log = build.next_command()
@@ -167,6 +174,7 @@ def killed(build, kills, seconds, choose):
 
 
 SAME, REORDERED, COST = "as the undisturbed run", "as the undisturbed run in another order", "with a step that a kill cost"
+TWICE, WRONG = "with a task that was launched twice", "wrong"
 CUT = "as the undisturbed run in another order, with a line that another branch cut"
 
 
@@ -195,7 +203,7 @@ def judged(first, first_launches, second, launches, has_branches):
     """What became of a build that was killed; or Wrong."""
     twice = [name for name, count in launches.items() if count > 1]
     if twice:
-        raise Wrong(f"launched twice: {twice}")
+        raise Twice(f"launched twice: {twice}")
     if second == first and launches == first_launches:
         return SAME
     for same, what in ((in_any_order, REORDERED), (letters, CUT)):
@@ -223,7 +231,7 @@ def trial(program, seed, kills):
         what = judged(first, undisturbed.launches(), second, disturbed.launches(), "parallel(" in script)
         return count, sum(disturbed.launches().values()), what, seconds, None
     except Wrong as why:
-        return 0, 0, "wrong", 0, f"seed {seed}: {why}"
+        return 0, 0, TWICE if isinstance(why, Twice) else WRONG, 0, f"seed {seed}: {why}"
     finally:
         shutil.rmtree(room, ignore_errors=True)
 
@@ -248,9 +256,25 @@ def campaign(asked):
     kills, tasks = (sum(it[at] for it in ended) for at in range(2))
     seconds = sum(it[3] for it in ended) / max(len(ended), 1)
     print(f"{len(ended)} builds, {seconds:.1f} seconds each where undisturbed; {kills} kills; {tasks} tasks launched")
-    for what, count in collections.Counter(it[2] for it in ended).most_common():
+    counts = collections.Counter(it[2] for it in ended)
+    for what, count in counts.most_common():
         print(f"{count} {what}")
-    return 1 if wrong else 0
+    load = f"{asked.busy} busy processes" if asked.busy else "quiet"
+    print("| load | builds | kills | tasks | lost a step | launched one twice | wrong |")
+    print(f"| {load} | {len(ended)} | {kills} | {tasks} | {counts[COST]} | {counts[TWICE]} | {counts[WRONG]} |")
+    return 1 if wrong or counts[COST] else 0
+
+
+@contextlib.contextmanager
+def busy(count):
+    """So many processes that only compute, while what is inside is done."""
+    workers = [subprocess.Popen([sys.executable, "-c", "while True: pass"]) for _ in range(count)]
+    try:
+        yield
+    finally:
+        for worker in workers:
+            worker.kill()
+            worker.wait()
 
 
 def at_each_call(asked):
@@ -268,7 +292,7 @@ def at_each_call(asked):
         figures = collections.Counter((name, what) for name, what in ended if isinstance(what, str))
         for (name, what), count in sorted(figures.items()):
             print(f"{name}: {count} {what}")
-        return 1 if any(isinstance(what, Wrong) for _, what in ended) else 0
+        return 1 if any(what == COST or isinstance(what, Wrong) for _, what in ended) else 0
     finally:
         shutil.rmtree(room, ignore_errors=True)
 
@@ -306,11 +330,13 @@ def main():
     parser.add_argument("--seed", type=int, default=1)
     parser.add_argument("--jobs", type=int, default=2, help="builds side by side")
     parser.add_argument("--program", default=PROGRAM)
+    parser.add_argument("--busy", type=int, default=0, help="processes beside it that only compute")
     parser.add_argument("--calls", action="store_true")
     asked = parser.parse_args()
     if not os.access(asked.program, os.X_OK):
         raise SystemExit(f"{asked.program} is not there: './controller build' makes it")
-    return at_each_call(asked) if asked.calls else campaign(asked)
+    with busy(asked.busy):
+        return at_each_call(asked) if asked.calls else campaign(asked)
 
 
 if __name__ == "__main__":

@@ -8,7 +8,8 @@
 //! its numbers. All that it promises stands at [`controller::controller`], which `main` calls once, by
 //! [`call_controller`].
 //!
-//! One controller at a time works on a folder: `run` and `resume` hold a lock on `DIR/program.lock`.
+//! One controller at a time works on a folder: `run` and `resume` hold a lock on `DIR/program.lock`, which keeps which build
+//! it is. `DIR/program.sum` has a sum for each record of the store.
 #![tactic(auto)]
 
 ghost use Rattle.std.specs.Prelude.{◌≡◌, IfOk, length};
@@ -19,11 +20,12 @@ use controller::{Ended, controller};
 use cps_machine::MachineThread;
 use jp_disk::{Bytes, Disk, MemoryDisk, Numbers};
 use jp_io::{CleanSource, LazyFile, Sink, Source, StdSink, StdSource};
-use real_edge::{FileDisk, FolderHost, Life, LockedDisk};
+use real_edge::{FileDisk, FolderHost, LockedDisk, StorePaths, StoreUse};
 use std::alloc::{AllocError, Global};
 use std::fs::File;
 use std::io::ErrorKind;
 use std::process::{ExitCode, Processes};
+use std::random::RandomSource;
 use std::rt::{Env, Files};
 use std::sync::Wait;
 use std::thread::Threads;
@@ -48,15 +50,17 @@ fn main(rt: HostRuntime) -> ExitCode {
         script,
         agents,
         store,
-        lock,
-        life,
+        identity,
+        how,
     } = call;
-    let Ok(hosts) = hosts_of(&rt, alloc, life) else {
+    let Ok(hosts) = hosts_of(&rt, alloc, identity.as_str()) else {
         return ExitCode::from(tell(&mut out, &Refusal::OutOfMemory));
     };
     let mut script = StdSource::new(LazyFile::new(&rt, script));
     let mut agents = StdSource::new(LazyFile::new(&rt, agents));
-    let disk = disk_at(&rt, store, lock);
+    let Ok(disk) = disk_at(&rt, alloc, store, how) else {
+        return ExitCode::from(tell(&mut out, &Refusal::OutOfMemory));
+    };
     let ended = call_controller(
         &rt,
         words,
@@ -135,17 +139,17 @@ const HOSTS: usize = 64;
 /// How many work at once: an executor on each host, and the operator.
 const WORKERS: usize = HOSTS + 1;
 
-/// The hosts of this machine, in this life of the build.
+/// The hosts of this machine, for the build that has its identity in the file at this path.
 fn hosts_of<'a, R: Files + Env + AllocGlobal + Eprint + Clock + Processes>(
     rt: &'a R,
     alloc: Global,
-    life: Life,
+    identity: &'a str,
 ) -> Result<Vec<FolderHost<'a, R>>, AllocError>
     ensures hosts { IfOk result (λ hosts. length hosts.items ≡ 64) }
 {
     let mut hosts = Vec::new(alloc);
     for _ in 0..HOSTS {
-        hosts.push(FolderHost::new(rt, life))?;
+        hosts.push(FolderHost::new(rt, identity))?;
     }
     Ok(hosts)
 }
@@ -167,49 +171,53 @@ struct Call {
     words: Vec<String>,
     script: String,
     agents: String,
-    store: String,
-    /// The file that is locked, where the command writes the store.
-    lock: Option<String>,
-    /// Which life of its build the program is, where the command lets one go on.
-    life: Life,
+    store: StorePaths,
+    /// The file in which the store keeps which build it is, for the hosts.
+    identity: String,
+    /// For what the store is opened.
+    how: StoreUse,
 }
 
 /// Puts together the paths that the words ask for. Where they are no command no file is opened.
 fn paths_of(alloc: Global, words: Vec<String>) -> Result<Call, AllocError> {
-    let (folder, writes, life) = match command_in(&words) {
-        Some((Command::Run, folder)) => (folder, true, Life::First),
-        Some((Command::Resume, folder)) => (folder, true, Life::Later),
-        Some((_, folder)) => (folder, false, Life::Later),
-        None => ("", false, Life::Later),
+    let (folder, how) = match command_in(&words) {
+        Some((Command::Run, folder)) => (folder, StoreUse::Begins),
+        Some((Command::Resume, folder)) => (folder, StoreUse::GoesOn),
+        Some((_, folder)) => (folder, StoreUse::Reads),
+        None => ("", StoreUse::Reads),
     };
     let script = format!(in alloc; "{folder}/Jenkinsfile")?;
     let agents = format!(in alloc; "{folder}/agents.json")?;
-    let store = format!(in alloc; "{folder}/program.dat")?;
-    let lock = if writes {
-        Some(format!(in alloc; "{folder}/program.lock")?)
-    } else {
-        None
+    let identity = format!(in alloc; "{folder}/program.lock")?;
+    let store = StorePaths {
+        store: format!(in alloc; "{folder}/program.dat")?,
+        sums: format!(in alloc; "{folder}/program.sum")?,
+        identity: identity.clone()?,
     };
     Ok(Call {
         words,
         script,
         agents,
         store,
-        lock,
-        life,
+        identity,
+        how,
     })
 }
 
-/// The disk over the store at this path, with the lock that is asked for.
-fn disk_at<R: Files<File = File> + Eprint>(
-    rt: &R,
-    store: String,
-    lock: Option<String>,
-) -> LockedDisk<'_, R, FileDisk<'_, R>> {
-    let Some(lock) = lock else {
-        return LockedDisk::unlocked(FileDisk::new(rt, store));
-    };
-    LockedDisk::locked(rt, lock, FileDisk::new(rt, store))
+/// The disk over the store at these paths. Where the store is written its lock is taken first, on the file that keeps which
+/// build it is.
+fn disk_at<'a, R: Files<File = File> + AllocGlobal + Eprint + RandomSource>(
+    rt: &'a R,
+    alloc: Global,
+    store: StorePaths,
+    how: StoreUse,
+) -> Result<LockedDisk<'a, R, FileDisk<'a, R>>, AllocError> {
+    let lock = String::from_str(alloc, store.identity.as_str())?;
+    let disk = FileDisk::of_store(rt, store, how);
+    Ok(match how {
+        StoreUse::Reads => LockedDisk::unlocked(disk),
+        StoreUse::Begins | StoreUse::GoesOn => LockedDisk::locked(rt, lock, disk),
+    })
 }
 
 /// The words of the command line. Where one is not UTF-8 there are none, which is no command.

@@ -1,2 +1,1 @@
-mod ControlLemmas
 mod ProcessLemmas

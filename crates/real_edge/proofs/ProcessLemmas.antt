@@ -1,5 +1,6 @@
--- The variables of a command, one after the other.
+-- The words and the variables of a command, one after the other.
 use Rattle.std.proofs.Common.{◌≡◌, ◌≢◌, ◌<◌, ◌+◌, ◌++◌, ◌∷◌, [], ℕ, List, Bool, true, false, Option, Some, length, take, get_or, bytes_eq, if◌then◌else◌, sym, ap, ◌∙◌, refl, true≢false}
+use mathlib.Core.List.{append_assoc}
 use Rattle.std.proofs.lemmas.List.{take_more}
 use Rattle.std.proofs.lemmas.Slice.Eq.{bytes_eq-Decides}
 use Rattle.model_text.specs.declared.pair.Pair.{Pair}
@@ -24,3 +25,7 @@ set_next variables i x name before was now inside at is set others =
     let one = set_one x.name x.value name now was set others in
     one ∙ ap (λ (w : Option (Option (List ℕ))). if bytes_eq x.name name then Some (Some x.value) else w) is
     ∙ sym (ap (said_of name before) (take_more variables i x inside ∙ ap (λ (y : Pair). take i variables ++ y ∷ []) at) ∙ said_more name before (take i variables) x)
+
+-- some words, and further ones behind them
+pub said_behind : (old mid new front behind : List (List ℕ)) → mid ≡ old ++ front → new ≡ mid ++ behind → new ≡ old ++ (front ++ behind)
+said_behind old mid new front behind first second = second ∙ (ap (λ xs. xs ++ behind) first ∙ append_assoc old front behind)

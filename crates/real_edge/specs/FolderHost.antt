@@ -1,13 +1,14 @@
 -- What contracts see of a host over real folders and processes.
-use Rattle.std.specs.Prelude.{◌<◌, ◌≤◌, ℕ, suc}
+use Rattle.std.specs.Prelude.{◌≡◌, ◌⊎◌, ◌<◌, ◌≤◌, ℕ, List, suc}
 use Rattle.task_host.specs.declared.answers.Started.{Started}
 use Rattle.task_host.specs.declared.answers.Started.TheVariants as started
-use Rattle.real_edge.specs.OwnFolders.{Own}
+use Rattle.task_host.specs.declared.answers.Look.{Look}
+use Rattle.task_host.specs.declared.answers.Look.TheVariants as look
 
--- which control folders are the build's own, how many processes it started and has not let go, how long the next
--- pause is in milliseconds, and how often a call failed
+-- of which tasks the control folders are the build's own, how many processes it started and has not let go, how long the
+-- next pause is in milliseconds, and how often a call failed
 pub record HostState : Type 0 where
-  pub own : Own
+  pub own : List ℕ
   pub unreaped : ℕ
   pub next_pause : ℕ
   pub faults : ℕ
@@ -21,3 +22,12 @@ KeepsStarted old new started.Failed = new ≤ old
 abbrev pub pause_after_start : ℕ → Started → ℕ
 pause_after_start pause started.Started = 1
 pause_after_start pause started.Failed = pause
+
+-- A look leaves the next pause as it is. But where it found that a task cannot come back there is none any more: it does so
+-- only at the longest pause, and still says that the task runs.
+abbrev pub PauseAfterLook : ℕ → ℕ → Look → Type 0
+PauseAfterLook old new look.Running = (new ≡ old) ⊎ ((old ≡ 250) × (new ≡ 0))
+PauseAfterLook old new look.Absent = new ≡ old
+PauseAfterLook old new look.NotStarted = new ≡ old
+PauseAfterLook old new (look.Exited code) = new ≡ old
+PauseAfterLook old new look.Failed = new ≡ old

@@ -49,6 +49,11 @@ impl<P: OpenProcess + Drop> Children<P> {
         let _ = self.unreaped.push(child);
     }
 
+    /// Whether the process of this number is kept: it was not found to have ended.
+    pub fn contains(&self, number: u32) -> bool {
+        self.unreaped.iter().any(|child| child.id() == number)
+    }
+
     /// Reaps each process that has ended, and waits for none. Each that stays was asked for its end, and had none.
     pub fn reap(&mut self)
         ensures asked { All (λ child. child_status child ≡ None) self.new.unreaped.items }

@@ -4,13 +4,16 @@ ghost use Rattle.std.specs.Prelude.{◌≡◌, ◌≤◌, ◌<◌, ◌+◌, ◌^
 ghost use Rattle.device_faults.specs.Faults.{HasCause, Rose, counted};
 ghost use Rattle.jp_disk.specs.Reading.{IsReadCount};
 
-use crate::file_at_path::FileAtPath;
 use device_faults::{Failed, Faults};
+use edge_files::{StoreFile, StorePaths, StoreUse};
 use jp_disk::Disk;
 use std::marker::Model;
+use std::random::RandomSource;
 use std::rt::Files;
 
 /// A disk over the file at a path, which is opened when it is first needed.
+///
+/// A file that is no store, and a store with bytes that changed since they were written, is refused: each call fails.
 ///
 /// A file that is missing has length 0, and the first write makes it. The first sync of a file that is there syncs the
 /// folder too, so that a power cut cannot lose the name of a file that was just made. One that may be read and not
@@ -23,7 +26,7 @@ use std::rt::Files;
 /// that it may leave anything: no contract can say what a real file keeps.
 #[derive(Drop)]
 pub struct FileDisk<'a, R: Files> {
-    file: FileAtPath<'a, R>,
+    file: StoreFile<'a, R>,
     end: u64,
     // Whether a write or a sync has failed: from then on no sync can tell what is on the disk.
     has_failed: bool,
@@ -39,12 +42,26 @@ impl<'a, R: Files> Model for FileDisk<'a, R> {
 }
 
 impl<'a, R: Files> FileDisk<'a, R> {
-    /// A disk over the file at this path. Nothing is opened yet, and no call has failed.
-    pub fn new(files: &'a R, path: String) -> Self
+    /// A disk over the file at this path, whatever is in it. Nothing is opened yet, and no call has failed.
+    pub fn new(rt: &'a R, path: String) -> Self
+        ensures { result ≡ record { end = 0; has_failed = false; faults = 0 } }
+    {
+        FileDisk::over(StoreFile::plain(rt, path))
+    }
+
+    /// A disk over a store, which is opened for this use at the first call (see [`StoreFile`]). Nothing is opened yet, and
+    /// no call has failed.
+    pub fn of_store(rt: &'a R, paths: StorePaths, how: StoreUse) -> Self
+        ensures { result ≡ record { end = 0; has_failed = false; faults = 0 } }
+    {
+        FileDisk::over(StoreFile::new(rt, paths, how))
+    }
+
+    fn over(file: StoreFile<'a, R>) -> Self
         ensures { result ≡ record { end = 0; has_failed = false; faults = 0 } }
     {
         FileDisk {
-            file: FileAtPath::new(files, path),
+            file,
             end: 0,
             has_failed: false,
             faults: Faults::new(),
@@ -63,7 +80,7 @@ impl<R: Files> FileDisk<'_, R> {
     }
 }
 
-impl<R: Files> Disk for FileDisk<'_, R> {
+impl<R: Files + AllocGlobal + Eprint + RandomSource> Disk for FileDisk<'_, R> {
     ghost end = { λ disk. disk.end };
 
     ghost reads = { λ _. None };

@@ -1,18 +1,20 @@
 //! A host whose tasks are processes of this machine.
 
-ghost use Rattle.std.specs.Prelude.{◌≡◌, ◌≢◌, ◌≤◌, ◌<◌, ◌*◌, suc, min, [], false, None, length, IfOk, IsOk, IsErr, MatchResult};
+ghost use Rattle.std.specs.Prelude.{◌≡◌, ◌≢◌, ◌⊎◌, ◌↔◌, ◌≤◌, ◌<◌, ◌*◌, suc, min, [], false, None, length, Contains, IfOk, IsOk, IsErr, IsTrue, MatchResult};
 ghost use Rattle.device_faults.specs.Faults.{CountsFault};
-ghost use Rattle.real_edge.specs.Control.{is_own_workspace};
-ghost use Rattle.real_edge.specs.FolderHost.{KeepsStarted, pause_after_start};
-ghost use Rattle.real_edge.specs.OwnFolders.{IsOwn, forgotten, MakesOwn, RemovesOwn};
+ghost use Rattle.control_folders.specs.Control.{is_own_workspace};
+ghost use Rattle.real_edge.specs.FolderHost.{KeepsStarted, PauseAfterLook, pause_after_start};
+ghost use Rattle.real_edge.specs.OwnFolders.{forgotten, MakesOwn, RemovesOwn};
 
-use crate::children::Children;
-use crate::control::{ControlFolder, text};
-use crate::durable_folder::DurableFolder;
+use crate::build_place::BuildPlace;
+use crate::local_tasks::LocalTasks;
+use crate::loss::Loss;
 use crate::own_folders::OwnFolders;
 use crate::pauses::Pauses;
-use crate::{Life, tasks};
+use crate::workspace::check_workspace;
+use control_folders::{ControlFolder, text};
 use device_faults::{Failed, Faults};
+use edge_files::DurableFolder;
 use std::marker::Model;
 use std::process::Processes;
 use std::rt::{Env, Files};
@@ -22,83 +24,92 @@ use task_host::{Host, Look, Made, Order, Started, Stream};
 
 /// A host whose tasks are processes of this machine. Each task has a control folder, whose files docs/HOSTS.md tells.
 ///
-/// In the first life of a build a control folder that this host did not make is another build's. It is never taken for
-/// the task's: `make_dir` makes it anew, or fails where that one's task looks as if it ran; to the other calls there is
-/// no folder.
+/// Each folder names its build. One of another build, or of none, is never taken for the task's: `make_dir` makes it anew,
+/// or fails where that one's task may be running; to the other calls there is no folder but those of which `make_dir` said
+/// that they are there. A folder of this build whose task was certainly not started is made anew too.
 ///
-/// Why a task was not launched is said on standard error, since the build's log has only its code, -2.
+/// Why a task was not launched, and why one is lost, is said on standard error, since the build's log has only its code.
 ///
 /// It tells contracts which folders it takes for the build's own, how many processes it keeps, how long it pauses next,
 /// and its faults: no contract can say what a folder or a process does.
 #[derive(Drop)]
 pub struct FolderHost<'a, R: Processes> {
     rt: &'a R,
+    place: BuildPlace<'a>,
     own: OwnFolders,
-    children: Children<R::Started>,
+    tasks: LocalTasks<R::Started>,
     pauses: Pauses,
     faults: Faults,
     parent: DurableFolder,
 }
 
 impl<'a, R: Processes> Model for FolderHost<'a, R> {
-    ghost use Rattle.real_edge.specs.OwnFolders.{own_of};
     ghost use Rattle.std.specs.Prelude.{vec_len};
     ghost use Rattle.real_edge.specs.FolderHost.{HostState};
 
     ghost Value = { HostState };
 
-    ghost view = { λ host. record { own = own_of host.own; unreaped = vec_len host.children.unreaped; next_pause = host.pauses; faults = host.faults } };
+    ghost view = { λ host. record { own = host.own.tasks.items; unreaped = vec_len host.tasks.children.unreaped; next_pause = host.pauses; faults = host.faults } };
 }
 
 impl<'a, R: Files + Env + AllocGlobal + Eprint + Clock + Processes> FolderHost<'a, R> {
-    /// A host over the folders and processes of `rt`, in this life of the build. It has made no folder, and no call has
-    /// failed.
-    pub fn new(rt: &'a R, life: Life) -> Self
-        ensures { result ≡ record { own = record { life = life; made = [] }; unreaped = 0; next_pause = 1; faults = 0 } }
+    /// A host over the folders and processes of `rt`, for the build that has its identity in the file at this path. It has
+    /// no folder, and no call has failed.
+    pub fn new(rt: &'a R, identity_file: &'a str) -> Self
+        ensures { result ≡ record { own = []; unreaped = 0; next_pause = 1; faults = 0 } }
     {
         FolderHost {
             rt,
-            own: OwnFolders::new(rt.alloc(), life),
-            children: Children::new(rt.alloc()),
+            place: BuildPlace::new(identity_file),
+            own: OwnFolders::new(rt.alloc()),
+            tasks: LocalTasks::new(rt.alloc()),
             pauses: Pauses::new(),
             faults: Faults::new(),
             parent: DurableFolder::new(),
         }
     }
 
-    // Makes the control folder with its script, or finds that the build's own is there.
+    /// Whether there is no pause any more: the task at hand cannot come back.
+    pub fn pauses_are_over(&self) -> bool
+        ensures { IsTrue result ↔ (self.now.next_pause ≡ 0) }
+    {
+        self.pauses.are_over()
+    }
+
+    // Makes the control folder, or finds that the build's own is there.
     fn make(&mut self, order: &Order) -> io::Result<Made>
-        ensures made { MatchResult result (λ made. made ≢ Made.Failed × MakesOwn order.now.task self.old.own self.new.own made) (λ _. MakesOwn order.now.task self.old.own self.new.own Made.Failed) }
-        ensures workspace { is_own_workspace order.now.workspace ≡ false → IsErr result × (self.new.own ≡ self.old.own) }
+        ensures made { MatchResult result (λ made. made ≢ Made.Failed × MakesOwn order.now.task self.old.own self.new.own made) (λ _. self.new.own ≡ self.old.own) }
+        ensures workspace { is_own_workspace order.now.workspace ≡ false → IsErr result }
         ensures unreaped { self.new.unreaped ≡ self.old.unreaped }
         ensures pause { self.new.next_pause ≡ self.old.next_pause }
         ensures calm { self.new.faults ≡ self.old.faults }
     {
-        tasks::check_workspace(order)?;
+        check_workspace(order)?;
         let control = ControlFolder::of(self.rt.alloc(), order)?;
+        let known = self.place.known(self.rt)?;
         self.own.reserve()?;
         self.parent.make(self.rt, control.parent.as_str())?;
-        if !self.own.contains(order.task) {
-            tasks::make_anew(self.rt, &control)?;
-        } else if !tasks::make(self.rt, &control)? {
-            return Ok(Made::Exists);
-        }
+        let script = order.script.as_slice();
+        let is_made = control_folders::make(
+            self.rt,
+            &control,
+            &known.identity,
+            &known.machine,
+            script,
+        )?;
         self.own.add(order.task);
-        tasks::write_script(self.rt, order, &control)?;
-        Ok(Made::Made)
+        Ok(if is_made { Made::Made } else { Made::Exists })
     }
 
     // Starts the task's process, and keeps it.
     fn launch(&mut self, order: &Order) -> io::Result<()>
-        ensures own { IfOk result (λ _. IsOwn self.old.own order.now.task) }
+        ensures own { IfOk result (λ _. Contains self.old.own order.now.task) }
         ensures kept { MatchResult result (λ _. self.new ≡ record self.old { unreaped = suc self.old.unreaped }) (λ _. self.new ≡ self.old) }
     {
         if !self.own.contains(order.task) {
             return Err(io::Error::new(io::ErrorKind::NotFound, "its control folder was not made"));
         }
-        self.children.reserve()?;
-        let child = tasks::launch(self.rt, order)?;
-        self.children.keep(child);
+        self.tasks.start(self.rt, order)?;
         Ok(())
     }
 
@@ -110,35 +121,58 @@ impl<'a, R: Files + Env + AllocGlobal + Eprint + Clock + Processes> FolderHost<'
         buf: &mut [u8],
     ) -> io::Result<usize>
         ensures room { IfOk result (λ n. n ≤ length buf.old) }
-        ensures foreign { ¬ IsOwn self.now.own order.now.task → result ≡ Ok 0 }
+        ensures foreign { ¬ Contains self.now.own order.now.task → result ≡ Ok 0 }
     {
         if !self.own.contains(order.task) {
             return Ok(0);
         }
-        tasks::read(self.rt, order, stream, from, buf)
+        control_folders::read(self.rt, order, stream, from, buf)
     }
 
     fn state(&self, order: &Order) -> io::Result<Look>
         ensures told { IfOk result (λ state. state ≢ Look.Failed) }
-        ensures foreign { ¬ IsOwn self.now.own order.now.task → result ≡ Ok Look.Absent }
+        ensures foreign { ¬ Contains self.now.own order.now.task → result ≡ Ok Look.Absent }
     {
         if !self.own.contains(order.task) {
             return Ok(Look::Absent);
         }
-        tasks::state(self.rt, order)
+        control_folders::state(self.rt, order)
     }
 
     // A folder that is not the build's own is left alone.
     fn remove_own(&mut self, order: &Order) -> io::Result<()>
         ensures own { MatchResult result (λ _. self.new ≡ record self.old { own = forgotten order.now.task self.old.own }) (λ _. self.new ≡ self.old) }
-        ensures foreign { ¬ IsOwn self.old.own order.now.task → IsOk result }
+        ensures foreign { ¬ Contains self.old.own order.now.task → IsOk result }
     {
         if self.own.contains(order.task) {
             let control = ControlFolder::of(self.rt.alloc(), order)?;
-            tasks::remove(self.rt, control.path.as_str())?;
+            control_folders::remove(self.rt, &control)?;
         }
         self.own.forget(order.task);
         Ok(())
+    }
+
+    // Ends the pauses where the task, which seems to run, is known not to come back.
+    fn judge(&mut self, order: &Order)
+        ensures own { self.new.own ≡ self.old.own }
+        ensures unreaped { self.new.unreaped ≡ self.old.unreaped }
+        ensures pause { (self.new.next_pause ≡ self.old.next_pause) ⊎ ((self.old.next_pause ≡ 250) × (self.new.next_pause ≡ 0)) }
+        ensures calm { self.new.faults ≡ self.old.faults }
+    {
+        if !self.pauses.is_longest() {
+            return;
+        }
+        if let Ok(Some(loss)) = self.loss(order) {
+            self.tell_loss(order, loss);
+            self.pauses.end();
+        }
+    }
+
+    fn loss(&mut self, order: &Order) -> io::Result<Option<Loss>>
+        ensures same { self.new ≡ self.old }
+    {
+        let known = self.place.known(self.rt)?;
+        self.tasks.loss(self.rt, order, &known.machine)
     }
 
     // Says why a task was not launched.
@@ -148,6 +182,13 @@ impl<'a, R: Files + Env + AllocGlobal + Eprint + Clock + Processes> FolderHost<'
         let _ = eprintln!(self.rt;
             "controller: task {task} in {workspace} was not launched: {reason}"
         );
+    }
+
+    // Says why a task is lost.
+    fn tell_loss(&self, order: &Order, loss: Loss) {
+        let task = order.task;
+        let workspace = text(order.workspace.as_slice()).unwrap_or("a workspace");
+        let _ = eprintln!(self.rt; "controller: task {task} in {workspace} is lost: {loss}");
     }
 }
 
@@ -174,11 +215,13 @@ impl<R: Files + Env + AllocGlobal + Eprint + Clock + Processes> Host for FolderH
     /// (`workspace`).
     fn make_dir(&mut self, order: &Order) -> Made
         ensures own { MakesOwn order.now.task self.old.own self.new.own result }
-        ensures workspace { is_own_workspace order.now.workspace ≡ false → (result ≡ Made.Failed) × (self.new.own ≡ self.old.own) }
+        ensures workspace { is_own_workspace order.now.workspace ≡ false → result ≡ Made.Failed }
         ensures unreaped { self.new.unreaped ≡ self.old.unreaped }
-        ensures pause { self.new.next_pause ≡ self.old.next_pause }
+        ensures pause { self.new.next_pause ≡ 1 }
         ensures cause { CountsFault self.old.faults self.new.faults (result ≡ Made.Failed) }
     {
+        self.pauses = Pauses::new();
+        self.tasks.begin();
         match self.make(order) {
             Ok(made) => made,
             Err(reason) => {
@@ -191,12 +234,12 @@ impl<R: Files + Env + AllocGlobal + Eprint + Clock + Processes> Host for FolderH
 
     fn start(&mut self, order: &Order) -> Started
         ensures own { self.new.own ≡ self.old.own }
-        ensures foreign { ¬ IsOwn self.old.own order.now.task → result ≡ Started.Failed }
+        ensures foreign { ¬ Contains self.old.own order.now.task → result ≡ Started.Failed }
         ensures unreaped { KeepsStarted self.old.unreaped self.new.unreaped result }
         ensures pause { self.new.next_pause ≡ pause_after_start self.old.next_pause result }
         ensures cause { CountsFault self.old.faults self.new.faults (result ≡ Started.Failed) }
     {
-        self.children.reap();
+        self.tasks.children.reap();
         match self.launch(order) {
             Ok(()) => {
                 self.pauses = Pauses::new();
@@ -212,13 +255,17 @@ impl<R: Files + Env + AllocGlobal + Eprint + Clock + Processes> Host for FolderH
 
     fn look(&mut self, order: &Order) -> Look
         ensures own { self.new.own ≡ self.old.own }
-        ensures foreign { ¬ IsOwn self.old.own order.now.task → result ≡ Look.Absent }
+        ensures foreign { ¬ Contains self.old.own order.now.task → result ≡ Look.Absent }
         ensures unreaped { self.new.unreaped ≤ self.old.unreaped }
-        ensures pause { self.new.next_pause ≡ self.old.next_pause }
+        ensures pause { PauseAfterLook self.old.next_pause self.new.next_pause result }
         ensures cause { CountsFault self.old.faults self.new.faults (result ≡ Look.Failed) }
     {
-        self.children.reap();
+        self.tasks.children.reap();
         match self.state(order) {
+            Ok(Look::Running) => {
+                self.judge(order);
+                Look::Running
+            }
             Ok(state) => state,
             Err(_) => {
                 self.faults.rise();
@@ -235,7 +282,7 @@ impl<R: Files + Env + AllocGlobal + Eprint + Clock + Processes> Host for FolderH
         buf: &mut [u8],
     ) -> Result<usize, Failed>
         ensures own { self.new.own ≡ self.old.own }
-        ensures foreign { ¬ IsOwn self.old.own order.now.task → result ≡ Ok 0 }
+        ensures foreign { ¬ Contains self.old.own order.now.task → result ≡ Ok 0 }
         ensures unreaped { self.new.unreaped ≡ self.old.unreaped }
         ensures pause { self.new.next_pause ≡ self.old.next_pause }
 
@@ -254,18 +301,21 @@ impl<R: Files + Env + AllocGlobal + Eprint + Clock + Processes> Host for FolderH
         ensures pause { self.new.next_pause ≡ min (2 * self.old.next_pause) 250 }
         ensures calm { self.new.faults ≡ self.old.faults }
     {
-        self.children.reap();
-        thread::sleep(self.rt, Duration::from_millis(self.pauses.take()));
+        self.tasks.children.reap();
+        let pause = self.pauses.take();
+        if pause > 0 {
+            thread::sleep(self.rt, Duration::from_millis(pause));
+        }
     }
 
     fn remove(&mut self, order: &Order) -> Result<(), Failed>
         ensures own { RemovesOwn order.now.task self.old.own self.new.own result }
         ensures unreaped { self.new.unreaped ≤ self.old.unreaped }
-        ensures foreign { ¬ IsOwn self.old.own order.now.task → IsOk result }
+        ensures foreign { ¬ Contains self.old.own order.now.task → IsOk result }
         ensures pause { self.new.next_pause ≡ self.old.next_pause }
         ensures cause { CountsFault self.old.faults self.new.faults (IsErr result) }
     {
-        self.children.reap_soon(self.rt);
+        self.tasks.children.reap_soon(self.rt);
         match self.remove_own(order) {
             Ok(()) => Ok(()),
             Err(_) => Err(self.faults.rise()),

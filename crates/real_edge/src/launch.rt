@@ -2,11 +2,12 @@
 
 ghost use Rattle.std.specs.Prelude.{◌≡◌, ◌++◌, ◌∷◌, [], ℕ, List, Some, IfOk, OnOk, string_bytes};
 ghost use Rattle.std.specs.Process.{command_program, command_args, command_dir, command_var, clears_env, SameProgramAndArgs, SameDir, SameOtherVars};
-ghost use Rattle.real_edge.specs.Control.{wrapper_text};
+ghost use Rattle.control_folders.specs.Control.{wrapper_text, takes_permit, names_interpreter, runs_script, streams, leaves_result};
 ghost use Rattle.real_edge.specs.Process.{said_of, shell_words, RunsTask};
+ghost use Rattle.real_edge.specs.Words.{words_behind};
 
-use crate::control::{ControlFolder, text};
 use crate::programs::Programs;
+use control_folders::{ControlFolder, text};
 use std::alloc::{AllocError, Global};
 use std::io;
 use std::process::{Child, Command, Processes, Stdio};
@@ -28,14 +29,13 @@ pub fn spawn<R: Processes>(
     order: &Order,
     control: &ControlFolder,
 ) -> io::Result<Child<R::Started>> {
-    let shell = programs.shell.as_str();
     if let Some(setsid) = &programs.setsid {
-        let mut detached = detached_command(alloc, setsid.as_str(), shell, order, control)?;
+        let mut detached = detached_command(alloc, setsid.as_str(), programs, order, control)?;
         if let Ok(child) = start(processes, &mut detached) {
             return Ok(child);
         }
     }
-    let mut attached = attached_command(alloc, shell, order, control)?;
+    let mut attached = attached_command(alloc, programs, order, control)?;
     start(processes, &mut attached)
 }
 
@@ -51,50 +51,95 @@ fn start<R: Processes>(processes: &R, command: &mut Command) -> io::Result<Child
 fn detached_command(
     alloc: Global,
     setsid: &str,
-    shell: &str,
+    programs: &Programs,
     order: &Order,
     control: &ControlFolder,
 ) -> io::Result<Command>
-    ensures runs { IfOk result (RunsTask setsid.now (shell.now ∷ []) order.now (string_bytes control.now.path)) }
+    ensures runs { IfOk result (RunsTask setsid.now (string_bytes programs.now.shell ∷ []) order.now (words_behind programs.now control.now)) }
 {
     let mut command = Command::new(alloc, setsid)?;
-    command.arg(shell)?;
-    say_words(alloc, &mut command, order, control)?;
+    command.arg(programs.shell.as_str())?;
+    say_order(alloc, &mut command, programs, order, control)?;
     Ok(command)
 }
 
 // The shell.
 fn attached_command(
     alloc: Global,
-    shell: &str,
+    programs: &Programs,
     order: &Order,
     control: &ControlFolder,
 ) -> io::Result<Command>
-    ensures runs { IfOk result (RunsTask shell.now [] order.now (string_bytes control.now.path)) }
+    ensures runs { IfOk result (RunsTask (string_bytes programs.now.shell) [] order.now (words_behind programs.now control.now)) }
 {
-    let mut command = Command::new(alloc, shell)?;
-    say_words(alloc, &mut command, order, control)?;
+    let mut command = Command::new(alloc, programs.shell.as_str())?;
+    say_order(alloc, &mut command, programs, order, control)?;
     Ok(command)
 }
 
 // Gives the shell its words, its folder and its variables.
-fn say_words(
+fn say_order(
     alloc: Global,
     command: &mut Command,
+    programs: &Programs,
     order: &Order,
     control: &ControlFolder,
 ) -> io::Result<()>
     ensures program { OnOk result (command_program command.new ≡ command_program command.old) }
-    ensures words { OnOk result (command_args command.new ≡ command_args command.old ++ shell_words order.now (string_bytes control.now.path)) }
+    ensures words { OnOk result (command_args command.new ≡ command_args command.old ++ shell_words order.now (words_behind programs.now control.now)) }
     ensures folder { OnOk result (command_dir command.new ≡ Some order.now.folder) }
     ensures inherits { OnOk result (clears_env command.new ≡ clears_env command.old) }
     ensures variables { OnOk result ((name : List ℕ) → command_var command.new name ≡ said_of name (command_var command.old name) order.now.env) }
 {
-    command.arg("-c")?;
-    command.arg(wrapper(alloc, order)?)?;
-    command.arg(control.path.as_str())?;
+    say_words(alloc, command, programs, order, control)?;
     command.current_dir(text(order.folder.as_slice())?)?;
     set_variables(command, order.env.as_slice())
+}
+
+// Gives the shell its words.
+fn say_words(
+    alloc: Global,
+    command: &mut Command,
+    programs: &Programs,
+    order: &Order,
+    control: &ControlFolder,
+) -> io::Result<()>
+    ensures program { OnOk result (command_program command.new ≡ command_program command.old) }
+    ensures words { OnOk result (command_args command.new ≡ command_args command.old ++ shell_words order.now (words_behind programs.now control.now)) }
+    ensures folder { OnOk result (SameDir command.old command.new) }
+    ensures inherits { OnOk result (clears_env command.new ≡ clears_env command.old) }
+    ensures variables { OnOk result ((name : List ℕ) → command_var command.new name ≡ command_var command.old name) }
+{
+    say_text(alloc, command, order)?;
+    say_behind(command, programs, control)?;
+    Ok(())
+}
+
+// Gives the shell the text that it runs.
+fn say_text(alloc: Global, command: &mut Command, order: &Order) -> io::Result<()>
+    ensures program { OnOk result (command_program command.new ≡ command_program command.old) }
+    ensures words { OnOk result (command_args command.new ≡ command_args command.old ++ shell_words order.now []) }
+    ensures folder { OnOk result (SameDir command.old command.new) }
+    ensures inherits { OnOk result (clears_env command.new ≡ clears_env command.old) }
+    ensures variables { OnOk result ((name : List ℕ) → command_var command.new name ≡ command_var command.old name) }
+{
+    command.arg("-c")?;
+    command.arg(wrapper(alloc, order)?)?;
+    Ok(())
+}
+
+// Gives the shell the words behind its text.
+fn say_behind(command: &mut Command, programs: &Programs, control: &ControlFolder) -> io::Result<()>
+    ensures program { OnOk result (command_program command.new ≡ command_program command.old) }
+    ensures words { OnOk result (command_args command.new ≡ command_args command.old ++ words_behind programs.now control.now) }
+    ensures folder { OnOk result (SameDir command.old command.new) }
+    ensures inherits { OnOk result (clears_env command.new ≡ clears_env command.old) }
+    ensures variables { OnOk result ((name : List ℕ) → command_var command.new name ≡ command_var command.old name) }
+{
+    command.arg(control.path.as_str())?;
+    command.arg(programs.mover.as_str())?;
+    command.arg(programs.shell.as_str())?;
+    Ok(())
 }
 
 // Sets variables, in their order.
@@ -123,22 +168,50 @@ fn set_variable(command: &mut Command, variable: &Pair) -> io::Result<()>
     Ok(())
 }
 
-/// What the shell runs, with the control folder as its `$0`: the script, and then the exit code into a file that has its
-/// name once all of it was written.
+// What the shell runs: it takes the permit, runs the script, and leaves the exit code in a file that has its name once all
+// of it was written.
 fn wrapper(alloc: Global, order: &Order) -> Result<String, AllocError>
     ensures { IfOk result (λ text. string_bytes text ≡ wrapper_text order.now.script order.now.keep_out) }
 {
-    let script = if order.script.as_slice().starts_with(b"#!") {
-        r#"chmod 700 "$0/script.sh"; "$0/script.sh""#
+    let permit = permit_words();
+    let script = script_words(order.script.as_slice());
+    let streams = stream_words(order.keep_out);
+    let ending = result_words();
+    format!(in alloc; "{permit}( {script} ) {streams}{ending}")
+}
+
+// The permit is taken in one step, before anything else. Then the process leaves its number and when it began.
+fn permit_words() -> &'static str
+    ensures { result.now ≡ takes_permit }
+{
+    r#""$1" "$0/permit" "$0/started" || exit; read -r controller_process < /proc/$$/stat; echo "$controller_process" > "$0/process"; "#
+}
+
+// A script that names its interpreter is run by it, any other by the shell.
+fn script_words(script: &[u8]) -> &'static str
+    ensures { result.now ≡ runs_script (names_interpreter script.now) }
+{
+    if script.starts_with(b"#!") {
+        r#"chmod 700 "$0/script.sh"; exec "$0/script.sh""#
     } else {
-        r#"sh -xe "$0/script.sh""#
-    };
-    let streams = if order.keep_out {
+        r#"exec "$2" -xe "$0/script.sh""#
+    }
+}
+
+// Where the output goes.
+fn stream_words(keeps_out: bool) -> &'static str
+    ensures { result.now ≡ streams keeps_out }
+{
+    if keeps_out {
         r#"> "$0/output.txt" 2> "$0/jenkins-log.txt""#
     } else {
         r#"> "$0/jenkins-log.txt" 2>&1"#
-    };
-    let code = r#"echo $? > "$0/jenkins-result.tmp""#;
-    let name = r#"mv "$0/jenkins-result.tmp" "$0/jenkins-result.txt""#;
-    format!(in alloc; "( {script} ) {streams}; {code}; {name}")
+    }
+}
+
+// The script's process leaves its number, and then its exit code.
+fn result_words() -> &'static str
+    ensures { result.now ≡ leaves_result }
+{
+    r#" & echo $! > "$0/pid"; wait $!; echo $? > "$0/jenkins-result.tmp"; "$1" "$0/jenkins-result.tmp" "$0/jenkins-result.txt""#
 }

@@ -6,33 +6,30 @@
 //! controller from a disk.
 //!
 //! ```text
-//! let mut host = FolderHost::new(&rt, Life::First);
-//! host.make_dir(&order);   // makes WORKSPACE@tmp/durable-00000002 and its script.sh
+//! let mut host = FolderHost::new(&rt, "DIR/program.lock");
+//! host.make_dir(&order);   // makes WORKSPACE@tmp/durable-00000002, with its script and its permit
 //! host.start(&order);      // starts `sh`, and does not wait
 //! host.look(&order);       // Look::Running, and at last Look::Exited(code)
 //! ```
 #![tactic(auto)]
 
+mod build_place;
 mod children;
-mod control;
-mod durable_folder;
-mod file_at_path;
 mod file_disk;
 mod folder_host;
 mod launch;
-mod life;
+mod local_tasks;
 mod locked_disk;
+mod loss;
 mod own_folders;
 mod pauses;
-mod piece;
 mod programs;
 mod store_lock;
-mod sync;
-mod tasks;
+mod workspace;
 
+pub use edge_files::{StorePaths, StoreUse};
 pub use file_disk::FileDisk;
 pub use folder_host::FolderHost;
-pub use life::Life;
 pub use locked_disk::LockedDisk;
 
 #[cfg(test)]

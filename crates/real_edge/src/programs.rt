@@ -17,6 +17,8 @@ const MAY_RUN: u32 = 0o111;
 pub struct Programs {
     /// The path of `sh`.
     pub shell: String,
+    /// The path of `mv`.
+    pub mover: String,
     /// The path of `setsid`, which puts a program in a session of its own, where the system has it.
     pub setsid: Option<String>,
 }
@@ -26,14 +28,21 @@ impl Programs {
     ///
     /// # Errors
     ///
-    /// Where there is no `sh`, where `PATH` is not UTF-8, and where there is no memory.
+    /// Where there is no `sh` or no `mv`, where `PATH` is not UTF-8, and where there is no memory.
     pub fn of_controller<R: Files + Env + AllocGlobal>(rt: &R) -> io::Result<Programs> {
         let path = own_path(rt)?;
         let Some(shell) = find(rt, path.as_str(), "sh")? else {
             return Err(io::Error::new(ErrorKind::NotFound, "no sh in the PATH of the controller"));
         };
+        let Some(mover) = find(rt, path.as_str(), "mv")? else {
+            return Err(io::Error::new(ErrorKind::NotFound, "no mv in the PATH of the controller"));
+        };
         let setsid = find(rt, path.as_str(), "setsid")?;
-        Ok(Programs { shell, setsid })
+        Ok(Programs {
+            shell,
+            mover,
+            setsid,
+        })
     }
 }
 

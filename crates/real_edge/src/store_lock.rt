@@ -3,12 +3,14 @@
 ghost use Rattle.std.specs.Prelude.{◌≡◌, ◌≢◌, ◌↔◌, IsTrue};
 ghost use Rattle.real_edge.specs.StoreLock.{IsSettled, Settles};
 
-use std::fs::{File, OpenOptions, TryLockError};
+use edge_files::private::open_or_create;
+use std::fs::{File, TryLockError};
 use std::rt::Files;
 
 /// A lock of the system on a file, which two values never hold at one time: not two of one process, and not those of two
 /// processes. It is held until the value goes or its process ends, however that ends, and no process that was started
-/// meanwhile has it. The file has no bytes, is made where it is missing, and stays.
+/// meanwhile has it. The file is made where it is missing, and stays; the lock changes nothing of
+/// its bytes.
 #[derive(Drop)]
 pub enum StoreLock<'a, R> {
     /// None is asked for.
@@ -72,12 +74,7 @@ impl<'a, R: Files<File = File> + Eprint> LockFile<'a, R> {
 
 // Opens the file at a path, makes it where it is missing, and locks it.
 fn locked(files: &impl Files<File = File>, path: &str) -> Result<File, TryLockError> {
-    let opened = OpenOptions::new()
-        .read(true)
-        .write(true)
-        .create(true)
-        .open(files, path);
-    match opened {
+    match open_or_create(files, path) {
         Ok(file) => {
             file.try_lock()?;
             Ok(file)

@@ -1,10 +1,9 @@
 //! What real folders and processes do. Each test has a workspace or a file of its own name.
 
 use super::*;
-use crate::control::ControlFolder;
-use crate::durable_folder::DurableFolder;
 use crate::launch::spawn;
 use crate::programs::{Programs, find};
+use control_folders::ControlFolder;
 use device_faults::Failed;
 use jp_disk::Disk;
 use std::alloc::AllocError;
@@ -56,7 +55,7 @@ fn order(rt: &HostRuntime, workspace: &str, script: &str) -> io::Result<Order> {
 
 // Makes the folder, starts the task, and looks until it has ended, at most ten seconds long.
 fn end_of(rt: &HostRuntime, order: &Order) -> Look {
-    let mut host = FolderHost::new(rt, Life::First);
+    let mut host = host(rt);
     if host.make_dir(order) != Made::Made || host.start(order) != Started::Started {
         return Look::Failed;
     }
@@ -78,44 +77,8 @@ fn written(
     from: u64,
 ) -> Result<Vec<u8>, AllocError> {
     let mut buf = [0u8; 256];
-    let count = FolderHost::new(rt, Life::Later).read(order, stream, from, &mut buf);
+    let count = control_folders::read(rt, order, stream, from, &mut buf);
     Vec::from_slice(rt.alloc(), &buf[..count.unwrap_or(0)])
-}
-
-#[test]
-fn missing_folders_are_made_and_those_that_are_there_stay(rt: HostRuntime) -> Result<(), Fail> {
-    crate::sync::make_durable(&rt, "levels/of/folders")?;
-    put(&rt, "levels/of/folders/kept", "x")?;
-    crate::sync::make_durable(&rt, "levels/of/folders")?;
-    expect_file(&rt, "levels/of/folders/kept", b"x")?;
-    put(&rt, "levels/file", "")?;
-    assert!(rt; crate::sync::make_durable(&rt, "levels/file/below").is_err());
-    Ok(())
-}
-
-#[test]
-fn a_folder_in_the_place_of_a_durable_one_is_not(rt: HostRuntime) -> Result<(), Fail> {
-    let mut parent = DurableFolder::new();
-    for _ in 0..2 {
-        expect(&rt, parent.is_durable(&rt, "parents/w@tmp"), false);
-        parent.make(&rt, "parents/w@tmp")?;
-        let is_told = fs::metadata(&rt, "parents/w@tmp")?.created().is_ok();
-        expect(&rt, parent.is_durable(&rt, "parents/w@tmp"), is_told);
-        expect(&rt, parent.is_durable(&rt, "parents"), false);
-        thread::sleep(&rt, Duration::from_millis(20));
-        fs::remove_dir(&rt, "parents/w@tmp")?;
-        expect(&rt, parent.is_durable(&rt, "parents/w@tmp"), false);
-        fs::create_dir(&rt, "parents/w@tmp")?;
-    }
-    Ok(())
-}
-
-#[test]
-fn a_folder_whose_holder_cannot_be_synced_goes_again(rt: HostRuntime) -> Result<(), Fail> {
-    fs::create_dir(&rt, "unsynced")?;
-    assert!(rt; crate::sync::sync_made(&rt, "no such holder", "unsynced").is_err());
-    expect(&rt, fs::exists(&rt, "unsynced")?, false);
-    Ok(())
 }
 
 #[test]
@@ -155,7 +118,7 @@ fn scripts_with_their_logs_and_codes(rt: HostRuntime) -> Result<(), Fail> {
 #[test]
 fn a_folder_is_made_with_the_script_and_removed_once(rt: HostRuntime) -> Result<(), Fail> {
     let order = order(&rt, "removed", "echo hi")?;
-    let mut host = FolderHost::new(&rt, Life::First);
+    let mut host = host(&rt);
     let made = (host.look(&order), host.make_dir(&order), host.look(&order));
     expect(&rt, made, (Look::Absent, Made::Made, Look::NotStarted));
     expect_file(&rt, "removed@tmp/durable-00000002/script.sh", b"echo hi")?;
@@ -165,56 +128,97 @@ fn a_folder_is_made_with_the_script_and_removed_once(rt: HostRuntime) -> Result<
 }
 
 #[test]
-fn a_control_folder_is_named_by_its_task(rt: HostRuntime) -> Result<(), Fail> {
-    let mut order = order(&rt, "named", "true")?;
-    order.task = 43_981;
-    expect(&rt, answers(&rt, Life::First, &order).0, Made::Made);
-    expect_file(&rt, "named@tmp/durable-0000abcd/script.sh", b"true")?;
-    order.task = 16;
-    let control = ControlFolder::of(rt.alloc(), &order)?;
-    assert!(rt; control.path.ends_with("/named@tmp/durable-00000010"));
-    Ok(())
-}
-
-#[test]
-fn a_folder_is_made_once_and_a_task_started_once(rt: HostRuntime) -> Result<(), Fail> {
+fn a_task_is_started_once_and_then_its_folder_is_kept(rt: HostRuntime) -> Result<(), Fail> {
     let order = order(&rt, "once", "true")?;
-    let mut host = FolderHost::new(&rt, Life::First);
+    let mut host = host(&rt);
     expect(&rt, host.start(&order), Started::Failed);
-    let made = [host.make_dir(&order), host.make_dir(&order)];
-    expect(&rt, made, [Made::Made, Made::Exists]);
+    expect(&rt, host.make_dir(&order), Made::Made);
     expect(&rt, host.read(&order, Stream::Log, 0, &mut [0; 8]), Ok(0));
     let started = [host.start(&order), host.start(&order)];
     expect(&rt, started, [Started::Started, Started::Failed]);
+    for _ in 0..12 {
+        host.pause();
+    }
+    expect(&rt, answers(host, &order), (Made::Exists, Look::Exited(0)));
     Ok(())
 }
 
-// The look at a task with this result.
-fn look_at_result(rt: &HostRuntime, order: &Order, text: &str) -> io::Result<Look> {
-    put(rt, "hand@tmp/durable-00000002/jenkins-result.txt", text)?;
-    Ok(FolderHost::new(rt, Life::Later).look(order))
+// The builds of these tests, each with its identity in a file.
+const OWN: &str = "00112233445566778899aabbccddeeff\n";
+
+const OTHERS: &str = "ffeeddccbbaa99887766554433221100\n";
+
+// A host of this test's build.
+fn host<'a>(rt: &'a HostRuntime) -> FolderHost<'a, HostRuntime> {
+    let _ = put(rt, "build", OWN);
+    FolderHost::new(rt, "build")
+}
+
+// A host of another build.
+fn host_of_others<'a>(rt: &'a HostRuntime) -> FolderHost<'a, HostRuntime> {
+    let _ = put(rt, "other build", OTHERS);
+    FolderHost::new(rt, "other build")
+}
+
+// A host of this test's build, which takes control folders without a name.
+fn older_host<'a>(rt: &'a HostRuntime) -> FolderHost<'a, HostRuntime> {
+    let _ = put(
+        rt,
+        "older build",
+        "00112233445566778899aabbccddeeff older\n",
+    );
+    FolderHost::new(rt, "older build")
+}
+
+// What a host answers when it makes the folder and looks.
+fn answers(mut host: FolderHost<'_, HostRuntime>, order: &Order) -> (Made, Look) {
+    (host.make_dir(order), host.look(order))
+}
+
+// The path of a file in the order's control folder.
+fn in_control(rt: &HostRuntime, order: &Order, name: &str) -> io::Result<String> {
+    Ok(ControlFolder::of(rt.alloc(), order)?.file(rt.alloc(), name)?)
 }
 
 #[test]
-fn a_result_written_by_hand(rt: HostRuntime) -> Result<(), Fail> {
+fn a_result_written_by_hand_counts_once_it_is_a_number(rt: HostRuntime) -> Result<(), Fail> {
     let order = order(&rt, "hand", "true")?;
-    expect(
+    let mut host = host(&rt);
+    expect(&rt, host.make_dir(&order), Made::Made);
+    for name in ["jenkins-log.txt", "jenkins-result.txt"] {
+        put(&rt, in_control(&rt, &order, name)?.as_str(), "")?;
+    }
+    expect(&rt, host.look(&order), Look::Running);
+    put(
         &rt,
-        FolderHost::new(&rt, Life::First).make_dir(&order),
-        Made::Made,
-    );
-    let looks = [
-        look_at_result(&rt, &order, "")?,
-        look_at_result(&rt, &order, "7\n")?,
-    ];
-    expect(&rt, looks, [Look::Failed, Look::Exited(7)]);
+        in_control(&rt, &order, "jenkins-result.txt")?.as_str(),
+        "7\n",
+    )?;
+    expect(&rt, host.look(&order), Look::Exited(7));
     Ok(())
 }
 
-// What a new host answers when it makes the folder and looks.
-fn answers(rt: &HostRuntime, life: Life, order: &Order) -> (Made, Look) {
-    let mut host = FolderHost::new(rt, life);
-    (host.make_dir(order), host.look(order))
+#[test]
+fn a_control_folder_is_named_by_its_task_and_names_its_build(rt: HostRuntime) -> Result<(), Fail> {
+    let mut order = order(&rt, "named", "true")?;
+    order.task = 43_981;
+    expect(&rt, answers(host(&rt), &order).0, Made::Made);
+    let folder = "named@tmp/durable-0000abcd";
+    for (name, bytes) in [
+        ("script.sh", "true"),
+        ("build-00112233445566778899aabbccddeeff", ""),
+    ] {
+        let path = format!(in rt.alloc(); "{folder}/{name}")?;
+        expect_file(&rt, path.as_str(), bytes.as_bytes())?;
+        let mode = fs::metadata(&rt, path.as_str())?.permissions().mode() % 512;
+        expect(&rt, mode, 0o600);
+    }
+    expect(
+        &rt,
+        fs::metadata(&rt, folder)?.permissions().mode() % 512,
+        0o700,
+    );
+    Ok(())
 }
 
 #[test]
@@ -224,50 +228,57 @@ fn a_workspace_that_no_folder_can_have(rt: HostRuntime) -> Result<(), Fail> {
     let long = format!(in alloc; "{:x<252}", "job")?;
     for name in ["workspace/..", "workspace/.", "file/demo", long.as_str()] {
         let order = order(&rt, name, "true")?;
-        for life in [Life::First, Life::Later] {
-            expect(
-                &rt,
-                answers(&rt, life, &order),
-                (Made::Failed, Look::Absent),
-            );
-        }
+        expect(
+            &rt,
+            answers(host(&rt), &order),
+            (Made::Failed, Look::Absent),
+        );
     }
     Ok(())
 }
 
 #[test]
-fn a_workspace_that_is_not_utf8(rt: HostRuntime) -> Result<(), Fail> {
+fn a_workspace_that_is_not_utf8_and_a_build_without_an_identity(
+    rt: HostRuntime,
+) -> Result<(), Fail> {
     let mut order = order(&rt, "utf8", "true")?;
+    let nobodys = FolderHost::new(&rt, "no such build");
+    expect(&rt, answers(nobodys, &order), (Made::Failed, Look::Absent));
     order.workspace = Bytes::from_slice(rt.alloc(), b"/tmp/\xff")?;
     expect(
         &rt,
-        answers(&rt, Life::Later, &order),
-        (Made::Failed, Look::Failed),
+        answers(host(&rt), &order),
+        (Made::Failed, Look::Absent),
     );
     Ok(())
 }
 
 #[test]
-fn a_folder_that_another_build_left_is_made_anew(rt: HostRuntime) -> Result<(), Fail> {
+fn an_ended_task_of_another_build_gives_its_folder_up(rt: HostRuntime) -> Result<(), Fail> {
     let order = order(&rt, "left", "true")?;
     expect(&rt, end_of(&rt, &order), Look::Exited(0));
-    // It left a result; the folder that is made anew then has no log.
     for _ in 0..2 {
-        let made = answers(&rt, Life::First, &order);
+        let made = answers(host_of_others(&rt), &order);
+        expect(&rt, made, (Made::Made, Look::NotStarted));
+        let made = answers(host(&rt), &order);
         expect(&rt, made, (Made::Made, Look::NotStarted));
     }
-    let aside = fs::exists(&rt, "left@tmp/durable-00000002.old")?;
-    expect(&rt, aside, false);
+    expect(
+        &rt,
+        fs::exists(&rt, "left@tmp/durable-00000002.old")?,
+        false,
+    );
     Ok(())
 }
 
 #[test]
-fn a_task_of_another_build_that_may_run_is_left_alone(rt: HostRuntime) -> Result<(), Fail> {
-    let order = order(&rt, "alone", "true")?;
-    let mut host = FolderHost::new(&rt, Life::First);
-    let mut other = FolderHost::new(&rt, Life::First);
-    expect(&rt, other.make_dir(&order), Made::Made);
-    put(&rt, "alone@tmp/durable-00000002/jenkins-log.txt", "theirs")?;
+fn a_running_task_of_another_build_is_left_alone(rt: HostRuntime) -> Result<(), Fail> {
+    let order = order(&rt, "alone", "echo theirs; sleep 2")?;
+    let mut other = host_of_others(&rt);
+    let started = (other.make_dir(&order), other.start(&order));
+    expect(&rt, started, (Made::Made, Started::Started));
+    thread::sleep(&rt, Duration::from_millis(500));
+    let mut host = host(&rt);
     let launched = (
         host.make_dir(&order),
         host.start(&order),
@@ -277,17 +288,146 @@ fn a_task_of_another_build_that_may_run_is_left_alone(rt: HostRuntime) -> Result
     let looks = [host.look(&order), other.look(&order)];
     expect(&rt, looks, [Look::Absent, Look::Running]);
     expect(&rt, host.read(&order, Stream::Log, 0, &mut [0; 8]), Ok(0));
-    expect(&rt, other.read(&order, Stream::Log, 0, &mut [0; 8]), Ok(6));
+    expect(&rt, other.read(&order, Stream::Log, 0, &mut [0; 8]), Ok(8));
     Ok(())
 }
 
 #[test]
-fn a_later_life_finds_the_folder_of_an_earlier_one(rt: HostRuntime) -> Result<(), Fail> {
-    let order = order(&rt, "later", "true")?;
-    let first = answers(&rt, Life::First, &order);
-    let later = answers(&rt, Life::Later, &order);
-    expect(&rt, first, (Made::Made, Look::NotStarted));
-    expect(&rt, later, (Made::Exists, Look::NotStarted));
+fn a_task_that_a_later_life_finds_is_waited_for(rt: HostRuntime) -> Result<(), Fail> {
+    let order = order(&rt, "later", "sleep 1; exit 3")?;
+    let mut first = host(&rt);
+    let started = (first.make_dir(&order), first.start(&order));
+    expect(&rt, started, (Made::Made, Started::Started));
+    thread::sleep(&rt, Duration::from_millis(500));
+    let mut later = host(&rt);
+    let found = (later.make_dir(&order), later.look(&order));
+    expect(&rt, found, (Made::Exists, Look::Running));
+    thread::sleep(&rt, Duration::from_millis(1500));
+    expect(&rt, later.look(&order), Look::Exited(3));
+    Ok(())
+}
+
+#[test]
+fn a_folder_whose_task_was_not_started_is_made_anew(rt: HostRuntime) -> Result<(), Fail> {
+    let order = order(&rt, "anew", "true")?;
+    expect(&rt, host(&rt).make_dir(&order), Made::Made);
+    // A process of the earlier life that comes late finds no permit, or takes the new one in place of the later life's.
+    put(
+        &rt,
+        in_control(&rt, &order, "jenkins-log.txt")?.as_str(),
+        "",
+    )?;
+    expect(
+        &rt,
+        answers(host(&rt), &order),
+        (Made::Made, Look::NotStarted),
+    );
+    for mark in ["permit", "build-00112233445566778899aabbccddeeff"] {
+        fs::remove_file(&rt, in_control(&rt, &order, mark)?.as_str())?;
+        expect(
+            &rt,
+            answers(host(&rt), &order),
+            (Made::Made, Look::NotStarted),
+        );
+    }
+    put(&rt, in_control(&rt, &order, "revoked")?.as_str(), "")?;
+    fs::remove_file(&rt, in_control(&rt, &order, "permit")?.as_str())?;
+    expect(
+        &rt,
+        answers(host(&rt), &order),
+        (Made::Made, Look::NotStarted),
+    );
+    Ok(())
+}
+
+#[test]
+fn a_folder_of_which_nothing_is_known_is_kept(rt: HostRuntime) -> Result<(), Fail> {
+    let order = order(&rt, "kept", "true")?;
+    expect(&rt, host(&rt).make_dir(&order), Made::Made);
+    for boot in ["another-boot pid:[1]\n", "- -\n", ""] {
+        put(&rt, in_control(&rt, &order, "permit")?.as_str(), boot)?;
+        expect(
+            &rt,
+            answers(host(&rt), &order),
+            (Made::Exists, Look::NotStarted),
+        );
+    }
+    let permit = in_control(&rt, &order, "permit")?;
+    fs::rename(
+        &rt,
+        permit.as_str(),
+        in_control(&rt, &order, "started")?.as_str(),
+    )?;
+    expect(
+        &rt,
+        answers(host(&rt), &order),
+        (Made::Exists, Look::NotStarted),
+    );
+    Ok(())
+}
+
+#[test]
+fn an_older_build_takes_the_folders_that_name_none(rt: HostRuntime) -> Result<(), Fail> {
+    let order = order(&rt, "older", "true")?;
+    expect(&rt, host(&rt).make_dir(&order), Made::Made);
+    for mark in ["permit", "build-00112233445566778899aabbccddeeff"] {
+        fs::remove_file(&rt, in_control(&rt, &order, mark)?.as_str())?;
+    }
+    put(
+        &rt,
+        in_control(&rt, &order, "jenkins-log.txt")?.as_str(),
+        "theirs",
+    )?;
+    expect(
+        &rt,
+        answers(host(&rt), &order),
+        (Made::Failed, Look::Absent),
+    );
+    expect(
+        &rt,
+        answers(older_host(&rt), &order),
+        (Made::Exists, Look::Running),
+    );
+    Ok(())
+}
+
+// Looks and pauses until there are no pauses any more, and answers how many looks there were, at most 40.
+fn looks_until_lost(host: &mut FolderHost<'_, HostRuntime>, order: &Order) -> u32 {
+    for looks in 1..40 {
+        if host.look(order) != Look::Running || host.pauses_are_over() {
+            return looks;
+        }
+        host.pause();
+    }
+    40
+}
+
+#[test]
+fn a_task_whose_shell_was_killed_is_lost_within_seconds(rt: HostRuntime) -> Result<(), Fail> {
+    let order = order(&rt, "shell", "kill -9 $PPID\nkill -9 $$\n")?;
+    let mut host = host(&rt);
+    expect(&rt, host.make_dir(&order), Made::Made);
+    expect(&rt, host.start(&order), Started::Started);
+    // Nine looks in half a second, and four in the second behind it.
+    expect(&rt, looks_until_lost(&mut host, &order), 12);
+    expect(&rt, host.look(&order), Look::Running);
+    Ok(())
+}
+
+#[test]
+fn a_task_of_another_boot_is_lost_at_once(rt: HostRuntime) -> Result<(), Fail> {
+    let order = order(&rt, "boot", "true")?;
+    expect(&rt, host(&rt).make_dir(&order), Made::Made);
+    for (name, text) in [
+        ("started", "another-boot pid:[1]\n"),
+        ("jenkins-log.txt", ""),
+    ] {
+        put(&rt, in_control(&rt, &order, name)?.as_str(), text)?;
+    }
+    fs::remove_file(&rt, in_control(&rt, &order, "permit")?.as_str())?;
+    let mut later = host(&rt);
+    expect(&rt, later.make_dir(&order), Made::Exists);
+    expect(&rt, looks_until_lost(&mut later, &order), 9);
     Ok(())
 }
 
@@ -318,7 +458,7 @@ fn a_setsid_of_the_workspace_is_not_run(rt: HostRuntime) -> Result<(), Fail> {
 fn a_path_of_the_step_does_not_lose_the_shell(rt: HostRuntime) -> Result<(), Fail> {
     let mut order = order(&rt, "shell path", "true")?;
     set_env(&rt, &mut order, &[("PATH", "/no/such/folder")])?;
-    let mut host = FolderHost::new(&rt, Life::First);
+    let mut host = host(&rt);
     let answers = (host.make_dir(&order), host.start(&order));
     expect(&rt, answers, (Made::Made, Started::Started));
     Ok(())
@@ -336,7 +476,7 @@ fn run_without_setsid(rt: &HostRuntime, order: &Order) -> io::Result<()> {
 #[test]
 fn a_setsid_that_cannot_be_started(rt: HostRuntime) -> Result<(), Fail> {
     let order = order(&rt, "unset", "true")?;
-    let mut host = FolderHost::new(&rt, Life::First);
+    let mut host = host(&rt);
     expect(&rt, host.make_dir(&order), Made::Made);
     fs::create_dir(&rt, "unset")?;
     run_without_setsid(&rt, &order)?;
@@ -388,19 +528,6 @@ fn a_failing_line_ends_the_script(rt: HostRuntime) -> Result<(), Fail> {
 fn a_killed_script_ends_with_the_signal(rt: HostRuntime) -> Result<(), Fail> {
     let order = order(&rt, "signal", "kill -9 $$\n")?;
     expect(&rt, end_of(&rt, &order), Look::Exited(137));
-    Ok(())
-}
-
-#[test]
-fn a_task_whose_shell_is_killed_runs_for_ever(rt: HostRuntime) -> Result<(), Fail> {
-    let order = order(&rt, "shell", "kill -9 $PPID\nkill -9 $$\n")?;
-    let mut host = FolderHost::new(&rt, Life::First);
-    expect(&rt, host.make_dir(&order), Made::Made);
-    expect(&rt, host.start(&order), Started::Started);
-    for _ in 0..10 {
-        host.pause();
-        expect(&rt, host.look(&order), Look::Running);
-    }
     Ok(())
 }
 
@@ -588,7 +715,7 @@ fn to_another_thread<T: Send>(_value: &T) {}
 
 #[test]
 fn a_disk_and_a_host_may_cross_threads(rt: HostRuntime) -> Result<(), Fail> {
-    to_another_thread(&FolderHost::new(&rt, Life::First));
+    to_another_thread(&host(&rt));
     to_another_thread(&disk(&rt, "crossing.dat")?);
     to_another_thread(&locked(&rt, "crossing")?);
     Ok(())

@@ -2,6 +2,7 @@
 ghost use Rattle.std.specs.Prelude.{◌≡◌, length};
 
 use super::*;
+use std::fs;
 use std::path::Path;
 
 /// An agents file of one agent with this root, and the log of a shell step on it that writes `hi`.
@@ -32,7 +33,8 @@ fn step_on<W: Threads + Wait + Sync + Clock + AllocGlobal, H: Host + Drop + Send
 fn a_shell_step_runs_in_a_real_folder(rt: HostRuntime) -> Result<(), Fail> {
     let here = env::current_dir(&rt)?;
     let (agents, log) = texts_at(rt.alloc(), &here.as_path())?;
-    let hosts = hosts_of(&rt, rt.alloc(), Life::First)?;
+    fs::write(&rt, "build", "00112233445566778899aabbccddeeff\n")?;
+    let hosts = hosts_of(&rt, rt.alloc(), "build")?;
     let called = step_on(&rt, agents.as_str(), hosts)?;
     assert_eq!(rt; called.status, 0);
     assert!(rt; called.out.bytes() == log.as_bytes());

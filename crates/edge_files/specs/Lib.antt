@@ -1,0 +1,3 @@
+pub mod Identity
+pub mod Sums
+pub mod StoreStart
