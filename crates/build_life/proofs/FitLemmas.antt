@@ -123,7 +123,11 @@ unfolding claim_turn
 claims_made before [] after made = made
 claims_made before (turn ∷ turns) after made = (made.0, made.1, claims_made made.0 turns after made.2)
 
-claims_launched : {H A : Type 0} (turns : List (Turn H A)) → AllAre (λ (t : ClaimTurn). Launches (λ (h : List ℕ). h) t.old t.now t.own t.launches) (map claim_turn turns)
+-- a list of tasks as a host that has launched just these
+abbrev claimed_host : HostView (List ℕ)
+claimed_host = record { honest = λ h. Unit {0}; dirs = λ h. []; launches = λ h. h; output = λ h task stream. []; exited = λ h task. None; calls = λ h. None; faults = λ h. 0 }
+
+claims_launched : {H A : Type 0} (turns : List (Turn H A)) → AllAre (λ (t : ClaimTurn). Launches claimed_host t.old t.now t.own t.launches) (map claim_turn turns)
 unfolding claim_turn
 claims_launched [] = tt
 claims_launched (turn ∷ turns) = ((refl, ([], IsMergeOf-nil (tasks_of (claimed_of turn.own)))), claims_launched turns)
@@ -136,7 +140,7 @@ claims_are (turn ∷ turns) = ap (λ (l : List ℕ). tasks_of (claimed_of turn.o
 -- no task was claimed twice in them
 pub claims_once : {B T H A : Type 0} (stance : T → Stance) (opening : B → Parts T) (base : B) (turns : List (Turn H A)) (h : List Entry) → IsLegal (λ b history x y new. Says stance (opening b) history x y new) base h → MadeOf [] turns h → NoTwice (claims_of_all turns)
 claims_once stance opening base turns h legal made =
-    none_twice (claims_of_all turns) (subst (IsDistinct nat_eq) (claims_are turns) (launches_differ stance opening base (λ (h : List ℕ). h) (map claim_turn turns) h legal (claims_made [] turns h made) (claims_launched turns)))
+    none_twice (claims_of_all turns) (subst (IsDistinct nat_eq) (claims_are turns) (launches_differ stance opening base claimed_host (map claim_turn turns) h legal (claims_made [] turns h made) (claims_launched turns)))
 
 module _ {H A : Type 0} (host : HostView H) (source : SourceView A) (looks : ℕ) where
   module _ {B T : Type 0} (stance : T → Stance) (opening : B → Parts T) (start base : B) (old new : List (Member H A)) (h : List Entry) (how : Result Progress Memory)

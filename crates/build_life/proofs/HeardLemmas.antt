@@ -22,7 +22,7 @@ use Rattle.agent_worker.specs.declared.member.Member.TheVariants.{Executor, Oper
 use Rattle.agent_worker.specs.declared.worked.Worked.{Worked}
 use Rattle.agent_worker.specs.declared.worked.Worked.TheVariants as worked
 use Rattle.agent_worker.specs.AnswerBytes.{begun_after, last_line, lines_of, short}
-use Rattle.agent_worker.specs.Operating.{Ask, Asked, Reads, Given, Halted, FoundInput, IsOperating, IsReadToEnd, NoMore, LastHeeded, MayAsk, First, Busy, PassedOver, Heeded, Operates, OperatorEnds, ReadLine, GivesLines, given_in, has_ended, read_in, operator_calls}
+use Rattle.agent_worker.specs.Operating.{Ask, Asked, Reads, Given, Halted, FoundInput, IsOperating, IsReadToEnd, NoMore, LastHeeded, MayAsk, First, Waited, PassedOver, Heeded, Operates, OperatorEnds, ReadLine, GivesLines, given_in, has_ended, read_in, operator_calls}
 use Rattle.agent_worker.specs.Operating as operating
 use Rattle.agent_worker.proofs.AnswerLemmas.{begun-on, lines-on}
 use Rattle.build_store.specs.Lower.build_core.Builds.{Parts}
@@ -65,7 +65,7 @@ IsWell (Halted ∷ past) = ⊥
 
 well_asked : (past : List Ask) → MayAsk past → IsWell past
 well_asked past First = tt
-well_asked past (Busy inputs before none some) = tt
+well_asked past (Waited inputs before none) = tt
 well_asked past (PassedOver bytes before) = tt
 well_asked past (Heeded line heard bytes before) = tt
 
@@ -104,7 +104,7 @@ IsWhole (Halted ∷ past) = ⊥
 
 whole_asked : (past : List Ask) → MayAsk past → IsWhole past
 whole_asked past First = tt
-whole_asked past (Busy inputs before none some) = tt
+whole_asked past (Waited inputs before none) = tt
 whole_asked past (PassedOver bytes before) = tt
 whole_asked past (Heeded line heard bytes before) = tt
 
