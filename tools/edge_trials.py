@@ -244,6 +244,14 @@ class NoStore(Edge):
         for content in (b"a text\n", b"\1\0\0", b"\0\0\0\0\0\0\0\0\0x", bytes(range(2, 256)) * 40):
             self.assert_refused(content, "run", "resume", "log")
 
+    def test_a_store_that_is_gone_is_no_build_whatever_its_sums_say(self):
+        self.build("echo 'on'")
+        self.assertEqual(self.ran("run")[1], 0)
+        os.remove(f"{self.folder}/program.dat")
+        for command in ("log", "resume"):
+            self.assertEqual(self.told(command), (b"program.dat: no build\n", 9, ""))
+        self.assertEqual(self.told("run")[1:], (0, ""))
+
     def test_a_store_whose_first_byte_changed_is_left_alone(self):
         self.build(f"node {{ sh {script('echo once')} }}")
         self.assertEqual(self.ran("run")[1], 0)
@@ -259,7 +267,7 @@ class NoStore(Edge):
         with open(f"{self.folder}/program.dat", "rb") as file:
             store = file.read()
         record = 6 + int.from_bytes(store[1:5], "big")
-        for left in (b"\0", b"\0" + store[1:3], b"\0" + store[1 : record - 7], b"\0" + store[1:record], bytes(5000)):
+        for left in (b"\0", b"\1", b"\0" + store[1:3], b"\0" + store[1 : record - 7], b"\0" + store[1:record], bytes(5000)):
             for name in ("program.dat", "program.sum", "program.lock"):
                 if os.path.exists(f"{self.folder}/{name}"):
                     os.remove(f"{self.folder}/{name}")

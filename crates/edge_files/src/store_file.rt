@@ -194,21 +194,40 @@ fn opened<'a, R: Files + AllocGlobal + Eprint + RandomSource>(
     if start == StoreStart::Other {
         return Err(Refusal::NoStore);
     }
+    if start == StoreStart::CutShort {
+        expect_no_sums(rt, file, sums, identity)?;
+    }
     let is_begun = start == StoreStart::Record;
     let Some(build) = build_of(rt, identity, how, is_begun)? else {
         return Ok(Beside::Unnamed);
     };
-    let sums = text_of(rt, sums)?;
     let may_change = is_begun == (how == StoreUse::GoesOn) && how != StoreUse::Reads;
-    let mut sums = RecordSums::new(rt, sums, build, may_change);
+    let mut sums = RecordSums::new(rt, text_of(rt, sums)?, build, may_change);
     if may_change && how == StoreUse::Begins {
         sums.begin()?;
     }
-    let lacking = sums.check(file)?;
-    if may_change && lacking > 0 {
-        tell_lacking(rt, file.path(), lacking);
+    if is_begun {
+        let lacking = sums.check(file)?;
+        if may_change && lacking > 0 {
+            tell_lacking(rt, file.path(), lacking);
+        }
     }
     Ok(Beside::Opened(sums))
+}
+
+// A store of one record whose open gate became a closed one looks as if it was never begun. Its sum tells.
+fn expect_no_sums<R: Files + AllocGlobal>(
+    rt: &R,
+    file: &mut FileAtPath<'_, R>,
+    sums: &str,
+    identity: &str,
+) -> Result<(), Refusal> {
+    let Ok(Some(identity)) = Identity::read(rt, identity) else {
+        return Ok(());
+    };
+    let mut sums = RecordSums::new(rt, text_of(rt, sums)?, identity.build, false);
+    sums.check(file)?;
+    Ok(())
 }
 
 fn text_of(rt: &impl AllocGlobal, text: &str) -> io::Result<String> {

@@ -9,7 +9,7 @@ pub enum StoreStart {
     Nothing,
     /// It begins with a record, whole or not.
     Record,
-    /// What a first write that was cut short may leave: a closed gate, and behind it at most one record.
+    /// What a first write that was cut short may leave: one byte, or a closed gate and behind it at most one record.
     CutShort,
     /// Anything else.
     Other,
@@ -24,6 +24,7 @@ impl StoreStart {
     {
         match gate {
             _ if len == 0 => StoreStart::Nothing,
+            _ if len == 1 => StoreStart::CutShort,
             1 if len >= 6 => StoreStart::Record,
             0 if len <= 6 + u64::from(payload) => StoreStart::CutShort,
             _ => StoreStart::Other,

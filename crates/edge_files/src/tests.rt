@@ -182,6 +182,36 @@ fn a_byte_that_changed_is_found_and_the_store_is_left_alone(rt: HostRuntime) -> 
 }
 
 #[test]
+fn a_store_that_is_gone_leaves_sums_that_nobody_minds(rt: HostRuntime) -> Result<(), Fail> {
+    two_records(&rt, "gone")?;
+    fs::remove_file(&rt, "gone.dat")?;
+    for how in [StoreUse::Reads, StoreUse::GoesOn, StoreUse::Begins] {
+        expect(&rt, store(&rt, "gone", how)?.len()?, 0);
+    }
+    two_records(&rt, "gone")?;
+    expect(&rt, store(&rt, "gone", StoreUse::GoesOn)?.len()?, 15);
+    Ok(())
+}
+
+#[test]
+fn a_store_of_one_record_whose_gate_was_closed_is_left_alone(rt: HostRuntime) -> Result<(), Fail> {
+    let mut begun = store(&rt, "one", StoreUse::Begins)?;
+    begun.write_at(0, b"\0")?;
+    begun.sync()?;
+    add(&mut begun, 0, b"\0\0\0\x03abc\0")?;
+    let mut bytes = fs::read(&rt, "one.dat")?;
+    if let Some(gate) = bytes.as_mut_slice().first_mut() {
+        *gate = 0;
+    }
+    fs::write(&rt, "one.dat", bytes.as_slice())?;
+    for how in [StoreUse::Reads, StoreUse::Begins, StoreUse::GoesOn] {
+        assert!(rt; store(&rt, "one", how)?.len().is_err());
+    }
+    expect_file(&rt, "one.dat", bytes.as_slice())?;
+    Ok(())
+}
+
+#[test]
 fn a_store_that_is_cut_short_is_left_to_its_reader(rt: HostRuntime) -> Result<(), Fail> {
     two_records(&rt, "short")?;
     let bytes = fs::read(&rt, "short.dat")?;
@@ -247,6 +277,7 @@ fn a_first_write_that_was_cut_short_is_an_empty_store(rt: HostRuntime) -> Result
     for text in [
         "",
         "\0",
+        "\x01",
         "\0\0\0",
         "\0\0\0\0\x03ab",
         "\0\0\0\0\x03abc\0",
