@@ -193,8 +193,8 @@ module _ {H A : Type 0} (host : HostView H) where
   crew_launched xs hosts answers new rest tasks are g once =
       let h = hosts_grew g.mores (members_of xs hosts answers) new (others_of xs hosts) g.added in
       let differ = IsDistinct-IsPermutation nat_eq nat_eq_flips tasks (concat g.mores) (IsPermutation-sym (concat g.mores) tasks g.same) once in
-      subst (λ (front : List H). LaunchedOnce host.launches front rest) (hosts_all xs hosts answers)
-      (subst (λ (back : List H). LaunchedOnce host.launches (hosts_in (members_of xs hosts answers) ++ others_of xs hosts) back) (sym are)
+      subst (λ (front : List H). LaunchedOnce host front rest) (hosts_all xs hosts answers)
+      (subst (λ (back : List H). LaunchedOnce host (hosts_in (members_of xs hosts answers) ++ others_of xs hosts) back) (sym are)
       (record { behind = h.behind; once = subst (IsDistinct nat_eq) (sym h.all) differ }))
 
 module _ {H A : Type 0} (host : HostView H) (source : SourceView A) (looks : ℕ) where
@@ -204,11 +204,11 @@ module _ {H A : Type 0} (host : HostView H) (source : SourceView A) (looks : ℕ
   -- In a life of members that are made of these hosts each launch stands behind those from before, and no task is launched twice.
   pub life_launched : {B : Type 0} (answers : Answers B Entry Ask Reply) (start base : B) (old new : List (Member H A)) (history : List Entry) (how : Result Progress Memory)
       → Life host source looks answers start base old new history how
-      → (xs : List SiteExecutor) (hosts rest : List H) (answers : A) → old ≡ members_of xs hosts answers → rest ≡ hosts_in new ++ others_of xs hosts → LaunchedOnce host hosts rest
-  life_launched answers start base old new history how life xs hosts rest answers is are =
+      → (xs : List SiteExecutor) (hosts rest : List H) (given : A) → old ≡ members_of xs hosts given → rest ≡ hosts_in new ++ others_of xs hosts → LaunchedOnce host hosts rest
+  life_launched answers start base old new history how life xs hosts rest given is are =
       let begun = begin_grew host old in
       let rounds = rounds_grown host Did (λ turn did. did.launched) answers base life.rounds life.last old old life.members [] life.before [] life.turns life.went_on begun in
       let all = ends_grown host Did (λ turn did. did.launched) answers base how life.last old life.members new life.before life.part history (launches_of (turns_of life.rounds)) rounds.1 life.ends rounds.0 in
       let same : launches_of (turns_of life.rounds) ++ launches_of life.last ≡ launches_of (turns_of life.rounds ++ life.last) = sym (launches-append (turns_of life.rounds) life.last) in
-      crew_launched host xs hosts answers new rest (launches_of (turns_of life.rounds ++ life.last)) are
-      (subst (λ (ms : List (Member H A)). Grew host.launches ms new (launches_of (turns_of life.rounds ++ life.last))) is (subst (Grew host old new) same all)) life.launched_once
+      crew_launched host xs hosts given new rest (launches_of (turns_of life.rounds ++ life.last)) are
+      (subst (λ (ms : List (Member H A)). Grew host ms new (launches_of (turns_of life.rounds ++ life.last))) is (subst (Grew host old new) same all)) life.launched_once

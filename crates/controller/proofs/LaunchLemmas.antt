@@ -115,7 +115,7 @@ module _ {D H A T : Type 0} (v : Devices D H A) (stance : T → Stance) (laws : 
   )
 
   pub unled_launched : IsUnled c → LaunchedOnce v.host c.hosts c.hosts_now
-  unled_launched same = subst (λ (hs : List H). LaunchedOnce v.host.launches c.hosts hs) (sym same.0) (since.none_launched v.host c.hosts)
+  unled_launched same = subst (λ (hs : List H). LaunchedOnce v.host c.hosts hs) (sym same.0) (since.none_launched v.host c.hosts)
 
   enough : length c.hosts ≡ 64 → (agents : List ℕ) (site : Site) → agents_file agents ≡ Means site → length site.executors ≤ length c.hosts
   enough many agents site means = subst (λ (n : ℕ). length site.executors ≤ n) (sym many) (site_seated agents site means).few

@@ -58,7 +58,7 @@ returns-in-Err-clause-last g c = λ log payloads keeps.
 pub returns-in-Err-clause-launched : goal.returns-in-Err-clause-launched
 returns-in-Err-clause-launched g c =
     let H = g.H.Host in
-    subst (λ (hs : List g.row.H.Denot). LaunchedOnce H.launches c.args.hosts.items hs) (sym c.in-Err.ensures.back.0) (none_launched H c.args.hosts.items)
+    subst (λ (hs : List g.row.H.Denot). LaunchedOnce H c.args.hosts.items hs) (sym c.in-Err.ensures.back.0) (none_launched H c.args.hosts.items)
 
 pub returns-in-Err-clause-led : goal.returns-in-Err-clause-led
 returns-in-Err-clause-led g c =

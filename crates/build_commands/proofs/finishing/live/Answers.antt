@@ -207,7 +207,7 @@ returns-in-Err-clause-launched g c = λ executors hosts answers made others.
     c.dismiss-hosts-in-Err.ensures.hosts ∙ ap (λ (ms : Members). hosts_in ms ++ reverse c.args.crew.others.items) (here ∙ is)
     ∙ ap (λ (hs : List g.row.H.Denot). hosts_in (members_of executors hosts answers) ++ hs) (ap (λ (hs : List g.row.H.Denot). reverse hs) others ∙ reverse-reverse (others_of executors hosts))
     ∙ hosts_all executors hosts answers in
-    subst (λ (hs : List g.row.H.Denot). LaunchedOnce H.launches hosts hs) (sym back) (none_launched H hosts)
+    subst (λ (hs : List g.row.H.Denot). LaunchedOnce H hosts hs) (sym back) (none_launched H hosts)
 
 pub returns-in-Ok-clause-led : goal.returns-in-Ok-clause-led
 returns-in-Ok-clause-led g c = λ setting hosts answers made others.
