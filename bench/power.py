@@ -8,8 +8,8 @@ were after the machine was started again: no task runs, and what the folders say
 or begun where the copy has none.
 
 The log of a copy has to begin the log of the whole run, and to have all lines that were in it at the sync before; and over both lives no
-task may be launched twice. Steps that end with -1 or -2, since a power cut loses what was not synced, are counted. The status is 0 where
-all is so.
+task may be launched twice. Copies whose build then failed are counted: a power cut loses a task that ran, and what steps wrote
+and nobody synced. The status is 0 where all is so.
 """
 import argparse
 import collections
@@ -129,7 +129,7 @@ class Run:
 
 
 def tried(run, number, kind, log, before):
-    """What is wrong of one copy; its log; and whether steps were lost."""
+    """What is wrong of one copy; its log; and whether the build then failed."""
     run.restore(number, kind)
     found, status = run.command("log")
     begun = status == 0
@@ -146,9 +146,9 @@ def tried(run, number, kind, log, before):
     if twice:
         return f"launched twice: {twice}", found, False
     lost = bool(LOST.search(ended))
-    if not ended.startswith(found) or not (status == 0 or lost):
-        return f"status {status}: {ended!r}", found, lost
-    return None, found, lost
+    if not ended.startswith(found):
+        return f"another log behind it, status {status}: {ended!r}", found, lost
+    return None, found, lost or status != 0
 
 
 def main():
@@ -173,7 +173,7 @@ def main():
                 if why:
                     wrong.append(f"{kind}, behind sync {number}: {why}")
         print(*wrong, sep="\n")
-        print("| moments | copies | launched one twice | another log | ended with a lost step |")
+        print("| moments | copies | launched one twice | another log | then failed |")
         twice = sum("twice" in why for why in wrong)
         print(f"| {run.count} | {count} | {twice} | {len(wrong) - twice} | {lost} |")
         return 1 if wrong else 0
