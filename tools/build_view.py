@@ -20,6 +20,8 @@ FINISHED = re.compile(rf"^Finished: ({'|'.join(RESULTS)})\n?\Z", re.M)
 EXIT_CODE = re.compile(r"^ERROR: script returned exit code (-?\d+)$", re.M)
 NO_NODE = "MissingContextVariableException"
 NEWLINE = 10
+# The status where nothing can be told.
+NO_ANSWER, NO_BUILD = 125, 9
 STATE_OF_RESULT = {"SUCCESS": State.SUCCEEDED, "UNSTABLE": State.UNSTABLE, "FAILURE": State.FAILED, "ABORTED": State.ABORTED}
 # A text of the script in which nothing is put in, the arguments with names of one call of `sh`, and one of them.
 TEXT = r"""'''(?:\\.|[^\\])*?'''|\"\"\"(?:\\.|[^\\$])*?\"\"\"|'(?:\\.|[^\\'\n])*'|"(?:\\.|[^\\"$\n])*\""""
@@ -29,7 +31,11 @@ ESCAPES = {"n": "\n", "t": "\t", "r": "\r", "b": "\b", "f": "\f"}
 
 
 class NoText(Exception):
-    """The program tells no graph or no log of a folder, for this reason."""
+    """The program tells no graph or no log of a folder, for this reason, and with this status."""
+
+    def __init__(self, why, status):
+        super().__init__(why)
+        self.status = status if status > 0 else NO_ANSWER
 
 
 class Part(enum.Enum):
@@ -234,7 +240,7 @@ def told(program, command, folder):
     """What the program prints of the build in a folder."""
     ran = subprocess.run([program, command, folder], stdin=subprocess.DEVNULL, stdout=subprocess.PIPE, check=False)
     if ran.returncode != 0:
-        raise NoText(ran.stdout.decode(errors="replace").strip() or f"{command} ended with status {ran.returncode}")
+        raise NoText(ran.stdout.decode(errors="replace").strip() or f"{command} ended with status {ran.returncode}", ran.returncode)
     return ran.stdout
 
 
@@ -253,6 +259,8 @@ def of_folder(folder, program):
             for record in store.records():
                 view.take(record)
         return view
+    except NotADirectoryError:
+        raise NoText(f"{folder} is no folder", NO_BUILD) from None
     except (NoRecord, NotARecord):
         graph = told(program, "graph", folder).decode(errors="replace")
         return of_texts(graph, told(program, "log", folder))

@@ -7,6 +7,7 @@ import shutil
 import subprocess
 import sys
 import tempfile
+import time
 import unittest
 
 from examples import BUILT, Example, codes, examples, of_faults, read, reference, rows, run_program
@@ -297,6 +298,29 @@ class LintPrinted(unittest.TestCase):
         os.remove(f"{self.room}/Jenkinsfile")
         ran = subprocess.run([sys.executable, f"{TOOLS}/lint", self.room], stderr=subprocess.PIPE, check=False)
         self.assertEqual((6, f"lint: {self.room}/Jenkinsfile: No such file or directory\n"), (ran.returncode, ran.stderr.decode()))
+
+    def test_an_output_that_takes_nothing_is_told_and_has_its_status(self):
+        self.lint("echo 'a\n")
+        for closing, why in ((">&-", "Bad file descriptor"), ("> /dev/full", "No space left on device")):
+            command = f"'{sys.executable}' -ES '{TOOLS}/lint' '{self.room}' {closing}"
+            ran = subprocess.run(command, shell=True, stderr=subprocess.PIPE, check=False)
+            self.assertEqual((7, f"controller: standard output could not be written: {why}\n"), (ran.returncode, ran.stderr.decode()))
+
+    def test_a_script_that_prepare_may_write_names_it(self):
+        differences, others = ["x = 1 in [1]\n"], ["echo 'a\n", "pipeline { agent any }\n", "echo 'a'\n"]
+        for source, is_named in [(it, True) for it in differences] + [(it, False) for it in others]:
+            self.lint(source)
+            ran = subprocess.run([sys.executable, f"{TOOLS}/lint", self.room], capture_output=True, text=True, check=False)
+            self.assertEqual((source, is_named), (source, f" prepare {self.room}/Jenkinsfile`" in ran.stderr))
+
+    def test_thousands_of_unknown_names_take_seconds(self):
+        began = time.process_time()
+        findings_of("".join(f"def x{at} = [1] in y{at}\n" for at in range(1500)))
+        self.assertLess(time.process_time() - began, 10)
+
+    def test_a_break_of_a_switch_is_no_fault_of_its_own(self):
+        source = "switch (1) {\n case 1: if (true) { break }\n default: break\n}\n"
+        self.assertEqual(["switch"], keys(source))
 
     def test_bytes_that_are_no_script(self):
         with open(f"{self.room}/Jenkinsfile", "wb") as file:

@@ -117,6 +117,53 @@ class Prepare(unittest.TestCase):
             self.assertTrue(script.refused() or first_fault(script.text) is None, piece)
 
 
+
+class Commands(unittest.TestCase):
+    """What the command writes, tells and ends with."""
+
+    def setUp(self):
+        room = tempfile.TemporaryDirectory(prefix="controller-prepare-")
+        self.addCleanup(room.cleanup)
+        self.room, self.made = room.name, f"{room.name}/made"
+
+    def prepare(self, source, *words, closing=None):
+        with open(f"{self.room}/Jenkinsfile", "wb") as file:
+            file.write(source)
+        command = [sys.executable, "-ES", f"{TOOLS}/prepare", self.room, *words]
+        if closing:
+            command = ["sh", "-c", f'"$@" {closing}', "sh", *command]
+        ran = subprocess.run(command, capture_output=True, text=True, check=False)
+        return ran.returncode, ran.stdout, ran.stderr
+
+    def written(self):
+        with open(self.made, encoding="utf-8") as file:
+            return file.read()
+
+    def test_a_file_is_written_only_where_nothing_was_refused(self):
+        self.assertEqual((0, "", ""), self.prepare(b"echo 'a'\n", "-o", self.made))
+        self.assertEqual("echo 'a'\n", self.written())
+        self.assertEqual((4, ""), self.prepare(b"x = new Date()\n", "-o", self.made)[:2])
+        self.assertEqual("echo 'a'\n", self.written())
+        self.assertEqual(4, self.prepare(b"x = new Date()\n", "--anyway", "-o", self.made)[0])
+        self.assertIn("new Date()", self.written())
+        self.assertEqual(["Jenkinsfile", "made"], sorted(os.listdir(self.room)))
+
+    def test_what_cannot_be_read_or_written_is_told_with_its_place(self):
+        self.assertEqual((6, "", f"prepare: {self.made}/a: No such file or directory\n"), self.prepare(b"echo 'a'\n", "-o", f"{self.made}/a"))
+        status, out, told = self.prepare(b"echo '\xff'\n")
+        self.assertEqual((4, ""), (status, out))
+        self.assertIn(f"{self.room}/Jenkinsfile:1:7: error: this byte is no UTF-8", told)
+        for closing, why in ((">&-", "Bad file descriptor"), ("> /dev/full", "No space left on device")):
+            told = f"controller: standard output could not be written: {why}\n"
+            self.assertEqual((7, "", told), self.prepare(b"echo 'a'\n", closing=closing))
+
+    def test_help_is_printed_whole(self):
+        status, out, told = self.prepare(b"", "--help")
+        self.assertEqual((0, ""), (status, told))
+        self.assertIn("    -o FILE ", out)
+        self.assertEqual(2, self.prepare(b"", "--nothing")[0])
+
+
 class PrepareCommand(unittest.TestCase):
     """The words and statuses of the command."""
 

@@ -3,6 +3,7 @@ from groovy_reader import read
 
 from . import exact, executors, names, outside
 from .agents_file import BadFile, executors_of, place_of
+from .differences import instead_of
 from .findings import REFUSED, Finding
 
 LONGEST = 1_048_576
@@ -12,6 +13,8 @@ KINDS = {
     "bad escape": "no escape of the language", "unended text": "a text without an end", "unended comment": "a comment without an end",
     "nesting over 128": "more than 128 brackets are open here",
 }
+# A Declarative Pipeline, and the faults of a script that is no Groovy either.
+NOT_PREPARED = {"pipeline", *(kind.replace(" ", "-") for kind in KINDS)}
 INSTEAD = {"unexpected token": None, "nesting over 128": "names of their own for inner parts", "unexpected end": "what closes it"}
 
 
@@ -92,3 +95,8 @@ def findings_of(source, agents=None):
     for finding in sorted(found, key=lambda it: (it.begin, not it.stops(), it.end)):
         once.setdefault((finding.begin, finding.key), finding)
     return list(once.values())
+
+
+def is_prepared(finding):
+    """Whether `prepare` may write in the language what a finding tells: a difference to Jenkins, not what no Groovy has."""
+    return finding.stops() and finding.key not in NOT_PREPARED and instead_of(finding.key) is not None

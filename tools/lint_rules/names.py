@@ -25,8 +25,15 @@ SECTIONS = frozenset("pipeline stages stage parallel matrix post".split())
 METHODS = {kind: {name for table in (kinds.reference.OF_ALL, kinds.TABLES.get(kind, {})) for name, _ in table} for kind in kinds.KINDS}
 
 
+# So many names are compared with all others: of a script with thousands of unknown names that would take long.
+MOST_SUGGESTIONS = 50
+
+
 class Walk(Calls):
     """The whole walk."""
+
+    # How many names were compared so far.
+    suggestions = 0
 
     def unknown_name(self, node, whole):
         """A name that nothing has; `whole` is the expression that begins with it."""
@@ -112,15 +119,22 @@ class Walk(Calls):
     def similar_call(self, key, name):
         if key != "step-unknown":
             return IN_PLACE.get(key)
-        return suggested(name, [*STEPS, *self.functions]) or "a shell step, or a function of the script"
+        return self.suggested(name, [*STEPS, *self.functions]) or "a shell step, or a function of the script"
 
     def similar_name(self, name):
-        return suggested(name, [*self.learnt.declared_anywhere, *self.learnt.bound])
+        return self.suggested(name, [*self.learnt.declared_anywhere, *self.learnt.bound])
 
-    @staticmethod
-    def similar(name, *of_kinds):
+    def similar(self, name, *of_kinds):
         """A method of these kinds, or of any, whose name is nearly this one; a row of the tables goes before."""
-        return None if has_row(METHOD, name) else suggested(name, [it for kind in of_kinds or kinds.KINDS for it in METHODS[kind]])
+        return None if has_row(METHOD, name) else self.suggested(name, [it for kind in of_kinds or kinds.KINDS for it in METHODS[kind]])
+
+    def suggested(self, name, names):
+        """A name that is nearly the same, for a spelling mistake; it is looked for as often as a reader may want it."""
+        if self.suggestions == MOST_SUGGESTIONS:
+            return None
+        self.suggestions += 1
+        close = difflib.get_close_matches(name, sorted(set(names)), 1, 0.75)
+        return f"`{close[0]}`" if close else None
 
     # --- a Declarative Pipeline
 
@@ -152,12 +166,6 @@ class Walk(Calls):
 def variable_of_a_step(name):
     """What to write for a variable of the environment, as a value."""
     return f"its value, of a step in a `node`: `sh(script: 'echo ${name}', returnStdout: true).trim()`"
-
-
-def suggested(name, names):
-    """A name that is nearly the same, for a spelling mistake."""
-    close = difflib.get_close_matches(name, sorted(set(names)), 1, 0.75)
-    return f"`{close[0]}`" if close else None
 
 
 def findings(script):

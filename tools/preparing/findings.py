@@ -15,12 +15,12 @@ class Finding:
     kind: str
     text: str
 
-    def told(self, source):
-        """As `lint` tells it: the place and the text; of what was refused also the line with a mark under it."""
+    def told(self, lines):
+        """As `lint` tells it: the place and the text; of what was refused also the line, of those of its file, with a mark under it."""
         head = f"{self.file}:{self.line}:{self.column}: {self.kind}: {self.text}"
-        if self.kind != REFUSED:
+        if self.kind != REFUSED or self.line > len(lines):
             return head
-        line = source.split("\n")[self.line - 1]
+        line = lines[self.line - 1]
         blanks = "".join(sign if sign == "\t" else " " for sign in line[: self.column - 1])
         return f"{head}\n    {line}\n    {blanks}^"
 
@@ -29,12 +29,13 @@ class Findings:
     """The findings of one file."""
 
     def __init__(self, script, file):
-        self.script, self.file, self.all = script, file, []
+        self.script, self.file, self.all, self.known = script, file, [], set()
 
     def add(self, kind, at, text):
         line, column = self.script.place(at)
         made = Finding(self.file, line, column, kind, text)
-        if made not in self.all:
+        if made not in self.known:
+            self.known.add(made)
             self.all.append(made)
 
     def refuse(self, node, text):
