@@ -69,12 +69,21 @@ def place_of_input():
 
 
 def count_of_records(folder):
-    from builds import count_of_records as count_of
+    """How many records the store of a folder has; 0 where that cannot be found."""
+    with contextlib.suppress(Exception):
+        from builds import count_of_records as count_of
 
-    try:
         return count_of(f"{folder}/program.dat")
-    except OSError:
-        return 0
+    return 0
+
+
+def loaded():
+    """What tells of a call, loaded; None where that cannot be: it never ends the program."""
+    with contextlib.suppress(Exception):
+        from reasons import Call
+
+        return Call
+    return None
 
 
 def tell(call, status):
@@ -99,14 +108,14 @@ def main(program, *words):
     records = count_of_records(words[-1]) if begin is not None else 0
     child = started(program, words, ask)
     # While the program is at work.
-    from reasons import Call
-
+    call_of = loaded()
     _, ended = os.waitpid(child, 0)
     if os.WIFSIGNALED(ended):
         return end_by(os.WTERMSIG(ended))
     status = os.WEXITSTATUS(ended)
     answers = None if begin is None else (begin, place_of_input(), records)
-    tell(Call(program, words, answers), status)
+    if call_of is not None:
+        tell(call_of(program, words, answers), status)
     return status
 
 

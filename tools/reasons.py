@@ -18,6 +18,7 @@ import places
 from locks import holders
 from own_program import NAME
 from plain_words import one_line
+from preparing.places import Places
 from store_changes import INPUT, NODE
 from store_records import NoRecord, NotARecord
 
@@ -70,7 +71,8 @@ class Call:
         if found is None:
             return []
         path, (line, column) = f"{self.folder}/Jenkinsfile", map(int, found.groups()[:2])
-        return shown(path, places.read(path), line, column, found[3])
+        text = places.read(path)
+        return [*shown(path, text, line, column, found[3]), *of_original(text, line, column)]
 
     def of_agents(self):
         path, found = f"{self.folder}/agents.json", re.fullmatch(r"agents\.json: (.*): ([a-zA-Z ]+)", self.told(), re.S)
@@ -169,9 +171,32 @@ def shown(path, text, line, column, what):
     return [f"controller: {path}:{line}:{column}: {what}", places.marked(text, line, column)]
 
 
+def of_original(text, line, column):
+    """Of a script that `prepare` wrote, where it was another place: where this stood before."""
+    file, *place = Places(text).of(line, column)
+    if (file, *place) == ("Jenkinsfile", line, column):
+        return []
+    return ["controller: 'prepare' wrote this script; there it stood at {}:{}:{}".format(file, *place)]
+
+
+def is_utf8(word):
+    try:
+        os.fsencode(word).decode("utf-8")
+    except UnicodeDecodeError:
+        return False
+    return True
+
+
+def of_folder_name(folder):
+    """Why the program takes no such folder."""
+    if folder == "":
+        return "the folder's name is empty"
+    return f"write ./{folder} for a folder of this name" if is_utf8(folder) else "the folder's name is no UTF-8"
+
+
 def of_usage(words):
     if len(words) == 2 and words[0] in OVER_A_FOLDER:
-        why = "the folder's name is empty" if words[1] == "" else f"write ./{words[1]} for a folder of this name"
+        why = of_folder_name(words[1])
     elif len(words) == 2 and words[0] == "gen":
         why = "the number of stages is from 1 to 2000"
     else:
