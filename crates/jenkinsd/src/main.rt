@@ -212,12 +212,21 @@ fn disk_at<'a, R: Files<File = File> + AllocGlobal + Eprint + RandomSource>(
     store: StorePaths,
     how: StoreUse,
 ) -> Result<LockedDisk<'a, R, FileDisk<'a, R>>, AllocError> {
+    match how {
+        StoreUse::Reads => Ok(LockedDisk::unlocked(FileDisk::of_store(rt, store, how))),
+        StoreUse::Begins | StoreUse::GoesOn => locked_disk(rt, alloc, store, how),
+    }
+}
+
+/// The disk over the store at these paths, whose lock is taken before its first use.
+fn locked_disk<'a, R: Files<File = File> + AllocGlobal + Eprint + RandomSource>(
+    rt: &'a R,
+    alloc: Global,
+    store: StorePaths,
+    how: StoreUse,
+) -> Result<LockedDisk<'a, R, FileDisk<'a, R>>, AllocError> {
     let lock = String::from_str(alloc, store.identity.as_str())?;
-    let disk = FileDisk::of_store(rt, store, how);
-    Ok(match how {
-        StoreUse::Reads => LockedDisk::unlocked(disk),
-        StoreUse::Begins | StoreUse::GoesOn => LockedDisk::locked(rt, lock, disk),
-    })
+    Ok(LockedDisk::locked(rt, lock, FileDisk::of_store(rt, store, how)))
 }
 
 /// The words of the command line. Where one is not UTF-8 there are none, which is no command.
