@@ -8,7 +8,9 @@
 #![tactic(auto)]
 
 mod command;
+mod parser;
 mod words;
 
 pub use command::Command;
+pub use parser::read_command;
 pub use words::command_in;

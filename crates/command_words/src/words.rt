@@ -22,7 +22,7 @@ pub fn command_in(words: &[String]) -> Option<(Command, &str)>
 }
 
 /// The command that has this word, where the other can stand behind it.
-fn command_given(verb: &str, operand: &str) -> Option<Command>
+pub(crate) fn command_given(verb: &str, operand: &str) -> Option<Command>
     ensures { MatchOption result ((command : Command) → ¬ (IsGiven verb.now operand.now command)) (λ command. IsGiven verb.now operand.now command) }
 {
     if verb == "gen" {

@@ -1,4 +1,4 @@
-use command_words::{Command, command_in};
+use command_words::{Command, command_in, read_command};
 use std::alloc::{AllocError, Global};
 use std::test::Fail;
 
@@ -43,6 +43,7 @@ fn each_command_is_found_with_the_word_behind_it_and_other_words_are_none(
     for (words, command) in cases {
         let words = words_of(rt.alloc(), words)?;
         let found = command_in(&words);
+        assert!(rt; read_command(rt.alloc(), &words)? == found);
         assert_eq!(rt; found.map(|found| found.0), command);
         assert_eq!(rt;
             found.map(|found| found.1),

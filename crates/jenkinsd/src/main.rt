@@ -15,7 +15,7 @@
 ghost use Rattle.std.specs.Prelude.{◌≡◌, IfOk, length};
 
 use build_commands::{Refusal, tell};
-use command_words::{Command, command_in};
+use command_words::{Command, read_command};
 use controller::{Ended, controller};
 use cps_machine::MachineThread;
 use jp_disk::{Bytes, Disk, MemoryDisk, Numbers};
@@ -39,20 +39,22 @@ fn main(rt: HostRuntime) -> ExitCode {
     let Ok(words) = read_words(&rt, alloc) else {
         return ExitCode::from(tell(&mut out, &Refusal::OutOfMemory));
     };
-    if let Some((Command::Generate(_), _)) = command_in(&words) {
-        return ExitCode::from(call_in_memory(&rt, words, &mut out));
-    }
-    let Ok(call) = paths_of(alloc, words) else {
+    let Ok(read) = read_command(alloc, &words) else {
         return ExitCode::from(tell(&mut out, &Refusal::OutOfMemory));
     };
-    let Call {
-        words,
+    if let Some((Command::Generate(_), _)) = read {
+        return ExitCode::from(call_in_memory(&rt, words, &mut out));
+    }
+    let Ok(paths) = paths_of(alloc, read) else {
+        return ExitCode::from(tell(&mut out, &Refusal::OutOfMemory));
+    };
+    let Paths {
         script,
         agents,
         store,
         identity,
         how,
-    } = call;
+    } = paths;
     let Ok(hosts) = hosts_of(&rt, alloc, identity.as_str()) else {
         return ExitCode::from(tell(&mut out, &Refusal::OutOfMemory));
     };
@@ -165,10 +167,9 @@ fn echoing_hosts(alloc: Global) -> Result<Vec<MemoryHost>, AllocError>
     Ok(hosts)
 }
 
-/// The words of the command line, and the paths of the files in the folder that they name.
+/// The paths of the files in a folder.
 #[derive(Drop)]
-struct Call {
-    words: Vec<String>,
+struct Paths {
     script: String,
     agents: String,
     store: StorePaths,
@@ -178,9 +179,9 @@ struct Call {
     how: StoreUse,
 }
 
-/// Puts together the paths that the words ask for. Where they are no command no file is opened.
-fn paths_of(alloc: Global, words: Vec<String>) -> Result<Call, AllocError> {
-    let (folder, how) = match command_in(&words) {
+/// Puts together the paths that a command with its folder asks for. Where there is none no file is opened.
+fn paths_of(alloc: Global, read: Option<(Command, &str)>) -> Result<Paths, AllocError> {
+    let (folder, how) = match read {
         Some((Command::Run, folder)) => (folder, StoreUse::Begins),
         Some((Command::Resume, folder)) => (folder, StoreUse::GoesOn),
         Some((_, folder)) => (folder, StoreUse::Reads),
@@ -194,8 +195,7 @@ fn paths_of(alloc: Global, words: Vec<String>) -> Result<Call, AllocError> {
         sums: format!(in alloc; "{folder}/program.sum")?,
         identity: identity.clone()?,
     };
-    Ok(Call {
-        words,
+    Ok(Paths {
         script,
         agents,
         store,
