@@ -14,8 +14,9 @@ import time
 
 from build import TOP, Lanes, crates_above, free_memory, listed, sources
 
-# How much memory the compilation of one crate and its run may take, in KiB, and how long they may take together, in seconds.
-MEMORY, SECONDS = 4_000_000, 1800
+# How much memory the compilation of one crate and its run may take, in KiB, how long they may take together, and how long the run
+# alone, in seconds. Checks in place of proofs make it slow, and the lanes share the processors.
+MEMORY, SECONDS, RUN_SECONDS = 4_000_000, 1800, 900
 
 
 def has_tests(name):
@@ -43,15 +44,18 @@ def runs_of(names):
 
 def words_of(name, of_tests):
     """The words for the kit."""
+    words = ["try", "--seconds", str(RUN_SECONDS)]
     if of_tests:
-        return ["try", "--test"]
+        return [*words, "--test"]
     file = f"{TOP}/crates/{name}/args"
     given = text_of(file).splitlines() if os.path.isfile(file) else []
-    return ["try", *(["--", *given] if given else [])]
+    return [*words, *(["--", *given] if given else [])]
 
 
 def fault_of(name, of_tests, ran):
     """What is wrong with a run that has ended, if anything is."""
+    if "did not end within the time limit" in ran.stderr:
+        return f"it had not ended after {RUN_SECONDS} seconds"
     if not of_tests and ran.stdout != expected(name):
         return "it printed something else than crates/{}/stdout has".format(name)
     status = text_of(f"{TOP}/crates/{name}/status") if not of_tests and os.path.isfile(f"{TOP}/crates/{name}/status") else "0"
