@@ -297,11 +297,11 @@ class LintPrinted(unittest.TestCase):
         self.assertEqual(2, self.lint("echo 'a'\n", "--nothing")[1])
         os.remove(f"{self.room}/Jenkinsfile")
         ran = subprocess.run([sys.executable, f"{TOOLS}/lint", self.room], stderr=subprocess.PIPE, check=False)
-        self.assertEqual((6, f"lint: {self.room}/Jenkinsfile: No such file or directory\n"), (ran.returncode, ran.stderr.decode()))
+        self.assertEqual((6, f"controller: {self.room}/Jenkinsfile: No such file or directory\n"), (ran.returncode, ran.stderr.decode()))
 
     def test_an_output_that_takes_nothing_is_told_and_has_its_status(self):
         self.lint("echo 'a\n")
-        for closing, why in ((">&-", "Bad file descriptor"), ("> /dev/full", "No space left on device")):
+        for closing, why in ((">&-", "it is closed"), ("> /dev/full", "No space left on device")):
             command = f"'{sys.executable}' -ES '{TOOLS}/lint' '{self.room}' {closing}"
             ran = subprocess.run(command, shell=True, stderr=subprocess.PIPE, check=False)
             self.assertEqual((7, f"controller: standard output could not be written: {why}\n"), (ran.returncode, ran.stderr.decode()))

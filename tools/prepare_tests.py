@@ -149,11 +149,11 @@ class Commands(unittest.TestCase):
         self.assertEqual(["Jenkinsfile", "made"], sorted(os.listdir(self.room)))
 
     def test_what_cannot_be_read_or_written_is_told_with_its_place(self):
-        self.assertEqual((6, "", f"prepare: {self.made}/a: No such file or directory\n"), self.prepare(b"echo 'a'\n", "-o", f"{self.made}/a"))
+        self.assertEqual((6, "", f"controller: {self.made}/a: No such file or directory\n"), self.prepare(b"echo 'a'\n", "-o", f"{self.made}/a"))
         status, out, told = self.prepare(b"echo '\xff'\n")
         self.assertEqual((4, ""), (status, out))
         self.assertIn(f"{self.room}/Jenkinsfile:1:7: error: this byte is no UTF-8", told)
-        for closing, why in ((">&-", "Bad file descriptor"), ("> /dev/full", "No space left on device")):
+        for closing, why in ((">&-", "it is closed"), ("> /dev/full", "No space left on device")):
             told = f"controller: standard output could not be written: {why}\n"
             self.assertEqual((7, "", told), self.prepare(b"echo 'a'\n", closing=closing))
 
