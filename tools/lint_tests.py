@@ -284,9 +284,19 @@ class LintPrinted(unittest.TestCase):
         self.assertEqual(4, status)
         self.assertEqual(
             f"{self.room}/Jenkinsfile:2:6: error: the operator `in` [in]\n"
-            "     if (x in [1]) { echo 'ü' }\n"
-            "         ^~~~~~~~\n"
+            "    \tif (x in [1]) { echo 'ü' }\n"
+            "    \t    ^~~~~~~~\n"
             "    in its place: `[1].contains(x)`\n", told)
+
+    def test_what_is_not_made_of_the_script_is_an_example(self):
+        told, _ = self.lint("node { deleteDir(); timestamps { echo 'x' } }\nproperties([])\n", agents=ONE_EXECUTOR)
+        self.assertEqual(["for example: `node { sh 'rm -rf -- *' }`", "in its place: the statements of its body alone", "in its place: leave it out"],
+                         [line.strip() for line in told.splitlines() if ": " in line and "error" not in line])
+
+    def test_a_long_line_is_cut_and_wide_signs_have_two_columns(self):
+        told, _ = self.lint("def x = '漢字' in ['a']; " + "echo 'y'; " * 20 + "\n", agents=ONE_EXECUTOR)
+        _, line, mark, _ = told.splitlines()
+        self.assertEqual(("…", 4 + len("def x = "), "~" * (len("'漢漢字字' in ['a']") - 1)), (line[-1], mark.index("^"), mark.split("^")[1]))
 
     def test_statuses(self):
         self.assertEqual(1, self.lint("echo 'a'\n")[1])
@@ -307,7 +317,8 @@ class LintPrinted(unittest.TestCase):
             self.assertEqual((7, f"controller: standard output could not be written: {why}\n"), (ran.returncode, ran.stderr.decode()))
 
     def test_a_script_that_prepare_may_write_names_it(self):
-        differences, others = ["x = 1 in [1]\n"], ["echo 'a\n", "pipeline { agent any }\n", "echo 'a'\n"]
+        differences = ["x = 1 in [1]\n"]
+        others = ["echo 'a\n", "pipeline { agent any }\n", "pipeline { agent any; stages { stage('a') { steps { deleteDir() } } } }\n", "echo 'a'\n"]
         for source, is_named in [(it, True) for it in differences] + [(it, False) for it in others]:
             self.lint(source)
             ran = subprocess.run([sys.executable, f"{TOOLS}/lint", self.room], capture_output=True, text=True, check=False)
