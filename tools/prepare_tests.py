@@ -13,6 +13,7 @@ import library_trials
 from groovy_reader import Call, Name, read
 from lint_rules.exact import first_fault
 from preparing import library, patterns
+from preparing.arguments import READ
 from preparing.assemble import Options, Prepared
 from preparing.places import Places
 from preparing.words import FUNCTIONS
@@ -105,6 +106,29 @@ class Prepare(unittest.TestCase):
         with open(f"{TOP}/library/readFile.groovy", encoding="utf-8") as file:
             there = next(at for at, it in enumerate(file, 1) if it.startswith("def readFile"))
         self.assertEqual(Places(script.text).of(line, 1), ("library/readFile.groovy", there, 1))
+
+    def test_an_argument_that_a_function_of_the_library_does_not_have_is_refused(self):
+        for call, told in (
+            ("archiveArtifacts artifacts: 'a', onlyIfSuccessful: true", "`onlyIfSuccessful` of `archiveArtifacts` that is not false"),
+            ("cleanWs cleanWhenFailure: false", "`cleanWhenFailure` of `cleanWs` that is not true"), ("lock(label: 'x') { }", "`label` of `lock`"),
+            ("junit testResults: 'a', testDataPublishers: []", "`testDataPublishers` of `junit`"), ("sleep(time: 1, untl: 2)", "`untl` of `sleep`"),
+            ("checkout([$class: 'SubversionSCM'])", "a `checkout` of SubversionSCM"),
+            ("checkout([$class: 'GitSCM', extensions: [[$class: 'UserExclusion']]])", "the extension UserExclusion of `checkout`"),
+        ):
+            self.assertEqual([it.text.startswith(told) for it in prepared(f"node {{ {call} }}").refused()], [True], call)
+        for call in ("archiveArtifacts artifacts: 'a', fingerprint: true, onlyIfSuccessful: false", "cleanWs()", "waitUntil(quiet: true) { true }",
+                     "checkout changelog: false, scm: [$class: 'GitSCM', url: 'a', gitTool: 'b', extensions: [[$class: 'CloneOption', depth: 1]]]"):
+            self.assertEqual([it.text for it in prepared(f"node {{ {call} }}").refused()], [], call)
+
+    def test_of_what_a_function_does_in_another_way_a_note_tells(self):
+        notes = [it.text for it in prepared("timestamps { }; withCredentials([]) { }; withCredentials([]) { }").findings if it.kind == "note"]
+        self.assertEqual([it.split(":")[0] for it in notes], ["`timestamps`", "`withCredentials`"])
+
+    def test_each_step_of_the_library_has_the_names_of_its_arguments(self):
+        self.assertEqual(set(library.PUBLIC) - {"load"}, set(READ))
+        for name, arguments in READ.items():
+            comment = library.items()[name].source.split("def ")[0]
+            self.assertEqual([it for it in arguments - {"$class", "colorMapName", "branches", "userRemoteConfigs"} if it not in comment], [], name)
 
     def test_any_cut_of_a_file_is_read_without_a_crash(self):
         chosen = random.Random(1)

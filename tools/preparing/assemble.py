@@ -35,7 +35,7 @@ class Context:
         self.library = set(library.items()) - {name for script in scripts for name in names_of_functions(script)}
         self.parameters = parameters.values(parameters.declared(main, found), options.parameters)
         self.environment = {**{name: plain(value) for name, value in self.parameters.items()}, **options.environment}
-        self.scm, self.needed, self.uses, self.fresh = options.scm, set(), set(), 0
+        self.scm, self.needed, self.uses, self.noted, self.fresh = options.scm, set(), set(), set(), 0
         calls = [it for script in scripts for it in script.walk() if isinstance(it, g.Call) and isinstance(it.what, g.Name)]
         self.has_credentials = any(it.what.name == "withCredentials" for it in calls)
         self.set_names = {name for script in scripts for name in set_by_env(script)}

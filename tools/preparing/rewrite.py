@@ -1,10 +1,11 @@
 """A file of Groovy, rewritten in the product's language."""
 from groovy_reader import nodes as g
 
+from . import arguments
 from .edits import Edits
 from .findings import Findings
 from .names import Names
-from .steps import IGNORED, Steps
+from .steps import Steps
 from .syntax import Syntax, simple
 
 
@@ -120,7 +121,7 @@ class Rewriter(Syntax, Steps):
     def is_ignored(self, argument):
         call = self.parent(argument)
         name = call.what.name if isinstance(call, g.Call) and isinstance(call.what, g.Name) else ""
-        return getattr(argument.key, "name", "") in IGNORED.get(name, ())
+        return getattr(argument.key, "name", "") in arguments.IGNORED.get(name, ())
 
     # --- the way over the tree
 

@@ -1,18 +1,13 @@
 """What Jenkins' steps and its variables (`env`, `params`, `currentBuild`, `scm`) become."""
 from groovy_reader import nodes as g
 
-from . import library
+from . import arguments, library
 from .names import is_plain
 from .syntax import literal
 from .words import OF_BUILDS, OF_JOBS, OF_NODES, OF_THE_JOB, STEPS
 
-# Arguments of the library's functions and of steps that change nothing here, with what is told of them.
-IGNORED = {
-    "junit": {"keepLongStdio", "healthScaleFactor", "checksName", "keepProperties"}, "checkout": {"poll", "changelog"},
-    "git": {"poll", "changelog"}, "archiveArtifacts": {"fingerprint", "caseSensitive", "followSymlinks"},
-    "cleanWs": {"deleteDirs", "disableDeferredWipeout", "notFailBuild", "skipWhenFailed"}, "waitUntil": {"quiet"},
-}
-RESULTS = ("SUCCESS", "UNSTABLE", "FAILURE", "NOT_BUILT", "ABORTED")
+# Functions of the library whose commands read the environment, as they do in Jenkins; the others do what Jenkins does by itself.
+WITH_ENVIRONMENT = ("checkout", "git")
 # Of `currentBuild` what its map has; a build of a folder is always its first.
 OF_CURRENT = {"result", "currentResult", "displayName", "description", "number", "id", "previousBuild", "changeSets", "fullDisplayName",
               "projectName"}
@@ -84,14 +79,36 @@ class Steps:
         elif name == "pipeline":
             self.found.refuse(node, "a Declarative Pipeline: write its stages as a scripted one")
             self.skip(node)
+        elif name in library.PUBLIC:
+            self.a_call_of_library(node, name)
         elif hasattr(self, "step_" + name):
             getattr(self, "step_" + name)(node)
-        elif name in library.PUBLIC:
-            self.need(name, node)
         elif name not in STEPS and self.is_of_windows(node):
             self.found.note(node, f"`{name}` is not reached: all agents are Unix")
         elif name not in STEPS:
             self.found.refuse(node, f"nothing has the step or function `{name}`: give a function by `--vars`, or leave it out by `--drop {name}`")
+
+    def a_call_of_library(self, node, name):
+        """A step of Jenkins that a function of the library does, with the arguments that it knows."""
+        for entry, what in arguments.refused(node, name):
+            self.found.refuse(entry, what)
+        if name in arguments.NOTES and name not in self.context.noted:
+            self.context.noted.add(name)
+            self.found.note(node, f"`{name}`: {arguments.NOTES[name]}")
+        own = getattr(self, "step_" + name, None)
+        if own is not None:
+            own(node)
+        else:
+            self.need(name, node)
+        if name in WITH_ENVIRONMENT:
+            self.with_set_variables(node)
+
+    def with_set_variables(self, node):
+        """The shell steps of a call get the variables that the script sets by `env`."""
+        if self.context.set_names:
+            self.need("environmentSet", node)
+            names = ", ".join(map(literal, sorted(self.context.set_names)))
+            self.edits.around(node, f"withEnv(environmentSet([{names}])) {{ ", " }")
 
     def is_of_windows(self, node):
         """Whether a node stands where `isUnix()` is false."""
@@ -183,10 +200,7 @@ class Steps:
             else:
                 self.need("withoutTrace", node)
                 self.edits.around(script.value, "withoutTrace(", ")")
-        if self.context.set_names:
-            self.need("environmentSet", node)
-            names = ", ".join(map(literal, sorted(self.context.set_names)))
-            self.edits.around(node, f"withEnv(environmentSet([{names}])) {{ ", " }")
+        self.with_set_variables(node)
         encoding = named(node).get("encoding")
         if encoding is not None:
             self.without_argument(node, encoding)
