@@ -7,6 +7,7 @@ import subprocess
 import sys
 import tempfile
 import unittest
+from concurrent.futures import ThreadPoolExecutor
 
 import corpus
 import library_trials
@@ -257,9 +258,10 @@ class LibraryRuns(unittest.TestCase):
     """The trials of library/tests and of tools/corpus, by the built program."""
 
     def test_trials(self):
-        for trial in library_trials.all_trials():
+        trials = [*library_trials.all_trials()]
+        for trial, complaint in zip(trials, library_trials.complaints(trials, BUILT)):
             with self.subTest(trial.name):
-                self.assertIsNone(library_trials.complaint(trial, BUILT))
+                self.assertIsNone(complaint)
 
     def test_examples_run_to_their_ends(self):
         for item in library.items().values():
@@ -297,9 +299,11 @@ class LibraryRuns(unittest.TestCase):
         self.assertEqual(stores[0].count(b"t0ken"), stores[0].count(b't0ken" && echo') + stores[0].count(b'== "t0ken"'))
 
     def test_the_handbooks_scripts_run_to_the_end_that_they_should_have(self):
-        for name, path, case in corpus.of_handbook():
+        cases = [*corpus.of_handbook()]
+        with ThreadPoolExecutor(os.cpu_count()) as pool:
+            ended = pool.map(lambda it: corpus.tried(*it, BUILT), cases)
+        for (name, _, _), (end, told) in zip(cases, ended):
             with self.subTest(name):
-                end, told = corpus.tried(name, path, case, BUILT)
                 self.assertEqual(end, "refused" if name == "20-docker" else "right", told)
 
 
