@@ -1,10 +1,10 @@
 #!/usr/bin/env python3
 """Runs the program, and tells on standard error what its one line or its log leaves open: `tools/explained.py NAME PROGRAM WORD..`.
 
-`./controller` ends in it; NAME is how it was called. The program has the standard input, output and error of this script, and this script ends as it ended, with
-its status or by the signal that ended it. Where this script is killed, the program is: the system is asked for that before the program
-begins. Where the system cannot be asked, the program takes this script's place, and nothing is told. What is told is in `reasons.py`;
-nothing of it is proved.
+`./controller` ends in it; NAME is how that was called. The program has the standard input, output and error of this script, and this
+script ends as it ended, with its status or by the signal that ended it. Where this script is killed, the program is: the system is asked
+for that before the program begins. Where the system cannot be asked, the program takes this script's place, and nothing is told. What is
+told is in `reasons.py`; nothing of it is proved.
 """
 import contextlib
 import os

@@ -4,6 +4,7 @@ The program says one line on standard output, or a log. Here is found what that 
 place of a fault, why a file, the store or the output failed, what a build waits for, and which answers it passed over. All of it is
 looked up after the call has ended, and so is what was there then.
 """
+import errno
 import os
 import re
 import select

@@ -1,6 +1,8 @@
 """The arguments that the functions of `library/` take: what `prepare` lets pass, and what it refuses since nothing here does it."""
 from groovy_reader import nodes as g
 
+from .names import key_of
+
 # The names that a function reads.
 READ = {name: frozenset(words.split()) for name, words in {
     "ansiColor": "colorMapName", "archiveArtifacts": "artifacts excludes allowEmptyArchive defaultExcludes onlyIfSuccessful",
@@ -35,11 +37,7 @@ def entries_of(node):
     """The named arguments of a call, or the entries of the one map that it is given, by their names."""
     first = node.arguments[0].value if len(node.arguments) - node.trailing == 1 else None
     rows = first.entries if isinstance(first, g.MapLiteral) else node.arguments
-    return {name_of(it.key): it for it in rows if it.key is not None}
-
-
-def name_of(key):
-    return key.name if isinstance(key, g.Identifier) else getattr(key, "value", None)
+    return {key_of(it.key): it for it in rows if it.key is not None}
 
 
 def refused(node, name):
@@ -59,7 +57,7 @@ def refused(node, name):
 def refused_of_checkout(given):
     """Another system than git, several repositories, an extension that is not known."""
     system = given.get("$class")
-    if system is not None and getattr(system.value, "value", "GitSCM") != "GitSCM":
+    if system is not None and isinstance(system.value, g.Text) and system.value.value != "GitSCM":
         yield system, f"a `checkout` of {system.value.value}: git alone is known"
     remotes = given.get("userRemoteConfigs")
     if remotes is not None and isinstance(remotes.value, g.ListLiteral) and len(remotes.value.items) > 1:
@@ -68,7 +66,7 @@ def refused_of_checkout(given):
     if extensions is None or not isinstance(extensions.value, g.ListLiteral):
         return
     for item in extensions.value.items:
-        kinds = [it for it in getattr(item.value, "entries", []) if name_of(it.key) == "$class"]
-        for kind in kinds:
+        entries = item.value.entries if isinstance(item.value, g.MapLiteral) else []
+        for kind in (it for it in entries if key_of(it.key) == "$class"):
             if isinstance(kind.value, g.Text) and kind.value.value not in EXTENSIONS:
                 yield kind, f"the extension {kind.value.value} of `checkout`: nothing here does it"
