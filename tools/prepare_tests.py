@@ -121,6 +121,12 @@ class Prepare(unittest.TestCase):
                      "checkout changelog: false, scm: [$class: 'GitSCM', url: 'a', gitTool: 'b', extensions: [[$class: 'CloneOption', depth: 1]]]"):
             self.assertEqual([it.text for it in prepared(f"node {{ {call} }}").refused()], [], call)
 
+    def test_a_step_has_the_variables_of_env_and_no_trace_of_credentials(self):
+        for script in ("sh 'a'", "sh(script: 'a')", "sh script: 'a', returnStdout: true", "def x = sh(returnStdout: true, script: 'a').trim()"):
+            made = prepared(f"node {{ env.A = '1'; withCredentials([]) {{ {script} }} }}")
+            self.assertEqual(([it.text for it in made.refused()], first_fault(made.text)), ([], None), script)
+            self.assertRegex(made.text, r"withEnv\(environmentSet\(\['A'\]\)\) \{ sh.*withoutTrace\('a'\)")
+
     def test_of_what_a_function_does_in_another_way_a_note_tells(self):
         notes = [it.text for it in prepared("timestamps { }; withCredentials([]) { }; withCredentials([]) { }").findings if it.kind == "note"]
         self.assertEqual([it.split(":")[0] for it in notes], ["`timestamps`", "`withCredentials`"])
@@ -209,7 +215,7 @@ class PrepareCommand(unittest.TestCase):
     def test_nothing_is_printed_where_something_was_refused_but_where_that_is_asked_for(self):
         ran = self.run_words("ROOM/Jenkinsfile", source="x = 1.5\n")
         self.assertEqual(ran.stdout, "")
-        self.assertRegex(ran.stderr, r"Jenkinsfile:1:5: refused: .*\n    x = 1\.5\n        \^\n")
+        self.assertRegex(ran.stderr, r"Jenkinsfile:1:5: refused: .*\n    x = 1\.5\n        \^\ncontroller: nothing is written, since 1 of it was refused")
         self.assertEqual(self.run_words("ROOM/Jenkinsfile", "--anyway", source="x = 1.5\n").stdout, "x = 1.5\n")
 
     def test_places_of_a_text_are_translated(self):

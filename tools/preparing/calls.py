@@ -89,13 +89,13 @@ class Calls:
         if name in arguments.NOTES and name not in self.context.noted:
             self.context.noted.add(name)
             self.found.note(node, f"`{name}`: {arguments.NOTES[name]}")
+        if name in WITH_ENVIRONMENT:
+            self.with_set_variables(node)
         own = getattr(self, "step_" + name, None)
         if own is not None:
             own(node)
         else:
             self.need(name, node)
-        if name in WITH_ENVIRONMENT:
-            self.with_set_variables(node)
 
     def with_set_variables(self, node):
         """The shell steps of a call get the variables that the script sets by `env`."""

@@ -15,6 +15,7 @@ class Steps:
 
     def step_sh(self, node):
         """A shell step gets the variables that were set by `env`, and the credentials without a trace of its commands."""
+        self.with_set_variables(node)
         if self.context.has_credentials:
             script = named(node).get("script") or next((it for it in node.arguments if it.key is None), None)
             if script is None:
@@ -22,7 +23,6 @@ class Steps:
             else:
                 self.need("withoutTrace", node)
                 self.edits.around(script.value, "withoutTrace(", ")")
-        self.with_set_variables(node)
         encoding = named(node).get("encoding")
         if encoding is not None:
             self.without_argument(node, encoding)
