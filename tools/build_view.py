@@ -6,10 +6,12 @@ line stands above them, and which of several shell steps failed is a guess. A li
 either way. What is told of failures is a guess where a script catches what it throws; nothing is proved of this module.
 """
 import enum
+import os
 import re
 import subprocess
 from typing import NamedTuple, Optional
 
+import output
 from build_tree import Answer, Block, Body, State, Step, Thing, Tree, body_around, boxes_around, is_stage_or_branch, nodes_of
 from plain_words import first_line, printable
 from store_changes import DECIDED, EXITED, INPUT, LOG_STREAM, LOST, OUTPUT, START, changes_of
@@ -253,14 +255,14 @@ def of_texts(graph, log):
 
 def of_folder(folder, program):
     """The build of a folder: by the records of its store, or where those are not known by what the program tells."""
+    if not os.path.isdir(folder):
+        raise NoText(output.no_folder(folder), NO_BUILD)
     try:
         view = View()
         with Store(f"{folder}/program.dat") as store:
             for record in store.records():
                 view.take(record)
         return view
-    except NotADirectoryError:
-        raise NoText(f"{folder} is no folder", NO_BUILD) from None
     except (NoRecord, NotARecord):
         graph = told(program, "graph", folder).decode(errors="replace")
         return of_texts(graph, told(program, "log", folder))

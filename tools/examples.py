@@ -24,6 +24,7 @@ status is 0 where all are as their pages say, and 1 where one is not, or no name
 """
 import argparse
 import difflib
+import functools
 import importlib.machinery
 import importlib.util
 import os
@@ -32,6 +33,7 @@ import shutil
 import subprocess
 import sys
 import tempfile
+from concurrent.futures import ThreadPoolExecutor
 
 from build import PROGRAM, TOP
 from build_tree import tree_of
@@ -244,7 +246,7 @@ def examples():
     return [*of_folders(), *of_faults(), *of_shell_steps(), *of_tables(page), *of_looks(page), *blocks]
 
 
-# --- ways to run them: each gives what was printed and the status, in order
+# --- ways to run them: each gives what was printed and the status
 
 
 def run_program(program, command, folder, answers=b""):
@@ -260,11 +262,10 @@ def as_on_pages(printed, folder):
     return printed.replace(agents_of(folder), AGENTS).decode(errors="replace")
 
 
-def by_program(given, program):
-    for example in given:
-        with tempfile.TemporaryDirectory(prefix="controller-example-") as room:
-            example.write(f"{room}/folder")
-            yield run_program(program, "run", f"{room}/folder", example.answers)
+def by_program(program, example):
+    with tempfile.TemporaryDirectory(prefix="controller-example-") as room:
+        example.write(f"{room}/folder")
+        return run_program(program, "run", f"{room}/folder", example.answers)
 
 
 def by_kit(given):
@@ -303,11 +304,6 @@ def reference(example, *words):
         command = [sys.executable, f"{TOP}/tools/reference/run.py", *words, f"{room}/folder"]
         ran = subprocess.run(command, input=example.answers, stdout=subprocess.PIPE, stderr=subprocess.DEVNULL, check=False)
     return None if ran.returncode == 125 else (as_on_pages(ran.stdout, f"{room}/folder"), ran.returncode)
-
-
-def by_reference(given):
-    for example in given:
-        yield reference(example)
 
 
 # --- the other commands, each with what it printed and its status, and what is right
@@ -416,10 +412,21 @@ def chosen(words):
 
 
 def complaints(example, ended, program):
-    """What is wrong with an example that ended so."""
+    """What is wrong with an example that ended so; None where nothing is known of it."""
+    if ended is None:
+        return None
     if not example.is_right(*ended):
         return [example.complaint(*ended)]
     return wrong_commands(example, ended, program) if program else []
+
+
+def all_complaints(tried, program, is_by_reference):
+    """Those of each example in order. As many as there are processors are run at a time."""
+    if not program and not is_by_reference:
+        return [complaints(example, ended, None) for example, ended in zip(tried, by_kit(tried))]
+    way = functools.partial(by_program, program) if program else reference
+    with ThreadPoolExecutor(os.cpu_count()) as pool:
+        return [*pool.map(lambda it: complaints(it, way(it), program), tried)]
 
 
 def main():
@@ -430,16 +437,12 @@ def main():
     program = None if given.reference else given.program or (BUILT if is_built() else None)
     if not program and not given.reference:
         print("examples: unproved and slow; ./controller build proves and builds the program", file=sys.stderr, flush=True)
-    ways = by_reference(tried) if given.reference else by_program(tried, program) if program else by_kit(tried)
-    wrong = unknown = 0
-    for example, ended in zip(tried, ways):
-        if ended is None:
-            unknown += 1
-        elif told_wrong := complaints(example, ended, program):
-            wrong += 1
-            print(*told_wrong, sep="\n", end="\n\n")
+    found = all_complaints(tried, program, given.reference)
+    wrong, unknown = [it for it in found if it], found.count(None)
+    for lines in wrong:
+        print(*lines, sep="\n", end="\n\n")
     left_out = f", {unknown} left out" if unknown else ""
-    print(f"{len(tried) - wrong - unknown} examples as their pages say, {wrong} others{left_out}")
+    print(f"{len(tried) - len(wrong) - unknown} examples as their pages say, {len(wrong)} others{left_out}")
     return 1 if wrong else 0
 
 

@@ -1,16 +1,15 @@
 #!/usr/bin/env python3
-"""Runs the program, and tells on standard error what its one line or its log leaves open: `tools/explained.py PROGRAM WORD..`.
+"""Runs the program, and tells on standard error what its one line or its log leaves open: `tools/explained.py NAME PROGRAM WORD..`.
 
-`./controller` ends in it. The program has the standard input, output and error of this script, and this script ends as it ended, with
-its status or by the signal that ended it. Where this script is killed, the program is: the system is asked for that before the program
-begins. Where the system cannot be asked, the program takes this script's place, and nothing is told. What is told is in `reasons.py`;
-nothing of it is proved.
+`./controller` ends in it; NAME is how that was called. The program has the standard input, output and error of this script, and this
+script ends as it ended, with its status or by the signal that ended it. Where this script is killed, the program is: the system is asked
+for that before the program begins. Where the system cannot be asked, the program takes this script's place, and nothing is told. What is
+told is in `reasons.py`; nothing of it is proved.
 """
 import contextlib
 import os
 import resource
 import signal
-import stat
 import sys
 
 from locks import wait_for_ending
@@ -60,21 +59,15 @@ def end_by(number):
     return 128 + number
 
 
-def place_of_input():
-    """Up to where standard input was read, where it is a file; else None."""
-    try:
-        return os.lseek(0, 0, os.SEEK_CUR) if stat.S_ISREG(os.fstat(0).st_mode) else None
-    except OSError:
-        return None
-
-
-def count_of_records(folder):
-    """How many records the store of a folder has; 0 where that cannot be found."""
+def answers_of(folder):
+    """The answers that a call is given, and how many records the store of its folder has; None where there is nothing to tell of them."""
     with contextlib.suppress(Exception):
-        from builds import count_of_records as count_of
+        from builds import count_of_records
+        from given_answers import of_standard_input
 
-        return count_of(f"{folder}/program.dat")
-    return 0
+        given = of_standard_input()
+        return given and (given, count_of_records(f"{folder}/program.dat"))
+    return None
 
 
 def loaded():
@@ -93,19 +86,18 @@ def tell(call, status):
             print(line, file=sys.stderr, flush=True)
 
 
-def main(program, *words):
+def main(name, program, *words):
     # An interrupt at the terminal reaches the program too, and this script ends as that does.
     if signal.getsignal(signal.SIGINT) == signal.default_int_handler:
         signal.signal(signal.SIGINT, signal.SIG_DFL)
     ask = prctl()
     if ask is None or words[:1] == ("gen",):
         become(program, words)
-    begin = None
+    answers = None
     if len(words) == 2 and words[0] in WITH_ANSWERS:
         # A program whose launcher was killed a moment ago has the lock until it is gone.
         wait_for_ending(f"{words[1]}/program.lock")
-        begin = place_of_input()
-    records = count_of_records(words[-1]) if begin is not None else 0
+        answers = answers_of(words[1])
     child = started(program, words, ask)
     # While the program is at work.
     call_of = loaded()
@@ -113,9 +105,8 @@ def main(program, *words):
     if os.WIFSIGNALED(ended):
         return end_by(os.WTERMSIG(ended))
     status = os.WEXITSTATUS(ended)
-    answers = None if begin is None else (begin, place_of_input(), records)
     if call_of is not None:
-        tell(call_of(program, words, answers), status)
+        tell(call_of(program, words, answers, name=name), status)
     return status
 
 

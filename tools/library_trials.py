@@ -12,6 +12,7 @@ import re
 import subprocess
 import sys
 import tempfile
+from concurrent.futures import ThreadPoolExecutor
 
 from build import PROGRAM, TOP
 from preparing import library
@@ -109,10 +110,16 @@ def all_trials():
     yield from trials_of(f"{TOP}/tools/corpus/groovy.txt")
 
 
+def complaints(trials, program):
+    """What is wrong with each of the trials, in order; as many as there are processors are run at a time."""
+    with ThreadPoolExecutor(os.cpu_count()) as pool:
+        return [*pool.map(lambda it: complaint(it, program), trials)]
+
+
 def main(words):
     program = words.pop(0) if words and os.path.isfile(words[0]) else f"{TOP}/crates/{PROGRAM}/out/{PROGRAM}"
     chosen = [it for it in all_trials() if not words or any(word in it.name for word in words)]
-    wrong = [it for it in (complaint(trial, program) for trial in chosen) if it]
+    wrong = [it for it in complaints(chosen, program) if it]
     print(*wrong, sep="\n")
     print(f"{len(chosen) - len(wrong)} trials as they should be, {len(wrong)} others")
     return 1 if wrong or not chosen else 0

@@ -9,6 +9,7 @@ import sys
 import tempfile
 import time
 import unittest
+from concurrent.futures import ThreadPoolExecutor
 
 from examples import BUILT, Example, codes, examples, of_faults, read, reference, rows, run_program
 from groovy_reader import Call, Closure, Declaration, read as read_groovy
@@ -84,13 +85,15 @@ class LintDifferences(unittest.TestCase):
 
     def test_rows_that_are_on_no_page_are_told_so_and_run_in_their_place(self):
         page = [codes(first)[0] for first, *_ in rows(read("docs/USING.md").decode(), "in Jenkins")]
-        for row in ROWS:
+        others = [it for it in ROWS if lines_of(it.jenkins) not in page]
+        scripts = {script for it in others for script in (it.jenkins, *codes(it.instead))}
+        with ThreadPoolExecutor(os.cpu_count()) as pool:
+            ended = dict(zip(scripts, pool.map(self.ran, scripts)))
+        for row in others:
             with self.subTest(row.key):
-                if lines_of(row.jenkins) in page:
-                    continue
-                self.assertIn(row.told, self.ran(row.jenkins)[0])
+                self.assertIn(row.told, ended[row.jenkins][0])
                 for script in codes(row.instead):
-                    self.assertRegex(self.ran(script)[0], r"(?m)^Finished: |^\+ |\[Pipeline\] sh$", script)
+                    self.assertRegex(ended[script][0], r"(?m)^Finished: |^\+ |\[Pipeline\] sh$", script)
 
     @staticmethod
     def ran(script):
@@ -284,9 +287,19 @@ class LintPrinted(unittest.TestCase):
         self.assertEqual(4, status)
         self.assertEqual(
             f"{self.room}/Jenkinsfile:2:6: error: the operator `in` [in]\n"
-            "     if (x in [1]) { echo 'ü' }\n"
-            "         ^~~~~~~~\n"
+            "    \tif (x in [1]) { echo 'ü' }\n"
+            "    \t    ^~~~~~~~\n"
             "    in its place: `[1].contains(x)`\n", told)
+
+    def test_what_is_not_made_of_the_script_is_an_example(self):
+        told, _ = self.lint("node { deleteDir(); timestamps { echo 'x' } }\nproperties([])\n", agents=ONE_EXECUTOR)
+        self.assertEqual(["for example: `node { sh 'rm -rf -- *' }`", "in its place: the statements of its body alone", "in its place: leave it out"],
+                         [line.strip() for line in told.splitlines() if ": " in line and "error" not in line])
+
+    def test_a_long_line_is_cut_and_wide_signs_have_two_columns(self):
+        told, _ = self.lint("def x = '漢字' in ['a']; " + "echo 'y'; " * 20 + "\n", agents=ONE_EXECUTOR)
+        _, line, mark, _ = told.splitlines()
+        self.assertEqual(("…", 4 + len("def x = "), "~" * (len("'漢漢字字' in ['a']") - 1)), (line[-1], mark.index("^"), mark.split("^")[1]))
 
     def test_statuses(self):
         self.assertEqual(1, self.lint("echo 'a'\n")[1])
@@ -297,17 +310,18 @@ class LintPrinted(unittest.TestCase):
         self.assertEqual(2, self.lint("echo 'a'\n", "--nothing")[1])
         os.remove(f"{self.room}/Jenkinsfile")
         ran = subprocess.run([sys.executable, f"{TOOLS}/lint", self.room], stderr=subprocess.PIPE, check=False)
-        self.assertEqual((6, f"lint: {self.room}/Jenkinsfile: No such file or directory\n"), (ran.returncode, ran.stderr.decode()))
+        self.assertEqual((6, f"controller: {self.room}/Jenkinsfile: No such file or directory\n"), (ran.returncode, ran.stderr.decode()))
 
     def test_an_output_that_takes_nothing_is_told_and_has_its_status(self):
         self.lint("echo 'a\n")
-        for closing, why in ((">&-", "Bad file descriptor"), ("> /dev/full", "No space left on device")):
+        for closing, why in ((">&-", "it is closed"), ("> /dev/full", "No space left on device")):
             command = f"'{sys.executable}' -ES '{TOOLS}/lint' '{self.room}' {closing}"
             ran = subprocess.run(command, shell=True, stderr=subprocess.PIPE, check=False)
             self.assertEqual((7, f"controller: standard output could not be written: {why}\n"), (ran.returncode, ran.stderr.decode()))
 
     def test_a_script_that_prepare_may_write_names_it(self):
-        differences, others = ["x = 1 in [1]\n"], ["echo 'a\n", "pipeline { agent any }\n", "echo 'a'\n"]
+        differences = ["x = 1 in [1]\n"]
+        others = ["echo 'a\n", "pipeline { agent any }\n", "pipeline { agent any; stages { stage('a') { steps { deleteDir() } } } }\n", "echo 'a'\n"]
         for source, is_named in [(it, True) for it in differences] + [(it, False) for it in others]:
             self.lint(source)
             ran = subprocess.run([sys.executable, f"{TOOLS}/lint", self.room], capture_output=True, text=True, check=False)

@@ -18,6 +18,14 @@ def translated(text, script):
     return PLACE.sub(lambda it: "{}:{}:{}".format(*places.of(int(it[1]), int(it[2]))), text)
 
 
+def told(script, line, column):
+    """Of a script that `prepare` wrote, where it was another place: the line that tells where this stood before."""
+    file, *place = Places(script).of(line, column)
+    if (file, *place) == ("Jenkinsfile", line, column):
+        return []
+    return ["controller: 'prepare' wrote this script; there it stood at {}:{}:{}".format(file, *place)]
+
+
 def main(words):
     if len(words) not in (1, 3) or words[0].startswith("-"):
         sys.exit("usage: tools/original_places.py SCRIPT [LINE COLUMN]")

@@ -15,10 +15,15 @@ def open_if_closed():
 
 
 def say(line):
-    """Tells a line on standard error, where it takes one."""
+    """Writes a line to standard error, where it takes one."""
     if sys.stderr is not None:
         with contextlib.suppress(OSError):
             print(line.encode(errors="replace").decode(), file=sys.stderr, flush=True)
+
+
+def tell(text):
+    """Tells something on standard error in the name of the controller."""
+    say(f"controller: {text}")
 
 
 def why_not(fault):
@@ -27,10 +32,20 @@ def why_not(fault):
     return f"{fault.filename}: {reason}" if fault.filename else reason
 
 
+def no_folder(path):
+    """Why a path is no folder."""
+    return f"{path or 'a folder without a name'} is {'no folder' if os.path.exists(path) else 'not there'}"
+
+
+def why_unwritable(fault):
+    """Why standard output takes nothing, by the fault of a write."""
+    return "it is closed" if fault.errno == errno.EBADF else fault.strerror
+
+
 def not_written(fault):
     """The status where standard output takes no more. Of a reader that has gone, as `head` does, nothing is told."""
     if fault.errno != errno.EPIPE:
-        say(f"controller: standard output could not be written: {fault.strerror}")
+        tell(f"standard output could not be written: {why_unwritable(fault)}")
     # What it has not taken is not written once more.
     sys.stdout = None
     return NOT_WRITTEN

@@ -24,13 +24,19 @@ def marked(text, line, column):
     lines = text.split("\n")
     if not 1 <= line <= len(lines):
         raise Unmarked
-    shown, at = lines[line - 1].removesuffix("\r"), column - 1
-    begin = max(0, at - IN_FRONT) if len(shown) > WIDEST else 0
-    front, cut = ("\u2026" if begin else ""), shown[begin : begin + WIDEST]
-    end = "\u2026" if begin + WIDEST < len(shown) else ""
+    shown, mark = with_mark(lines[line - 1].removesuffix("\r"), column - 1, column)
     head = f"{line:5} | "
-    gap = "".join(blank(sign) for sign in front + cut[: at - begin])
-    return f"{head}{front}{printable(cut)}{end}\n{' ' * (len(head) - 2)}| {gap}^"
+    return f"{head}{shown}\n{' ' * (len(head) - 2)}| {mark}"
+
+
+def with_mark(line, begin, end):
+    """A line as it is shown, cut where it is long, and a mark under its characters from `begin` up to `end`, but under one at least."""
+    start = max(0, begin - IN_FRONT) if len(line) > WIDEST else 0
+    front, cut = ("\u2026" if start else ""), line[start : start + WIDEST]
+    back = "\u2026" if start + WIDEST < len(line) else ""
+    gap = "".join(blank(sign) for sign in front + cut[: begin - start])
+    rest = "".join(blank(sign) for sign in cut[begin - start + 1 : max(0, end - start)])
+    return f"{front}{printable(cut)}{back}", f"{gap}^{'~' * len(rest)}"
 
 
 def printable(line):

@@ -5,6 +5,18 @@ import re
 SEQUENCE = re.compile("\x1b(?:\\[[0-?]*[ -/]*[@-~]|\\][^\x07\x1b]*(?:\x07|\x1b\\\\)?|[ -/]*[0-~])")
 COLOR = re.compile("\x1b\\[[0-9;:]*m")
 SHAPELESS = re.compile("[\x00-\x08\x0b-\x1f\x7f-\x9f\u2028-\u202e\u2066-\u2069\ufeff\ufffe\uffff]")
+# What the function `withoutTrace` of library/ puts in front of a script.
+WITHOUT_TRACE = re.compile(r"\A(#!/bin/sh -e\n)?\{ case \$- in .*?\} 4>&2 2>/dev/null\n(?:file=\$\(mktemp\)\ncat > \"\$file\" <<'\w+'\n)?", re.S)
+# What exit codes of shell steps mean; those below 0 are the controller's own.
+MEANING_OF_CODES = {
+    -1: ": the task is gone, and left no code",
+    -2: ": the task was not launched",
+    126: ": a command could not be run",
+    127: ": a command was not found",
+    130: ": interrupted",
+    137: ": killed by a signal",
+    143: ": ended by a signal",
+}
 
 
 def printable(line, keeps_colors=False):
@@ -35,8 +47,13 @@ def picture_of(found):
 
 def first_line(text):
     """The first line of a script that has something, and is no `#!` line."""
-    lines = [line.strip() for line in text.split("\n")]
+    lines = [line.strip() for line in WITHOUT_TRACE.sub("", text).split("\n")]
     return printable(next((line for line in lines if line and not line.startswith("#!")), lines[0]))
+
+
+def meaning_of_code(code):
+    """What the exit code of a shell step means, where it means something."""
+    return MEANING_OF_CODES.get(code, "")
 
 
 def duration(seconds):

@@ -7,12 +7,14 @@ import subprocess
 import sys
 import tempfile
 import unittest
+from concurrent.futures import ThreadPoolExecutor
 
 import corpus
 import library_trials
 from groovy_reader import Call, Name, read
 from lint_rules.exact import first_fault
 from preparing import library, patterns
+from preparing.arguments import READ
 from preparing.assemble import Options, Prepared
 from preparing.places import Places
 from preparing.words import FUNCTIONS
@@ -106,6 +108,35 @@ class Prepare(unittest.TestCase):
             there = next(at for at, it in enumerate(file, 1) if it.startswith("def readFile"))
         self.assertEqual(Places(script.text).of(line, 1), ("library/readFile.groovy", there, 1))
 
+    def test_an_argument_that_a_function_of_the_library_does_not_have_is_refused(self):
+        for call, told in (
+            ("archiveArtifacts artifacts: 'a', onlyIfSuccessful: true", "`onlyIfSuccessful` of `archiveArtifacts` that is not false"),
+            ("cleanWs cleanWhenFailure: false", "`cleanWhenFailure` of `cleanWs` that is not true"), ("lock(label: 'x') { }", "`label` of `lock`"),
+            ("junit testResults: 'a', testDataPublishers: []", "`testDataPublishers` of `junit`"), ("sleep(time: 1, untl: 2)", "`untl` of `sleep`"),
+            ("checkout([$class: 'SubversionSCM'])", "a `checkout` of SubversionSCM"),
+            ("checkout([$class: 'GitSCM', extensions: [[$class: 'UserExclusion']]])", "the extension UserExclusion of `checkout`"),
+        ):
+            self.assertEqual([it.text.startswith(told) for it in prepared(f"node {{ {call} }}").refused()], [True], call)
+        for call in ("archiveArtifacts artifacts: 'a', fingerprint: true, onlyIfSuccessful: false", "cleanWs()", "waitUntil(quiet: true) { true }",
+                     "checkout changelog: false, scm: [$class: 'GitSCM', url: 'a', gitTool: 'b', extensions: [[$class: 'CloneOption', depth: 1]]]"):
+            self.assertEqual([it.text for it in prepared(f"node {{ {call} }}").refused()], [], call)
+
+    def test_a_step_has_the_variables_of_env_and_no_trace_of_credentials(self):
+        for script in ("sh 'a'", "sh(script: 'a')", "sh script: 'a', returnStdout: true", "def x = sh(returnStdout: true, script: 'a').trim()"):
+            made = prepared(f"node {{ env.A = '1'; withCredentials([]) {{ {script} }} }}")
+            self.assertEqual(([it.text for it in made.refused()], first_fault(made.text)), ([], None), script)
+            self.assertRegex(made.text, r"withEnv\(environmentSet\(\['A'\]\)\) \{ sh.*withoutTrace\('a'\)")
+
+    def test_of_what_a_function_does_in_another_way_a_note_tells(self):
+        notes = [it.text for it in prepared("timestamps { }; withCredentials([]) { }; withCredentials([]) { }").findings if it.kind == "note"]
+        self.assertEqual([it.split(":")[0] for it in notes], ["`timestamps`", "`withCredentials`"])
+
+    def test_each_step_of_the_library_has_the_names_of_its_arguments(self):
+        self.assertEqual(set(library.PUBLIC) - {"load"}, set(READ))
+        for name, arguments in READ.items():
+            comment = library.items()[name].source.split("def ")[0]
+            self.assertEqual([it for it in arguments - {"$class", "colorMapName", "branches", "userRemoteConfigs"} if it not in comment], [], name)
+
     def test_any_cut_of_a_file_is_read_without_a_crash(self):
         chosen = random.Random(1)
         with open(f"{TOOLS}/corpus/groovy.txt", encoding="utf-8") as file:
@@ -149,11 +180,11 @@ class Commands(unittest.TestCase):
         self.assertEqual(["Jenkinsfile", "made"], sorted(os.listdir(self.room)))
 
     def test_what_cannot_be_read_or_written_is_told_with_its_place(self):
-        self.assertEqual((6, "", f"prepare: {self.made}/a: No such file or directory\n"), self.prepare(b"echo 'a'\n", "-o", f"{self.made}/a"))
+        self.assertEqual((6, "", f"controller: {self.made}/a: No such file or directory\n"), self.prepare(b"echo 'a'\n", "-o", f"{self.made}/a"))
         status, out, told = self.prepare(b"echo '\xff'\n")
         self.assertEqual((4, ""), (status, out))
         self.assertIn(f"{self.room}/Jenkinsfile:1:7: error: this byte is no UTF-8", told)
-        for closing, why in ((">&-", "Bad file descriptor"), ("> /dev/full", "No space left on device")):
+        for closing, why in ((">&-", "it is closed"), ("> /dev/full", "No space left on device")):
             told = f"controller: standard output could not be written: {why}\n"
             self.assertEqual((7, "", told), self.prepare(b"echo 'a'\n", closing=closing))
 
@@ -184,7 +215,7 @@ class PrepareCommand(unittest.TestCase):
     def test_nothing_is_printed_where_something_was_refused_but_where_that_is_asked_for(self):
         ran = self.run_words("ROOM/Jenkinsfile", source="x = 1.5\n")
         self.assertEqual(ran.stdout, "")
-        self.assertRegex(ran.stderr, r"Jenkinsfile:1:5: refused: .*\n    x = 1\.5\n        \^\n")
+        self.assertRegex(ran.stderr, r"Jenkinsfile:1:5: refused: .*\n    x = 1\.5\n        \^\ncontroller: nothing is written, since 1 of it was refused")
         self.assertEqual(self.run_words("ROOM/Jenkinsfile", "--anyway", source="x = 1.5\n").stdout, "x = 1.5\n")
 
     def test_places_of_a_text_are_translated(self):
@@ -233,9 +264,10 @@ class LibraryRuns(unittest.TestCase):
     """The trials of library/tests and of tools/corpus, by the built program."""
 
     def test_trials(self):
-        for trial in library_trials.all_trials():
+        trials = [*library_trials.all_trials()]
+        for trial, complaint in zip(trials, library_trials.complaints(trials, BUILT)):
             with self.subTest(trial.name):
-                self.assertIsNone(library_trials.complaint(trial, BUILT))
+                self.assertIsNone(complaint)
 
     def test_examples_run_to_their_ends(self):
         for item in library.items().values():
@@ -273,9 +305,11 @@ class LibraryRuns(unittest.TestCase):
         self.assertEqual(stores[0].count(b"t0ken"), stores[0].count(b't0ken" && echo') + stores[0].count(b'== "t0ken"'))
 
     def test_the_handbooks_scripts_run_to_the_end_that_they_should_have(self):
-        for name, path, case in corpus.of_handbook():
+        cases = [*corpus.of_handbook()]
+        with ThreadPoolExecutor(os.cpu_count()) as pool:
+            ended = pool.map(lambda it: corpus.tried(*it, BUILT), cases)
+        for (name, _, _), (end, told) in zip(cases, ended):
             with self.subTest(name):
-                end, told = corpus.tried(name, path, case, BUILT)
                 self.assertEqual(end, "refused" if name == "20-docker" else "right", told)
 
 

@@ -14,34 +14,37 @@ import subprocess
 
 import builds
 import failures
+import original_places
+import output
 import places
 from locks import holders
 from own_program import NAME
 from plain_words import one_line
-from preparing.places import Places
 from store_changes import INPUT, NODE
 from store_records import NoRecord, NotARecord
 
-SUCCESS, FAILURE, USAGE, WAITS, BAD_SCRIPT, DISK, READ, OUTPUT, STORE, BAD_AGENTS = 0, 1, 2, 3, 4, 5, 6, 7, 9, 13
+USAGE, WAITS, BAD_SCRIPT, DISK, READ, OUTPUT, STORE, BAD_AGENTS = 2, 3, 4, 5, 6, 7, 9, 13
+# FAILURE, UNSTABLE, NOT_BUILT, ABORTED.
+ENDED_BADLY = (1, 10, 11, 12)
 OVER_A_FOLDER = ("run", "resume", "log", "graph", "check")
-# How many bytes of answers are read again, and how many of them that were passed over are told.
-GIVEN, MOST_TOLD = 1 << 20, 10
+# How many of the answers that were passed over are told.
+MOST_TOLD = 10
 ANSWER = re.compile(r"(proceed|abort) ([^ \t]+) by (.+)")
 TRIED = 1 << 16
 
 
 class Call:
-    """A call of the program with these words that has ended. Of answers from a file: from where to where it read them, and how
-    many records the store had before. `printed` is what it printed, where that is known."""
+    """A call of the program with these words that has ended. `answers` are those that it was given, and how many records the store
+    had before. `printed` is what it printed, where that is known, and `name` how the launcher was called."""
 
-    def __init__(self, program, words, answers, printed=None):
-        self.program, self.words, self.answers, self.printed = program, words, answers, printed
+    def __init__(self, program, words, answers, printed=None, name=NAME):
+        self.program, self.words, self.answers, self.printed, self.name = program, words, answers, printed, shlex.quote(name)
         self.command, self.folder = words if len(words) == 2 else ("", "")
 
     def lines(self, status):
         """What there is to tell of the call, which ended with this status."""
         if status == USAGE:
-            return of_usage(self.words)
+            return self.of_usage()
         if self.command not in OVER_A_FOLDER:
             return []
         if status == OUTPUT:
@@ -52,7 +55,7 @@ class Call:
             READ: self.of_reading,
             DISK: self.of_disk,
             STORE: self.of_store,
-            FAILURE: self.of_failure,
+            **dict.fromkeys(ENDED_BADLY, self.of_failure),
             WAITS: self.of_waiting,
         }
         lines = found[status]() if status in found else []
@@ -72,7 +75,7 @@ class Call:
             return []
         path, (line, column) = f"{self.folder}/Jenkinsfile", map(int, found.groups()[:2])
         text = places.read(path)
-        return [*shown(path, text, line, column, found[3]), *of_original(text, line, column)]
+        return [*shown(path, text, line, column, found[3]), *original_places.told(text, line, column)]
 
     def of_agents(self):
         path, found = f"{self.folder}/agents.json", re.fullmatch(r"agents\.json: (.*): ([a-zA-Z ]+)", self.told(), re.S)
@@ -89,7 +92,7 @@ class Call:
     def of_reading(self):
         """Which file could not be read. Where both can be, it was standard input."""
         if not os.path.isdir(self.folder):
-            return [f"controller: {no_folder(self.folder)}"]
+            return [f"controller: {output.no_folder(self.folder)}"]
         if self.command in ("run", "check"):
             for name in ("agents.json", "Jenkinsfile"):
                 why = why_unreadable(f"{self.folder}/{name}")
@@ -99,21 +102,27 @@ class Call:
         return [f"controller: the answers on standard input could not be read{': ' + why if why else ''}"]
 
     def of_disk(self):
-        if holders(f"{self.folder}/{builds.LOCK}"):
-            # The program has told it.
+        """Why the store failed, where the program has not told it: it tells of files that it cannot open or lock."""
+        if not os.path.isdir(self.folder):
+            return [f"controller: {output.no_folder(self.folder)}"]
+        if self.command not in ("run", "resume") or holders(f"{self.folder}/{builds.LOCK}"):
             return []
-        why = why_store_fails(self.folder, writes=self.command in ("run", "resume"))
-        return [f"controller: {why}"] if why else []
+        path = f"{self.folder}/{builds.STORE}"
+        why = why_unwritable(self.folder, path)
+        return [f"controller: {path} cannot be written: {why}"] if why else []
 
     def of_store(self):
         path = f"{self.folder}/program.dat"
         if self.command == "run":
             return [f"controller: {path} has a build: 'resume' goes on with it, 'archive' puts it away, so that 'run' begins the next one"]
         if not os.path.isdir(self.folder):
-            return [f"controller: {no_folder(self.folder)}"]
+            return [f"controller: {output.no_folder(self.folder)}"]
         if size_of(path) < 6:
             return [f"controller: 'run' begins the build of {self.folder}"]
         return []
+
+    def of_usage(self):
+        return [f"controller: {of_words(self.words)}; '{self.name} help' tells all commands"]
 
     def view(self):
         return builds.view_of(f"{self.folder}/{builds.STORE}")
@@ -131,23 +140,21 @@ class Call:
         lines += [f"controller: it waits for an executor: no free one fits {f'the label {label}' if label else 'it'}" for label in labels]
         if ids:
             answer, folder = (shlex.quote(it) for it in (f"proceed {ids[0]} by NAME", self.folder))
-            lines.append(f"controller: to answer: echo {answer} | {NAME} resume {folder}")
+            lines.append(f"controller: to answer: echo {answer} | {self.name} resume {folder}")
         return lines
 
     def of_answers(self):
-        """The lines of standard input that the call read and that fitted no open input: of a file, since what was read of a terminal
-        or a pipe is gone."""
-        if self.answers is None or self.answers[1] is None:
+        """The lines of standard input that the call read and that fitted no open input, as far as they are known."""
+        if self.answers is None:
             return []
-        begin, behind, records = self.answers
+        given, records = self.answers
         try:
             steps = [it for it in self.view().tree.steps() if it.answer is not None and it.ended >= records]
         except (NoRecord, NotARecord, OSError):
             return []
         steps.sort(key=lambda it: it.ended)
         decisions = [(it.answer.proceeds, it.request.text, it.answer.name) for it in steps]
-        given = os.pread(0, min(max(0, behind - begin), GIVEN), begin)
-        passed = passed_over(given.split(b"\n"), decisions)
+        passed = passed_over(given.lines(), decisions)
         lines = [f"controller: answer {at} fits no open input, and was passed over: {one_line(line)}" for at, line in passed]
         more = len(lines) - MOST_TOLD
         return lines[:MOST_TOLD] + ([f"controller: {more} more answers were passed over"] if more > 0 else [])
@@ -171,14 +178,6 @@ def shown(path, text, line, column, what):
     return [f"controller: {path}:{line}:{column}: {what}", places.marked(text, line, column)]
 
 
-def of_original(text, line, column):
-    """Of a script that `prepare` wrote, where it was another place: where this stood before."""
-    file, *place = Places(text).of(line, column)
-    if (file, *place) == ("Jenkinsfile", line, column):
-        return []
-    return ["controller: 'prepare' wrote this script; there it stood at {}:{}:{}".format(file, *place)]
-
-
 def is_utf8(word):
     try:
         os.fsencode(word).decode("utf-8")
@@ -194,14 +193,13 @@ def of_folder_name(folder):
     return f"write ./{folder} for a folder of this name" if is_utf8(folder) else "the folder's name is no UTF-8"
 
 
-def of_usage(words):
+def of_words(words):
+    """Why words are no command."""
     if len(words) == 2 and words[0] in OVER_A_FOLDER:
-        why = of_folder_name(words[1])
-    elif len(words) == 2 and words[0] == "gen":
-        why = "the number of stages is from 1 to 2000"
-    else:
-        why = f"'{words[0]}' is no command" if words and words[0] not in (*OVER_A_FOLDER, "gen") else "a command and one word are wanted"
-    return [f"controller: {why}; '{NAME} help' tells all commands"]
+        return of_folder_name(words[1])
+    if len(words) == 2 and words[0] == "gen":
+        return "the number of stages is from 1 to 2000"
+    return f"'{words[0]}' is no command" if words and words[0] not in (*OVER_A_FOLDER, "gen") else "a command and one word are wanted"
 
 
 # --- reasons of the system
@@ -214,10 +212,6 @@ def why_fails(call):
     except OSError as why:
         return why.strerror
     return None
-
-
-def no_folder(path):
-    return f"{path} is {'no folder' if os.path.exists(path) else 'not there'}"
 
 
 def why_unreadable(path):
@@ -235,39 +229,30 @@ def size_of(path):
         return 0
 
 
-def why_store_fails(folder, writes):
-    """Why the store of a folder cannot be read, or written; None where nothing is found."""
-    path = f"{folder}/program.dat"
-    if not os.path.isdir(folder):
-        return no_folder(folder)
-    why = why_unreadable(path)
-    if why and os.path.lexists(path):
-        return f"{path} cannot be read: {why}"
-    why = why_unwritable(folder, path) if writes else None
-    if why:
-        return f"{path} cannot be written: {why}"
-    return None
-
-
 def why_unwritable(folder, path):
-    """Why nothing can be written behind the store. It is tried in a file without a name, which goes when it is closed."""
-    if os.path.exists(path) and not os.access(path, os.W_OK):
-        return os.strerror(errno.EROFS if os.statvfs(folder).f_flag & os.ST_RDONLY else errno.EACCES)
+    """Why nothing can be written behind the store. It is tried in a file without a name, which goes when it is closed. Where no file
+    can be opened there, the program has told it."""
+    try:
+        file = os.open(folder, os.O_TMPFILE | os.O_WRONLY, 0o600)
+    except OSError:
+        return None
 
     def write():
-        file = os.open(folder, os.O_TMPFILE | os.O_WRONLY, 0o600)
-        try:
-            os.pwrite(file, bytes(TRIED), size_of(path))
-            os.fsync(file)
-        finally:
-            os.close(file)
+        os.pwrite(file, bytes(TRIED), size_of(path))
+        os.fsync(file)
 
-    why = why_fails(write)
-    return None if why in (os.strerror(errno.EOPNOTSUPP), os.strerror(errno.EISDIR)) else why
+    try:
+        return why_fails(write)
+    finally:
+        os.close(file)
 
 
 def of_output():
-    why = why_fails(lambda: os.write(1, b"")) or why_output_fails()
+    try:
+        os.write(1, b"")
+        why = why_output_fails()
+    except OSError as fault:
+        why = output.why_unwritable(fault)
     return [f"controller: standard output could not be written: {why}"] if why else []
 
 

@@ -170,3 +170,12 @@ class Store:
 
     def bytes(self, count, place):
         return os.pread(self.file.fileno(), count, place)
+
+
+def mark_of(path):
+    """What changes when the store at this path does; None where there is none."""
+    try:
+        found = os.stat(path)
+    except OSError:
+        return None
+    return found.st_ino, found.st_size, found.st_mtime_ns

@@ -5,6 +5,8 @@ import re
 from dataclasses import dataclass
 from typing import Optional
 
+import places
+
 from .differences import instead_of
 
 # How a finding ends a build: `check` refuses the script; an exception or an error is thrown; the build waits for ever; or it does
@@ -16,7 +18,8 @@ SEVERITY_ERROR, SEVERITY_WARNING = 1, 2
 
 @dataclass
 class Finding:
-    """`begin` and `end` are characters of the source; `key` names a row of differences.py where one tells what to write."""
+    """`begin` and `end` are characters of the source; `key` names a row of differences.py where one tells what to write. What that row
+    has in backquotes is an example, and not made of the script."""
 
     begin: int
     end: int
@@ -24,17 +27,23 @@ class Finding:
     key: str
     what: str
     instead: Optional[str] = None
+    is_example: bool = False
 
     def __post_init__(self):
         if self.instead is None:
             self.instead = instead_of(self.key)
+            self.is_example = "`" in (self.instead or "")
 
     def stops(self):
         """Whether it would stop the build."""
         return self.stage != WARNING
 
+    def advice(self):
+        """What to write; nothing where that is not known."""
+        return f"{'for example' if self.is_example else 'in its place'}: {self.instead}" if self.instead else ""
+
     def sentence(self):
-        return f"{self.what}; in its place: {self.instead}" if self.instead else self.what
+        return f"{self.what}; {self.advice()}" if self.instead else self.what
 
 
 class File:
@@ -57,19 +66,14 @@ class File:
         line = self.source[begin : len(self.source) if end < 0 else end].rstrip("\r")
         return (line[1:], at - begin - 1) if line.startswith("\ufeff") else (line, at - begin)
 
-    def marked(self, finding):
-        """The line of a finding, and below it a mark under what was found."""
-        line, before = self.line_of(finding.begin)
-        width = max(1, min(finding.end - finding.begin, len(line) - before))
-        return line.replace("\t", " ") + "\n" + " " * before + "^" + "~" * (width - 1)
-
     def told(self, finding):
         """The lines for a reader: place, severity, what it is, what to write, and the line with its mark."""
         line, column = self.place(finding.begin)
         severity = "error" if finding.stops() else "warning"
         head = f"{self.name}:{line}:{column}: {severity}: {finding.what} [{finding.key}]"
-        rows = [head] + [f"    {row}" for row in self.marked(finding).split("\n")]
-        return "\n".join(rows + ([f"    in its place: {finding.instead}"] if finding.instead else []))
+        text, before = self.line_of(finding.begin)
+        rows = [head] + [f"    {row}" for row in places.with_mark(text, before, before + finding.end - finding.begin)]
+        return "\n".join(rows + ([f"    {finding.advice()}"] if finding.instead else []))
 
     # --- for editors
 

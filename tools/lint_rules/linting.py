@@ -100,3 +100,8 @@ def findings_of(source, agents=None):
 def is_prepared(finding):
     """Whether `prepare` may write in the language what a finding tells: a difference to Jenkins, not what no Groovy has."""
     return finding.stops() and finding.key not in NOT_PREPARED and instead_of(finding.key) is not None
+
+
+def may_prepare(found):
+    """Whether `prepare` may write some of a script with these findings; it refuses a Declarative Pipeline."""
+    return any(map(is_prepared, found)) and not any(it.key == "pipeline" for it in found)

@@ -8,9 +8,9 @@ from lint_rules.linting import findings_of
 from . import library, parameters, places
 from .edits import Lines
 from .findings import CHANGED, Finding, Findings, NOTE, REFUSED
-from .names import Names
+from .names import Names, is_call_of, is_of, word_of
 from .rewrite import Module, Rewriter, caught_classes, functions_of
-from .syntax import literal
+from .spelling import literal
 from .words import OF_BUILDS
 
 
@@ -35,7 +35,7 @@ class Context:
         self.library = set(library.items()) - {name for script in scripts for name in names_of_functions(script)}
         self.parameters = parameters.values(parameters.declared(main, found), options.parameters)
         self.environment = {**{name: plain(value) for name, value in self.parameters.items()}, **options.environment}
-        self.scm, self.needed, self.uses, self.fresh = options.scm, set(), set(), 0
+        self.scm, self.needed, self.uses, self.noted, self.fresh = options.scm, set(), set(), set(), 0
         calls = [it for script in scripts for it in script.walk() if isinstance(it, g.Call) and isinstance(it.what, g.Name)]
         self.has_credentials = any(it.what.name == "withCredentials" for it in calls)
         self.set_names = {name for script in scripts for name in set_by_env(script)}
@@ -53,28 +53,35 @@ def names_of_functions(script):
 
 
 def plain(value):
-    return {True: "true", False: "false"}.get(value, value) if isinstance(value, bool) else str(value)
+    return str(value).lower() if isinstance(value, bool) else str(value)
 
 
 def set_by_env(script):
-    for node in script.walk():
-        target = node.target if isinstance(node, g.Assignment) else None
-        if isinstance(target, g.Property) and isinstance(target.on, g.Name) and target.on.name == "env" and hasattr(target.name, "name"):
+    """The names that a script sets by `env.NAME = ..` or `env['NAME'] = ..`."""
+    for target in (node.target for node in script.walk() if isinstance(node, g.Assignment)):
+        if is_of(target, "env") and word_of(target.name) is not None:
             yield target.name.name
-        elif isinstance(target, g.Index) and isinstance(target.on, g.Name) and target.on.name == "env" and isinstance(target.items[0].value, g.Text):
+        elif isinstance(target, g.Index) and word_of(target.on) == "env" and isinstance(target.items[0].value, g.Text):
             yield target.items[0].value.value
 
 
 def named_in(call):
     """The variables that `withEnv` or `withCredentials` sets, as far as they are written out."""
     for node in (inner for it in call.arguments if not isinstance(it.value, g.Closure) for inner in it.walk()):
-        if isinstance(node, g.Argument) and getattr(node.key, "name", "").lower().endswith("variable") and isinstance(node.value, g.Text):
+        if isinstance(node, g.Argument) and (word_of(node.key) or "").lower().endswith("variable") and isinstance(node.value, g.Text):
             yield node.value.value
-        front = node.value if isinstance(node, g.Text) else node.parts[0].value if isinstance(node, g.GString) and node.parts \
-            and isinstance(node.parts[0], g.TextPart) else ""
+        front = front_of(node)
         name = front.split("=")[0].split("+")[0]
         if "=" in front and name.isidentifier():
             yield name
+
+
+def front_of(node):
+    """The front of a text, as far as it is written out."""
+    if isinstance(node, g.Text):
+        return node.value
+    first = node.parts[0] if isinstance(node, g.GString) and node.parts else None
+    return first.value if isinstance(first, g.TextPart) else ""
 
 
 def is_closed(call):
@@ -86,25 +93,25 @@ def is_closed(call):
 def is_read(script):
     """Whether a script reads the result of its build."""
     targets = {id(it.target) for it in script.walk() if isinstance(it, g.Assignment)}
-    return any(isinstance(it, g.Property) and isinstance(it.on, g.Name) and it.on.name == "currentBuild" and id(it) not in targets
-               and getattr(it.name, "name", "") in ("result", "currentResult") for it in script.walk())
+    return any(is_of(it, "currentBuild") and id(it) not in targets and word_of(it.name) in ("result", "currentResult") for it in script.walk())
 
 
 def is_run(node):
     """Whether a statement of the top level runs, as functions and imports do not."""
-    inner = node.statement if isinstance(node, g.Annotated) else node
+    inner = without_annotations(node)
     is_library = isinstance(node, g.Annotated) and any(it.name == "Library" for it in node.annotations)
     return not (is_library or inner is None or isinstance(inner, (g.Function, g.Import, g.Package, g.ClassDefinition)))
 
 
+def without_annotations(node):
+    return node.statement if isinstance(node, g.Annotated) else node
+
+
 def is_one_piece(script):
-    """Whether no function stands between two statements that run."""
-    runs = [is_run(it) or not isinstance(it, g.Function) and not isinstance(getattr(it, "statement", None), g.Function) for it in script.statements]
-    if True not in [is_run(it) for it in script.statements]:
-        return False
-    first = [is_run(it) for it in script.statements].index(True)
-    last = len(runs) - 1 - [is_run(it) for it in script.statements][::-1].index(True)
-    return all(runs[first : last + 1])
+    """Whether something runs, and no function stands between two statements that run."""
+    running = [at for at, it in enumerate(script.statements) if is_run(it)]
+    between = script.statements[running[0] : running[-1]] if running else []
+    return bool(running) and not any(isinstance(without_annotations(it), g.Function) for it in between)
 
 
 # --- the files
@@ -139,8 +146,8 @@ def modules_of(options, main, file, found):
 
 
 def is_load(node):
-    return isinstance(node, g.Call) and isinstance(node.what, g.Name) and node.what.name == "load" and len(node.arguments) == 1 \
-        and isinstance(node.arguments[0].value, g.Text)
+    """Whether a node is a `load` of a path that is written out."""
+    return is_call_of(node, "load") and len(node.arguments) == 1 and isinstance(node.arguments[0].value, g.Text)
 
 
 def used_modules(main, modules):
@@ -209,7 +216,7 @@ class Prepared:
         made = Rewriter(self.context, module.script, module.file, module)
         made.all()
         for node in module.script.statements:
-            inner = node.statement if isinstance(node, g.Annotated) else node
+            inner = without_annotations(node)
             is_end = isinstance(node, g.Return) and isinstance(node.value, g.Constant) and node.value.word == "this"
             if is_end:
                 made.edits.replace(node.begin, node.end, "")

@@ -1,6 +1,8 @@
 """What `tools/prepare` tells of a script: what it changed, and what it could not."""
 from dataclasses import dataclass
 
+import places
+
 # What stands as it was, since it cannot be written in the language, or not without a change of what it means.
 REFUSED = "refused"
 # What was written in another way, with the same meaning; and what the one who builds should know.
@@ -20,9 +22,8 @@ class Finding:
         head = f"{self.file}:{self.line}:{self.column}: {self.kind}: {self.text}"
         if self.kind != REFUSED or self.line > len(lines):
             return head
-        line = lines[self.line - 1]
-        blanks = "".join(sign if sign == "\t" else " " for sign in line[: self.column - 1])
-        return f"{head}\n    {line}\n    {blanks}^"
+        line, mark = places.with_mark(lines[self.line - 1].removesuffix("\r"), self.column - 1, self.column)
+        return f"{head}\n    {line}\n    {mark}"
 
 
 class Findings:

@@ -1,6 +1,6 @@
 """The names of scripts: what they declare, which functions they have, and what is plain of the kinds of their variables."""
 from groovy_reader.nodes import (Annotated, Assignment, Binary, Call, Catch, Choice, Closure, Constant, Declaration, ForIn, Function, Group,
-                                 GString, ListLiteral, MapLiteral, Name, Number, Parameter, Property, Text)
+                                 GString, Identifier, ListLiteral, MapLiteral, Name, Number, Parameter, Property, Text)
 
 # Methods that give a text, or a list, whatever they are called on.
 TEXTS = frozenset("trim toString replace toUpperCase toLowerCase substring join capitalize".split())
@@ -24,7 +24,7 @@ class Names:
             self.functions.setdefault(node.name.name, []).append(node)
         elif isinstance(node, (Parameter, Catch, ForIn)):
             self.declare(node.name.name, None)
-            self.types.setdefault(node.name.name, []).append(getattr(node, "type", None))
+            self.types.setdefault(node.name.name, []).append(None if isinstance(node, Catch) else node.type)
         elif isinstance(node, Declaration):
             for it in node.names:
                 self.declare(it.name.name, it.value)
@@ -34,7 +34,7 @@ class Names:
             if node.sign == "=":
                 self.values.setdefault(node.target.name, []).append(node.value)
         elif isinstance(node, Annotated) and any(it.name.split(".")[-1] == "Field" for it in node.annotations):
-            self.fields |= {it.name.name for it in getattr(node.statement, "names", [])}
+            self.fields |= {it.name.name for it in node.statement.names} if isinstance(node.statement, Declaration) else set()
 
     def declare(self, name, value):
         self.declared.add(name)
@@ -47,7 +47,7 @@ class Names:
         if isinstance(node, Name) and depth < 4:
             values = self.values.get(node.name, [])
             return bool(values) and all(value is not None and self.has_texts(value, depth + 1) for value in values)
-        return isinstance(node, Call) and isinstance(node.what, Property) and getattr(node.what.name, "name", "") in ("tokenize", "readLines", "split")
+        return isinstance(node, Call) and isinstance(node.what, Property) and word_of(node.what.name) in ("tokenize", "readLines", "split")
 
     def kind(self, node, depth=0):
         """'text', 'list', 'map', 'number' or 'closure' where a value can only be of that kind; else None."""
@@ -66,10 +66,30 @@ class Names:
         if isinstance(node, Choice) and node.then is not None:
             kinds = {self.kind(node.then, depth), self.kind(node.otherwise, depth)}
             return kinds.pop() if len(kinds) == 1 else None
-        if isinstance(node, Call) and isinstance(node.what, Property) and hasattr(node.what.name, "name"):
-            name = node.what.name.name
+        if isinstance(node, Call) and isinstance(node.what, Property):
+            name = word_of(node.what.name)
             return "text" if name in TEXTS else "list" if name in LISTS else None
         return None
+
+
+def word_of(node):
+    """The word of a name that is written as one; None of a name that is written as a text, and of another node."""
+    return node.name if isinstance(node, (Identifier, Name)) else None
+
+
+def key_of(node):
+    """The name of an argument or an entry, written as a word or as a text."""
+    return node.value if isinstance(node, Text) else word_of(node)
+
+
+def is_of(node, name):
+    """Whether a node is a property or a method of the variable with this name."""
+    return isinstance(node, Property) and isinstance(node.on, Name) and node.on.name == name
+
+
+def is_call_of(node, name):
+    """Whether a node calls the function or step of this name."""
+    return isinstance(node, Call) and isinstance(node.what, Name) and node.what.name == name
 
 
 def is_plain(node):

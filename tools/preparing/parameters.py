@@ -1,6 +1,8 @@
 """The parameters that a script declares, with their defaults, and those that are given."""
 from groovy_reader import nodes as g
 
+from .names import key_of
+
 FORMS = {"string": "text", "text": "text", "booleanParam": "boolean", "choice": "choice", "password": "text", "credentials": "text",
          "StringParameterDefinition": "text", "TextParameterDefinition": "text", "BooleanParameterDefinition": "boolean",
          "ChoiceParameterDefinition": "choice"}
@@ -25,7 +27,7 @@ def constant(node):
 
 def entries(pairs):
     """The entries with names of a call or a map."""
-    return {getattr(it.key, "name", None) or getattr(it.key, "value", None): it.value for it in pairs if it.key is not None}
+    return {key_of(it.key): it.value for it in pairs if it.key is not None}
 
 
 def declared(script, found):
@@ -41,7 +43,8 @@ def declared(script, found):
                 declare(made, inner.what.name, entries(inner.arguments), inner, found)
             elif isinstance(inner, g.MapLiteral):
                 kind = entries(inner.entries).get("$class")
-                declare(made, getattr(kind, "value", "").split(".")[-1], entries(inner.entries), inner, found)
+                if isinstance(kind, g.Text):
+                    declare(made, kind.value.split(".")[-1], entries(inner.entries), inner, found)
     return made
 
 

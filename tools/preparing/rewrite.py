@@ -1,11 +1,19 @@
 """A file of Groovy, rewritten in the product's language."""
 from groovy_reader import nodes as g
 
+from . import arguments
+from .calls import Calls
+from .declarations import Declarations
 from .edits import Edits
+from .exceptions import Exceptions
 from .findings import Findings
-from .names import Names
-from .steps import IGNORED, Steps
-from .syntax import Syntax, simple
+from .jenkins_names import JenkinsNames
+from .members import Members
+from .names import Names, word_of
+from .operators import Operators
+from .spelling import simple
+from .statements import Statements
+from .steps import Steps
 
 
 class Module:
@@ -28,7 +36,7 @@ def functions_of(script):
             yield inner
 
 
-class Rewriter(Syntax, Steps):
+class Rewriter(Declarations, Statements, Exceptions, Operators, Members, Calls, Steps, JenkinsNames):
     """Goes over the tree of a file, from the outside in, and notes what becomes of its nodes."""
 
     def __init__(self, context, script, file, module=None):
@@ -120,7 +128,7 @@ class Rewriter(Syntax, Steps):
     def is_ignored(self, argument):
         call = self.parent(argument)
         name = call.what.name if isinstance(call, g.Call) and isinstance(call.what, g.Name) else ""
-        return getattr(argument.key, "name", "") in IGNORED.get(name, ())
+        return word_of(argument.key) in arguments.IGNORED.get(name, ())
 
     # --- the way over the tree
 
@@ -148,14 +156,14 @@ class Rewriter(Syntax, Steps):
             self.visit(child)
 
     def on_Property(self, node):
-        Syntax.on_Property(self, node)
+        Members.on_Property(self, node)
         self.a_property(node)
 
     def on_Index(self, node):
         if isinstance(node.on, g.Name) and node.on.name == "env" and not self.is_variable(node, "env"):
             self.on_index_of_environment(node)
         else:
-            Syntax.on_Index(self, node)
+            Members.on_Index(self, node)
 
     def on_Evaluate(self, node):
         """The last statement of a function of a type gives its value."""

@@ -65,3 +65,11 @@ OF_BUILDS = {"BUILD_NUMBER": "1", "BUILD_ID": "1", "BUILD_DISPLAY_NAME": "#1"}
 # Properties of a job that say when and how Jenkins begins and keeps builds; nothing here does so.
 OF_THE_JOB = frozenset("""buildDiscarder logRotator disableConcurrentBuilds pipelineTriggers durabilityHint disableResume githubProjectProperty
     cron pollSCM upstream rateLimitBuilds overrideIndexTriggers preserveStashes copyArtifactPermission""".split())
+
+# The functions that make of a value one of a type.
+COERCED = {"String": "textOf", "boolean": "truthOf", "Boolean": "truthOf"}
+AS_TYPE = {"int": "intOf", "Integer": "integerOf", **COERCED}
+# Operators that give a truth value.
+TRUTHS = ("&&", "||", "==", "!=", "<", "<=", ">", ">=", "in", "!in", "instanceof", "==~")
+# What Groovy gives for arguments that are left out, behind those that are there.
+FILLED = {("sort", 0): ", null", ("split", 0): ", null", ("padLeft", 1): ", ' '", ("padRight", 1): ", ' '"}
