@@ -332,6 +332,12 @@ class LintPrinted(unittest.TestCase):
         findings_of("".join(f"def x{at} = [1] in y{at}\n" for at in range(1500)))
         self.assertLess(time.process_time() - began, 10)
 
+    def test_what_stands_for_a_switch_is_made_of_its_first_case_where_it_can_be(self):
+        for case, instead in (("'a'", "`if (x == 'a') { .. } else ..`"), ("['a', 'b']", "`if (['a', 'b'].contains(x)) { .. } else ..`"),
+                              ("~/a.*/", "`if (1 == 1) { echo 'x' }`")):
+            found = findings_of(f"def x = 'a'\nswitch (x) {{\n case {case}: echo 'x'\n}}\n")
+            self.assertEqual([instead], [it.instead for it in found if it.key == "switch"])
+
     def test_a_break_of_a_switch_is_no_fault_of_its_own(self):
         source = "switch (1) {\n case 1: if (true) { break }\n default: break\n}\n"
         self.assertEqual(["switch"], keys(source))

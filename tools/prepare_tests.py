@@ -127,6 +127,10 @@ class Prepare(unittest.TestCase):
             self.assertEqual(([it.text for it in made.refused()], first_fault(made.text)), ([], None), script)
             self.assertRegex(made.text, r"withEnv\(environmentSet\(\['A'\]\)\) \{ sh.*withoutTrace\('a'\)")
 
+    def test_a_refused_name_is_told_once_in_a_chain(self):
+        self.assertEqual(len(prepared("node { docker.image('a').inside { sh 'b' } }").refused()), 1)
+        self.assertEqual(len(prepared("pipeline { parameters { booleanParam(name: 'A') } }").refused()), 1)
+
     def test_of_what_a_function_does_in_another_way_a_note_tells(self):
         notes = [it.text for it in prepared("timestamps { }; withCredentials([]) { }; withCredentials([]) { }").findings if it.kind == "note"]
         self.assertEqual([it.split(":")[0] for it in notes], ["`timestamps`", "`withCredentials`"])
