@@ -291,6 +291,12 @@ class LintPrinted(unittest.TestCase):
             "    \t    ^~~~~~~~\n"
             "    in its place: `[1].contains(x)`\n", told)
 
+    def test_the_example_of_the_page_is_what_is_printed(self):
+        page = read("docs/LINT.md").decode()
+        [example] = re.findall(r"^    shop/Jenkinsfile:7:9: .*\n(?:    .*\n)+", page, re.M)
+        told, _ = self.lint("\n" * 5 + "def deploy(env) {\n    if (env in ['qa', 'prod']) {\n        echo env\n    }\n}\ndeploy('qa')\n", agents=ONE_EXECUTOR)
+        self.assertEqual(re.sub("^    ", "", example, flags=re.M), told.replace(self.room, "shop"))
+
     def test_what_is_not_made_of_the_script_is_an_example(self):
         told, _ = self.lint("node { deleteDir(); timestamps { echo 'x' } }\nproperties([])\n", agents=ONE_EXECUTOR)
         self.assertEqual(["for example: `node { sh 'rm -rf -- *' }`", "in its place: the statements of its body alone", "in its place: leave it out"],

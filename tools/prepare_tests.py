@@ -192,6 +192,13 @@ class Commands(unittest.TestCase):
             told = f"controller: standard output could not be written: {why}\n"
             self.assertEqual((7, "", told), self.prepare(b"echo 'a'\n", closing=closing))
 
+    def test_the_example_of_the_page_is_what_is_told(self):
+        with open(f"{TOP}/docs/PREPARE.md", encoding="utf-8") as file:
+            [example] = re.findall(r"^    shop/Jenkinsfile:7:9: .*\n(?:    .*\n)+", file.read(), re.M)
+        lines = {6: "def a = 'x'", 7: "    if (a in ['x']) { }", 12: "    env.BRANCH_NAME", 20: "    def d = new Date()"}
+        _, _, told = self.prepare("".join(f"{lines.get(at, '')}\n" for at in range(1, 21)).encode())
+        self.assertEqual(re.sub("^    ", "", example, flags=re.M), told.replace(self.room, "shop").partition("controller: ")[0])
+
     def test_help_is_printed_whole(self):
         status, out, told = self.prepare(b"", "--help")
         self.assertEqual((0, ""), (status, told))
