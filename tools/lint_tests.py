@@ -291,6 +291,12 @@ class LintPrinted(unittest.TestCase):
             "    \t    ^~~~~~~~\n"
             "    in its place: `[1].contains(x)`\n", told)
 
+    def test_the_example_of_the_page_is_what_is_printed(self):
+        page = read("docs/LINT.md").decode()
+        [example] = re.findall(r"^    shop/Jenkinsfile:7:9: .*\n(?:    .*\n)+", page, re.M)
+        told, _ = self.lint("\n" * 5 + "def deploy(env) {\n    if (env in ['qa', 'prod']) {\n        echo env\n    }\n}\ndeploy('qa')\n", agents=ONE_EXECUTOR)
+        self.assertEqual(re.sub("^    ", "", example, flags=re.M), told.replace(self.room, "shop"))
+
     def test_what_is_not_made_of_the_script_is_an_example(self):
         told, _ = self.lint("node { deleteDir(); timestamps { echo 'x' } }\nproperties([])\n", agents=ONE_EXECUTOR)
         self.assertEqual(["for example: `node { sh 'rm -rf -- *' }`", "in its place: the statements of its body alone", "in its place: leave it out"],
@@ -331,6 +337,12 @@ class LintPrinted(unittest.TestCase):
         began = time.process_time()
         findings_of("".join(f"def x{at} = [1] in y{at}\n" for at in range(1500)))
         self.assertLess(time.process_time() - began, 10)
+
+    def test_what_stands_for_a_switch_is_made_of_its_first_case_where_it_can_be(self):
+        for case, instead in (("'a'", "`if (x == 'a') { .. } else ..`"), ("['a', 'b']", "`if (['a', 'b'].contains(x)) { .. } else ..`"),
+                              ("~/a.*/", "`if (1 == 1) { echo 'x' }`")):
+            found = findings_of(f"def x = 'a'\nswitch (x) {{\n case {case}: echo 'x'\n}}\n")
+            self.assertEqual([instead], [it.instead for it in found if it.key == "switch"])
 
     def test_a_break_of_a_switch_is_no_fault_of_its_own(self):
         source = "switch (1) {\n case 1: if (true) { break }\n default: break\n}\n"

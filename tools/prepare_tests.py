@@ -127,6 +127,10 @@ class Prepare(unittest.TestCase):
             self.assertEqual(([it.text for it in made.refused()], first_fault(made.text)), ([], None), script)
             self.assertRegex(made.text, r"withEnv\(environmentSet\(\['A'\]\)\) \{ sh.*withoutTrace\('a'\)")
 
+    def test_a_refused_name_is_told_once_in_a_chain(self):
+        self.assertEqual(len(prepared("node { docker.image('a').inside { sh 'b' } }").refused()), 1)
+        self.assertEqual(len(prepared("pipeline { parameters { booleanParam(name: 'A') } }").refused()), 1)
+
     def test_of_what_a_function_does_in_another_way_a_note_tells(self):
         notes = [it.text for it in prepared("timestamps { }; withCredentials([]) { }; withCredentials([]) { }").findings if it.kind == "note"]
         self.assertEqual([it.split(":")[0] for it in notes], ["`timestamps`", "`withCredentials`"])
@@ -187,6 +191,13 @@ class Commands(unittest.TestCase):
         for closing, why in ((">&-", "it is closed"), ("> /dev/full", "No space left on device")):
             told = f"controller: standard output could not be written: {why}\n"
             self.assertEqual((7, "", told), self.prepare(b"echo 'a'\n", closing=closing))
+
+    def test_the_example_of_the_page_is_what_is_told(self):
+        with open(f"{TOP}/docs/PREPARE.md", encoding="utf-8") as file:
+            [example] = re.findall(r"^    shop/Jenkinsfile:7:9: .*\n(?:    .*\n)+", file.read(), re.M)
+        lines = {6: "def a = 'x'", 7: "    if (a in ['x']) { }", 12: "    env.BRANCH_NAME", 20: "    def d = new Date()"}
+        _, _, told = self.prepare("".join(f"{lines.get(at, '')}\n" for at in range(1, 21)).encode())
+        self.assertEqual(re.sub("^    ", "", example, flags=re.M), told.replace(self.room, "shop").partition("controller: ")[0])
 
     def test_help_is_printed_whole(self):
         status, out, told = self.prepare(b"", "--help")

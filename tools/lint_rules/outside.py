@@ -1,5 +1,6 @@
 """Definitions and statements of Groovy that are outside the language, each told by what it is; and characters and tokens."""
-from groovy_reader import Annotated, Block, Case, Closure, Declaration, ForSteps, Identifier, If, Labeled, ListLiteral, Node
+from groovy_reader import (Annotated, Block, Case, Closure, Constant, Declaration, ForSteps, Identifier, If, Labeled, ListLiteral, Name, Node,
+                           Number, Text)
 
 from .expression_forms import Expressions
 from .findings import EXCEPTION, REFUSED, WARNING
@@ -162,8 +163,11 @@ class Outside(Expressions):
     # --- statements
 
     def of_switch(self, node, around):
-        first = next((it.value for it in node.cases if it.value is not None), None)
-        instead = self.put("if ({} == {}) {{ .. }} else ..", self.operand(node.subject), first) if first is not None else None
+        first, instead = next((it.value for it in node.cases if it.value is not None), None), None
+        if isinstance(first, ListLiteral):
+            instead = self.put("if ({}.contains({})) {{ .. }} else ..", first, node.subject)
+        elif isinstance(first, (Constant, Name, Number, Text)):
+            instead = self.put("if ({} == {}) {{ .. }} else ..", self.operand(node.subject), first)
         self.tell(node, "switch", "`switch` is not in the language", node.begin + len("switch"), instead=instead)
 
     def of_dowhile(self, node, around):

@@ -23,29 +23,40 @@ class Options:
 
 
 class Context:
-    """What the files of one build share."""
+    """What the files of one build share: what is known of them before they are rewritten, and what the rules ask for then."""
 
     def __init__(self, options, main, modules, found):
         scripts = [main, *(it.script for it in modules.values())]
+        self.modules, self.scm = modules, options.scm
+        # Of each step that is left out the calls.
+        self.dropped = {name: [] for name in options.dropped}
         names = Names(scripts)
+        # The variables without `def`, which each function sees; the classes that a `catch` names; whether the result is read.
         self.assigned = names.assigned | names.fields
         self.caught_classes = caught_classes(scripts)
-        self.modules, self.loads = modules, set()
-        self.dropped = {name: [] for name in options.dropped}
+        self.reads_result = any(map(is_read, scripts))
         self.library = set(library.items()) - {name for script in scripts for name in names_of_functions(script)}
         self.parameters = parameters.values(parameters.declared(main, found), options.parameters)
         self.environment = {**{name: plain(value) for name, value in self.parameters.items()}, **options.environment}
-        self.scm, self.needed, self.uses, self.noted, self.fresh = options.scm, set(), set(), set(), 0
-        calls = [it for script in scripts for it in script.walk() if isinstance(it, g.Call) and isinstance(it.what, g.Name)]
-        self.has_credentials = any(it.what.name == "withCredentials" for it in calls)
-        self.set_names = {name for script in scripts for name in set_by_env(script)}
-        self.with_names = {name for it in calls if it.what.name in ("withEnv", "withCredentials") for name in named_in(it)}
-        self.credential_names = {name for it in calls if it.what.name == "withCredentials" for name in named_in(it)}
-        self.has_open_overrides = any(it.what.name == "withEnv" and not is_closed(it) for it in calls)
-        self.reads_result = any(is_read(script) for script in scripts)
+        self.take_setters(scripts)
+        # Where all of the script stands in one `withEnv`; else the variables are set as if by `env`.
         self.is_wrapped = bool(self.environment) and is_one_piece(main)
-        if self.environment and not self.is_wrapped:
+        if not self.is_wrapped:
             self.set_names |= set(self.environment)
+        # The functions of the library and the variables of Jenkins that are needed, the `load`s that became functions, what was noted,
+        # and how many names were made.
+        self.needed, self.uses, self.loads, self.noted, self.fresh = set(), set(), set(), set(), 0
+
+    def take_setters(self, scripts):
+        """The names of the environment that `env`, `withEnv` and credentials set, and whether a `withEnv` may set others too."""
+        calls = [it for script in scripts for it in script.walk() if isinstance(it, g.Call) and isinstance(it.what, g.Name)]
+        overrides = [it for it in calls if it.what.name == "withEnv"]
+        credentials = [it for it in calls if it.what.name == "withCredentials"]
+        self.has_credentials = bool(credentials)
+        self.set_names = {name for script in scripts for name in set_by_env(script)}
+        self.credential_names = {name for it in credentials for name in named_in(it)}
+        self.with_names = self.credential_names | {name for it in overrides for name in named_in(it)}
+        self.has_open_overrides = not all(map(is_closed, overrides))
 
 
 def names_of_functions(script):

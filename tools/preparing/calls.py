@@ -41,7 +41,7 @@ class Calls:
             self.found.refuse(node, f"`env.{word_of(what.name) or '..'}(..)`: read and set `env.NAME`")
         elif isinstance(on, g.Name) and on.name == "currentBuild" and not self.is_variable(node, "currentBuild"):
             self.a_call_of_build(node)
-        elif not self.is_thrown_causes(what) and not (isinstance(on, g.Name) and self.is_unknown(on)):
+        elif not self.is_thrown_causes(what) and (origin(on) is None or not self.is_unknown(origin(on))):
             self.a_method(node)
 
     def is_of_module(self, module, name):
@@ -182,6 +182,13 @@ class Calls:
         self.edits.replace(node.what.end, first.begin, "(")
         self.edits.behind(node.end, ")")
         self.found.changed(node, "a call gets parentheses")
+
+
+def origin(node):
+    """The name with which a chain of properties and methods begins; None of another value."""
+    while isinstance(node, (g.Property, g.Index)) or isinstance(node, g.Call) and isinstance(node.what, g.Property):
+        node = node.what.on if isinstance(node, g.Call) else node.on
+    return node if isinstance(node, g.Name) else None
 
 
 def is_turned(node):

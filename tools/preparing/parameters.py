@@ -36,7 +36,8 @@ def declared(script, found):
     for node in script.walk():
         if not (isinstance(node, g.Call) and isinstance(node.what, g.Name) and node.what.name in ("parameters", "properties")):
             continue
-        if node.what.name == "parameters":
+        # With braces they are those of a Declarative Pipeline.
+        if node.what.name == "parameters" and not node.trailing:
             refuse_unknown(node, found)
         for inner in node.walk():
             if isinstance(inner, g.Call) and isinstance(inner.what, g.Name):
