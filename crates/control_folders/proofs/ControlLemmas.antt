@@ -1,10 +1,10 @@
 -- The name of a control folder, as the format of its text writes it.
-use Rattle.std.specs.Prelude.{◌≡◌, ℕ, ◌-◌, ◌^◌, false, List, [], ◌∷◌, ◌++◌, length, replicate, codes}
+use Rattle.std.specs.Prelude.{◌≡◌, ℕ, ◌-◌, false, List, [], ◌++◌, length, replicate, codes}
 use Rattle.std.specs.Fmt.{digits, padded_integral, format_spec, char_count}
 use mathlib.Core.Path.{ap, sym, ◌∙◌}
 use mathlib.Core.List.{append-nil, append_assoc}
 use native.Mathlib.Omega.{arith}
-use Rattle.control_folders.specs.Control.{parent_of, eight_digits, control_folder}
+use Rattle.control_folders.specs.Control.{eight_digits, control_folder}
 
 no_less : (n : ℕ) → n - 0 - 0 ≡ n
 no_less n = omega arith

@@ -1,1 +1,3 @@
 mod ControlLemmas
+mod Pieces
+mod Quoting

@@ -1,7 +1,7 @@
 //! The control folder of a task.
 
 ghost use Rattle.std.specs.Prelude.{◌≡◌, ◌++◌, IfOk, string_bytes, codes};
-ghost use Rattle.control_folders.specs.Control.{parent_of, control_folder, file_in, stream_file, build_file};
+ghost use Rattle.control_folders.specs.Control.{parent_of, control_folder, file_in, entry_name, stream_entry, build_file};
 ghost use Rattle.hex.specs.Hex.{encode_lower};
 
 use edge_files::BuildId;
@@ -18,6 +18,68 @@ pub struct ControlFolder {
     /// `WORKSPACE@tmp`
     pub parent: String,
     pub path: String,
+}
+
+/// A file of a control folder.
+#[derive(Clone, Copy, Debug, PartialEq, Eq)]
+pub enum Entry {
+    /// The script.
+    Script,
+    /// What the task writes to its log. It stands from the start of the task on.
+    Log,
+    /// What the task writes to standard output, where the step keeps that apart.
+    Output,
+    /// The exit code. It stands from the end of the script on.
+    Result,
+    /// The permit, before it has its name.
+    NewPermit,
+    /// The file that whoever runs the script has to take first.
+    Permit,
+    /// The permit, once it was taken.
+    Started,
+    /// The permit, once it was withdrawn.
+    Withdrawn,
+    /// The process that took the permit.
+    Process,
+    /// The name of the machine on which that process is, where it was started elsewhere.
+    Machine,
+    /// The script that starts the task elsewhere. It is there where a program of the agent was to start it.
+    Task,
+    /// What is made for a moment where it is asked whether the task lives elsewhere.
+    Asked,
+}
+
+impl Entry {
+    fn name(self) -> &'static str
+        ensures { result.now ≡ entry_name self }
+    {
+        match self {
+            Entry::Script => "script.sh",
+            Entry::Log => "jenkins-log.txt",
+            Entry::Output => "output.txt",
+            Entry::Result => "jenkins-result.txt",
+            Entry::NewPermit => "permit.tmp",
+            Entry::Permit => "permit",
+            Entry::Started => "started",
+            Entry::Withdrawn => "revoked",
+            Entry::Process => "process",
+            Entry::Machine => "machine",
+            Entry::Task => "task",
+            Entry::Asked => "asked",
+        }
+    }
+}
+
+impl From<Stream> for Entry {
+    /// The file that a task writes a stream to.
+    fn from(stream: Stream) -> Entry
+        ensures { result ≡ stream_entry stream }
+    {
+        match stream {
+            Stream::Log => Entry::Log,
+            Stream::Out => Entry::Output,
+        }
+    }
 }
 
 /// How far the task of a control folder is.
@@ -60,44 +122,42 @@ impl ControlFolder {
         if !is_there(rt, self.path.as_str())? {
             return Ok(Found::Nothing);
         }
-        if is_there(rt, self.result(rt.alloc())?.as_str())? {
+        if self.has(rt, Entry::Result)? {
             return Ok(Found::Ended);
         }
-        if is_there(rt, self.log(rt.alloc())?.as_str())? {
+        if self.has(rt, Entry::Log)? {
             return Ok(Found::Running);
         }
         Ok(Found::Unstarted)
     }
 
-    /// The script.
-    pub fn script(&self, alloc: Global) -> Result<String, AllocError>
-        ensures { IfOk result (λ path. string_bytes path ≡ file_in (string_bytes self.now.path) (codes "script.sh")) }
-    {
-        self.file(alloc, "script.sh")
+    /// Whether it has this file.
+    ///
+    /// # Errors
+    ///
+    /// Where the system does not tell, or there is no memory.
+    pub fn has<R: Files + AllocGlobal>(&self, rt: &R, entry: Entry) -> io::Result<bool> {
+        is_there(rt, self.entry(rt.alloc(), entry)?.as_str())
     }
 
-    /// The log. It stands from the start of the task on.
-    pub fn log(&self, alloc: Global) -> Result<String, AllocError>
-        ensures { IfOk result (λ path. string_bytes path ≡ file_in (string_bytes self.now.path) (codes "jenkins-log.txt")) }
-    {
-        self.file(alloc, "jenkins-log.txt")
-    }
-
-    /// The exit code. It stands from the end of the script on.
-    pub fn result(&self, alloc: Global) -> Result<String, AllocError>
-        ensures { IfOk result (λ path. string_bytes path ≡ file_in (string_bytes self.now.path) (codes "jenkins-result.txt")) }
-    {
-        self.file(alloc, "jenkins-result.txt")
-    }
-
-    /// What the task writes to this stream.
-    pub fn stream(&self, alloc: Global, stream: Stream) -> Result<String, AllocError>
-        ensures { IfOk result (λ path. string_bytes path ≡ file_in (string_bytes self.now.path) (stream_file stream)) }
-    {
-        match stream {
-            Stream::Log => self.log(alloc),
-            Stream::Out => self.file(alloc, "output.txt"),
+    /// The text of this file. `None` where it has no such file.
+    ///
+    /// # Errors
+    ///
+    /// Where the file cannot be read, and where there is no memory.
+    pub fn read<R: Files + AllocGlobal>(&self, rt: &R, entry: Entry) -> io::Result<Option<String>> {
+        match fs::read_to_string(rt, self.entry(rt.alloc(), entry)?.as_str()) {
+            Ok(text) => Ok(Some(text)),
+            Err(error) if error.kind() == ErrorKind::NotFound => Ok(None),
+            Err(error) => Err(error),
         }
+    }
+
+    /// The path of this file.
+    pub fn entry(&self, alloc: Global, entry: Entry) -> Result<String, AllocError>
+        ensures { IfOk result (λ path. string_bytes path ≡ file_in (string_bytes self.now.path) (entry_name entry)) }
+    {
+        self.file(alloc, entry.name())
     }
 
     /// The file by which it names its build, of which the name alone counts.
@@ -109,32 +169,13 @@ impl ControlFolder {
         self.file(alloc, name.as_str())
     }
 
-    /// The file that whoever runs the script has to take first.
-    pub fn permit(&self, alloc: Global) -> Result<String, AllocError>
-        ensures { IfOk result (λ path. string_bytes path ≡ file_in (string_bytes self.now.path) (codes "permit")) }
-    {
-        self.file(alloc, "permit")
-    }
-
-    /// The permit, once it was taken.
-    pub fn started(&self, alloc: Global) -> Result<String, AllocError>
-        ensures { IfOk result (λ path. string_bytes path ≡ file_in (string_bytes self.now.path) (codes "started")) }
-    {
-        self.file(alloc, "started")
-    }
-
-    /// The permit, once it was withdrawn.
-    pub fn withdrawn(&self, alloc: Global) -> Result<String, AllocError>
-        ensures { IfOk result (λ path. string_bytes path ≡ file_in (string_bytes self.now.path) (codes "revoked")) }
-    {
-        self.file(alloc, "revoked")
-    }
-
-    /// The process that took the permit.
-    pub fn process(&self, alloc: Global) -> Result<String, AllocError>
-        ensures { IfOk result (λ path. string_bytes path ≡ file_in (string_bytes self.now.path) (codes "process")) }
-    {
-        self.file(alloc, "process")
+    /// Whether it names this build.
+    ///
+    /// # Errors
+    ///
+    /// Where the system does not tell, or there is no memory.
+    pub fn names<R: Files + AllocGlobal>(&self, rt: &R, build: &BuildId) -> io::Result<bool> {
+        is_there(rt, self.build(rt.alloc(), build)?.as_str())
     }
 
     /// A file in it.
@@ -147,12 +188,8 @@ impl ControlFolder {
     }
 }
 
-/// Whether there is something at a path. A name that is too long, or one below a file, is no file's.
-///
-/// # Errors
-///
-/// Where the system does not tell.
-pub fn is_there(files: &impl Files, path: &str) -> io::Result<bool> {
+// Whether there is something at a path. A name that is too long, or one below a file, is no file's.
+fn is_there(files: &impl Files, path: &str) -> io::Result<bool> {
     match fs::exists(files, path) {
         Err(error) if names_nothing(error.kind()) => Ok(false),
         answer => answer,

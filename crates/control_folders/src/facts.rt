@@ -2,9 +2,10 @@
 
 ghost use Rattle.std.specs.Prelude.{◌≡◌};
 
+use crate::fate::Fate;
 use crate::machine::Boot;
 
-/// How far the start of a folder's task has come, and of which boot that tells.
+/// How far the start of a folder's task has come. A permit tells of which boot it is.
 #[derive(Clone, Copy, Debug, PartialEq, Eq)]
 pub enum Mark {
     /// Neither of the others.
@@ -12,7 +13,7 @@ pub enum Mark {
     /// A file `permit`: nobody has run the script, and whoever takes the file may.
     Permit(Boot),
     /// A file `started`: somebody took the permit.
-    Started(Boot),
+    Started,
     /// A file `revoked`: the permit was withdrawn, so nobody has run the script and nobody will.
     Withdrawn,
 }
@@ -26,8 +27,8 @@ pub struct Facts {
     /// Whether its task has ended.
     pub has_result: bool,
     pub has_log: bool,
-    /// Whether its process is known to be there no more.
-    pub is_gone: bool,
+    /// What is known of the process of its task.
+    pub fate: Fate,
 }
 
 /// What becomes of a control folder that is found where one is to be made.
@@ -39,6 +40,8 @@ pub enum Verdict {
     Withdraw,
     /// It goes: its task was not started, or is another build's and cannot be running.
     Discard,
+    /// It is not this build's, and its task may be running elsewhere, as the program that started it can tell.
+    Ask,
     /// It is not this build's, and its task may be running.
     Refuse,
 }
@@ -66,7 +69,7 @@ impl Facts {
     {
         match self.mark {
             Mark::Permit(Boot::Same) => Verdict::Withdraw,
-            Mark::Permit(_) | Mark::Started(_) => Verdict::Keep,
+            Mark::Permit(_) | Mark::Started => Verdict::Keep,
             Mark::Withdrawn => Verdict::Discard,
             Mark::Nothing if self.has_log => Verdict::Keep,
             Mark::Nothing => Verdict::Discard,
@@ -75,14 +78,29 @@ impl Facts {
 
     // Of a folder without a result that is not this build's.
     fn others_verdict(&self) -> Verdict
-        ensures verdict { result ≡ others_verdict self.now.mark self.now.has_log self.now.is_gone }
+        ensures verdict { result ≡ others_verdict self.now.mark self.now.has_log self.now.fate }
     {
         match self.mark {
             Mark::Permit(_) => Verdict::Withdraw,
-            Mark::Started(Boot::Other) | Mark::Withdrawn => Verdict::Discard,
-            Mark::Started(_) if self.is_gone => Verdict::Discard,
-            Mark::Nothing if !self.has_log => Verdict::Discard,
-            Mark::Started(_) | Mark::Nothing => Verdict::Refuse,
+            Mark::Started => self.fate.others_verdict(),
+            Mark::Withdrawn => Verdict::Discard,
+            Mark::Nothing if self.has_log => Verdict::Refuse,
+            Mark::Nothing => Verdict::Discard,
+        }
+    }
+}
+
+impl Fate {
+    ghost use Rattle.control_folders.specs.Verdict.{started_verdict};
+
+    // Of the folder of another build's task that was started, and has no result.
+    fn others_verdict(self) -> Verdict
+        ensures verdict { result ≡ started_verdict self }
+    {
+        match self {
+            Fate::Gone | Fate::OtherBoot => Verdict::Discard,
+            Fate::Elsewhere => Verdict::Ask,
+            Fate::Lives | Fate::Unknown => Verdict::Refuse,
         }
     }
 }

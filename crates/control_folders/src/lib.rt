@@ -6,19 +6,23 @@
 #![tactic(auto)]
 
 mod control;
+mod elsewhere;
 mod facts;
 mod fate;
 mod machine;
 mod making;
 mod process;
+mod shell;
 mod task_files;
 
-pub use control::{ControlFolder, Found, text};
+pub use control::{ControlFolder, Entry, Found, text};
+pub use elsewhere::task_script;
 pub use facts::{Facts, Mark, Verdict};
 pub use fate::{Fate, fate_of};
 pub use machine::{Boot, Machine};
-pub use making::{make, remove};
+pub use making::{Making, discard, make, may_run, remove, withdraw};
 pub use process::Process;
+pub use shell::{Place, shell_text};
 pub use task_files::{read, state};
 
 #[cfg(test)]

@@ -1,8 +1,8 @@
 //! Making a control folder, and what becomes of one that is there.
 
-use crate::control::{ControlFolder, is_there};
+use crate::control::{ControlFolder, Entry};
 use crate::facts::{Facts, Mark, Verdict};
-use crate::fate::{Fate, fate_of, read_text};
+use crate::fate::fate_of;
 use crate::machine::Machine;
 use edge_files::private::{create_file, create_folder};
 use edge_files::sync::sync_folder;
@@ -14,8 +14,19 @@ use std::{fs, io};
 /// How often a folder that changes while it is looked at is looked at again.
 const TRIES: u32 = 8;
 
-/// Makes the control folder of a task of this build, and answers true, or finds that this build's own is there and that its
-/// task may have been started.
+/// What came of making a control folder.
+#[derive(Clone, Copy, Debug, PartialEq, Eq)]
+pub enum Making {
+    /// It was made.
+    Made,
+    /// This build's own is there, and its task may have been started.
+    Kept,
+    /// Another build's is there, whose task may be running elsewhere, as the program that started it can tell.
+    Elsewhere,
+}
+
+/// Makes the control folder of a task of this build, or finds that this build's own is there and that its task may have been
+/// started.
 ///
 /// The folder has the file that names its build, the script, and the permit to run it, which comes last. Its name is on the
 /// disk when it was made: after a power cut it still keeps the task from being started again. What is in it is synced when
@@ -33,18 +44,18 @@ pub fn make<R: Files + AllocGlobal>(
     identity: &Identity,
     machine: &Machine,
     script: &[u8],
-) -> io::Result<bool> {
+) -> io::Result<Making> {
     for _ in 0..TRIES {
         match create_folder(rt, control.path.as_str()) {
             Ok(()) => {
                 fill(rt, control, &identity.build, machine, script)?;
-                return Ok(true);
+                return Ok(Making::Made);
             }
             Err(error) if error.kind() == ErrorKind::AlreadyExists => {}
             Err(error) => return Err(error),
         }
-        if !clear(rt, control, identity, machine)? {
-            return Ok(false);
+        if let Some(making) = clear(rt, control, identity, machine)? {
+            return Ok(making);
         }
     }
     Err(io::Error::new(
@@ -63,37 +74,44 @@ fn fill<R: Files + AllocGlobal>(
 ) -> io::Result<()> {
     let alloc = rt.alloc();
     create_file(rt, control.build(alloc, build)?.as_str())?;
-    create_file(rt, control.script(alloc)?.as_str())?.write_all(script)?;
-    let unfinished = control.file(alloc, "permit.tmp")?;
+    create_file(rt, control.entry(alloc, Entry::Script)?.as_str())?.write_all(script)?;
+    let unfinished = control.entry(alloc, Entry::NewPermit)?;
     create_file(rt, unfinished.as_str())?.write_all(machine.line().as_bytes())?;
-    fs::rename(rt, unfinished.as_str(), control.permit(alloc)?.as_str())?;
+    fs::rename(
+        rt,
+        unfinished.as_str(),
+        control.entry(alloc, Entry::Permit)?.as_str(),
+    )?;
     sync_folder(rt, control.parent.as_str())
 }
 
-// Takes away a folder that is there, and answers true, or finds that it is this build's and that its task may have been
-// started.
+// Takes away a folder that is there, or answers why it stays.
 fn clear<R: Files + AllocGlobal>(
     rt: &R,
     control: &ControlFolder,
     identity: &Identity,
     machine: &Machine,
-) -> io::Result<bool> {
+) -> io::Result<Option<Making>> {
     match facts_of(rt, control, identity, machine)?.verdict() {
-        Verdict::Keep => return Ok(false),
+        Verdict::Keep => return Ok(Some(Making::Kept)),
+        Verdict::Ask => return Ok(Some(Making::Elsewhere)),
+        Verdict::Refuse => return Err(may_run()),
         Verdict::Discard => discard(rt, control)?,
         Verdict::Withdraw => {
             if withdraw(rt, control)? {
                 discard(rt, control)?;
             }
         }
-        Verdict::Refuse => {
-            return Err(io::Error::new(
-                ErrorKind::AlreadyExists,
-                "another build left a control folder whose task looks as if it ran",
-            ));
-        }
     }
-    Ok(true)
+    Ok(None)
+}
+
+/// Why the folder of another build is left alone.
+pub fn may_run() -> io::Error {
+    io::Error::new(
+        ErrorKind::AlreadyExists,
+        "another build left a control folder whose task looks as if it ran",
+    )
 }
 
 // What is found in a folder that is there.
@@ -103,18 +121,17 @@ fn facts_of<R: Files + AllocGlobal>(
     identity: &Identity,
     machine: &Machine,
 ) -> io::Result<Facts> {
-    let alloc = rt.alloc();
     let mark = mark_of(rt, control, machine)?;
-    let has_result = is_there(rt, control.result(alloc)?.as_str())?;
-    let has_log = is_there(rt, control.log(alloc)?.as_str())?;
-    let is_named = is_there(rt, control.build(alloc, &identity.build)?.as_str())?;
+    let has_result = control.has(rt, Entry::Result)?;
+    let has_log = control.has(rt, Entry::Log)?;
+    let is_named = control.names(rt, &identity.build)?;
     let is_older = identity.takes_unnamed && mark == Mark::Nothing && (has_log || has_result);
     Ok(Facts {
         is_own: is_named || is_older,
         mark,
         has_result,
         has_log,
-        is_gone: fate_of(rt, control, machine)? == Fate::Gone,
+        fate: fate_of(rt, control, machine)?,
     })
 }
 
@@ -124,31 +141,39 @@ fn mark_of<R: Files + AllocGlobal>(
     control: &ControlFolder,
     machine: &Machine,
 ) -> io::Result<Mark> {
-    let alloc = rt.alloc();
-    if let Some(permit) = read_text(rt, control.permit(alloc)?)? {
+    if let Some(permit) = control.read(rt, Entry::Permit)? {
         return Ok(Mark::Permit(machine.boot(permit.as_str())));
     }
-    if let Some(started) = read_text(rt, control.started(alloc)?)? {
-        return Ok(Mark::Started(machine.boot(started.as_str())));
+    if control.has(rt, Entry::Started)? {
+        return Ok(Mark::Started);
     }
-    if is_there(rt, control.withdrawn(alloc)?.as_str())? {
+    if control.has(rt, Entry::Withdrawn)? {
         return Ok(Mark::Withdrawn);
     }
     Ok(Mark::Nothing)
 }
 
-// Withdraws the permit, and says whether it was still there.
-fn withdraw<R: Files + AllocGlobal>(rt: &R, control: &ControlFolder) -> io::Result<bool> {
-    let permit = control.permit(rt.alloc())?;
-    match fs::rename(rt, permit.as_str(), control.withdrawn(rt.alloc())?.as_str()) {
+/// Withdraws the permit, and says whether it was still there: then nobody has run the script, and nobody will.
+///
+/// # Errors
+///
+/// Where it cannot be renamed, and where there is no memory.
+pub fn withdraw<R: Files + AllocGlobal>(rt: &R, control: &ControlFolder) -> io::Result<bool> {
+    let permit = control.entry(rt.alloc(), Entry::Permit)?;
+    let withdrawn = control.entry(rt.alloc(), Entry::Withdrawn)?;
+    match fs::rename(rt, permit.as_str(), withdrawn.as_str()) {
         Ok(()) => Ok(true),
         Err(error) if error.kind() == ErrorKind::NotFound => Ok(false),
         Err(error) => Err(error),
     }
 }
 
-// Takes the folder out of the way in one step, so that no later life finds a part of it, and then removes it.
-fn discard<R: Files + AllocGlobal>(rt: &R, control: &ControlFolder) -> io::Result<()> {
+/// Takes the folder out of the way in one step, so that no later life finds a part of it, and then removes it.
+///
+/// # Errors
+///
+/// Where it cannot be moved or removed, and where there is no memory.
+pub fn discard<R: Files + AllocGlobal>(rt: &R, control: &ControlFolder) -> io::Result<()> {
     let aside = aside_of(rt, control)?;
     remove_all(rt, aside.as_str())?;
     fs::rename(rt, control.path.as_str(), aside.as_str())?;

@@ -2,7 +2,7 @@
 
 ghost use Rattle.std.specs.Prelude.{◌≡◌, ◌≢◌, ◌≤◌, length, IfOk};
 
-use crate::control::{ControlFolder, Found};
+use crate::control::{ControlFolder, Entry, Found};
 use edge_files::read_piece;
 use std::io::ErrorKind;
 use std::rt::Files;
@@ -31,7 +31,7 @@ pub fn state<R: Files + AllocGlobal>(rt: &R, order: &Order) -> io::Result<Look>
 
 // The exit code. A result that is no number is none: a disk that was full, or a power cut, leaves an empty one.
 fn exit_code<R: Files + AllocGlobal>(rt: &R, control: &ControlFolder) -> io::Result<Option<i32>> {
-    let text = fs::read_to_string(rt, control.result(rt.alloc())?)?;
+    let text = fs::read_to_string(rt, control.entry(rt.alloc(), Entry::Result)?)?;
     Ok(text.as_str().trim().parse::<i32>().ok())
 }
 
@@ -51,7 +51,7 @@ pub fn read<R: Files + AllocGlobal>(
     ensures { IfOk result (λ n. n ≤ length buf.old) }
 {
     let control = ControlFolder::of(rt.alloc(), order)?;
-    match fs::open(rt, control.stream(rt.alloc(), stream)?) {
+    match fs::open(rt, control.entry(rt.alloc(), stream.into())?) {
         Ok(mut file) => read_piece(&mut file, from, buf),
         Err(error) => {
             let is_to_come = error.kind() == ErrorKind::NotFound

@@ -1,5 +1,5 @@
 -- The sums beside a store. This product's own rules (docs/FORMATS.md).
-use Rattle.std.specs.Prelude.{◌++◌, ◌+◌, ◌*◌, ℕ, List, replicate, codes}
+use Rattle.std.specs.Prelude.{◌++◌, ℕ, List, replicate, codes}
 use Rattle.sha2.specs.Sha256.{sha256}
 
 -- In front of the first record stands a sum of 32 zeros.

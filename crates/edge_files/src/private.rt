@@ -9,6 +9,9 @@ use std::rt::Files;
 /// What a file's owner may do: read and write it.
 const OWNERS_FILE: u32 = 0o600;
 
+/// What the owner of a program may do: read, write and run it.
+const OWNERS_PROGRAM: u32 = 0o700;
+
 /// What a folder's owner may do: read, write and search it.
 const OWNERS_FOLDER: u32 = 0o700;
 
@@ -18,11 +21,24 @@ const OWNERS_FOLDER: u32 = 0o700;
 ///
 /// Where there is one, and where it cannot be made.
 pub fn create_file<R: Files>(files: &R, path: &str) -> io::Result<R::File> {
+    create_with(files, path, OWNERS_FILE)
+}
+
+/// Makes a file that its owner may run, for reading and writing.
+///
+/// # Errors
+///
+/// Where there is one, and where it cannot be made.
+pub fn create_program<R: Files>(files: &R, path: &str) -> io::Result<R::File> {
+    create_with(files, path, OWNERS_PROGRAM)
+}
+
+fn create_with<R: Files>(files: &R, path: &str, mode: u32) -> io::Result<R::File> {
     OpenOptions::new()
         .read(true)
         .write(true)
         .create_new(true)
-        .mode(OWNERS_FILE)
+        .mode(mode)
         .open(files, path)
 }
 

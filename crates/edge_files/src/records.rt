@@ -1,6 +1,7 @@
 //! The records of a store, one after the other, with a sum for each.
 
-ghost use Rattle.std.specs.Prelude.{◌≡◌, ◌≤◌, IfOk, IfSome, OnOk};
+ghost use Rattle.std.specs.Prelude.{◌≡◌};
+ghost use Rattle.edge_files.specs.Sums.{first_sum};
 
 use crate::file_at_path::FileAtPath;
 use sha2::{Digest, Sha256};
@@ -27,7 +28,9 @@ const OPEN: u8 = 1;
 
 impl Walk {
     /// In front of the first record.
-    pub fn new() -> Walk {
+    pub fn new() -> Walk
+        ensures { result ≡ record { at = 0; records = 0; sum = first_sum } }
+    {
         Walk {
             at: 0,
             records: 0,

@@ -3,6 +3,8 @@ pub mod Process
 pub mod Words
 pub mod FolderHost
 pub mod Loss
+pub mod Launches
+pub mod Asks
 pub mod FileDisk
 pub mod StoreLock
 pub mod LockedDisk

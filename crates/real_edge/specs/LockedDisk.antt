@@ -1,5 +1,5 @@
 -- A disk whose store one controller at a time may use. This product's own rule.
-use Rattle.std.specs.Prelude.{◌≡◌, ◌≢◌, ℕ, Result, IsErr}
+use Rattle.std.specs.Prelude.{◌≡◌, ◌≢◌, Result, IsErr}
 use Rattle.device_faults.specs.Faults.{HasCause}
 use Rattle.real_edge.specs.StoreLock.{Settles}
 use Rattle.real_edge.specs.declared.store_lock.StoreLock.TheVariants as lock

@@ -11,6 +11,7 @@ ends_after ends fate.Gone has_ended = min (ends + 1) 255
 ends_after ends fate.Unknown true = min (ends + 1) 255
 ends_after ends fate.Unknown false = 0
 ends_after ends fate.OtherBoot has_ended = 0
+ends_after ends fate.Elsewhere has_ended = 0
 ends_after ends fate.Lives has_ended = 0
 
 -- What is lost after so many: of another boot at once; where its process is gone after a second; and after five where the
@@ -20,4 +21,5 @@ loss_after ends fate.OtherBoot has_ended = Some loss.OtherBoot
 loss_after ends fate.Gone has_ended = if nat_le 4 ends then Some loss.Gone else None
 loss_after ends fate.Unknown true = if nat_le 20 ends then Some loss.Unfinished else None
 loss_after ends fate.Unknown false = None
+loss_after ends fate.Elsewhere has_ended = None
 loss_after ends fate.Lives has_ended = None

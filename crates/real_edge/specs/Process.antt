@@ -4,7 +4,8 @@ use Rattle.std.specs.declared.process.command.Command.{Command}
 use Rattle.std.specs.Process.{command_program, command_args, command_dir, command_var, clears_env}
 use Rattle.model_text.specs.declared.pair.Pair.{Pair}
 use Rattle.task_host.specs.declared.order.Order.{Order}
-use Rattle.control_folders.specs.Control.{wrapper_text}
+use Rattle.control_folders.specs.ShellText.{shell_text}
+use Rattle.control_folders.specs.declared.shell.Place.TheVariants.{Here}
 
 -- what a command says of the variable of this name after these were set in their order: of two with one name the later
 -- counts
@@ -14,7 +15,7 @@ said_of name before (variable ∷ variables) = said_of name (if bytes_eq variabl
 
 -- the words of a shell that runs a task: a fixed text, and behind it its `$0`, `$1` and `$2`
 abbrev pub shell_words : Order → List (List ℕ) → List (List ℕ)
-shell_words order behind = codes "-c" ∷ wrapper_text order.script order.keep_out ∷ behind
+shell_words order behind = codes "-c" ∷ shell_text Here order.script order.keep_out ∷ behind
 
 -- A command that runs a task by this program: with these words before those of the shell, and these behind its text; in the
 -- order's folder, in the controller's environment and the order's variables.

@@ -1,10 +1,11 @@
 //! For which build a host works, and on which machine.
 
-use control_folders::Machine;
+use control_folders::{ControlFolder, Machine, Making};
 use edge_files::Identity;
 use std::io;
 use std::io::ErrorKind;
 use std::rt::Files;
+use task_host::Order;
 
 /// For which build a host works, and on which machine. Both are asked for when they are first needed: the build gets its
 /// identity with its first record.
@@ -47,5 +48,21 @@ impl<'a> BuildPlace<'a> {
             Some(known) => Ok(known),
             None => Err(io::Error::from(ErrorKind::NotFound)),
         }
+    }
+
+    /// Makes the control folder of the order's task, as [`control_folders::make`] does for this build on this machine.
+    ///
+    /// # Errors
+    ///
+    /// Those of `known` and of that call.
+    pub fn make_folder<R: Files + AllocGlobal>(
+        &mut self,
+        rt: &R,
+        order: &Order,
+        control: &ControlFolder,
+    ) -> io::Result<Making> {
+        let known = self.known(rt)?;
+        let script = order.script.as_slice();
+        control_folders::make(rt, control, &known.identity, &known.machine, script)
     }
 }

@@ -1,18 +1,21 @@
-//! A host whose tasks are processes of this machine.
+//! A host over real control folders.
 
 ghost use Rattle.std.specs.Prelude.{◌≡◌, ◌≢◌, ◌⊎◌, ◌↔◌, ◌≤◌, ◌<◌, ◌*◌, suc, min, [], false, None, length, Contains, IfOk, IsOk, IsErr, IsTrue, MatchResult};
 ghost use Rattle.device_faults.specs.Faults.{CountsFault};
 ghost use Rattle.control_folders.specs.Control.{is_own_workspace};
-ghost use Rattle.real_edge.specs.FolderHost.{KeepsStarted, PauseAfterLook, pause_after_start};
+ghost use Rattle.real_edge.specs.FolderHost.{StartsTask, PauseAfterLook, pause_after_start};
+ghost use Rattle.real_edge.specs.Launches.{AsksOnce, AsksTwice, OneFailed, one_handed_over};
 ghost use Rattle.real_edge.specs.OwnFolders.{forgotten, MakesOwn, RemovesOwn};
 
 use crate::build_place::BuildPlace;
+use crate::elsewhere::Elsewhere;
+use crate::launcher::Launcher;
 use crate::local_tasks::LocalTasks;
 use crate::loss::Loss;
 use crate::own_folders::OwnFolders;
 use crate::pauses::Pauses;
 use crate::workspace::check_workspace;
-use control_folders::{ControlFolder, text};
+use control_folders::{ControlFolder, Fate, Making, fate_of, may_run, text};
 use device_faults::{Failed, Faults};
 use edge_files::DurableFolder;
 use std::marker::Model;
@@ -22,7 +25,8 @@ use std::time::{Clock, Duration};
 use std::{io, thread};
 use task_host::{Host, Look, Made, Order, Started, Stream};
 
-/// A host whose tasks are processes of this machine. Each task has a control folder, whose files docs/HOSTS.md tells.
+/// A host whose tasks are processes of this machine, or of another one where the agent has a program `launch`. Each task has
+/// a control folder, whose files docs/HOSTS.md tells.
 ///
 /// Each folder names its build. One of another build, or of none, is never taken for the task's: `make_dir` makes it anew,
 /// or fails where that one's task may be running; to the other calls there is no folder but those of which `make_dir` said
@@ -30,14 +34,15 @@ use task_host::{Host, Look, Made, Order, Started, Stream};
 ///
 /// Why a task was not launched, and why one is lost, is said on standard error, since the build's log has only its code.
 ///
-/// It tells contracts which folders it takes for the build's own, how many processes it keeps, how long it pauses next,
-/// and its faults: no contract can say what a folder or a process does.
+/// It tells contracts which folders it takes for the build's own, how many processes it keeps, how often it called the
+/// programs of agents, how long it pauses next, and its faults: no contract can say what a folder or a process does.
 #[derive(Drop)]
 pub struct FolderHost<'a, R: Processes> {
     rt: &'a R,
     place: BuildPlace<'a>,
     own: OwnFolders,
     tasks: LocalTasks<R::Started>,
+    elsewhere: Elsewhere,
     pauses: Pauses,
     faults: Faults,
     parent: DurableFolder,
@@ -49,20 +54,21 @@ impl<'a, R: Processes> Model for FolderHost<'a, R> {
 
     ghost Value = { HostState };
 
-    ghost view = { λ host. record { own = host.own.tasks.items; unreaped = vec_len host.tasks.children.unreaped; next_pause = host.pauses; faults = host.faults } };
+    ghost view = { λ host. record { own = host.own.tasks.items; unreaped = vec_len host.tasks.children.unreaped; launches = host.elsewhere.launches; next_pause = host.pauses; faults = host.faults } };
 }
 
 impl<'a, R: Files + Env + AllocGlobal + Eprint + Clock + Processes> FolderHost<'a, R> {
     /// A host over the folders and processes of `rt`, for the build that has its identity in the file at this path. It has
     /// no folder, and no call has failed.
     pub fn new(rt: &'a R, identity_file: &'a str) -> Self
-        ensures { result ≡ record { own = []; unreaped = 0; next_pause = 1; faults = 0 } }
+        ensures { result ≡ record { own = []; unreaped = 0; launches = record { handed_over = 0; failed = 0; asked = 0 }; next_pause = 1; faults = 0 } }
     {
         FolderHost {
             rt,
             place: BuildPlace::new(identity_file),
             own: OwnFolders::new(rt.alloc()),
             tasks: LocalTasks::new(rt.alloc()),
+            elsewhere: Elsewhere::new(),
             pauses: Pauses::new(),
             faults: Faults::new(),
             parent: DurableFolder::new(),
@@ -81,36 +87,41 @@ impl<'a, R: Files + Env + AllocGlobal + Eprint + Clock + Processes> FolderHost<'
         ensures made { MatchResult result (λ made. made ≢ Made.Failed × MakesOwn order.now.task self.old.own self.new.own made) (λ _. self.new.own ≡ self.old.own) }
         ensures workspace { is_own_workspace order.now.workspace ≡ false → IsErr result }
         ensures unreaped { self.new.unreaped ≡ self.old.unreaped }
+        ensures launches { AsksTwice self.old.launches self.new.launches }
         ensures pause { self.new.next_pause ≡ self.old.next_pause }
         ensures calm { self.new.faults ≡ self.old.faults }
     {
         check_workspace(order)?;
         let control = ControlFolder::of(self.rt.alloc(), order)?;
-        let known = self.place.known(self.rt)?;
         self.own.reserve()?;
         self.parent.make(self.rt, control.parent.as_str())?;
-        let script = order.script.as_slice();
-        let is_made = control_folders::make(
-            self.rt,
-            &control,
-            &known.identity,
-            &known.machine,
-            script,
-        )?;
+        let mut making = self.place.make_folder(self.rt, order, &control)?;
+        if making == Making::Elsewhere {
+            self.elsewhere.clear(self.rt, order, &control)?;
+            making = self.place.make_folder(self.rt, order, &control)?;
+        }
+        let made = match making {
+            Making::Made => Made::Made,
+            Making::Kept => Made::Exists,
+            Making::Elsewhere => return Err(may_run()),
+        };
         self.own.add(order.task);
-        Ok(if is_made { Made::Made } else { Made::Exists })
+        Ok(made)
     }
 
-    // Starts the task's process, and keeps it.
+    // Starts the task: by its agent's program where that has one, else as a process, which is kept.
     fn launch(&mut self, order: &Order) -> io::Result<()>
         ensures own { IfOk result (λ _. Contains self.old.own order.now.task) }
-        ensures kept { MatchResult result (λ _. self.new ≡ record self.old { unreaped = suc self.old.unreaped }) (λ _. self.new ≡ self.old) }
+        ensures same { (self.new.own ≡ self.old.own) × (self.new.next_pause ≡ self.old.next_pause) × (self.new.faults ≡ self.old.faults) }
+        ensures kept { MatchResult result (λ _. StartsTask self.old self.new Started.Started) (λ _. StartsTask self.old self.new Started.Failed) }
     {
         if !self.own.contains(order.task) {
             return Err(io::Error::new(io::ErrorKind::NotFound, "its control folder was not made"));
         }
-        self.tasks.start(self.rt, order)?;
-        Ok(())
+        match Launcher::of(self.rt, order)? {
+            Some(launcher) => self.elsewhere.start(self.rt, order, &launcher),
+            None => self.tasks.start(self.rt, order),
+        }
     }
 
     fn read_own(
@@ -156,6 +167,7 @@ impl<'a, R: Files + Env + AllocGlobal + Eprint + Clock + Processes> FolderHost<'
     fn judge(&mut self, order: &Order)
         ensures own { self.new.own ≡ self.old.own }
         ensures unreaped { self.new.unreaped ≡ self.old.unreaped }
+        ensures launches { AsksOnce self.old.launches self.new.launches }
         ensures pause { (self.new.next_pause ≡ self.old.next_pause) ⊎ ((self.old.next_pause ≡ 250) × (self.new.next_pause ≡ 0)) }
         ensures calm { self.new.faults ≡ self.old.faults }
     {
@@ -169,10 +181,15 @@ impl<'a, R: Files + Env + AllocGlobal + Eprint + Clock + Processes> FolderHost<'
     }
 
     fn loss(&mut self, order: &Order) -> io::Result<Option<Loss>>
-        ensures same { self.new ≡ self.old }
+        ensures same { self.new ≡ record self.old { launches = self.new.launches } }
+        ensures launches { AsksOnce self.old.launches self.new.launches }
     {
+        let control = ControlFolder::of(self.rt.alloc(), order)?;
         let known = self.place.known(self.rt)?;
-        self.tasks.loss(self.rt, order, &known.machine)
+        match fate_of(self.rt, &control, &known.machine)? {
+            Fate::Elsewhere => self.elsewhere.loss(self.rt, order),
+            fate => Ok(self.tasks.loss(fate)),
+        }
     }
 
     // Says why a task was not launched.
@@ -210,18 +227,20 @@ impl<R: Files + Env + AllocGlobal + Eprint + Clock + Processes> Host for FolderH
     ghost nothing_before_launch = { λ _ _ honest _. absurd honest };
 
     /// As the trait says. Beside it, in each of these calls: which folders are the build's own from then on (`own`), that
-    /// to a call there is no folder but the build's own (`foreign`), how many processes are kept (`unreaped`), and how long
-    /// the next pause is (`pause`). It fails, and makes no folder, where the workspace is no folder of its own
-    /// (`workspace`).
+    /// to a call there is no folder but the build's own (`foreign`), how many processes are kept (`unreaped`), how often
+    /// programs of agents were called (`launches`), and how long the next pause is (`pause`). It fails, and makes no folder,
+    /// where the workspace is no folder of its own (`workspace`).
     fn make_dir(&mut self, order: &Order) -> Made
         ensures own { MakesOwn order.now.task self.old.own self.new.own result }
         ensures workspace { is_own_workspace order.now.workspace ≡ false → result ≡ Made.Failed }
         ensures unreaped { self.new.unreaped ≡ self.old.unreaped }
+        ensures launches { AsksTwice self.old.launches self.new.launches }
         ensures pause { self.new.next_pause ≡ 1 }
         ensures cause { CountsFault self.old.faults self.new.faults (result ≡ Made.Failed) }
     {
         self.pauses = Pauses::new();
         self.tasks.begin();
+        self.elsewhere.begin();
         match self.make(order) {
             Ok(made) => made,
             Err(reason) => {
@@ -235,7 +254,7 @@ impl<R: Files + Env + AllocGlobal + Eprint + Clock + Processes> Host for FolderH
     fn start(&mut self, order: &Order) -> Started
         ensures own { self.new.own ≡ self.old.own }
         ensures foreign { ¬ Contains self.old.own order.now.task → result ≡ Started.Failed }
-        ensures unreaped { KeepsStarted self.old.unreaped self.new.unreaped result }
+        ensures task { StartsTask self.old self.new result }
         ensures pause { self.new.next_pause ≡ pause_after_start self.old.next_pause result }
         ensures cause { CountsFault self.old.faults self.new.faults (result ≡ Started.Failed) }
     {
@@ -257,6 +276,7 @@ impl<R: Files + Env + AllocGlobal + Eprint + Clock + Processes> Host for FolderH
         ensures own { self.new.own ≡ self.old.own }
         ensures foreign { ¬ Contains self.old.own order.now.task → result ≡ Look.Absent }
         ensures unreaped { self.new.unreaped ≤ self.old.unreaped }
+        ensures launches { AsksOnce self.old.launches self.new.launches }
         ensures pause { PauseAfterLook self.old.next_pause self.new.next_pause result }
         ensures cause { CountsFault self.old.faults self.new.faults (result ≡ Look.Failed) }
     {
@@ -284,6 +304,7 @@ impl<R: Files + Env + AllocGlobal + Eprint + Clock + Processes> Host for FolderH
         ensures own { self.new.own ≡ self.old.own }
         ensures foreign { ¬ Contains self.old.own order.now.task → result ≡ Ok 0 }
         ensures unreaped { self.new.unreaped ≡ self.old.unreaped }
+        ensures launches { self.new.launches ≡ self.old.launches }
         ensures pause { self.new.next_pause ≡ self.old.next_pause }
 
         ensures room { IfOk result (λ n. n ≤ length buf.old) }
@@ -298,6 +319,7 @@ impl<R: Files + Env + AllocGlobal + Eprint + Clock + Processes> Host for FolderH
     fn pause(&mut self)
         ensures own { self.new.own ≡ self.old.own }
         ensures unreaped { self.new.unreaped ≤ self.old.unreaped }
+        ensures launches { self.new.launches ≡ self.old.launches }
         ensures pause { self.new.next_pause ≡ min (2 * self.old.next_pause) 250 }
         ensures calm { self.new.faults ≡ self.old.faults }
     {
@@ -312,6 +334,7 @@ impl<R: Files + Env + AllocGlobal + Eprint + Clock + Processes> Host for FolderH
         ensures own { RemovesOwn order.now.task self.old.own self.new.own result }
         ensures unreaped { self.new.unreaped ≤ self.old.unreaped }
         ensures foreign { ¬ Contains self.old.own order.now.task → IsOk result }
+        ensures launches { self.new.launches ≡ self.old.launches }
         ensures pause { self.new.next_pause ≡ self.old.next_pause }
         ensures cause { CountsFault self.old.faults self.new.faults (IsErr result) }
     {

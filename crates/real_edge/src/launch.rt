@@ -2,13 +2,12 @@
 
 ghost use Rattle.std.specs.Prelude.{◌≡◌, ◌++◌, ◌∷◌, [], ℕ, List, Some, IfOk, OnOk, string_bytes};
 ghost use Rattle.std.specs.Process.{command_program, command_args, command_dir, command_var, clears_env, SameProgramAndArgs, SameDir, SameOtherVars};
-ghost use Rattle.control_folders.specs.Control.{wrapper_text, takes_permit, names_interpreter, runs_script, streams, leaves_result};
 ghost use Rattle.real_edge.specs.Process.{said_of, shell_words, RunsTask};
 ghost use Rattle.real_edge.specs.Words.{words_behind};
 
 use crate::programs::Programs;
-use control_folders::{ControlFolder, text};
-use std::alloc::{AllocError, Global};
+use control_folders::{ControlFolder, Place, shell_text, text};
+use std::alloc::Global;
 use std::io;
 use std::process::{Child, Command, Processes, Stdio};
 use task_host::{Order, Pair};
@@ -124,7 +123,7 @@ fn say_text(alloc: Global, command: &mut Command, order: &Order) -> io::Result<(
     ensures variables { OnOk result ((name : List ℕ) → command_var command.new name ≡ command_var command.old name) }
 {
     command.arg("-c")?;
-    command.arg(wrapper(alloc, order)?)?;
+    command.arg(shell_text(alloc, order, Place::Here)?)?;
     Ok(())
 }
 
@@ -166,52 +165,4 @@ fn set_variable(command: &mut Command, variable: &Pair) -> io::Result<()>
     let value = text(variable.value.as_slice())?;
     command.env(name, value)?;
     Ok(())
-}
-
-// What the shell runs: it takes the permit, runs the script, and leaves the exit code in a file that has its name once all
-// of it was written.
-fn wrapper(alloc: Global, order: &Order) -> Result<String, AllocError>
-    ensures { IfOk result (λ text. string_bytes text ≡ wrapper_text order.now.script order.now.keep_out) }
-{
-    let permit = permit_words();
-    let script = script_words(order.script.as_slice());
-    let streams = stream_words(order.keep_out);
-    let ending = result_words();
-    format!(in alloc; "{permit}( {script} ) {streams}{ending}")
-}
-
-// The permit is taken in one step, before anything else. Then the process leaves its number and when it began.
-fn permit_words() -> &'static str
-    ensures { result.now ≡ takes_permit }
-{
-    r#""$1" "$0/permit" "$0/started" || exit; read -r controller_process < /proc/$$/stat; echo "$controller_process" > "$0/process"; "#
-}
-
-// A script that names its interpreter is run by it, any other by the shell.
-fn script_words(script: &[u8]) -> &'static str
-    ensures { result.now ≡ runs_script (names_interpreter script.now) }
-{
-    if script.starts_with(b"#!") {
-        r#"chmod 700 "$0/script.sh"; exec "$0/script.sh""#
-    } else {
-        r#"exec "$2" -xe "$0/script.sh""#
-    }
-}
-
-// Where the output goes.
-fn stream_words(keeps_out: bool) -> &'static str
-    ensures { result.now ≡ streams keeps_out }
-{
-    if keeps_out {
-        r#"> "$0/output.txt" 2> "$0/jenkins-log.txt""#
-    } else {
-        r#"> "$0/jenkins-log.txt" 2>&1"#
-    }
-}
-
-// The script's process leaves its number, and then its exit code.
-fn result_words() -> &'static str
-    ensures { result.now ≡ leaves_result }
-{
-    r#" & echo $! > "$0/pid"; wait $!; echo $? > "$0/jenkins-result.tmp"; "$1" "$0/jenkins-result.tmp" "$0/jenkins-result.txt""#
 }

@@ -1,7 +1,7 @@
 //! The real file and the real host: adapters of the system for the traits of devices.
 //!
-//! [`FileDisk`] is a disk over one file, and [`FolderHost`] is a host whose tasks are processes of this machine, each
-//! with a control folder. Both meet their traits, and tell contracts nothing but how often they failed: what a real
+//! [`FileDisk`] is a disk over one file, and [`FolderHost`] is a host whose tasks are processes of this machine, or of others
+//! where the agent has a program that starts them there, each with a control folder. Both meet their traits, and tell contracts nothing but how often they failed: what a real
 //! file, folder or process does no contract can say, so that is tested and not proved. [`LockedDisk`] keeps a second
 //! controller from a disk.
 //!
@@ -13,11 +13,15 @@
 //! ```
 #![tactic(auto)]
 
+mod asks;
 mod build_place;
 mod children;
+mod elsewhere;
 mod file_disk;
 mod folder_host;
 mod launch;
+mod launcher;
+mod launches;
 mod local_tasks;
 mod locked_disk;
 mod loss;

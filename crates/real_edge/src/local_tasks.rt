@@ -6,7 +6,7 @@ use crate::children::Children;
 use crate::launch::spawn;
 use crate::loss::{Ends, Loss};
 use crate::programs::Programs;
-use control_folders::{ControlFolder, Machine, fate_of, text};
+use control_folders::{ControlFolder, Entry, Fate, text};
 use edge_files::private::open_or_create;
 use edge_files::sync::sync_folder;
 use std::alloc::Global;
@@ -68,26 +68,16 @@ impl<P: OpenProcess + Drop> LocalTasks<P> {
         Ok(())
     }
 
-    /// Why the task at hand, which has no result, can leave none any more. `None` where it may, as far as is known.
-    ///
-    /// # Errors
-    ///
-    /// Where the system does not tell what is in its control folder, and where there is no memory.
-    pub fn loss<R: Files + AllocGlobal>(
-        &mut self,
-        rt: &R,
-        order: &Order,
-        machine: &Machine,
-    ) -> io::Result<Option<Loss>>
+    /// Why the task at hand, which has no result and of whose process this is known, can leave none any more. `None` where it
+    /// may, as far as is known.
+    pub fn loss(&mut self, fate: Fate) -> Option<Loss>
         ensures same { self.new.children ≡ self.old.children }
     {
-        let control = ControlFolder::of(rt.alloc(), order)?;
-        let fate = fate_of(rt, &control, machine)?;
         let has_ended = match self.child {
             Some(number) => !self.children.contains(number),
             None => false,
         };
-        Ok(self.ends.loss(fate, has_ended))
+        self.ends.loss(fate, has_ended)
     }
 }
 
@@ -102,7 +92,7 @@ fn launch<R: Files + Env + AllocGlobal + Processes>(
     order: &Order,
 ) -> io::Result<Child<R::Started>> {
     let control = ControlFolder::of(rt.alloc(), order)?;
-    let log = control.log(rt.alloc())?;
+    let log = control.entry(rt.alloc(), Entry::Log)?;
     fs::create_dir_all(rt, text(order.folder.as_slice())?)?;
     open_or_create(rt, log.as_str())?;
     let child = start_process(rt, order, &control);

@@ -15,6 +15,8 @@ pub enum Loss {
     Gone,
     /// The process that was started has ended, and who else may run the script is not known.
     Unfinished,
+    /// The program that started it elsewhere says that it is gone.
+    GoneElsewhere,
 }
 
 impl fmt::Display for Loss {
@@ -23,6 +25,7 @@ impl fmt::Display for Loss {
             Loss::OtherBoot => "it was started before this machine was, or on another one",
             Loss::Gone => "its shell is not there any more, and left no result",
             Loss::Unfinished => "its shell has ended, and left no result",
+            Loss::GoneElsewhere => "its agent's launch says that it is gone, and it left no result",
         })
     }
 }

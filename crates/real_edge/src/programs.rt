@@ -37,13 +37,22 @@ impl Programs {
         let Some(mover) = find(rt, path.as_str(), "mv")? else {
             return Err(io::Error::new(ErrorKind::NotFound, "no mv in the PATH of the controller"));
         };
-        let setsid = find(rt, path.as_str(), "setsid")?;
         Ok(Programs {
             shell,
             mover,
-            setsid,
+            setsid: session_program(rt)?,
         })
     }
+}
+
+/// The program `setsid`, which puts a program in a session of its own. `None` where the system has none.
+///
+/// # Errors
+///
+/// Where the controller's `PATH` is not UTF-8, and where there is no memory.
+pub fn session_program<R: Files + Env + AllocGlobal>(rt: &R) -> io::Result<Option<String>> {
+    let path = own_path(rt)?;
+    find(rt, path.as_str(), "setsid")
 }
 
 fn own_path<R: Env + AllocGlobal>(rt: &R) -> io::Result<String> {
@@ -76,7 +85,8 @@ pub fn find<R: Files + AllocGlobal>(rt: &R, path: &str, name: &str) -> io::Resul
     Ok(None)
 }
 
-fn is_program(files: &impl Files, path: &str) -> bool {
+/// Whether there is a file at a path, and somebody may run it.
+pub fn is_program(files: &impl Files, path: &str) -> bool {
     match fs::metadata(files, path) {
         Ok(found) => found.is_file() && found.permissions().mode() & MAY_RUN != 0,
         Err(_) => false,

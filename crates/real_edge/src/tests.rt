@@ -1,5 +1,7 @@
 //! What real folders and processes do. Each test has a workspace or a file of its own name.
 
+mod elsewhere;
+
 use super::*;
 use crate::launch::spawn;
 use crate::programs::{Programs, find};
@@ -25,6 +27,12 @@ fn expect<T: PartialEq + Debug + Drop>(rt: &impl Abort, found: T, wanted: T) {
 // Writes a file.
 fn put(rt: &HostRuntime, path: &str, text: &str) -> io::Result<()> {
     fs::write(rt, path, text)
+}
+
+// Writes a program that everybody may run.
+fn put_program(rt: &HostRuntime, path: &str, text: &str) -> io::Result<()> {
+    put(rt, path, text)?;
+    fs::set_permissions(rt, path, Permissions::from_mode(0o755))
 }
 
 // The file has these bytes.
@@ -175,9 +183,24 @@ fn answers(mut host: FolderHost<'_, HostRuntime>, order: &Order) -> (Made, Look)
     (host.make_dir(order), host.look(order))
 }
 
+// Of a folder that was made anew, and of one that could not be had.
+const ANEW: (Made, Look) = (Made::Made, Look::NotStarted);
+
+const REFUSED: (Made, Look) = (Made::Failed, Look::Absent);
+
 // The path of a file in the order's control folder.
 fn in_control(rt: &HostRuntime, order: &Order, name: &str) -> io::Result<String> {
     Ok(ControlFolder::of(rt.alloc(), order)?.file(rt.alloc(), name)?)
+}
+
+// Writes a file in the order's control folder.
+fn put_in(rt: &HostRuntime, order: &Order, name: &str, text: &str) -> io::Result<()> {
+    put(rt, in_control(rt, order, name)?.as_str(), text)
+}
+
+// Removes a file in it.
+fn remove_in(rt: &HostRuntime, order: &Order, name: &str) -> io::Result<()> {
+    fs::remove_file(rt, in_control(rt, order, name)?.as_str())
 }
 
 #[test]
@@ -186,14 +209,10 @@ fn a_result_written_by_hand_counts_once_it_is_a_number(rt: HostRuntime) -> Resul
     let mut host = host(&rt);
     expect(&rt, host.make_dir(&order), Made::Made);
     for name in ["jenkins-log.txt", "jenkins-result.txt"] {
-        put(&rt, in_control(&rt, &order, name)?.as_str(), "")?;
+        put_in(&rt, &order, name, "")?;
     }
     expect(&rt, host.look(&order), Look::Running);
-    put(
-        &rt,
-        in_control(&rt, &order, "jenkins-result.txt")?.as_str(),
-        "7\n",
-    )?;
+    put_in(&rt, &order, "jenkins-result.txt", "7\n")?;
     expect(&rt, host.look(&order), Look::Exited(7));
     Ok(())
 }
@@ -228,11 +247,7 @@ fn a_workspace_that_no_folder_can_have(rt: HostRuntime) -> Result<(), Fail> {
     let long = format!(in alloc; "{:x<252}", "job")?;
     for name in ["workspace/..", "workspace/.", "file/demo", long.as_str()] {
         let order = order(&rt, name, "true")?;
-        expect(
-            &rt,
-            answers(host(&rt), &order),
-            (Made::Failed, Look::Absent),
-        );
+        expect(&rt, answers(host(&rt), &order), REFUSED);
     }
     Ok(())
 }
@@ -243,13 +258,9 @@ fn a_workspace_that_is_not_utf8_and_a_build_without_an_identity(
 ) -> Result<(), Fail> {
     let mut order = order(&rt, "utf8", "true")?;
     let nobodys = FolderHost::new(&rt, "no such build");
-    expect(&rt, answers(nobodys, &order), (Made::Failed, Look::Absent));
+    expect(&rt, answers(nobodys, &order), REFUSED);
     order.workspace = Bytes::from_slice(rt.alloc(), b"/tmp/\xff")?;
-    expect(
-        &rt,
-        answers(host(&rt), &order),
-        (Made::Failed, Look::Absent),
-    );
+    expect(&rt, answers(host(&rt), &order), REFUSED);
     Ok(())
 }
 
@@ -258,10 +269,8 @@ fn an_ended_task_of_another_build_gives_its_folder_up(rt: HostRuntime) -> Result
     let order = order(&rt, "left", "true")?;
     expect(&rt, end_of(&rt, &order), Look::Exited(0));
     for _ in 0..2 {
-        let made = answers(host_of_others(&rt), &order);
-        expect(&rt, made, (Made::Made, Look::NotStarted));
-        let made = answers(host(&rt), &order);
-        expect(&rt, made, (Made::Made, Look::NotStarted));
+        expect(&rt, answers(host_of_others(&rt), &order), ANEW);
+        expect(&rt, answers(host(&rt), &order), ANEW);
     }
     expect(
         &rt,
@@ -312,31 +321,15 @@ fn a_folder_whose_task_was_not_started_is_made_anew(rt: HostRuntime) -> Result<(
     let order = order(&rt, "anew", "true")?;
     expect(&rt, host(&rt).make_dir(&order), Made::Made);
     // A process of the earlier life that comes late finds no permit, or takes the new one in place of the later life's.
-    put(
-        &rt,
-        in_control(&rt, &order, "jenkins-log.txt")?.as_str(),
-        "",
-    )?;
-    expect(
-        &rt,
-        answers(host(&rt), &order),
-        (Made::Made, Look::NotStarted),
-    );
+    put_in(&rt, &order, "jenkins-log.txt", "")?;
+    expect(&rt, answers(host(&rt), &order), ANEW);
     for mark in ["permit", "build-00112233445566778899aabbccddeeff"] {
-        fs::remove_file(&rt, in_control(&rt, &order, mark)?.as_str())?;
-        expect(
-            &rt,
-            answers(host(&rt), &order),
-            (Made::Made, Look::NotStarted),
-        );
+        remove_in(&rt, &order, mark)?;
+        expect(&rt, answers(host(&rt), &order), ANEW);
     }
-    put(&rt, in_control(&rt, &order, "revoked")?.as_str(), "")?;
-    fs::remove_file(&rt, in_control(&rt, &order, "permit")?.as_str())?;
-    expect(
-        &rt,
-        answers(host(&rt), &order),
-        (Made::Made, Look::NotStarted),
-    );
+    put_in(&rt, &order, "revoked", "")?;
+    remove_in(&rt, &order, "permit")?;
+    expect(&rt, answers(host(&rt), &order), ANEW);
     Ok(())
 }
 
@@ -345,7 +338,7 @@ fn a_folder_of_which_nothing_is_known_is_kept(rt: HostRuntime) -> Result<(), Fai
     let order = order(&rt, "kept", "true")?;
     expect(&rt, host(&rt).make_dir(&order), Made::Made);
     for boot in ["another-boot pid:[1]\n", "- -\n", ""] {
-        put(&rt, in_control(&rt, &order, "permit")?.as_str(), boot)?;
+        put_in(&rt, &order, "permit", boot)?;
         expect(
             &rt,
             answers(host(&rt), &order),
@@ -371,18 +364,10 @@ fn an_older_build_takes_the_folders_that_name_none(rt: HostRuntime) -> Result<()
     let order = order(&rt, "older", "true")?;
     expect(&rt, host(&rt).make_dir(&order), Made::Made);
     for mark in ["permit", "build-00112233445566778899aabbccddeeff"] {
-        fs::remove_file(&rt, in_control(&rt, &order, mark)?.as_str())?;
+        remove_in(&rt, &order, mark)?;
     }
-    put(
-        &rt,
-        in_control(&rt, &order, "jenkins-log.txt")?.as_str(),
-        "theirs",
-    )?;
-    expect(
-        &rt,
-        answers(host(&rt), &order),
-        (Made::Failed, Look::Absent),
-    );
+    put_in(&rt, &order, "jenkins-log.txt", "theirs")?;
+    expect(&rt, answers(host(&rt), &order), REFUSED);
     expect(
         &rt,
         answers(older_host(&rt), &order),
@@ -422,9 +407,9 @@ fn a_task_of_another_boot_is_lost_at_once(rt: HostRuntime) -> Result<(), Fail> {
         ("started", "another-boot pid:[1]\n"),
         ("jenkins-log.txt", ""),
     ] {
-        put(&rt, in_control(&rt, &order, name)?.as_str(), text)?;
+        put_in(&rt, &order, name, text)?;
     }
-    fs::remove_file(&rt, in_control(&rt, &order, "permit")?.as_str())?;
+    remove_in(&rt, &order, "permit")?;
     let mut later = host(&rt);
     expect(&rt, later.make_dir(&order), Made::Exists);
     expect(&rt, looks_until_lost(&mut later, &order), 9);
@@ -447,8 +432,7 @@ fn set_env(rt: &HostRuntime, order: &mut Order, env: &[(&str, &str)]) -> Result<
 fn a_setsid_of_the_workspace_is_not_run(rt: HostRuntime) -> Result<(), Fail> {
     let mut order = order(&rt, "path", "true")?;
     fs::create_dir(&rt, "path")?;
-    put(&rt, "path/setsid", "#!/bin/sh\nexit 1\n")?;
-    fs::set_permissions(&rt, "path/setsid", Permissions::from_mode(0o755))?;
+    put_program(&rt, "path/setsid", "#!/bin/sh\nexit 1\n")?;
     set_env(&rt, &mut order, &[("PATH", ".:/usr/bin:/bin")])?;
     expect(&rt, end_of(&rt, &order), Look::Exited(0));
     Ok(())

@@ -1,4 +1,4 @@
-use Rattle.std.proofs.Common.{rules, ◌≡◌, ap, sym, ◌∙◌}
+use Rattle.std.proofs.Common.{rules, ap, sym, ◌∙◌}
 use Rattle.std.specs.Process.{command_var}
 use Rattle.real_edge.proofs.ProcessLemmas.{set_next}
 use Rattle.real_edge.proofs.launch.set_variables.Goals as goal

@@ -1,6 +1,6 @@
-use Rattle.std.specs.Prelude.{◌≡◌, ℕ, false, List, ◌++◌, Some, codes, string_bytes}
+use Rattle.std.specs.Prelude.{◌≡◌, Some, codes, string_bytes}
 use Rattle.std.specs.Option.{IfSome, option_map}
-use Rattle.std.specs.Fmt.{digits, styled_digits_output, ◌++?◌}
+use Rattle.std.specs.Fmt.{styled_digits_output, ◌++?◌}
 use mathlib.Core.Path.{ap, subst, ◌∙◌}
 use Rattle.control_folders.specs.Control.{control_folder}
 use Rattle.control_folders.proofs.ControlLemmas.{padded, folder_is}
