@@ -82,7 +82,8 @@ def main():
     parser.add_argument("--dry", action="store_true", help="prove nothing: name the edits that can no longer be applied")
     parser.add_argument("crates", nargs="*", help="try the edits of these crates alone")
     asked = parser.parse_args()
-    known = sorted({*os.listdir(EDITS), *(os.listdir(f"{TOP}/crates") if asked.dry else [])})
+    with_edits = [it for it in os.listdir(EDITS) if os.path.isdir(f"{EDITS}/{it}")]
+    known = sorted({*with_edits, *(os.listdir(f"{TOP}/crates") if asked.dry else [])})
     unknown = [name for name in asked.crates if name not in known]
     if unknown:
         parser.error(f"there is nothing to try of {' '.join(unknown)}")
