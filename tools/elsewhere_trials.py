@@ -89,9 +89,9 @@ class Elsewhere(Shell):
     def start(self, command, **how):
         return super().start(command, env=self.environment(), **how)
 
-    def ran(self, command):
-        words = [shell_trials.PROGRAM, command, self.folder]
-        run = subprocess.run(words, stdin=subprocess.DEVNULL, capture_output=True, env=self.environment(), timeout=PATIENCE, check=False)
+    def ran(self, command, **variables):
+        words, environment = [shell_trials.PROGRAM, command, self.folder], {**self.environment(), **variables}
+        run = subprocess.run(words, stdin=subprocess.DEVNULL, capture_output=True, env=environment, timeout=PATIENCE, check=False)
         self.said = run.stderr.decode()
         return run.stdout, run.returncode
 
@@ -300,6 +300,16 @@ node('big') {{
         self.assertIn(reason, self.said)
         self.assertEqual(self.launches(), [])
 
+    def tells_of_the_environment(self):
+        """What a step finds of a secret in the controller's environment, and of a variable of its own."""
+        self.prepare("node('linux') { withEnv(['MODE=its own']) { sh 'set +x; echo ${TOKEN-no secret}, $MODE' } }")
+        log, status = self.ran("run", TOKEN="a1b2")
+        self.assertEqual(status, 0, self.said)
+        return [line for line in log.decode().splitlines() if line.endswith(", its own")]
+
+    def test_what_a_step_has_of_the_controllers_environment_is_what_the_page_says(self):
+        self.assertEqual(self.tells_of_the_environment(), ["no secret, its own"])
+
     def test_32_steps_at_once_run_on_eight_executors_once_each(self):
         step = script('echo "step $N"', 'sleep 0.2')
         branches = ", ".join(f"b{n}: {{ node('linux || big') {{ withEnv(['N={n}']) {{ sh {step} }} }} }}" for n in range(32))
@@ -342,6 +352,14 @@ class Slurm(Clauses, Page, Elsewhere):
     def wrong_options(self):
         return ["--partition=none"], "invalid partition specified: none"
 
+    def test_what_a_step_has_of_the_controllers_environment_is_what_the_page_says(self):
+        self.assertEqual(self.tells_of_the_environment(), ["a1b2, its own"])
+        self.begin_anew()
+        with open(f"{TOP}/docs/USING.md", encoding="utf-8") as page:
+            [words] = re.findall(r"`(--export=[^`]*)` among its words", page.read())
+        self.put("linux/launch.options", f"{words}\n")
+        self.assertEqual(self.tells_of_the_environment(), ["no secret, its own"])
+
     def jobs(self, *states):
         """The jobs in these states."""
         return self.engine.says("squeue", "--noheader", f"--states={','.join(states)}", "--format=%i").split()
@@ -368,19 +386,34 @@ class Slurm(Clauses, Page, Elsewhere):
         self.wait_until(lambda: self.jobs("PD"), "a job in the queue")
         return controller
 
-    def test_a_job_of_a_controllers_machine_that_came_back_is_waited_for(self):
-        self.kill(self.held_build("echo behind"))
-        with open(f"{self.control()}/started", "r+", encoding="utf-8") as file:
+    def of_another_boot(self, name):
+        """Has the task's permit tell of another boot than this, as where the controller's machine was started again."""
+        with open(f"{self.control()}/{name}", "r+", encoding="utf-8") as file:
             _, processes = file.read().split()
             file.seek(0)
             file.truncate()
             file.write(f"01234567-89ab-cdef-0123-456789abcdef {processes}\n")
+
+    def test_a_job_that_runs_while_the_controllers_machine_comes_back_is_waited_for(self):
+        self.kill(self.held_build("echo behind"))
+        self.of_another_boot("started")
         controller = self.start("resume")
         time.sleep(8)
         self.assertIsNone(controller.poll())
         self.release()
         log, said = controller.communicate(timeout=PATIENCE)
         self.assertEqual((controller.returncode, log.count(b"behind\n"), said), (0, 1, b""), log)
+        self.assertEqual(self.launches(), ["durable-00000002"])
+
+    def test_a_job_in_the_queue_while_the_controllers_machine_comes_back_is_waited_for(self):
+        self.kill(self.queued())
+        self.of_another_boot("permit")
+        controller = self.start("resume")
+        time.sleep(8)
+        self.assertEqual((controller.poll(), len(self.jobs("PD"))), (None, 1))
+        self.open()
+        log, said = controller.communicate(timeout=PATIENCE)
+        self.assertEqual((controller.returncode, log.count(b"ran\n"), said), (0, 1, b""), log)
         self.assertEqual(self.launches(), ["durable-00000002"])
 
     def test_a_job_in_the_queue_of_a_controller_that_was_killed_runs_once(self):
@@ -459,7 +492,7 @@ class Slurm(Clauses, Page, Elsewhere):
 
     def begin_anew(self):
         for path in (self.folder, f"{self.root('linux')}/workspace", f"{self.root('big')}/workspace"):
-            shutil.rmtree(path)
+            shutil.rmtree(path, ignore_errors=True)
 
 
 class Ssh(Clauses, Page, Elsewhere):

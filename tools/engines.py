@@ -38,10 +38,11 @@ def found(program):
 def ran(*words, variables=()):
     """What a command printed.
 
-    Raises Missing, with what it said, where it failed."""
+    Raises Missing, with what it said last, where it failed."""
     run = subprocess.run(words, stdin=subprocess.DEVNULL, capture_output=True, text=True, env=environment(variables), check=False)
     if run.returncode != 0:
-        raise Missing(f"{' '.join(words)}: {run.stderr.strip() or run.returncode}")
+        said = run.stderr.strip().splitlines() or [f"status {run.returncode}"]
+        raise Missing(f"{' '.join(words)}: {said[-1]}")
     return run.stdout
 
 
@@ -352,7 +353,7 @@ class Podman:
         with open(f"{room}/storage.conf", "w", encoding="utf-8") as file:
             file.write(STORAGE_CONF.format(room=room))
         make_image(f"{room}/image")
-        ran("tar", "-C", f"{room}/image", "-cf", f"{room}/image.tar", ".")
+        ran("tar", "-C", f"{room}/image", "--owner=0", "--group=0", "-cf", f"{room}/image.tar", ".")
         self.choose_runtime()
 
     def choose_runtime(self):
