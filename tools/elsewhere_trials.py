@@ -450,6 +450,23 @@ class Slurm(Clauses, Page, Elsewhere):
         for text in ("exit 1", "sleep 60"):
             self.assertNotIn(self.launch("alive", folder, **self.stand_in("squeue", text)), (0, 1))
 
+    def test_a_slurm_that_is_away_for_a_while_costs_no_step(self):
+        controller = self.held_build("echo behind")
+        self.engine.daemons.end("slurmctld")
+        time.sleep(12)
+        self.assertIsNone(controller.poll())
+        self.engine.start_scheduler()
+        self.release()
+        log, said = controller.communicate(timeout=PATIENCE)
+        self.assertEqual((controller.returncode, log.count(b"behind\n"), said), (0, 1, b""), log)
+        self.assertEqual(self.launches(), ["durable-00000002"])
+
+    def test_a_choice_of_the_user_what_lists_show_hides_no_job(self):
+        folder = self.hand_made("sleep 5")
+        self.assertEqual(self.launch("start", folder), 0)
+        hides = {"SQUEUE_STATES": "FAILED", "SQUEUE_PARTITION": "none", "SQUEUE_NAMES": "none", "SQUEUE_FORMAT": "%i"}
+        self.assertEqual(self.launch("alive", folder, **hides), 0)
+
     def test_slurm_is_asked_once_for_all_who_want_to_know(self):
         folders = [self.hand_made("sleep 20", task) for task in range(2, 10)]
         self.assertEqual([self.launch("start", folder) for folder in folders], [0] * 8)

@@ -178,9 +178,13 @@ class Cluster:
         munge = [f"--{name}={self.room}/munge.{name.partition('-')[0]}" for name in ("key-file", "socket", "pid-file", "log-file", "seed-file")]
         self.daemons.start("munged", "munged", "--foreground", "--force", *munge)
         wait_until(lambda: os.path.exists(f"{self.room}/munge.socket"), "munged's socket")
-        self.daemons.start("slurmctld", "slurmctld", "-D", "-c", "-f", f"{self.room}/slurm.conf")
+        self.start_scheduler()
         self.start_node("linux")
         self.start_node("big")
+
+    def start_scheduler(self):
+        """It goes on with the jobs that it knew, where there are any."""
+        self.daemons.start("slurmctld", "slurmctld", "-D", "-f", f"{self.room}/slurm.conf")
 
     def start_node(self, node):
         self.daemons.start(node, "slurmd", "-D", "-N", node, "-f", f"{self.room}/slurm.conf")
