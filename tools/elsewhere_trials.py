@@ -326,6 +326,12 @@ class Slurm(Clauses, Page, Elsewhere):
     way, engine_of, tells_place = "slurm", engines.Cluster, "echo at $SLURMD_NODENAME"
     block, own_agent = 0, "linux"
 
+    def test_an_answer_of_slurm_that_took_seconds_counts(self):
+        folder = self.hand_made("exit")
+        self.put("slow/squeue", "#!/bin/sh\nsleep 3\necho trial-00000002.0123456789abcdef0123456789abcdef\n")
+        os.chmod(f"{self.room}/slow/squeue", 0o755)
+        self.assertEqual(self.launch("alive", folder, PATH=f"{self.room}/slow:{os.environ['PATH']}"), 0)
+
     def agents_of_the_page(self):
         [text] = self.blocks("jsonc")
         return text
@@ -559,6 +565,14 @@ class Bwrap(Containers, Elsewhere):
     """Containers by `bwrap`, where neither podman nor docker is to be had."""
 
     engine_of = engines.Sandbox
+
+    def test_the_root_of_an_agent_may_lie_below_a_folder_of_the_image(self):
+        os.makedirs(f"{self.engine.image}/var/tmp/other", exist_ok=True)
+        with tempfile.TemporaryDirectory(prefix="controller-", dir="/var/tmp") as below:
+            shutil.move(self.root(), f"{below}/agent")
+            self.prepare(f"node('linux') {{ sh '{self.tells_place}; ls /var/tmp' }}")
+            self.put("build/agents.json", json.dumps({"job": "trial", "agents": [{"name": "linux", "root": f"{below}/agent", "executors": 1}]}))
+            self.ends("run", 0, engines.IN_IMAGE, os.path.basename(below), "other", "Finished: SUCCESS")
 
 
 class Podman(Containers, Page, Elsewhere):
