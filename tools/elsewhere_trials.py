@@ -566,6 +566,9 @@ class Bwrap(Containers, Elsewhere):
 
     engine_of = engines.Sandbox
 
+    def test_where_nothing_can_be_looked_for_nothing_is_known(self):
+        self.assertEqual(self.launch("alive", self.hand_made("exit"), PATH="/nowhere"), 2)
+
     def test_the_root_of_an_agent_may_lie_below_a_folder_of_the_image(self):
         os.makedirs(f"{self.engine.image}/var/tmp/other", exist_ok=True)
         with tempfile.TemporaryDirectory(prefix="controller-", dir="/var/tmp") as below:
