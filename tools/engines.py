@@ -15,7 +15,7 @@ import subprocess
 import time
 
 # Seconds until something has to have come on a busy machine.
-PATIENCE = 120
+PATIENCE = 240
 SERVICES = pathlib.Path("/usr/sbin/policy-rc.d")
 # Debian has the daemons in the last two, which are not on everybody's PATH.
 PATH = os.pathsep.join([os.environ.get("PATH", os.defpath), "/usr/sbin", "/sbin"])
