@@ -328,7 +328,8 @@ class Slurm(Clauses, Page, Elsewhere):
 
     def test_an_answer_of_slurm_that_took_seconds_counts(self):
         folder = self.hand_made("exit")
-        self.put("slow/squeue", "#!/bin/sh\nsleep 3\necho trial-00000002.0123456789abcdef0123456789abcdef\n")
+        checksum = subprocess.run(["cksum"], input=folder.encode(), capture_output=True, check=True).stdout.decode().strip()
+        self.put("slow/squeue", f"#!/bin/sh\nsleep 3\necho trial-00000002.{checksum.replace(' ', '-')}\n")
         os.chmod(f"{self.room}/slow/squeue", 0o755)
         self.assertEqual(self.launch("alive", folder, PATH=f"{self.room}/slow:{os.environ['PATH']}"), 0)
 
@@ -431,6 +432,19 @@ class Slurm(Clauses, Page, Elsewhere):
         self.assertEqual((controller.returncode, log.count(b"ran\n"), self.launches()), (0, 1, ["durable-00000002"]), said)
         self.wait_until(lambda: not self.jobs("PD", "R", "CG"), "the end of the other job")
         self.assertEqual(len(self.launches()), 1)
+
+    def test_a_job_of_a_build_that_was_given_up_runs_no_step_of_the_next_one(self):
+        self.kill(self.queued())
+        for path in glob.glob(f"{self.folder}/program.*"):
+            os.remove(path)
+        self.prepare(f"node('linux') {{ sh {script('echo ran of the second')} }}")
+        controller = self.start("run")
+        self.wait_until(lambda: len(self.jobs("PD")) == 2, "the job of the next build")
+        self.open()
+        log, said = controller.communicate(timeout=PATIENCE)
+        self.assertEqual((controller.returncode, log.count(b"ran of the second\n"), said), (0, 1, b""), log)
+        self.wait_until(lambda: not self.jobs("PD", "R", "CG"), "the end of the other job")
+        self.assertEqual(self.launches(), ["durable-00000002"])
 
     def test_stop_ends_a_job_in_the_queue(self):
         controller = self.queued()
