@@ -58,11 +58,25 @@ impl Elsewhere {
         ensures launched { StartsElsewhere self.old.launches self.new.launches result }
     {
         let control = ControlFolder::of(rt.alloc(), order)?;
-        prepare(rt, order, &control)?;
-        match self.launches.hand_over(rt, launcher, control.path.as_str()) {
-            Err(_) if !gives_up(rt, &control) => Err(begun()),
+        match self.hand_over(rt, order, launcher, &control) {
+            Err(_) if !gives_up(rt, &control) => Err(may_have_begun()),
             answer => answer,
         }
+    }
+
+    // Writes what the program hands over, and calls it.
+    fn hand_over<R: Files + Env + AllocGlobal + Clock + Processes>(
+        &mut self,
+        rt: &R,
+        order: &Order,
+        launcher: &Launcher,
+        control: &ControlFolder,
+    ) -> io::Result<()>
+        ensures launched { StartsElsewhere self.old.launches self.new.launches result }
+        ensures asks { self.new.asks ≡ self.old.asks }
+    {
+        prepare(rt, order, control)?;
+        self.launches.hand_over(rt, launcher, control.path.as_str())
     }
 
     /// Why the task at hand, which has no result, can leave none any more. `None` where it may, as far as is known. Its
@@ -82,9 +96,9 @@ impl Elsewhere {
             return Ok(None);
         }
         let control = ControlFolder::of(rt.alloc(), order)?;
-        let says_gone = match Launcher::of(rt, order)? {
-            Some(launcher) => self.launches.are_gone(rt, &launcher, control.path.as_str()),
-            None => false,
+        let says_gone = match Launcher::of(rt, order) {
+            Ok(Some(launcher)) => self.launches.are_gone(rt, &launcher, control.path.as_str()),
+            Ok(None) | Err(_) => false,
         };
         let _ = refresh(rt, &control);
         let is_gone = says_gone && matches!(state(rt, order), Ok(Look::Running));
@@ -137,11 +151,13 @@ fn prepare<R: Files + AllocGlobal>(
 }
 
 // On a file system of several machines a name that was looked for in vain may stay hidden for a while. A change of its folder
-// by this machine ends that.
+// by this machine ends that. A controller that was killed in between has left the file.
 fn refresh<R: Files + AllocGlobal>(rt: &R, control: &ControlFolder) -> io::Result<()> {
     let path = control.entry(rt.alloc(), Entry::Asked)?;
-    create_file(rt, path.as_str())?;
-    fs::remove_file(rt, path.as_str())
+    let made = create_file(rt, path.as_str());
+    fs::remove_file(rt, path.as_str())?;
+    made?;
+    Ok(())
 }
 
 // Withdraws the permit of a task that could not be handed over, and says whether that is done: then it was not started, and
@@ -154,11 +170,11 @@ fn gives_up<R: Files + AllocGlobal>(rt: &R, control: &ControlFolder) -> bool {
     is_withdrawn
 }
 
-// Why the start of a task failed whose permit is taken.
-fn begun() -> io::Error {
+// Why the start of a task failed whose permit is taken, or could not be withdrawn.
+fn may_have_begun() -> io::Error {
     io::Error::new(
         ErrorKind::Other,
-        "its agent's launch failed, and it had begun all the same: it may run on",
+        "its agent's launch failed, and its permit could not be withdrawn: it may run on",
     )
 }
 

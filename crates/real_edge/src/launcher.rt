@@ -2,10 +2,11 @@
 
 use crate::programs::{is_program, session_program};
 use control_folders::text;
+use std::io::ErrorKind;
 use std::process::{Child, Command, OpenProcess, Processes, Stdio};
 use std::rt::{Env, Files};
 use std::time::{Clock, Duration};
-use std::{io, thread};
+use std::{fs, io, thread};
 use task_host::Order;
 
 /// What such a program is asked to do.
@@ -59,19 +60,19 @@ pub struct Launcher {
 }
 
 impl Launcher {
-    /// That of the agent which has the order's workspace. `None` where that agent's root has no file `launch`, or nobody may
-    /// run it.
+    /// That of the agent which has the order's workspace. `None` where that agent's root has nothing of the name `launch`.
     ///
     /// # Errors
     ///
-    /// Where the workspace is not UTF-8, and where there is no memory.
+    /// Where `launch` is no program that somebody may run: a bit that was lost does not move the agent's tasks to this machine.
+    /// Where the system does not tell; where the workspace is not UTF-8; and where there is no memory.
     pub fn of<R: Files + AllocGlobal>(rt: &R, order: &Order) -> io::Result<Option<Launcher>> {
         let Some(root) = root_of(text(order.workspace.as_slice())?) else {
             return Ok(None);
         };
         let program = format!(in rt.alloc(); "{root}/launch")?;
         if !is_program(rt, program.as_str()) {
-            return Ok(None);
+            return none_there(rt, program.as_str());
         }
         let root = String::from_str(rt.alloc(), root)?;
         Ok(Some(Launcher { root, program }))
@@ -140,4 +141,18 @@ impl Launcher {
 fn root_of(workspace: &str) -> Option<&str> {
     let (folder, _) = workspace.rsplit_once('/')?;
     folder.strip_suffix("/workspace")
+}
+
+// That there is nothing of this name, which is no program.
+fn none_there<R: Files>(rt: &R, program: &str) -> io::Result<Option<Launcher>> {
+    match fs::symlink_metadata(rt, program) {
+        Ok(_) => Err(io::Error::new(
+            ErrorKind::PermissionDenied,
+            "its agent's launch is there, and nobody may run it",
+        )),
+        Err(error) => match error.kind() {
+            ErrorKind::NotFound => Ok(None),
+            _ => Err(error),
+        },
+    }
 }

@@ -55,13 +55,15 @@ fn a_task_is_started_by_the_program_of_its_agent(rt: HostRuntime) -> Result<(), 
 }
 
 #[test]
-fn a_file_that_nobody_may_run_starts_nothing(rt: HostRuntime) -> Result<(), Fail> {
+fn a_launch_that_nobody_may_run_moves_no_task_to_this_machine(rt: HostRuntime) -> Result<(), Fail> {
     let order = order_at(&rt, "plain", "exit 1\n", "true")?;
     fs::set_permissions(&rt, "plain/launch", Permissions::from_mode(0o644))?;
-    expect(&rt, end_of(&rt, &order), Look::Exited(0));
+    let mut host = host(&rt);
+    expect(&rt, host.make_dir(&order), Made::Made);
+    expect(&rt, host.start(&order), Started::Failed);
     expect(
         &rt,
-        fs::exists(&rt, in_control(&rt, &order, "task")?.as_str())?,
+        fs::exists(&rt, in_control(&rt, &order, "started")?.as_str())?,
         false,
     );
     Ok(())
