@@ -111,14 +111,14 @@ fn a_start_that_fails_behind_its_task_may_have_begun(rt: HostRuntime) -> Result<
 fn a_task_that_is_gone_is_lost_once_its_program_has_said_so_twice(
     rt: HostRuntime,
 ) -> Result<(), Fail> {
-    let order = order_at(&rt, "gone", LAUNCH, "kill -9 $PPID\nkill -9 $$\n")?;
-    say_alive(&rt, "gone", "1")?;
+    let order = order_at(&rt, "gone elsewhere", LAUNCH, "kill -9 $PPID\nkill -9 $$\n")?;
+    say_alive(&rt, "gone elsewhere", "1")?;
     let mut host = host(&rt);
     expect(&rt, host.make_dir(&order), Made::Made);
     expect(&rt, host.start(&order), Started::Started);
     // Nine looks in half a second, and four in the second behind it.
     expect(&rt, looks_until_lost(&mut host, &order), 13);
-    expect_calls(&rt, "gone", "start\nalive\nalive\n")?;
+    expect_calls(&rt, "gone elsewhere", "start\nalive\nalive\n")?;
     Ok(())
 }
 
