@@ -344,7 +344,7 @@ class Slurm(Clauses, Page, Elsewhere):
         controller = self.start("run")
         self.wait_until(lambda: self.jobs("R"), "a job that runs")
         run, look = self.blocks()[1].splitlines()
-        self.assertRegex(self.typed(look), r"shop-00000002\.[0-9a-f]{32} RUNNING linux\n")
+        self.assertRegex(self.typed(look), r"shop-00000002\.[0-9]+-[0-9]+ RUNNING linux\n")
         [end] = re.findall(r"`(/srv/ci/\S+ stop [^`]*)`", self.section())
         self.typed(end)
         log, _ = controller.communicate(timeout=PATIENCE)
