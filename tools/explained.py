@@ -1,10 +1,11 @@
 #!/usr/bin/env python3
 """Runs the program, and tells on standard error what its one line or its log leaves open: `tools/explained.py NAME PROGRAM WORD..`.
 
-`./controller` ends in it; NAME is how that was called. The program has the standard input, output and error of this script, and this
-script ends as it ended, with its status or by the signal that ended it. Where this script is killed, the program is: the system is asked
-for that before the program begins. Where the system cannot be asked, the program takes this script's place, and nothing is told. What is
-told is in `reasons.py`; nothing of it is proved.
+`./controller` ends in it; NAME is how that was called. The program has the standard input, output and error of this script. But of
+answers that come through a pipe or are typed it gets a copy, so that what fits no question can be told (given_answers.py). This script
+ends as the program ended, with its status or by the signal that ended it. Where this script is killed, the program is: the system is
+asked for that before the program begins. Where the system cannot be asked, the program takes this script's place, and nothing is told.
+What is told is in `reasons.py`; nothing of it is proved.
 """
 import contextlib
 import os
@@ -37,13 +38,15 @@ def become(program, words):
     os.execv(program, [program, *words])
 
 
-def started(program, words, ask):
-    """The number of a process with the program, which is killed where this one ends."""
+def started(program, words, ask, given):
+    """The number of a process with the program, which is killed where this one ends. `given` is its standard input."""
     own = os.getpid()
     child = os.fork()
     if child:
         return child
     try:
+        if given != 0:
+            os.dup2(given, 0)
         if ask(SET_SIGNAL_AT_END_OF_PARENT, signal.SIGKILL, 0, 0, 0) == 0 and os.getppid() == own:
             become(program, words)
     finally:
@@ -60,14 +63,22 @@ def end_by(number):
 
 
 def answers_of(folder):
-    """The answers that a call is given, and how many records the store of its folder has; None where there is nothing to tell of them."""
+    """The answers that a call is given, and how many records the store of its folder has; nothing where there is nothing to tell of them."""
     with contextlib.suppress(Exception):
         from builds import count_of_records
         from given_answers import of_standard_input
 
-        given = of_standard_input()
-        return given and (given, count_of_records(f"{folder}/program.dat"))
-    return None
+        return of_standard_input(folder), count_of_records(f"{folder}/program.dat")
+    return None, 0
+
+
+def hand_on(answers, child):
+    """Hands the answers of a pipe or a terminal on. What goes wrong here ends the answers, as if no more came."""
+    try:
+        answers.work(child)
+    except Exception as why:
+        with contextlib.suppress(OSError):
+            print(f"controller: the answers on standard input could not be handed on: {why}", file=sys.stderr, flush=True)
 
 
 def loaded():
@@ -93,20 +104,24 @@ def main(name, program, *words):
     ask = prctl()
     if ask is None or words[:1] == ("gen",):
         become(program, words)
-    answers = None
+    answers, records = None, 0
     if len(words) == 2 and words[0] in WITH_ANSWERS:
         # A program whose launcher was killed a moment ago has the lock until it is gone.
         wait_for_ending(f"{words[1]}/program.lock")
-        answers = answers_of(words[1])
-    child = started(program, words, ask)
+        answers, records = answers_of(words[1])
+    are_handed = hasattr(answers, "work")
+    child = started(program, words, ask, answers.its_end if are_handed else 0)
     # While the program is at work.
     call_of = loaded()
+    if are_handed:
+        hand_on(answers, child)
     _, ended = os.waitpid(child, 0)
     if os.WIFSIGNALED(ended):
         return end_by(os.WTERMSIG(ended))
     status = os.WEXITSTATUS(ended)
     if call_of is not None:
-        tell(call_of(program, words, answers, name=name), status)
+        read_again = (answers, records) if answers is not None and not are_handed else None
+        tell(call_of(program, words, read_again, name=name), status)
     return status
 
 

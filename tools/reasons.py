@@ -17,6 +17,7 @@ import failures
 import original_places
 import output
 import places
+from given_answers import MOST_TOLD, told, told_of_more
 from locks import holders
 from own_program import NAME
 from plain_words import one_line
@@ -27,8 +28,6 @@ USAGE, WAITS, BAD_SCRIPT, DISK, READ, OUTPUT, STORE, BAD_AGENTS = 2, 3, 4, 5, 6,
 # FAILURE, UNSTABLE, NOT_BUILT, ABORTED.
 ENDED_BADLY = (1, 10, 11, 12)
 OVER_A_FOLDER = ("run", "resume", "log", "graph", "check")
-# How many of the answers that were passed over are told.
-MOST_TOLD = 10
 ANSWER = re.compile(r"(proceed|abort) ([^ \t]+) by (.+)")
 TRIED = 1 << 16
 
@@ -155,9 +154,8 @@ class Call:
         steps.sort(key=lambda it: it.ended)
         decisions = [(it.answer.proceeds, it.request.text, it.answer.name) for it in steps]
         passed = passed_over(given.lines(), decisions)
-        lines = [f"controller: answer {at} fits no open input, and was passed over: {one_line(line)}" for at, line in passed]
-        more = len(lines) - MOST_TOLD
-        return lines[:MOST_TOLD] + ([f"controller: {more} more answers were passed over"] if more > 0 else [])
+        lines = [told(at, line) for at, line in passed[:MOST_TOLD]]
+        return lines + told_of_more(len(passed) - MOST_TOLD)
 
 
 def passed_over(lines, decisions):
@@ -169,7 +167,7 @@ def passed_over(lines, decisions):
         if form and left and (form[1] == "proceed", form[2], form[3]) == left[0]:
             del left[0]
         elif line:
-            passed.append((at, line if len(line) <= 100 else line[:99] + "\u2026"))
+            passed.append((at, line))
     return passed
 
 
