@@ -38,7 +38,7 @@ ROWS = (
     Row(STEP, "lock", "lock('db') { echo 'x' }", "No such DSL method 'lock'",
         "`node { sh 'flock db.lock make' }`, with a path that all builds share"),
     Row(NAME, "docker", "docker.image('x').inside { }", "No such property: docker",
-        '`node { sh \'docker run --rm -v "$PWD:/w" -w /w x make\' }`'),
+        "`node { sh 'make' }`, on an agent whose steps run in containers of that image (\"Run on other machines\")"),
     Row(STEP, "readJSON", "node { echo readJSON(file: 'f').a }", "No such DSL method 'readJSON'",
         "`node { echo sh(script: 'jq -r .a f', returnStdout: true) }`"),
     Row(STEP, "isUnix", "if (isUnix()) { echo 'x' }", "No such DSL method 'isUnix'", "`echo 'x'`"),

@@ -34,7 +34,9 @@ class JenkinsNames:
             self.edits.replace(node.begin, node.end, f"params.{name}")
         elif self.is_of_environment(name):
             self.a_variable_of_environment(node, name, node)
-        elif name[:1].isupper() or name in ("docker", "java", "groovy", "hudson", "jenkins", "org", "manager", "sshagent"):
+        elif name == "docker":
+            self.found.refuse(node, "`docker`: have an agent whose steps run in containers of that image (docs/USING.md, \"Run on other machines\")")
+        elif name[:1].isupper() or name in ("java", "groovy", "hudson", "jenkins", "org", "manager", "sshagent"):
             self.found.refuse(node, f"`{name}`: there are no classes and no objects of plugins")
         else:
             self.found.refuse(node, f"nothing has the name `{name}`: give functions by `--vars`")
